@@ -1,5 +1,5 @@
 -- Lists of tracts without a doubtful place, over plain values.
-use Rattle.std.proofs.Common.{ℕ, ◌<◌, ◌+◌, List, inl, inr}
+use Rattle.std.proofs.Common.{ℕ, ◌+◌, List, inl, inr}
 use Rattle.twp_notes.specs.Records.{Fields, record_at}
 use Rattle.twp_read.specs.Doubts.{HasNoDoubtfulPlace}
 use Rattle.twp_acres.specs.ClearTracts.{AreClearTracts}

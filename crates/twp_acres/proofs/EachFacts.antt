@@ -1,5 +1,5 @@
 -- The answers to the tracts of a list, one more at a time.
-use Rattle.std.proofs.Common.{◌≡◌, ℕ, ◌+◌, ◌<◌, ◌≤◌, ◌||◌, Bool, true, false, List, [], ◌∷◌, ◌++◌, length}
+use Rattle.std.proofs.Common.{◌≡◌, ℕ, ◌+◌, ◌<◌, ◌≤◌, ◌||◌, Bool, true, false, List, [], ◌∷◌, ◌++◌}
 use Rattle.std.proofs.Common.{get_or, ap, refl, sym, ◌∙◌, inl, inr, subst, arith, not}
 use Rattle.std.specs.Str.{bytes_eq}
 use Rattle.std.proofs.lemmas.Bool.{cases_Bool}
@@ -14,7 +14,7 @@ use Rattle.twp_plat.specs.Plats.{TownshipPlat}
 use Rattle.twp_acres.specs.EachTract.{AreAnswersTo, HasOwnFault, IsAnswerAt, IsOfTract}
 use Rattle.twp_acres.specs.steps.EachTaking.{AnswersLand, AreNamesOf, TakesName, TakesRecord}
 use Rattle.std.specs.Prelude.{Result, Ok, Err}
-use Rattle.twp_acres.specs.steps.Names.{has_name}
+use Rattle.twp_acres.specs.Names.{has_name}
 use Rattle.twp_acres.specs.Tracts.{name_in, description_in, IsTractName, IsTractRecord}
 use Rattle.twp_acres.specs.TractFaults.{HasAt, IsNameRepeated, turn_of}
 use Rattle.twp_acres.specs.Answers.{IsNoDescription}

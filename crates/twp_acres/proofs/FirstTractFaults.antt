@@ -1,23 +1,20 @@
 -- The first fault of a list of tracts.
-use Rattle.std.proofs.Common.{◌≡◌, ◌≢◌, ℕ, ◌+◌, ◌<◌, ◌≤◌, ◌⊎◌, false, List, ◌∷◌, length, Some}
+use Rattle.std.proofs.Common.{◌≡◌, ◌≢◌, ℕ, ◌+◌, ◌<◌, ◌≤◌, ◌⊎◌, Bool, true, false, List, ◌∷◌, length, Some}
 use Rattle.std.proofs.Common.{ap, refl, sym, ◌∙◌, inl, inr, subst, arith}
 use Rattle.std.specs.Prelude.{IfSome}
 use Rattle.std.proofs.lemmas.Bool.{cases_lt, cases_eq}
 use Rattle.twp_grid.specs.Townships.{Designation}
 use Rattle.twp_notes.specs.Records.{Fields, record_at, record_numbered, records_of}
 use Rattle.twp_plat.specs.Plats.{TownshipPlat}
-use Rattle.twp_acres.specs.steps.Names.{has_name}
+use Rattle.twp_acres.specs.Names.{has_name}
 use Rattle.twp_acres.specs.Tracts.{TRACTS_LIMIT, TRACTS_MOST, tracts_heading, tract_records}
 use Rattle.twp_acres.specs.Tracts.{name_in, description_in, IsTractRecord, AreTracts}
 use Rattle.twp_acres.specs.TractFaults.{HasAt, HasAtTract, HasTractFault, IsFirstTractFault, IsFrom}
-use Rattle.twp_acres.specs.TractFaults.{record_of, turn_of, verdict_of, IsNameRepeated}
-use Rattle.twp_acres.specs.steps.TractTaking.{Tally, IsTallyOf, IsNamedAnew, fault_of_stop}
-use Rattle.twp_acres.specs.steps.TractTaking.{IsTractRefused, IsNextRefused, AreTractsRefused}
-use Rattle.twp_acres.specs.steps.TractTaking.{OverlapsTally}
-use Rattle.twp_acres.specs.Answers.{IsNoDescription}
-use Rattle.twp_acres.specs.steps.Stops.{IfRefused}
-use Rattle.twp_acres.specs.declared.stop.Stop.{Stop}
-use Rattle.twp_acres.specs.declared.stop.Stop.TheVariants as stop
+use Rattle.twp_acres.specs.TractFaults.{record_of, turn_of, verdict_of, IsNameRepeated, OverlapsEarlier}
+use Rattle.twp_acres.specs.EarlierTracts.{AreEarlier, Earlier, IsNamedAnew, IsTractRefused}
+use Rattle.twp_acres.specs.EarlierTracts.{OverlapsEarlierLand}
+use Rattle.twp_acres.specs.Answers.{Describe}
+use Rattle.twp_acres.specs.steps.TractTaking.{IsNextRefused, AreTractsRefused}
 use Rattle.twp_acres.specs.ReportAnswers.{AnswersList, refusal_lines}
 use Rattle.twp_acres.specs.declared.verdict.Verdict.{Verdict}
 use Rattle.twp_acres.specs.declared.verdict.Verdict.TheVariants.{Accepted, Refused, TractRefused}
@@ -25,31 +22,95 @@ use Rattle.twp_acres.specs.declared.tract_fault.TractFault.{TractFault}
 use Rattle.twp_acres.specs.declared.tract_fault.TractFault.TheVariants as fault
 use Rattle.twp_acres.proofs.OneAnswer.{not_described}
 
--- a refused description is a fault of its tract
-pub description_refused : (township : Designation) (fields : Fields) (tally : Tally) (number : ℕ)
-    (stopped : Stop)
-    → IsNamedAnew fields tally
-    → IfRefused stopped (IsNoDescription township (description_in fields))
-    → IsTractRefused township fields tally number (fault_of_stop stopped number)
-description_refused township fields tally number (stop.Refused inner) anew none = (refl, anew, none)
-description_refused township fields tally number (stop.Failed failed) anew is = tt
-
 -- the next record is refused, for its first fault
-module _ (plat : TownshipPlat) (rows : List Fields) (count : ℕ) (tally : Tally)
-    (before : IsTallyOf plat rows count tally) (within : count < length rows)
-    (below : count < TRACTS_MOST) where
-  -- a name that is not in the tally is not repeated
-  not_repeated : has_name tally.names (name_in (record_at rows count)) ≡ false → IsNameRepeated rows count → ⊥
+module _ (township : Designation) (rows : List Fields) (count : ℕ) (known : Earlier)
+    (before : AreEarlier township rows count known) where
+  -- a name that no tract so far has is not repeated
+  not_repeated : has_name known.names (name_in (record_at rows count)) ≡ false → IsNameRepeated rows count → ⊥
   not_repeated anew repeated =
       cc
       (sym (before.named repeated.earlier repeated.is_earlier)
-      ∙ ap (has_name tally.names) repeated.same
+      ∙ ap (has_name known.names) repeated.same
       ∙ anew)
 
-  refused : (tract_fault : TractFault) → HasAt plat.township rows count tract_fault
-      → ((other : TractFault) → HasAt plat.township rows count other → turn_of tract_fault ≤ turn_of other)
-      → IsNextRefused plat.township rows tract_fault
-  refused tract_fault has first = record {
+  -- one that some tract so far has is
+  pub repeats : has_name known.names (name_in (record_at rows count)) ≡ true → IsNameRepeated rows count
+  repeats has_it =
+      let found = before.names (name_in (record_at rows count)) has_it in
+      record { earlier = found.0; is_earlier = found.1; same = found.2 }
+
+  -- land that contains a place of the tracts so far overlaps one of them
+  pub overlaps_one : OverlapsEarlierLand township (record_at rows count) known
+      → OverlapsEarlier township rows count
+  overlaps_one overlaps =
+      let there =
+      (before.land overlaps.shared.section overlaps.shared.column overlaps.shared.row).0
+      overlaps.shared.in_first in
+      record {
+        earlier = there.index;
+        is_earlier = there.within;
+        overlap = record {
+          places = there.places;
+          more = overlaps.more;
+          land = there.land;
+          other_land = overlaps.land;
+          shared = record {
+            section = overlaps.shared.section;
+            column = overlaps.shared.column;
+            row = overlaps.shared.row;
+            in_first = there.held;
+            in_second = overlaps.shared.in_second;
+          };
+        };
+      }
+
+  -- each fault of the record has a turn, and later ones if there is none of the earlier
+  pub any_turn : (other : TractFault) → HasAt township rows count other → 1 ≤ turn_of other
+  any_turn (fault.TractRow n) has = omega arith
+  any_turn (fault.NameRepeated n) has = omega arith
+  any_turn (fault.TractRefused n inner) has = omega arith
+  any_turn (fault.TractsOverlap n) has = omega arith
+  any_turn fault.TractsTooLarge has = absurd has
+  any_turn fault.TooManyTracts has = absurd has
+  any_turn fault.Memory has = absurd has
+
+  pub turn_of_record : IsTractRecord (record_at rows count) → (other : TractFault)
+      → HasAt township rows count other → 2 ≤ turn_of other
+  turn_of_record is (fault.TractRow n) (e, bad) = absurd (bad is)
+  turn_of_record is (fault.NameRepeated n) has = omega arith
+  turn_of_record is (fault.TractRefused n inner) has = omega arith
+  turn_of_record is (fault.TractsOverlap n) has = omega arith
+  turn_of_record is fault.TractsTooLarge has = absurd has
+  turn_of_record is fault.TooManyTracts has = absurd has
+  turn_of_record is fault.Memory has = absurd has
+
+  pub turn_of_name : IsNamedAnew (record_at rows count) known → (other : TractFault)
+      → HasAt township rows count other → 3 ≤ turn_of other
+  turn_of_name (is, anew) (fault.TractRow n) (e, bad) = absurd (bad is)
+  turn_of_name (is, anew) (fault.NameRepeated n) (e, repeated) = absurd (not_repeated anew repeated)
+  turn_of_name (is, anew) (fault.TractRefused n inner) has = omega arith
+  turn_of_name (is, anew) (fault.TractsOverlap n) has = omega arith
+  turn_of_name (is, anew) fault.TractsTooLarge has = absurd has
+  turn_of_name (is, anew) fault.TooManyTracts has = absurd has
+  turn_of_name (is, anew) fault.Memory has = absurd has
+
+  pub turn_of_land : IsNamedAnew (record_at rows count) known → (more : ℕ → ℕ → ℕ → Bool)
+      → Describe township (description_in (record_at rows count)) more
+      → (other : TractFault) → HasAt township rows count other → 4 ≤ turn_of other
+  turn_of_land (is, anew) more land (fault.TractRow n) (e, bad) = absurd (bad is)
+  turn_of_land (is, anew) more land (fault.NameRepeated n) (e, repeated) = absurd (not_repeated anew repeated)
+  turn_of_land (is, anew) more land (fault.TractRefused n inner) (e, none) =
+      absurd (not_described township (description_in (record_at rows count)) inner more none land)
+  turn_of_land (is, anew) more land (fault.TractsOverlap n) has = omega arith
+  turn_of_land (is, anew) more land fault.TractsTooLarge has = absurd has
+  turn_of_land (is, anew) more land fault.TooManyTracts has = absurd has
+  turn_of_land (is, anew) more land fault.Memory has = absurd has
+
+  refused : count < length rows → count < TRACTS_MOST → (tract_fault : TractFault)
+      → HasAt township rows count tract_fault
+      → ((other : TractFault) → HasAt township rows count other → turn_of tract_fault ≤ turn_of other)
+      → IsNextRefused township rows tract_fault
+  refused within below tract_fault has first = record {
     index = count;
     within = within;
     below = below;
@@ -58,89 +119,21 @@ module _ (plat : TownshipPlat) (rows : List Fields) (count : ℕ) (tally : Tally
     first = first;
   }
 
-  pub refused_next : (tract_fault : TractFault)
-      → IsTractRefused plat.township (record_at rows count) tally (count + 2) tract_fault
-      → AreTractsRefused plat.township rows tract_fault
-  refused_next (fault.TractRow number) (at_record, bad) =
-      refused (fault.TractRow number) (at_record, bad) least
-    where
-      least : (other : TractFault) → HasAt plat.township rows count other → 1 ≤ turn_of other
-      least (fault.TractRow n) has = omega arith
-      least (fault.NameRepeated n) has = omega arith
-      least (fault.TractRefused n inner) has = omega arith
-      least (fault.TractsOverlap n) has = omega arith
-      least fault.TractsTooLarge has = absurd has
-      least fault.TooManyTracts has = absurd has
-      least fault.Memory has = absurd has
-  refused_next (fault.NameRepeated number) (at_record, is, known) =
-      let found = before.names (name_in (record_at rows count)) known in
-      refused (fault.NameRepeated number)
-      (at_record, record { earlier = found.0; is_earlier = found.1; same = found.2 }) (least is)
-    where
-      least : IsTractRecord (record_at rows count) → (other : TractFault)
-          → HasAt plat.township rows count other → 2 ≤ turn_of other
-      least is (fault.TractRow n) (e, bad) = absurd (bad is)
-      least is (fault.NameRepeated n) has = omega arith
-      least is (fault.TractRefused n inner) has = omega arith
-      least is (fault.TractsOverlap n) has = omega arith
-      least is fault.TractsTooLarge has = absurd has
-      least is fault.TooManyTracts has = absurd has
-      least is fault.Memory has = absurd has
-  refused_next (fault.TractRefused number inner) (at_record, (is, anew), none) =
-      refused (fault.TractRefused number inner) (at_record, none) (least is anew)
-    where
-      least : IsTractRecord (record_at rows count)
-          → has_name tally.names (name_in (record_at rows count)) ≡ false
-          → (other : TractFault) → HasAt plat.township rows count other → 3 ≤ turn_of other
-      least is anew (fault.TractRow n) (e, bad) = absurd (bad is)
-      least is anew (fault.NameRepeated n) (e, repeated) = absurd (not_repeated anew repeated)
-      least is anew (fault.TractRefused n inner) has = omega arith
-      least is anew (fault.TractsOverlap n) has = omega arith
-      least is anew fault.TractsTooLarge has = absurd has
-      least is anew fault.TooManyTracts has = absurd has
-      least is anew fault.Memory has = absurd has
-  refused_next (fault.TractsOverlap number) (at_record, (is, anew), overlaps) =
-      let there =
-      (before.land overlaps.shared.section overlaps.shared.column overlaps.shared.row).0
-      overlaps.shared.in_first in
-      refused (fault.TractsOverlap number) (
-        at_record,
-        record {
-          earlier = there.index;
-          is_earlier = there.within;
-          overlap = record {
-            places = there.places;
-            more = overlaps.more;
-            land = there.land;
-            other_land = overlaps.land;
-            shared = record {
-              section = overlaps.shared.section;
-              column = overlaps.shared.column;
-              row = overlaps.shared.row;
-              in_first = there.held;
-              in_second = overlaps.shared.in_second;
-            };
-          };
-        },
-      ) (least is anew overlaps)
-    where
-      least : IsTractRecord (record_at rows count)
-          → has_name tally.names (name_in (record_at rows count)) ≡ false
-          → OverlapsTally plat.township (record_at rows count) tally
-          → (other : TractFault) → HasAt plat.township rows count other → 4 ≤ turn_of other
-      least is anew overlaps (fault.TractRow n) (e, bad) = absurd (bad is)
-      least is anew overlaps (fault.NameRepeated n) (e, repeated) = absurd (not_repeated anew repeated)
-      least is anew overlaps (fault.TractRefused n inner) (e, none) =
-          absurd
-          (not_described plat.township (description_in (record_at rows count)) inner overlaps.more none
-          overlaps.land)
-      least is anew overlaps (fault.TractsOverlap n) has = omega arith
-      least is anew overlaps fault.TractsTooLarge has = absurd has
-      least is anew overlaps fault.TooManyTracts has = absurd has
-      least is anew overlaps fault.Memory has = absurd has
-  refused_next fault.Memory is = tt
-  refused_next fault.TractsTooLarge is = absurd is
-  refused_next fault.TooManyTracts is = absurd is
+  pub refused_next : count < length rows → count < TRACTS_MOST → (tract_fault : TractFault)
+      → IsTractRefused township (record_at rows count) known (count + 2) tract_fault
+      → AreTractsRefused township rows tract_fault
+  refused_next within below (fault.TractRow number) (at_record, bad) =
+      refused within below (fault.TractRow number) (at_record, bad) any_turn
+  refused_next within below (fault.NameRepeated number) (at_record, is, has_it) =
+      refused within below (fault.NameRepeated number) (at_record, repeats has_it) (turn_of_record is)
+  refused_next within below (fault.TractRefused number inner) (at_record, anew, none) =
+      refused within below (fault.TractRefused number inner) (at_record, none) (turn_of_name anew)
+  refused_next within below (fault.TractsOverlap number) (at_record, anew, overlaps) =
+      refused within below (fault.TractsOverlap number) (at_record, overlaps_one overlaps)
+      (turn_of_land anew overlaps.more overlaps.land)
+  refused_next within below fault.Memory is = tt
+  refused_next within below fault.TractsTooLarge is = absurd is
+  refused_next within below fault.TooManyTracts is = absurd is
 
 -- more bytes than a list can have
 pub large_first : (township : Designation) (bytes : List ℕ) → TRACTS_LIMIT < length bytes
@@ -175,7 +168,7 @@ module _ (township : Designation) (bytes : List ℕ) (size : length bytes ≤ TR
       at_earlier fault.TooManyTracts has = has
       at_earlier fault.Memory has = has
 
-  number_is : (index : ℕ) (other : TractFault) → HasAt township (tract_records bytes) index other
+  pub number_is : (index : ℕ) (other : TractFault) → HasAt township (tract_records bytes) index other
       → record_of other ≡ index + 2
   number_is index (fault.TractRow n) has = has.0
   number_is index (fault.NameRepeated n) has = has.0
@@ -186,11 +179,11 @@ module _ (township : Designation) (bytes : List ℕ) (size : length bytes ≤ TR
   number_is index fault.Memory has = absurd has
 
   -- each fault is at the record beyond the limit, in the list's size, or at a tract
-  data Where (other : TractFault) : Type 0 where
+  pub data Where (other : TractFault) : Type 0 where
     too_many : record_of other ≡ TRACTS_MOST + 2 → Where other
     at_tract : HasAtTract township (tract_records bytes) other → Where other
 
-  where_is : (other : TractFault) → HasTractFault township bytes other → Where other
+  pub where_is : (other : TractFault) → HasTractFault township bytes other → Where other
   where_is fault.TractsTooLarge large = absurd (omega arith)
   where_is fault.TooManyTracts many = too_many refl
   where_is (fault.TractRow n) (inl (e, bad)) = absurd (bad heading_is)

@@ -9,6 +9,7 @@ pub mod NameFacts
 pub mod TractFacts
 pub mod TractLands
 pub mod ClearFacts
+pub mod EarlierFacts
 pub mod TallyFacts
 pub mod FigureLines
 pub mod EachFacts

@@ -1,5 +1,5 @@
 -- The overlaps of a list, one pair more at a time.
-use Rattle.std.proofs.Common.{◌≡◌, ◌⊎◌, ℕ, ◌+◌, ◌<◌, ◌≤◌, List, [], ◌∷◌, ◌++◌, length, get_or, Option, Some}
+use Rattle.std.proofs.Common.{◌≡◌, ◌⊎◌, ℕ, ◌+◌, ◌<◌, List, [], ◌∷◌, ◌++◌, length, get_or, Option, Some}
 use Rattle.std.proofs.Common.{None}
 use Rattle.std.proofs.Common.{ap, refl, sym, ◌∙◌, inl, inr, subst, arith, Bool, ◌&&◌}
 use Rattle.std.proofs.lemmas.List.{length_push}
@@ -10,10 +10,10 @@ use Rattle.twp_grid.specs.Townships.{Designation}
 use Rattle.twp_land.specs.Lands.{HasWholeLots, SharePlace, intersection}
 use Rattle.twp_notes.specs.Records.{Fields, record_at}
 use Rattle.twp_plat.specs.Plats.{TownshipPlat}
-use Rattle.twp_acres.specs.Answers.{AreHundredthsOf, Describe, IsNoDescription}
+use Rattle.twp_acres.specs.Answers.{AreHundredthsOf, IsNoDescription}
 use Rattle.twp_acres.specs.Overlaps.{AreOverlapping, AreOverlaps, ComesBefore, IsBetween, IsListed}
 use Rattle.twp_acres.specs.Overlaps.{IsSharedAcres}
-use Rattle.twp_acres.specs.Tracts.{IsTract, IsTractRecord, description_in}
+use Rattle.twp_acres.specs.Tracts.{IsTract, description_in}
 use Rattle.twp_acres.specs.declared.overlaps.TractOverlap.{TractOverlap}
 use Rattle.twp_acres.specs.steps.OverlapTaking.{AreFoundTo, AreLandsTo, IsEarlier, IsFoundBefore, IsLandOf}
 use Rattle.twp_acres.specs.steps.OverlapTaking.{HasSharedPlaces, HasWholeLand, NotesOverlap, overlap_of}

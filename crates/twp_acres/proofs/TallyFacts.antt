@@ -1,45 +1,30 @@
 -- A tally that grows by one tract.
-use Rattle.std.proofs.Common.{◌≡◌, ◌≢◌, ℕ, ◌+◌, ◌<◌, ◌≤◌, ◌||◌, true, false, List, [], ◌∷◌, ◌++◌}
+use Rattle.std.proofs.Common.{◌≡◌, ℕ, ◌+◌, ◌≤◌, false, List, [], ◌∷◌, ◌++◌}
 use Rattle.std.proofs.Common.{length, get_or, ap, refl, sym, ◌∙◌, inl, inr, subst, arith}
 use Rattle.std.proofs.Common.{append_assoc, append-nil}
-use Rattle.std.specs.Str.{bytes_eq}
-use Rattle.std.proofs.lemmas.Slice.Eq.{bytes_eq-Decides}
 use Rattle.std.proofs.lemmas.List.{length_push}
 use Rattle.std.proofs.lemmas.Grind.{flat_map-append}
 use Rattle.std.proofs.Math.ListN.{get_or-append}
 use Rattle.std.proofs.Math.Seq.{get_or-append_seam}
-use Rattle.twp_grid.specs.Places.{PLACE_DIGITS}
 use Rattle.twp_land.specs.Lands.{no_places}
-use Rattle.twp_land.specs.Lands.{HasWholeLots}
 use Rattle.twp_notes.specs.Records.{Fields, record_at, record_numbered, records_of}
 use Rattle.twp_plat.specs.Plats.{TownshipPlat}
-use Rattle.twp_acres.specs.Answers.{Describe}
-use Rattle.twp_acres.specs.steps.Names.{has_name}
-use Rattle.twp_acres.specs.Tracts.{TRACTS_LIMIT, TRACTS_MOST, tracts_heading, tract_records}
-use Rattle.twp_acres.specs.Tracts.{name_in, description_in, IsTract, Overlap, IsLandOfTracts}
+use Rattle.twp_acres.specs.Names.{has_name}
+use Rattle.twp_acres.specs.Tracts.{TRACTS_LIMIT, TRACTS_MOST, tracts_heading, tract_records, name_in}
 use Rattle.twp_acres.specs.ReportAnswers.{tract_line, IsTractLine, AreTractLines, text_of}
 use Rattle.twp_acres.specs.ReportAnswers.{total_lines, IsAccountOf}
 use Rattle.twp_acres.specs.steps.TractTaking.{Tally, AreTotals, TakesTract, IsTallyOf, EndsAccount}
-use Rattle.twp_acres.proofs.OneAnswer.{one_land}
-use Rattle.twp_acres.proofs.TractLands.{earlier_or_last, either_way, with_left, with_right, no_land}
-use Rattle.twp_acres.proofs.TractLands.{land_next}
+use Rattle.twp_acres.proofs.EarlierFacts.{next_earlier, no_earlier}
+use Rattle.twp_acres.proofs.TractLands.{earlier_or_last}
 
 -- the tally of no records
 pub no_tally : (plat : TownshipPlat) (rows : List Fields) (tally : Tally)
-    → ((name : List ℕ) → has_name tally.names name ≡ false)
-    → tally.places ≡ no_places → AreTotals plat no_places tally.totals → tally.text ≡ []
+    → ((name : List ℕ) → has_name tally.earlier.names name ≡ false)
+    → tally.earlier.places ≡ no_places → AreTotals plat no_places tally.totals → tally.text ≡ []
     → IsTallyOf plat rows 0 tally
 no_tally plat rows tally names places totals text = record {
-  tracts = record {
-    each = λ index below. absurd (omega arith);
-    once = λ earlier index before below. absurd (omega arith);
-    apart = λ earlier index before below. absurd (omega arith);
-  };
-  named = λ index below. absurd (omega arith);
-  names = λ name is. cc (sym is ∙ names name);
-  land = subst (IsLandOfTracts plat.township rows 0) (sym places) (no_land plat.township rows);
+  earlier = no_earlier plat.township rows tally.earlier names places;
   totals_are = subst (λ p. AreTotals plat p tally.totals) (sym places) totals;
-  whole = rw places (λ section lot range. record { alike = λ column row column' row' lies lies'. refl });
   lines = [];
   lines_are = record { count_is = refl; each = λ index below. absurd (omega arith) };
   text_is = text;
@@ -47,89 +32,6 @@ no_tally plat rows tally names places totals text = record {
 
 module _ (plat : TownshipPlat) (rows : List Fields) (count : ℕ) (old new : Tally)
     (before : IsTallyOf plat rows count old) (takes : TakesTract plat (record_at rows count) old new) where
-  each : (index : ℕ) → index < count + 1 → IsTract plat.township (record_at rows index)
-  each index below = elim (earlier_or_last count index below) [
-    | inl earlier ↦ before.tracts.each index earlier
-    | inr next ↦ rw next (record { is_record = takes.is_record; places = takes.more; land = takes.land })
-  ]
-
-  once : (earlier index : ℕ) → earlier < index → index < count + 1
-      → name_in (record_at rows earlier) ≢ name_in (record_at rows index)
-  once earlier index first below same = elim (earlier_or_last count index below) [
-    | inl known ↦ before.tracts.once earlier index first known same
-    | inr next ↦
-        let here : name_in (record_at rows earlier) ≡ name_in (record_at rows count) =
-        same ∙ ap (λ i. name_in (record_at rows i)) next in
-        cc (sym (before.named earlier (omega arith)) ∙ ap (has_name old.names) here ∙ takes.is_new)
-  ]
-
-  apart : (earlier index : ℕ) → earlier < index → index < count + 1
-      → Overlap plat.township (record_at rows earlier) (record_at rows index) → ⊥
-  apart earlier index first below overlap = elim (earlier_or_last count index below) [
-    | inl known ↦ before.tracts.apart earlier index first known overlap
-    | inr next ↦
-        let land : Describe plat.township (description_in (record_at rows count)) overlap.more =
-        subst (λ i. Describe plat.township (description_in (record_at rows i)) overlap.more) next
-        overlap.other_land in
-        let same : overlap.more ≡ takes.more =
-        one_land plat.township (description_in (record_at rows count)) overlap.more takes.more land
-        takes.land in
-        takes.apart (record {
-          section = overlap.shared.section;
-          column = overlap.shared.column;
-          row = overlap.shared.row;
-          in_first = (before.land overlap.shared.section overlap.shared.column overlap.shared.row).1
-              (record {
-                index = earlier;
-                within = omega arith;
-                places = overlap.places;
-                land = overlap.land;
-                held = overlap.shared.in_first;
-              });
-          in_second =
-              ap (λ p. p overlap.shared.section overlap.shared.column overlap.shared.row) (sym same)
-              ∙ overlap.shared.in_second;
-        })
-  ]
-
-  named : (index : ℕ) → index < count + 1 → has_name new.names (name_in (record_at rows index)) ≡ true
-  named index below = elim (earlier_or_last count index below) [
-    | inl earlier ↦
-        takes.names_are (name_in (record_at rows index))
-        ∙ with_right (bytes_eq (name_in (record_at rows count)) (name_in (record_at rows index))) _
-        (before.named index earlier)
-    | inr next ↦
-        rw next
-        (takes.names_are (name_in (record_at rows count))
-        ∙ with_left (bytes_eq (name_in (record_at rows count)) (name_in (record_at rows count))) _
-        ((bytes_eq-Decides (name_in (record_at rows count)) (name_in (record_at rows count))).1 refl))
-  ]
-
-  names : (name : List ℕ) → has_name new.names name ≡ true
-      → (index : ℕ) × (index < count + 1) × (name_in (record_at rows index) ≡ name)
-  names name is =
-      elim
-      (either_way (bytes_eq (name_in (record_at rows count)) name) (has_name old.names name)
-      (sym (takes.names_are name) ∙ is)) [
-        | inl here ↦ (count, omega arith, (bytes_eq-Decides (name_in (record_at rows count)) name).0 here)
-        | inr there ↦
-            let found = before.names name there in
-            let within : found.0 < count = found.1 in
-            (found.0, omega arith, found.2)
-      ]
-
-  land : IsLandOfTracts plat.township rows (count + 1) new.places
-  land =
-      subst (IsLandOfTracts plat.township rows (count + 1)) (sym takes.places_are)
-      (land_next plat.township rows count old.places takes.more before.land takes.land)
-
-  whole : HasWholeLots PLACE_DIGITS new.places
-  whole = rw takes.places_are (λ section lot range. record {
-    alike = λ column row column' row' lies lies' i.
-        (before.whole section lot range).alike column row column' row' lies lies' i
-        || (takes.whole section lot range).alike column row column' row' lies lies' i;
-  })
-
   abbrev line : List ℕ
   line = tract_line (name_in (record_at rows count)) takes.hundredths
 
@@ -150,7 +52,7 @@ module _ (plat : TownshipPlat) (rows : List Fields) (count : ℕ) (old new : Tal
           (get_or (before.lines ++ line ∷ []) count []) =
           subst (λ l. IsTractLine plat (record_at rows count) l) (sym here) (record {
             places = takes.more;
-            land = takes.land;
+            land = takes.takes.reads.land;
             hundredths = takes.hundredths;
             acres = takes.acres;
             line_is = refl;
@@ -172,11 +74,8 @@ module _ (plat : TownshipPlat) (rows : List Fields) (count : ℕ) (old new : Tal
   -- the tally of one more record
   pub next_tally : IsTallyOf plat rows (count + 1) new
   next_tally = record {
-    tracts = record { each = each; once = once; apart = apart };
-    named = named;
-    names = names;
-    land = land;
-    whole = whole;
+    earlier =
+        next_earlier plat.township rows count old.earlier new.earlier takes.more before.earlier takes.takes;
     totals_are = takes.totals_are;
     lines = before.lines ++ line ∷ [];
     lines_are = lines_are;
@@ -197,18 +96,18 @@ pub accepted : (plat : TownshipPlat) (bytes text : List ℕ) (rest : List Fields
     → length bytes ≤ TRACTS_LIMIT
     → record_numbered (records_of bytes) 1 ≡ tracts_heading → tract_records bytes ≡ rest
     → length rest ≤ TRACTS_MOST
-    → IsTallyOf plat rest (length rest) tally → EndsAccount plat tally.places tally.text text
+    → IsTallyOf plat rest (length rest) tally → EndsAccount plat tally.earlier.places tally.text text
     → IsAccountOf plat bytes text
 accepted plat bytes text rest tally size heading_is after few taken ends =
     let all : IsTallyOf plat (tract_records bytes) (length (tract_records bytes)) tally =
     subst (λ rows. IsTallyOf plat rows (length rows) tally) (sym after) taken in
     record {
-      list = record { size = size; heading_is = heading_is; few = rw after few; tracts = all.tracts };
+      list = record { size = size; heading_is = heading_is; few = rw after few; tracts = all.earlier.tracts };
       account = record {
         lines = all.lines;
         lines_are = all.lines_are;
-        places = tally.places;
-        land = all.land;
+        places = tally.earlier.places;
+        land = all.earlier.land;
         total = ends.total;
         total_is = ends.total_is;
         remaining = ends.remaining;

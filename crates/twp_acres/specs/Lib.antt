@@ -4,6 +4,8 @@ pub mod PlatAnswers
 pub mod Tracts
 pub mod ClearTracts
 pub mod TractFaults
+pub mod Names
+pub mod EarlierTracts
 pub mod ReportAnswers
 pub mod AccountFigures
 pub mod EachTract

@@ -1,4 +1,3 @@
-pub mod Names
 pub mod Stops
 pub mod Stages
 pub mod OnPlatSteps

@@ -3,7 +3,7 @@ ghost use Rattle.std.specs.Prelude.{◌≡◌, ◌≤◌, [], length, OnOk, IfOk
 ghost use Rattle.std.specs.List.{flat_map};
 ghost use Rattle.csv.specs.Records.{fields_of};
 ghost use Rattle.twp_notes.specs.Records.{records_left, IsReading};
-ghost use Rattle.twp_acres.specs.Tracts.{TRACTS_LIMIT, TRACTS_MOST, IsTractRecord};
+ghost use Rattle.twp_acres.specs.Tracts.{TRACTS_MOST, IsTractRecord};
 ghost use Rattle.twp_acres.specs.Tracts.{name_in, tract_records};
 ghost use Rattle.twp_acres.specs.ReportAnswers.{IsAccountOf};
 ghost use Rattle.twp_acres.specs.AccountFigures.{line_of, text_of_figures};
@@ -70,19 +70,7 @@ pub fn figures_on(alloc: Global, plat: &Plat, list: &[u8]) -> Result<AccountFigu
     if list.len() > TRACTS_LIMIT as usize {
         return Err(TractFault::TractsTooLarge);
     }
-    figures_of(alloc, plat, list)
-}
-
-/// The same, of a list within its limit of bytes.
-fn figures_of(alloc: Global, plat: &Plat, bytes: &[u8]) -> Result<AccountFigures, TractFault>
-    requires { length bytes.now ≤ TRACTS_LIMIT }
-    ensures account { IfOk result (λ figures.
-        IsAccountOf plat.now bytes.now (text_of_figures figures)) }
-    ensures count { IfOk result (λ figures.
-        length figures.tracts.items ≡ length (tract_records bytes.now)) }
-    ensures fault { IfErr result (AnswersFault plat.now.township bytes.now) }
-{
-    let records = &mut Records::new(alloc, bytes);
+    let records = &mut Records::new(alloc, list);
     let mut row = ByteRecord::new(alloc);
     if !records.read(&mut row)? {
         return Err(TractFault::TractRow(1));
@@ -94,8 +82,8 @@ fn figures_of(alloc: Global, plat: &Plat, bytes: &[u8]) -> Result<AccountFigures
     let tracts = take_figures(alloc, plat, records, &mut row, &mut account)?;
     Ok(AccountFigures {
         tracts,
-        total: account.totals.total_hundredths(),
-        remaining: account.totals.remaining_hundredths(),
+        total: account.totals.total.hundredths(),
+        remaining: account.totals.remaining.hundredths(),
     })
 }
 
@@ -134,8 +122,8 @@ fn take_figures<L: Land>(
     Ok(figures)
 }
 
-/// The figure of the tract of a record.
-fn figure_of(row: &ByteRecord, hundredths: u64) -> TractFigure
+/// The figure of the tract of a record, whose hundredths of an acre are these.
+pub fn figure_of(row: &ByteRecord, hundredths: u64) -> TractFigure
     requires { IsTractRecord (fields_of row.now) }
     ensures name { result.name.bytes ≡ name_in (fields_of row.now) }
     ensures acres { result.hundredths ≡ hundredths }

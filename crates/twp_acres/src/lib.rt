@@ -6,6 +6,7 @@ mod account_figures;
 mod acres_answer;
 mod answer;
 mod each_tract;
+mod earlier_tracts;
 pub mod laws;
 mod names;
 mod normal_answer;
@@ -25,8 +26,9 @@ mod tracts;
 mod verdict;
 mod writing;
 
-pub use account_figures::{AccountFigures, TractFigure, figures_on};
+pub use account_figures::{AccountFigures, TractFigure, figure_of, figures_on};
 pub use each_tract::{TractAnswer, each_on};
+pub use earlier_tracts::EarlierTracts;
 pub use on_land::{acres_of, land_of};
 pub use on_plat::{account_on, acres_on, area_on, normal_on};
 pub use overlaps::{TractOverlap, overlaps_on};
@@ -37,7 +39,8 @@ pub use running::{
 };
 pub use stages::read_plat;
 pub use stop::Stop;
+pub use tract::is_heading;
 pub use tract_fault::{TRACTS_LIMIT, TRACTS_MOST, TractFault};
-pub use tracts::account_of as account_of_tracts;
+pub use tracts::{FIRST_TRACT, account_of as account_of_tracts};
 pub use twp_area::{Account, area_of, plat_area_of};
 pub use verdict::{RunFault, Verdict};

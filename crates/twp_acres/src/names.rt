@@ -1,6 +1,6 @@
 ghost use Rattle.std.specs.Prelude.{◌≡◌, ◌≤◌, ◌||◌, List, ℕ, false, not, length, IfOk};
 ghost use Rattle.std.specs.Str.{bytes_eq};
-ghost use Rattle.twp_acres.specs.steps.Names.{has_name};
+ghost use Rattle.twp_acres.specs.Names.{has_name};
 ghost use Rattle.twp_acres.specs.Tracts.{NAME_MOST};
 
 use crate::tract::NAME_MOST;

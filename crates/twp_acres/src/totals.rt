@@ -10,15 +10,14 @@ use twp_plat::Plat;
 /// The area of all places in the tracts so far, and that of all other places in the township.
 #[derive(Drop)]
 pub(crate) struct Totals {
-    total: Area,
-    remaining: Area,
+    pub(crate) total: Area,
+    pub(crate) remaining: Area,
     ghost one_over: { remaining.over ≡ total.over },
     ghost room: { total.units + remaining.units ≤ MOST_UNITS },
 }
 
 impl Totals {
     ghost use Rattle.std.specs.Prelude.{ℕ, Bool, OnOk};
-    ghost use Rattle.twp_measure.specs.Areas.{IsRounded};
     ghost use Rattle.twp_land.specs.Lands.{no_places};
     ghost use Rattle.twp_plat.specs.Plats.{TownshipPlat};
     ghost use Rattle.twp_acres.specs.steps.TractTaking.{AreTotals, TakesArea, EndsAccount};
@@ -44,20 +43,6 @@ impl Totals {
             total: self.total.plus(area),
             remaining: Area::new(remaining, self.remaining.over()).unwrap(),
         };
-    }
-
-    /// The hundredths of an acre in the tracts so far.
-    pub(crate) fn total_hundredths(&self) -> u64
-        ensures { IsRounded self.now.total result }
-    {
-        self.total.hundredths()
-    }
-
-    /// The hundredths of an acre of all other places in the township.
-    pub(crate) fn remaining_hundredths(&self) -> u64
-        ensures { IsRounded self.now.remaining result }
-    {
-        self.remaining.hundredths()
     }
 
     /// Appends both figures, such as `total: 78.20 acres` and `remaining: 22959.37 acres`.

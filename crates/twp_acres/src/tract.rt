@@ -23,7 +23,7 @@ pub(crate) struct TractRecord<'a> {
 
 /// Whether the record is the heading of a list of tracts.
 #[tactic(auto, using(crate::proofs::TractFacts::two_fields))]
-pub(crate) fn is_heading(row: &ByteRecord) -> bool
+pub fn is_heading(row: &ByteRecord) -> bool
     ensures { IsTrue result ↔ (fields_of row.now ≡ tracts_heading) }
 {
     if row.len() != FIELDS || !is_text(field(row, 0), "name") {

@@ -20,7 +20,7 @@ use twp_plat::Plat;
 use twp_read::Clarity;
 
 /// The number of the record after the heading, which is the first record of a tract.
-pub(crate) const FIRST_TRACT: u32 = 2;
+pub const FIRST_TRACT: u32 = 2;
 
 /// Room is reserved at the start for one name for each of this many bytes; most tracts take more.
 const BYTES_TO_NAME: usize = 32;
@@ -60,13 +60,13 @@ pub(crate) fn account_noting(
     }
     let mut account: RunningAccount<Lanes> = RunningAccount::new(alloc, plat);
     // Set after the account is in its final place, because moving it would copy its lands.
-    account.names = Names::with_room(
+    account.tracts.names = Names::with_room(
         alloc,
         min(bytes.len() / BYTES_TO_NAME, TRACTS_MOST as usize),
     )?;
     take_tracts(alloc, plat, records, &mut row, &mut account)?;
     account.totals.write(&mut account.text)?;
-    *clarity = account.clarity;
+    *clarity = account.tracts.clarity;
     Ok(account.text)
 }
 
@@ -86,7 +86,7 @@ fn take_tracts<L: Land>(
     ensures few { IfOk result (λ _. length (records_left records.old) ≤ TRACTS_MOST) }
     ensures fault { IfErr result
         (AreTractsRefused plat.now.township (records_left records.old)) }
-    ensures clear { OnOk result (account.new.clarity ≡ Clarity.Clear
+    ensures clear { OnOk result (account.new.tracts.clarity ≡ Clarity.Clear
         → AreClearTracts (records_left records.old) (length (records_left records.old))) }
 {
     let mut taken = 0;

@@ -9,3 +9,4 @@ mod figures;
 mod land;
 mod lists;
 mod lots;
+mod suggesting;

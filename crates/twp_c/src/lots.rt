@@ -3,9 +3,10 @@ ghost use Rattle.std.specs.Prelude.{◌≡◌, ◌≢◌};
 ghost use Rattle.twp_calls.specs.Answers.{ACCEPTED};
 ghost use Rattle.twp_calls.specs.LotCalls.{IsLotsReadCall, IsLotsAcresCall, IsLotsAreaCall};
 ghost use Rattle.twp_calls.specs.LotCalls.{IsLotsLandAcresCall, IsLotsLandAreaCall};
+ghost use Rattle.twp_calls.specs.LotReports.{IsLotsReportCall};
 
 use std::alloc::Global;
-use twp_calls::{TownshipAnswer, TownshipFraction, TownshipLand, TownshipLots};
+use twp_calls::{TownshipAnswer, TownshipFraction, TownshipLand, TownshipLots, TownshipTract};
 
 /// Reads a lot table.
 #[unsafe(no_mangle)]
@@ -68,4 +69,18 @@ pub extern "C" fn township_lots_land_area(
     ensures kept { result.verdict ≢ ACCEPTED → area.new ≡ area.old }
 {
     twp_calls::township_lots_land_area(lots, land, area)
+}
+
+/// The account of a list of tracts by a lot table.
+#[unsafe(no_mangle)]
+pub extern "C" fn township_lots_report(
+    alloc: Global,
+    lots: &TownshipLots,
+    list: &[u8],
+    tracts: &mut [TownshipTract],
+) -> TownshipAnswer
+    ensures answer { IsLotsReportCall lots.now list.now tracts.old tracts.new result }
+    ensures kept { result.verdict ≢ ACCEPTED → tracts.new ≡ tracts.old }
+{
+    twp_calls::township_lots_report(alloc, lots, list, tracts)
 }

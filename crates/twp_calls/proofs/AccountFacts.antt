@@ -5,6 +5,7 @@ use Rattle.std.proofs.Common.{refl, sym, ap, ◌∙◌, subst, append-nil, inl, 
 use Rattle.std.specs.List.{All, SameFrom, flat_map}
 use Rattle.std.proofs.lemmas.Grind.{common_steps, flat_map-append}
 use Rattle.std.proofs.lemmas.List.{get_or-set_other, length_push, get_or-replicate, get_or_past}
+use Rattle.std.proofs.lemmas.List.{get_or-set_same, get_or_read}
 use Rattle.std.proofs.lemmas.List.{get_or-append_right, get_or-drop}
 use Rattle.std.proofs.lemmas.Bool.{cases_lt}
 use Rattle.twp_calls.specs.TractNames.{NAME_ROOM}
@@ -20,6 +21,7 @@ use Rattle.twp_calls.specs.Answers.{ACCEPTED, NO_ROOM, bare, with_text}
 use Rattle.twp_calls.specs.declared.account_call.TownshipTotals.{TownshipTotals}
 use Rattle.twp_calls.specs.declared.account_call.TownshipTract.{TownshipTract}
 use Rattle.twp_calls.specs.declared.answer.TownshipAnswer.{TownshipAnswer}
+use Rattle.twp_calls.specs.steps.Plain.{ArePlainTractsTo, IsPlainTract}
 
 -- only zeros are in zeros, and beyond them
 abbrev zeros : ℕ → List ℕ
@@ -82,6 +84,24 @@ pub ended_next : (count : ℕ) (tracts : List TownshipTract) (tract : TownshipTr
 ended_next count tracts tract room before ended =
     subst (All HasEndedName) (sym (taken_next count tracts tract room))
     (all_push (take count tracts) tract before ended)
+
+-- one more tract as plain data
+pub plain_next : (count : ℕ) (figures : List TractFigure) (figure : TractFigure)
+    (tracts : List TownshipTract) (tract : TownshipTract) → count < length tracts → count < length figures
+    → figure ≡ get_or figures count figure → IsPlainTract figure tract → ArePlainTractsTo count figures tracts
+    → ArePlainTractsTo (count + 1) figures (set tracts count tract)
+plain_next count figures figure tracts tract room within is here before index default other below =
+    elim (earlier_or_last count index below) [
+      | inl earlier ↦
+          rw (get_or-set_other tracts count index tract other (λ same. absurd (omega arith)))
+          (before index default other earlier)
+      | inr next ↦
+          rw (
+            next,
+            get_or-set_same tracts count tract other room,
+            sym (get_or_read figures count figure within is default),
+          ) here
+    ]
 
 -- the tracts after it are kept
 pub kept_next : (count : ℕ) (old tracts : List TownshipTract) (tract : TownshipTract)

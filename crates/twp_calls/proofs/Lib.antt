@@ -5,9 +5,11 @@ pub mod ExplanationPartFacts
 pub mod FigureFacts
 pub mod LandCallFacts
 pub mod LotCallFacts
+pub mod LotReportFacts
 pub mod ManyFacts
 pub mod NoteFacts
 pub mod OverlapFacts
 pub mod PartFacts
 pub mod PlaceFacts
+pub mod SuggestionFacts
 pub mod WritingFacts

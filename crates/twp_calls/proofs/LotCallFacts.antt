@@ -10,7 +10,8 @@ use Rattle.twp_acres.specs.declared.stop.Stop.{Stop}
 use Rattle.twp_acres.specs.declared.stop.Stop.TheVariants as stop
 use Rattle.twp_calls.specs.Answers.{answer_of_refusal, refused, stopped}
 use Rattle.twp_calls.specs.Calls.{Answers, IsRefusedFor, no_memory, refused_for}
-use Rattle.twp_calls.specs.LotCalls.{AreNoLots, HasNoLotAreaOf, IsLackingLot}
+use Rattle.twp_calls.specs.LotCalls.{AreNoLots}
+use Rattle.twp_lot_account.specs.LotLands.{HasNoLotAreaOf, IsLackingLot}
 use Rattle.twp_calls.specs.declared.answer.TownshipAnswer.{TownshipAnswer}
 use Rattle.twp_calls.specs.steps.LotSteps.{StopsByLots}
 

@@ -12,7 +12,9 @@ pub mod Figures
 pub mod LandCalls
 pub mod LandParts
 pub mod LotCalls
+pub mod LotReports
 pub mod ManyAnswers
+pub mod Suggestions
 pub mod Names
 pub mod ShownTexts
 pub mod ExplanationParts

@@ -1,15 +1,12 @@
 -- What each call by a lot table answers, for all that it can be given.
 use Rattle.std.specs.Prelude.{◌≡◌, ◌⊎◌, ℕ, List, Bool, Some}
 use Rattle.twp_measure.specs.Areas.{Fraction, IsRounded}
-use Rattle.twp_grid.specs.Places.{PLACE_DIGITS}
 use Rattle.twp_grid.specs.declared.refusal.Refusal.{Refusal}
-use Rattle.twp_lots.specs.LotAreas.{HasFigures, IsFirstLacking, IsLotArea}
 use Rattle.twp_lots.specs.LotRecords.{AreLots}
 use Rattle.twp_lots.specs.LotTables.{ReturnedLots}
-use Rattle.twp_lots.specs.LotsFaults.{IsFirstFault, lacking_refusal, refusal_of}
+use Rattle.twp_lots.specs.LotsFaults.{IsFirstFault, refusal_of}
 use Rattle.twp_lots.specs.declared.fault.LotsFault.{LotsFault}
-use Rattle.twp_acres.specs.Answers.{IsNoDescription}
-use Rattle.twp_acres.specs.OnLands.{IsLandOf}
+use Rattle.twp_lot_account.specs.LotLands.{HasLotArea, HasLotAreaOf, HasNoLotAreaOf, IsLackingLot}
 use Rattle.twp_calls.specs.Answers.{ACCEPTED, NO_LOTS, bare, accepted_acres}
 use Rattle.twp_calls.specs.Calls.{Answers, IsFractionOf, IsRefusedFor}
 use Rattle.twp_calls.specs.GivenLots.{IsGivenLots, IsNoGivenLots, given_lots}
@@ -42,20 +39,6 @@ pub record AreLotsRead (bytes : List ℕ) (new : GivenLots) (answer : TownshipAn
 abbrev pub IsLotsReadCall : List ℕ → GivenLots → TownshipAnswer → Type 0
 IsLotsReadCall bytes new = Answers (AreLotsRead bytes new) (IsRefusedFor (AreNoLots bytes))
 
--- the set contains a lot that the table lacks, and this is the refusal of the first one
-pub record IsLackingLot (table : ReturnedLots) (places : ℕ → ℕ → ℕ → Bool) (refusal : Refusal)
-    : Type 0 where
-  pub section : ℕ
-  pub number : ℕ
-  pub first : IsFirstLacking PLACE_DIGITS table places section number
-  pub refusal_is : refusal ≡ lacking_refusal section number
-
--- the table has a figure for each lot in the set, and this is the set's area by the table
-pub record HasLotArea (table : ReturnedLots) (places : ℕ → ℕ → ℕ → Bool) (area : Fraction)
-    : Type 0 where
-  pub figures : HasFigures PLACE_DIGITS table places
-  pub area_is : IsLotArea PLACE_DIGITS table places area
-
 -- the answer is the hundredths of an acre of an area with this property: rounded once, half up
 pub record AreAcresAnswered (IsSuch : Fraction → Type 0) (answer : TownshipAnswer) : Type 0 where
   pub area : Fraction
@@ -71,25 +54,6 @@ pub record IsAreaAnswered (IsSuch : Fraction → Type 0) (new : TownshipFraction
   pub is : IsSuch area
   pub parts : IsFractionOf new area
   pub answer_is : answer ≡ bare ACCEPTED
-
--- the bytes describe land in the township of the table, and this holds of it
-pub record OfLandDescribed (table : ReturnedLots) (description : List ℕ)
-    (Holds : (ℕ → ℕ → ℕ → Bool) → Type 0) : Type 0 where
-  pub places : ℕ → ℕ → ℕ → Bool
-  pub described : IsLandOf table.township description places
-  pub holds : Holds places
-
--- the land described has this area by the table
-abbrev pub HasLotAreaOf : ReturnedLots → List ℕ → Fraction → Type 0
-HasLotAreaOf table description area =
-    OfLandDescribed table description (λ places. HasLotArea table places area)
-
--- why there is no such area: the bytes are no description of land in the township, or the table
--- lacks a lot of the land
-abbrev pub HasNoLotAreaOf : ReturnedLots → List ℕ → Refusal → Type 0
-HasNoLotAreaOf table description refusal =
-    IsNoDescription table.township description refusal
-    ⊎ OfLandDescribed table description (λ places. IsLackingLot table places refusal)
 
 -- `township_lots_acres`: the hundredths of an acre of the land described
 abbrev pub IsLotsAcresCall : GivenLots → List ℕ → TownshipAnswer → Type 0

@@ -1,12 +1,13 @@
 //! The account of a list of tracts, as numbers.
-ghost use Rattle.std.specs.Prelude.{◌≡◌, ◌≢◌, ◌++◌, List, ℕ, length};
-ghost use Rattle.std.specs.List.{flat_map};
+ghost use Rattle.std.specs.Prelude.{◌≡◌, ◌≢◌, ◌≤◌, ◌++◌, List, ℕ, length, take};
+ghost use Rattle.std.specs.List.{All, SameFrom, flat_map};
 ghost use Rattle.twp_plat.specs.Plats.{TownshipPlat as PlatMade};
 ghost use Rattle.twp_acres.specs.AccountFigures.{line_of as figure_line};
 ghost use Rattle.twp_acres.specs.ReportAnswers.{IsAccountOf, total_lines};
 ghost use Rattle.twp_calls.specs.Accounts.{HasAccount, HasEndedName, IsAccountCall, line_of};
 ghost use Rattle.twp_calls.specs.Accounts.{tract_count};
 ghost use Rattle.twp_calls.specs.Answers.{ACCEPTED};
+ghost use Rattle.twp_calls.specs.steps.Plain.{ArePlainTractsTo, IsPlainTract};
 
 use crate::answer::TownshipAnswer;
 use crate::many::counted;
@@ -85,16 +86,30 @@ fn put_figures(
     if tracts.len() < count {
         return counted(NO_ROOM, count);
     }
-    for index in 0..count {
-        tracts[index] = tract_of(&figures[index]);
-    }
+    put_tracts(figures, tracts);
     *totals = made;
     counted(ACCEPTED, count)
+}
+
+/// Puts tracts at the front of the room for them.
+pub(crate) fn put_tracts(figures: &[TractFigure], tracts: &mut [TownshipTract])
+    requires { length figures.now ≤ length tracts.old }
+    ensures length_is { length tracts.new ≡ length tracts.old }
+    ensures lines { flat_map line_of (take (length figures.now) tracts.new)
+        ≡ flat_map figure_line (take (length figures.now) figures.now) }
+    ensures plain { ArePlainTractsTo (length figures.now) figures.now tracts.new }
+    ensures ended { All HasEndedName (take (length figures.now) tracts.new) }
+    ensures kept { SameFrom tracts.old tracts.new (length figures.now) }
+{
+    for index in 0..figures.len() {
+        tracts[index] = tract_of(&figures[index]);
+    }
 }
 
 /// A tract as plain data.
 fn tract_of(figure: &TractFigure) -> TownshipTract
     ensures line { line_of result ≡ figure_line figure.now }
+    ensures plain { IsPlainTract figure.now result }
     ensures ended { HasEndedName result }
 {
     let name = figure.name();

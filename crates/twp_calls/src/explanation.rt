@@ -7,8 +7,8 @@ ghost use Rattle.twp_calls.specs.ExplanationParts.{other_record, shown_bytes, sh
 
 use std::alloc::{AllocError, Global};
 use twp_diagnose::{Explanation, Location, OtherPlace};
-use twp_doubts::Note;
 use twp_excerpt::{Parts, Span};
+use twp_explain::Note;
 use twp_read::{Description, TextFault};
 
 /// Nothing of the input is shown; a line is named; or bytes are underlined.

@@ -19,11 +19,14 @@ mod land_answers;
 mod land_parts;
 mod lot_answers;
 mod lots;
+mod lots_report_call;
 mod many;
 mod name;
 mod overlaps_call;
 mod plat;
 mod reading;
+mod suggesting;
+mod suggestion;
 mod text;
 mod verdict;
 mod version;
@@ -57,7 +60,10 @@ pub use lot_answers::{
     township_lots_read,
 };
 pub use lots::TownshipLots;
+pub use lots_report_call::township_lots_report;
 pub use many::township_acres_many;
 pub use overlaps_call::{TownshipOverlap, township_overlaps};
 pub use plat::TownshipPlat;
+pub use suggesting::township_suggest;
+pub use suggestion::{TownshipChange, TownshipReading, TownshipSuggestion};
 pub use writing::township_write_notes;

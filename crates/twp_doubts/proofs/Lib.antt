@@ -1,2 +1,1 @@
 pub mod DoubtFacts
-pub mod NoteFacts

@@ -4,4 +4,5 @@ pub mod ExplainedPlaces
 pub mod FoundFaults
 pub mod BlamedTracts
 pub mod OtherTracts
+pub mod ShownNotes
 pub mod steps

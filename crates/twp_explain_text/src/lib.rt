@@ -1,5 +1,6 @@
 //! Explanations of faults in descriptions: in a text that cannot be read, the sign at fault; in one that
-//! names no land on the plat, the item at fault; a sentence for each fault, and advice on how to correct it.
+//! names no land on the plat, the item at fault; a sentence for each fault, advice on how to correct it, and
+//! the reading of a text that has only one.
 #![tactic(auto)]
 
 mod places;

@@ -6,8 +6,10 @@ ghost use Rattle.twp_explain_text.specs.ShownPlaces.{ShowsAt};
 ghost use Rattle.twp_explain_text.specs.Underlined.{EndsAt, EndsWithSign};
 
 mod character;
+mod perhaps;
 
 use crate::text::character::write_not_allowed;
+use crate::text::perhaps::write_perhaps;
 use std::alloc::{AllocError, Global};
 use twp_diagnose::{Finding, Location, Origin, Surroundings};
 use twp_excerpt::{Span, write_escaped};
@@ -39,11 +41,15 @@ pub(crate) fn find(
     let mut sentence = String::new(alloc);
     write_sentence(&sight, fault, &mut sentence)?;
     let advice = advice_on(alloc, text, refusal, expected)?;
+    let mut help = advice.text;
+    if advice.corrected.is_none() {
+        write_perhaps(alloc, text, &mut help)?;
+    }
     Ok(Finding {
         refusal,
         place: place(origin, text, &sight, fault),
         sentence,
-        help: advice.text,
+        help,
         other: None,
         corrected: advice.corrected,
     })

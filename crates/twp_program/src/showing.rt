@@ -14,8 +14,7 @@ use crate::files::{OpenedNotes, OpenedText};
 use std::alloc::Global;
 use twp_acres::{Account, Verdict};
 use twp_diagnose::{Explanation, Given};
-use twp_doubts::{Note, note_land, note_list};
-use twp_explain::{explain_land, explain_list, explain_plat};
+use twp_explain::{Note, explain_land, explain_list, explain_plat, note_land, note_list};
 use twp_input::{Kept, split_at_line_feed};
 use twp_read::Clarity;
 

@@ -3,33 +3,46 @@
 //! a line for each of its assumptions.
 #![tactic(auto)]
 
+use bstr::ByteSlice;
+use std::alloc::{AllocError, Global};
 use std::io::{self, Read};
 use twp_excerpt::write_escaped;
 use twp_suggest::{Change, Rule, readings_of};
 
 fn main(rt: HostRuntime) -> io::Result<()> {
     let input = read_input(&rt)?;
-    let mut line = Vec::new(rt.alloc());
+    for line in input.as_slice().lines_with_terminator() {
+        if let [line @ .., b'\n'] = line {
+            let text = without_escapes(rt.alloc(), line)?;
+            print_readings(&rt, text.as_slice())?;
+        }
+    }
+    Ok(())
+}
+
+/// The text of a line, with a line feed for `\n` and a tab for `\t`.
+fn without_escapes(alloc: Global, line: &[u8]) -> Result<Vec<u8>, AllocError> {
+    let mut text = Vec::with_capacity(alloc, line.len())?;
+    if line.find_byte(b'\\').is_none() {
+        text.extend_from_slice(line)?;
+        return Ok(text);
+    }
     let mut is_escape = false;
-    for byte in input.as_slice() {
+    for byte in line {
         match *byte {
-            b'\n' => {
-                print_readings(&rt, line.as_slice())?;
-                line = Vec::new(rt.alloc());
-            }
-            b'n' if is_escape => line.push(b'\n')?,
-            b't' if is_escape => line.push(b'\t')?,
+            b'n' if is_escape => text.push(b'\n')?,
+            b't' if is_escape => text.push(b'\t')?,
             b'\\' if !is_escape => {}
             other => {
                 if is_escape {
-                    line.push(b'\\')?;
+                    text.push(b'\\')?;
                 }
-                line.push(other)?;
+                text.push(other)?;
             }
         }
         is_escape = *byte == b'\\' && !is_escape;
     }
-    Ok(())
+    Ok(text)
 }
 
 /// The bytes of standard input, at most 4 MiB.
@@ -74,8 +87,16 @@ fn print_assumption(rt: &HostRuntime, text: &[u8], change: &Change<'_>) -> io::R
     println!(rt; "  without `{shown}`: {what}")
 }
 
-/// Prints a text on a line.
+/// Prints a text on a line. Most are printed as they are.
 fn print_escaped(rt: &HostRuntime, text: &[u8]) -> io::Result<()> {
+    if text
+        .iter()
+        .all(|byte| matches!(*byte, b' '..=b'[' | b']'..=b'~'))
+    {
+        if let Ok(shown) = str::from_utf8(text) {
+            return rt.println(shown);
+        }
+    }
     let mut shown = String::new(rt.alloc());
     write_escaped(text, &mut shown)?;
     rt.println(shown.as_str())

@@ -16,11 +16,11 @@ use twp_grid::Refusal;
 use twp_read::{Description, TextFault};
 use twp_signs::Around;
 
-/// The most columns of a corrected text: a line has 100, of which its beginning takes 13.
-const WIDTH: usize = 87;
+/// The most columns of a description that ends the advice: a line has 100, of which its beginning takes 13.
+pub const TEXT_WIDTH: usize = 87;
 
-/// The most columns of the advice before a corrected text: two lines, which may be broken before long words.
-const ROOM: usize = 170;
+/// The most columns of the advice before a description: two lines, which may be broken before long words.
+pub const ADVICE_ROOM: usize = 170;
 
 /// What is said of land that isn't after its section, where no row says it.
 const LAND_FIRST: &str = "each section's land follows its number: sec. 14, ..; sec. 15, ..";
@@ -103,7 +103,7 @@ fn with_correction(alloc: Global, made: Corrected, words: String) -> Result<Advi
     let mut words = words;
     let is_shown = matches!(made.end, End::Read) && is_narrow(alloc, made.text.as_slice())?;
     let assumption = assumption_of(&made);
-    if !is_shown || columns_of(words.as_str()).saturating_add(assumption.len()) > ROOM {
+    if !is_shown || columns_of(words.as_str()).saturating_add(assumption.len()) > ADVICE_ROOM {
         return Ok(only_words(words));
     }
     let Some(text) = if_read(alloc, made.text)? else {
@@ -144,7 +144,7 @@ fn if_read(alloc: Global, text: Vec<u8>) -> Result<Option<Vec<u8>>, AllocError>
 fn is_narrow(alloc: Global, text: &[u8]) -> Result<bool, AllocError> {
     let mut shown = String::new(alloc);
     write_escaped(text, &mut shown)?;
-    Ok(columns_of(shown.as_str()) <= WIDTH)
+    Ok(columns_of(shown.as_str()) <= TEXT_WIDTH)
 }
 
 /// Appends the two readings of a corrected text, where they fit on their lines.

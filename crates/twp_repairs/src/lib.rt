@@ -13,4 +13,4 @@ mod places;
 mod rows;
 mod writing;
 
-pub use advice::{Advice, advice_on};
+pub use advice::{ADVICE_ROOM, Advice, TEXT_WIDTH, advice_on};

@@ -1,4 +1,5 @@
-pub mod SameTexts
-pub mod ChangeFacts
+pub mod TextFacts
+pub mod LandFacts
+pub mod NamedFacts
 pub mod ClearFacts
 pub mod ReadingFacts

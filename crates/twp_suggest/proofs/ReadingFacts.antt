@@ -6,6 +6,7 @@ use Rattle.std.proofs.lemmas.Bool.{false≢true}
 use Rattle.std.proofs.lemmas.List.Elements.{All-nil, All-push, All-cons}
 use Rattle.std.proofs.lemmas.List.Quantifiers.{all_pairs_push}
 use Rattle.twp_suggest.specs.declared.reading.Reading.{Reading}
+use Rattle.twp_suggest.specs.declared.manner.Manner.TheVariants.{Changed}
 use Rattle.twp_suggest.specs.Readings.{AreSomeReadings, AreReadings, IsReading, IsClear, AreOther}
 use Rattle.twp_suggest.specs.Readings.{READINGS_MOST}
 
@@ -41,12 +42,12 @@ one_more text before after new some is other room all =
 
 -- the text itself
 pub only_itself : (text : List ℕ) (readings : List Reading) (reading : Reading) → IsClear text
-    → reading.changes.items ≡ [] → reading.text.items ≡ text → readings ≡ reading ∷ []
-    → AreReadings text readings
-only_itself text readings reading clear unchanged same one =
+    → reading.changes.items ≡ [] → reading.text.items ≡ text → reading.manner ≡ Changed
+    → readings ≡ reading ∷ [] → AreReadings text readings
+only_itself text readings reading clear unchanged same manner one =
     let is : IsReading text reading = record {
       allowed = rw unchanged (omega arith);
-      made = rw unchanged same;
+      described = rw (unchanged, manner) same;
       accepted = rw same clear.accepted;
     } in
     subst (AreReadings text) (sym one) (record {

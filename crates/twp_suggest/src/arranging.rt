@@ -1,18 +1,19 @@
 //! How the phrases of a text go together: which land belongs to which section, and what is left out or moved.
 
-use crate::draft::{Draft, Form, Names, Phrase};
-use crate::pieces::plus;
-use crate::rule::Rule;
+use crate::plan::Plan;
 use std::alloc::{AllocError, Global};
+use std::mem;
 use twp_grammar::Kind;
+use twp_phrases::{Form, Names, Phrase, Span};
+use twp_pieces::plus;
 
 /// What becomes of a phrase.
 #[derive(Clone, Copy, PartialEq, Eq)]
 pub(crate) enum Role {
     /// It stays, in the group of a section, which is counted.
     Kept(usize),
-    /// It is left out by a rule.
-    LeftOut(Rule),
+    /// It is left out.
+    LeftOut,
 }
 
 /// A phrase with what becomes of it.
@@ -20,8 +21,8 @@ pub(crate) enum Role {
 pub(crate) struct Placed {
     pub(crate) phrase: Phrase,
     pub(crate) role: Role,
-    /// The phrase that is written before it, which names its section, and is left out where it is.
-    pub(crate) section: Option<Phrase>,
+    /// The numbers of its section, which is written before it: it is left out where it is, or the land is excepted.
+    pub(crate) section: Option<Span>,
 }
 
 /// A group of land: the section, and what is known of its land so far.
@@ -30,35 +31,42 @@ struct Group {
     section: Phrase,
     has_land: bool,
     has_part: bool,
+    /// Whether what follows is excepted.
+    is_excepting: bool,
+    /// Whether its parts are for each of several sections.
+    is_shared: bool,
 }
 
-impl<'a> Draft<'a> {
-    /// The phrases with what becomes of them.
+impl<'a> Plan<'a> {
+    /// The phrases with what becomes of them. They are no longer in the draft.
     pub(crate) fn arranged(&mut self, alloc: Global) -> Result<Vec<Placed>, AllocError> {
-        let mut list = Vec::new(alloc);
-        for phrase in &self.phrases {
+        let mut list = Vec::with_capacity(alloc, self.draft.phrases.len())?;
+        let first = self.first_of_land();
+        let phrases = mem::replace(&mut self.draft.phrases, Vec::new(alloc));
+        for phrase in phrases {
             let role = match phrase.names {
-                Names::Nothing(rule) => Role::LeftOut(rule),
+                Names::Nothing(_) => Role::LeftOut,
                 _ => Role::Kept(0),
             };
             list.push(Placed {
-                phrase: *phrase,
+                phrase,
                 role,
                 section: None,
             })?;
         }
         self.place_headings(&mut list);
-        match self.first_of_land() {
+        self.share_sections(&mut list);
+        match first {
             Some(Names::Sections) => self.place_land_after(&mut list),
             Some(_) => self.place_land_before(&mut list),
-            None => self.doubt(),
+            None => self.draft.doubt(),
         }
         Ok(list)
     }
 
     /// What the first phrase of a section and its land names.
     fn first_of_land(&self) -> Option<Names> {
-        for phrase in &self.phrases {
+        for phrase in &self.draft.phrases {
             if !matches!(phrase.names, Names::Nothing(_) | Names::Heading) {
                 return Some(phrase.names);
             }
@@ -78,7 +86,7 @@ impl<'a> Draft<'a> {
                     Some(other) => differ = differ || !self.are_same_headings(other, placed.phrase),
                 }
                 if !is_first {
-                    placed.role = Role::LeftOut(Rule::MovedHeading);
+                    placed.role = Role::LeftOut;
                 }
             }
             if !matches!(placed.phrase.names, Names::Nothing(_)) {
@@ -86,7 +94,7 @@ impl<'a> Draft<'a> {
             }
         }
         if differ {
-            self.doubt();
+            self.draft.doubt();
         }
     }
 
@@ -98,8 +106,8 @@ impl<'a> Draft<'a> {
 
     /// A number of a township and range, and the first letter of its side.
     pub(crate) fn tier_of(&self, heading: Phrase, index: usize) -> Option<(u16, u8)> {
-        let number = self.numbers.get(plus(heading.numbers.first, index))?;
-        let side = self.pieces.bytes(number.end).first()?;
+        let number = self.draft.numbers.get(plus(heading.numbers.first, index))?;
+        let side = self.draft.pieces.bytes(number.end).first()?;
         Some((number.value, side.to_ascii_uppercase()))
     }
 
@@ -109,19 +117,19 @@ impl<'a> Draft<'a> {
     }
 
     /// The number of a phrase, if it has only one.
-    fn only_number(&self, phrase: Phrase) -> Option<u16> {
-        if self.count_of(phrase) != 1 {
-            return None;
+    pub(crate) fn only_number(&self, numbers: Span) -> Option<u16> {
+        match self.draft.numbers.get(numbers.first..numbers.end) {
+            Some([number]) => Some(number.value),
+            _ => None,
         }
-        self.numbers
-            .get(phrase.numbers.first)
-            .map(|number| number.value)
     }
 
     /// Whether a range of numbers is in a phrase.
     fn has_range(&self, phrase: Phrase) -> bool {
         for index in phrase.first..phrase.end {
-            if matches!(self.pieces.kind(index), Kind::To) || self.pieces.is_dash(index) {
+            if matches!(self.draft.pieces.kind(index), Kind::To)
+                || self.draft.pieces.is_dash(index)
+            {
                 return true;
             }
         }
@@ -132,49 +140,116 @@ impl<'a> Draft<'a> {
     fn place_land_after(&mut self, list: &mut Vec<Placed>) {
         let mut group: Option<Group> = None;
         let mut count: usize = 0;
+        let mut is_first_excepted = false;
         let mut landless: usize = 0;
         let mut unsure = false;
         for placed in list.iter_mut() {
             let phrase = placed.phrase;
+            if let Some(before) = self.excepting(group, phrase) {
+                placed.role = Role::Kept(count);
+                if phrase.names == Names::Except {
+                    unsure = unsure || is_excepting(group) || self.count_of(before.section) > 1;
+                } else if is_first_excepted {
+                    placed.section = Some(before.section.numbers);
+                }
+                is_first_excepted = phrase.names == Names::Except;
+                group = Some(before);
+                continue;
+            }
             match (phrase.names, group) {
                 (Names::Nothing(_) | Names::Heading, _) => {}
                 (Names::Sections, Some(before))
                     if before.has_land && self.is_same_section(before.section, phrase) => {
-                    placed.role = Role::LeftOut(Rule::MovedSection);
+                    placed.role = Role::LeftOut;
                 }
                 (Names::Sections, before) => {
-                    unsure = unsure || !self.is_sure_group(before);
+                    unsure = unsure || !self.is_sure_group(before) || is_excepting(before);
                     landless = landless.saturating_add(usize::from(is_landless(before)));
                     count = count.saturating_add(1);
-                    placed.role = Role::Kept(count);
+                    if placed.role == Role::Kept(0) {
+                        placed.role = Role::Kept(count);
+                    }
                     group = Some(Group {
                         section: phrase,
                         has_land: false,
                         has_part: false,
+                        is_excepting: false,
+                        is_shared: false,
                     });
                 }
                 (names, Some(before)) => {
                     placed.role = Role::Kept(count);
+                    let is_shared = before.is_shared
+                        || (!before.has_land && placed.section.is_some());
+                    unsure = unsure || (is_shared && names != Names::Part);
                     group = Some(Group {
                         has_land: true,
                         has_part: before.has_part || names != Names::All,
+                        is_shared,
                         ..before
                     });
                 }
                 (_, None) => unsure = true,
             }
         }
-        unsure = unsure || !self.is_sure_group(group);
+        unsure = unsure || !self.is_sure_group(group) || is_first_excepted;
         landless = landless.saturating_add(usize::from(is_landless(group)));
         if unsure || (landless > 0 && landless < count && !self.are_set_apart(list)) {
-            self.doubt();
+            self.draft.doubt();
         }
+    }
+
+    /// Whether a phrase names the section that was named before, and no other.
+    fn is_again(&self, section: Option<Phrase>, phrase: Phrase) -> bool {
+        match section {
+            Some(section) => self.is_same_section(section, phrase),
+            None => false,
+        }
+    }
+
+    /// Leaves out several sections before a colon and aliquot parts, which are for each of them, and are written after
+    /// each.
+    fn share_sections(&mut self, list: &mut Vec<Placed>) {
+        let mut shared: Option<usize> = None;
+        for index in 0..list.len() {
+            let Some(phrase) = list.get(index).map(|placed| placed.phrase) else {
+                break;
+            };
+            match phrase.names {
+                Names::Sections => {
+                    let is_shared = self.count_of(phrase) > 1
+                        && !self.has_range(phrase)
+                        && matches!(self.draft.pieces.kind(phrase.end), Kind::Colon);
+                    shared = if is_shared { Some(index) } else { None };
+                }
+                Names::Nothing(_) | Names::Heading => {}
+                names => {
+                    if let (Some(sections), Names::Part) = (shared, names) {
+                        share(list, sections, index);
+                    }
+                    shared = None;
+                }
+            }
+        }
+    }
+
+    /// The group whose exception a phrase begins or continues, if it does.
+    fn excepting(&self, group: Option<Group>, phrase: Phrase) -> Option<Group> {
+        let group = group?;
+        let is_land = matches!(phrase.names, Names::Part | Names::Lots | Names::All);
+        if phrase.names == Names::Except || (group.is_excepting && is_land) {
+            return Some(Group {
+                is_excepting: true,
+                ..group
+            });
+        }
+        None
     }
 
     /// Whether two phrases name the same section, and no others.
     fn is_same_section(&self, one: Phrase, other: Phrase) -> bool {
-        let number = self.only_number(one);
-        number.is_some() && number == self.only_number(other)
+        let number = self.only_number(one.numbers);
+        number.is_some() && number == self.only_number(other.numbers)
     }
 
     /// Whether it is sure which land a group has: several sections have none, or all of it is said to be theirs.
@@ -188,7 +263,7 @@ impl<'a> Draft<'a> {
             && is_several
             && !group.has_land
             && self.has_range(group.section);
-        !(is_several && group.has_part) && !is_unsure_list
+        !(is_several && group.has_part && !group.is_shared) && !is_unsure_list
     }
 
     /// Whether semicolons separate each section from those before it.
@@ -216,7 +291,7 @@ impl<'a> Draft<'a> {
     /// Whether a semicolon is among some pieces.
     fn has_semicolon(&self, first: usize, end: usize) -> bool {
         for index in first..end {
-            if matches!(self.pieces.kind(index), Kind::Semicolon) {
+            if matches!(self.draft.pieces.kind(index), Kind::Semicolon) {
                 return true;
             }
         }
@@ -226,7 +301,7 @@ impl<'a> Draft<'a> {
     /// Whether a comma is among some pieces.
     fn has_comma(&self, first: usize, end: usize) -> bool {
         for index in first..end {
-            if matches!(self.pieces.kind(index), Kind::Comma) {
+            if matches!(self.draft.pieces.kind(index), Kind::Comma) {
                 return true;
             }
         }
@@ -241,6 +316,10 @@ impl<'a> Draft<'a> {
         let mut count: usize = 1;
         let mut has_comma = false;
         let mut unsure = false;
+        let mut section: Option<Phrase> = None;
+        let mut excepted: Option<usize> = None;
+        let mut is_excepting = false;
+        let mut is_ended = false;
         for index in 0..list.len() {
             let Some(placed) = list.get_mut(index) else {
                 break;
@@ -249,19 +328,54 @@ impl<'a> Draft<'a> {
             match phrase.names {
                 Names::Nothing(_) | Names::Heading => {}
                 Names::Sections => {
-                    placed.role = Role::LeftOut(Rule::MovedSection);
+                    placed.role = Role::LeftOut;
                     has_comma = has_comma || self.has_comma(last, phrase.first);
+                    last = phrase.first;
                     let is_several = self.count_of(phrase) > 1;
+                    let is_again = is_excepting && lands == 0 && self.is_again(section, phrase);
                     let land = first.and_then(|index| list.get_mut(index));
                     let is_all = lands == 1 && land_names(&land) == Some(Names::All);
-                    unsure = unsure || (is_several && (!is_all || self.has_range(phrase)));
+                    let is_each = lands == 1
+                        && !is_excepting
+                        && land_names(&land) == Some(Names::Part);
+                    unsure = unsure
+                        || (is_several && (!(is_all || is_each) || self.has_range(phrase)))
+                        || (is_ended && !is_again);
                     match land {
-                        Some(land) => land.section = Some(phrase),
-                        None => unsure = true,
+                        Some(land) => land.section = Some(phrase.numbers),
+                        None => unsure = unsure || !is_again,
                     }
+                    if is_excepting && !is_again {
+                        let land = excepted.and_then(|index| list.get_mut(index));
+                        match land {
+                            Some(land) => land.section = Some(phrase.numbers),
+                            None => unsure = true,
+                        }
+                    }
+                    is_ended = is_excepting;
+                    section = Some(phrase);
                     first = None;
                     lands = 0;
                     count = count.saturating_add(1);
+                }
+                Names::Except => {
+                    placed.role = Role::Kept(count);
+                    excepted = None;
+                    unsure = unsure || is_excepting;
+                    is_excepting = true;
+                    if lands == 0 {
+                        count = count.saturating_sub(1);
+                        placed.role = Role::Kept(count);
+                    }
+                }
+                _ if is_excepting => {
+                    placed.role = Role::Kept(count);
+                    if excepted.is_none() {
+                        excepted = Some(index);
+                        if lands == 0 {
+                            placed.section = section.map(|section| section.numbers);
+                        }
+                    }
                 }
                 _ => {
                     placed.role = Role::Kept(count);
@@ -271,8 +385,8 @@ impl<'a> Draft<'a> {
                 }
             }
         }
-        if unsure || lands > 0 || (has_comma && count > 2) {
-            self.doubt();
+        if unsure || lands > 0 || (has_comma && count > 2) || (is_excepting && excepted.is_none()) {
+            self.draft.doubt();
         }
     }
 }
@@ -290,5 +404,26 @@ fn is_landless(group: Option<Group>) -> bool {
     match group {
         Some(group) => !group.has_land,
         None => false,
+    }
+}
+
+/// Whether what follows a group is excepted from it.
+fn is_excepting(group: Option<Group>) -> bool {
+    match group {
+        Some(group) => group.is_excepting,
+        None => false,
+    }
+}
+
+/// Leaves out sections, which are written before a part, each with it.
+fn share(list: &mut Vec<Placed>, sections: usize, part: usize) {
+    let Some(phrase) = list.get(sections).map(|placed| placed.phrase) else {
+        return;
+    };
+    if let Some(placed) = list.get_mut(sections) {
+        placed.role = Role::LeftOut;
+    }
+    if let Some(placed) = list.get_mut(part) {
+        placed.section = Some(phrase.numbers);
     }
 }

@@ -1,60 +1,97 @@
-//! The candidates for readings: the changes of the whole text, with each joint between parts as a comma or as
-//! nothing.
+//! The candidates for readings: the changes of the whole text, with each joint read in one of its two ways.
 
-use crate::change::Change;
-use crate::draft::Draft;
-use crate::gaps::{Joint, Outline};
-use crate::judging::{Judged, judge};
-use crate::rule::Rule;
+use crate::gaps::{Outline, change};
+use crate::plan::Plan;
 use std::alloc::{AllocError, Global};
+use twp_pieces::plus;
+use twp_read::TEXT_LIMIT;
+use twp_rules::{Change, Rule};
 
 /// The most joints of a text whose readings are given: each doubles their number.
-const JOINTS_MOST: usize = 3;
+pub(crate) const JOINTS_MOST: usize = 3;
 
-/// The candidates for the readings of a text, in order: two parts before one. One that names some land twice is left
-/// out; if one of them names what no township has, there are none.
-pub(crate) fn candidates_of<'a>(
+/// The changes of a text, and its joints. None where nothing is sure.
+pub(crate) fn outline_of<'a>(
     alloc: Global,
     text: &'a [u8],
-) -> Result<Vec<Vec<Change<'a>>>, AllocError> {
-    let mut draft = Draft::new(alloc, text)?;
-    draft.find_phrases()?;
-    let arranged = draft.arranged(alloc)?;
-    let outline = draft.outline(alloc, arranged.as_slice())?;
-    let joints = outline.joints.len();
-    if draft.is_unsure || joints > JOINTS_MOST {
-        return Ok(Vec::new(alloc));
+) -> Result<Option<Outline<'a>>, AllocError> {
+    if text.len() > TEXT_LIMIT {
+        return Ok(None);
     }
-    let choices: [usize; 4] = [1, 2, 4, 8];
-    let count = choices.get(joints).copied().unwrap_or(0);
-    land_among(alloc, text, &outline, count)
+    let mut plan = Plan::of(alloc, text)?;
+    if plan.draft.is_unsure {
+        return Ok(None);
+    }
+    let arranged = plan.arranged(alloc)?;
+    if plan.draft.is_unsure || !plan.claims_hold(alloc, arranged.as_slice())? {
+        return Ok(None);
+    }
+    let outline = plan.outline(alloc, arranged.as_slice())?;
+    if plan.draft.is_unsure {
+        return Ok(None);
+    }
+    Ok(Some(outline))
 }
 
-/// The candidates, by their choices, that name land.
-fn land_among<'a>(
-    alloc: Global,
-    text: &'a [u8],
-    outline: &Outline<'a>,
-    count: usize,
-) -> Result<Vec<Vec<Change<'a>>>, AllocError> {
-    let mut list = Vec::new(alloc);
-    for choice in 0..count {
-        let changes = with_joints(alloc, outline, choice)?;
-        let made = made_by(alloc, text, changes.as_slice())?;
-        let judged = judge(alloc, made.as_slice())?;
-        if judged == Judged::Refused {
-            return Ok(Vec::new(alloc));
+impl<'a> Outline<'a> {
+    /// How many candidates there are.
+    pub(crate) fn candidates(&self) -> usize {
+        let choices: [usize; 4] = [1, 2, 4, 8];
+        choices.get(self.joints.len()).copied().unwrap_or(0)
+    }
+
+    /// The changes of the candidate with a number, whose binary digits are the ways of the joints. The first way of each
+    /// joint comes before the second.
+    pub(crate) fn changes_of(
+        &self,
+        alloc: Global,
+        number: usize,
+    ) -> Result<Vec<Change<'a>>, AllocError> {
+        let mut changes = Vec::with_capacity(alloc, self.changes.len())?;
+        let mut from: usize = 0;
+        let mut digits = number;
+        for joint in &self.joints {
+            add_changes(
+                &mut changes,
+                self.changes.get(from..joint.changes).unwrap_or(&[]),
+            )?;
+            let way = if digits % 2 == 0 {
+                joint.first
+            } else {
+                joint.second
+            };
+            add_changes(
+                &mut changes,
+                self.options.get(way.first..way.end).unwrap_or(&[]),
+            )?;
+            from = joint.changes;
+            digits /= 2;
         }
-        if judged == Judged::Overlapping {
+        add_changes(&mut changes, self.changes.get(from..).unwrap_or(&[]))?;
+        Ok(changes)
+    }
+}
+
+/// Adds changes to others. Each byte of white space within a part is left out by a change of its own.
+fn add_changes<'a>(changes: &mut Vec<Change<'a>>, more: &[Change<'a>]) -> Result<(), AllocError> {
+    for new in more {
+        if new.rule != Rule::OnePart {
+            changes.push(*new)?;
             continue;
         }
-        list.push(changes)?;
+        for place in new.start..new.end {
+            changes.push(change(place, plus(place, 1), b"", Rule::OnePart))?;
+        }
     }
-    Ok(list)
+    Ok(())
 }
 
-/// The text that changes make.
-fn made_by(alloc: Global, text: &[u8], changes: &[Change<'_>]) -> Result<Vec<u8>, AllocError> {
+/// The text that changes make, whether or not their rules allow them.
+pub(crate) fn made_by(
+    alloc: Global,
+    text: &[u8],
+    changes: &[Change<'_>],
+) -> Result<Vec<u8>, AllocError> {
     let mut made = Vec::new(alloc);
     let mut at: usize = 0;
     for change in changes {
@@ -64,43 +101,4 @@ fn made_by(alloc: Global, text: &[u8], changes: &[Change<'_>]) -> Result<Vec<u8>
     }
     made.extend_from_slice(text.get(at..).unwrap_or(b""))?;
     Ok(made)
-}
-
-/// The changes with those of the joints by a choice, whose binary digits are theirs.
-fn with_joints<'a>(
-    alloc: Global,
-    outline: &Outline<'a>,
-    choice: usize,
-) -> Result<Vec<Change<'a>>, AllocError> {
-    let mut changes = Vec::new(alloc);
-    let mut from: usize = 0;
-    let mut digits = choice;
-    for joint in &outline.joints {
-        let some = outline.changes.get(from..joint.changes).unwrap_or(&[]);
-        changes.extend_from_slice(some)?;
-        changes.push(change_of(*joint, digits % 2 == 0))?;
-        from = joint.changes;
-        digits /= 2;
-    }
-    changes.extend_from_slice(outline.changes.get(from..).unwrap_or(&[]))?;
-    Ok(changes)
-}
-
-/// The change at a joint, for two parts or for one.
-fn change_of<'a>(joint: Joint, are_two: bool) -> Change<'a> {
-    let Joint { start, end, .. } = joint;
-    if are_two {
-        return Change {
-            start,
-            end: start,
-            written: b",",
-            rule: Rule::Comma,
-        };
-    }
-    Change {
-        start,
-        end,
-        written: b"",
-        rule: Rule::OnePart,
-    }
 }

@@ -1,31 +1,47 @@
 //! What is written between phrases: commas, semicolons, and nothing.
 
 use crate::arranging::{Placed, Role};
-use crate::change::Change;
-use crate::draft::{Draft, Names, Phrase};
+use crate::candidates::JOINTS_MOST;
 use crate::joining::{Between, Gap, Joining, is_joint, is_written, mark_between};
-use crate::pieces::plus;
-use crate::rule::Rule;
+use crate::plan::Plan;
 use std::alloc::{AllocError, Global};
 use twp_grammar::Kind;
+use twp_phrases::{Form, Names, Phrase, Span};
+use twp_pieces::plus;
+use twp_rules::{Change, Rule};
 
-/// White space between two parts, which are two, or one.
+/// A place that can be read in two ways: between two parts, which are two, or one, and before or after an `of`.
 #[derive(Clone, Copy)]
 pub(crate) struct Joint {
     /// How many changes are before it.
     pub(crate) changes: usize,
-    pub(crate) start: usize,
-    pub(crate) end: usize,
+    /// The changes by the first way, among the options.
+    pub(crate) first: Span,
+    /// The changes by the second way.
+    pub(crate) second: Span,
 }
 
-/// The changes of a whole text, but for its joints.
+/// Which steps of one of two parts may be for both.
+#[derive(Clone, Copy, PartialEq, Eq)]
+enum Shared {
+    Nothing,
+    /// Those after the `of` of the second part.
+    Tail,
+    /// Those before the `of` of the first part.
+    Head,
+}
+
+/// The changes of a whole text, but for its joints, and those at its joints.
 #[derive(Drop)]
 pub(crate) struct Outline<'a> {
     pub(crate) changes: Vec<Change<'a>>,
     pub(crate) joints: Vec<Joint>,
+    pub(crate) options: Vec<Change<'a>>,
+    /// Whether there is an exception.
+    pub(crate) has_except: bool,
 }
 
-impl<'a> Draft<'a> {
+impl<'a> Plan<'a> {
     /// The changes of the whole text, from left to right.
     pub(crate) fn outline(
         &mut self,
@@ -33,8 +49,10 @@ impl<'a> Draft<'a> {
         list: &[Placed],
     ) -> Result<Outline<'a>, AllocError> {
         let mut out = Outline {
-            changes: Vec::new(alloc),
+            changes: Vec::with_capacity(alloc, plus(self.draft.changes.len(), list.len()))?,
             joints: Vec::new(alloc),
+            options: Vec::new(alloc),
+            has_except: has_except(list),
         };
         let mut before: Option<Placed> = None;
         let mut next: usize = 0;
@@ -43,6 +61,9 @@ impl<'a> Draft<'a> {
             let Some(placed) = list.get(index).copied() else {
                 break;
             };
+            if self.draft.is_unsure {
+                break;
+            }
             let Role::Kept(_) = placed.role else {
                 continue;
             };
@@ -51,78 +72,37 @@ impl<'a> Draft<'a> {
             if before.is_none() {
                 self.write_heading(heading, placed, &mut out)?;
             }
-            self.write_section(placed, &mut out)?;
+            self.write_section(alloc, placed, list.get(index..).unwrap_or(&[]), &mut out)?;
             self.copy_changes(placed.phrase, &mut out)?;
             before = Some(placed);
             next = plus(index, 1);
         }
         let left_out = list.get(next..).unwrap_or(&[]);
+        if left_out.is_empty() && self.may_be_cut_off(before) {
+            self.draft.doubt();
+        }
         self.write_gap(before, None, left_out, &mut out)?;
         Ok(out)
     }
 
-    /// The township and range that have to be written first, if they aren't.
-    fn moved_heading(&self, list: &[Placed]) -> Option<Phrase> {
-        for placed in list {
-            if placed.phrase.names == Names::Heading {
-                return match placed.role {
-                    Role::Kept(_) => None,
-                    Role::LeftOut(_) => Some(placed.phrase),
-                };
+    /// Whether a mark after the last phrase says that more follows, which may have been cut off.
+    fn may_be_cut_off(&self, last: Option<Placed>) -> bool {
+        let first = last.map_or(0, |placed| placed.phrase.end);
+        for index in first..self.draft.pieces.len() {
+            if matches!(self.draft.pieces.kind(index), Kind::Comma | Kind::Colon)
+                || self.draft.pieces.is(index, b"&")
+                || self.draft.pieces.is_dash(index)
+            {
+                return true;
             }
         }
-        None
-    }
-
-    /// Writes the township and range before the first phrase.
-    fn write_heading(
-        &mut self,
-        heading: Option<Phrase>,
-        placed: Placed,
-        out: &mut Outline<'a>,
-    ) -> Result<(), AllocError> {
-        let Some(heading) = heading else {
-            return Ok(());
-        };
-        let from = self.extent();
-        let first = self.changes.len();
-        let place = self.pieces.start(placed.phrase.first);
-        self.copy_heading(place, heading)?;
-        out.changes
-            .extend_from_slice(self.changes.get(first..).unwrap_or(&[]))?;
-        self.shrink(from);
-        Ok(())
-    }
-
-    /// Writes the section before its first land, where it isn't there.
-    fn write_section(&mut self, placed: Placed, out: &mut Outline<'a>) -> Result<(), AllocError> {
-        let Some(section) = placed.section else {
-            return Ok(());
-        };
-        let from = self.extent();
-        let first = self.changes.len();
-        let place = self.pieces.start(placed.phrase.first);
-        let numbers = section.numbers.first..section.numbers.end;
-        let is_one = numbers.end.saturating_sub(numbers.start) == 1;
-        let word: &'static [u8] = if is_one { b"sec. " } else { b"secs. " };
-        self.write(place, place, word, Rule::SectionWord)?;
-        for index in numbers {
-            if let Some(number) = self.numbers.get(index).copied() {
-                self.copy_numeral(place, number, 0)?;
-                self.write(place, place, b", ", Rule::Comma)?;
-            }
-        }
-        out.changes
-            .extend_from_slice(self.changes.get(first..).unwrap_or(&[]))?;
-        self.shrink(from);
-        Ok(())
+        false
     }
 
     /// The changes in a phrase.
     fn copy_changes(&self, phrase: Phrase, out: &mut Outline<'a>) -> Result<(), AllocError> {
         let span = phrase.changes;
-        out.changes
-            .extend_from_slice(self.changes.get(span.first..span.end).unwrap_or(&[]))
+        out.changes.extend_from_slice(self.draft.changes.get(span.first..span.end).unwrap_or(&[]))
     }
 
     /// Writes what has to be between two phrases, and leaves out what is between them.
@@ -135,18 +115,44 @@ impl<'a> Draft<'a> {
     ) -> Result<(), AllocError> {
         let gap = Gap {
             first: before.map_or(0, |placed| placed.phrase.end),
-            end: after.map_or(self.pieces.len(), |placed| placed.phrase.first),
+            end: after.map_or(self.draft.pieces.len(), |placed| placed.phrase.first),
             between: mark_between(before, after),
         };
         let joining = self.joining(gap, left_out);
         if let (Some(one), Some(other)) = (before, after) {
-            if self.is_unsure_gap(one, other, joining, left_out) {
-                self.doubt();
+            if one.phrase.names == Names::Except || other.phrase.names == Names::Except {
+                return self.write_pieces(gap, left_out, Some(gap.end), false, out);
             }
-            if is_joint(one, other) && joining == Joining::Nothing && left_out.is_empty() {
-                return self.write_joint(one.phrase, other.phrase, out);
+            let shared = self.shared_of(one, other, joining, out);
+            match shared {
+                Shared::Nothing if self.is_unsure_gap(one, other, joining, left_out) => {
+                    self.draft.doubt();
+                }
+                Shared::Tail => self.write_tail(one.phrase, other.phrase, out)?,
+                Shared::Head => {
+                    self.write_between(before, after, gap, left_out, joining, out)?;
+                    return self.write_head(one.phrase, other.phrase, out);
+                }
+                _ => {}
+            }
+            let is_apart = matches!(joining, Joining::Nothing | Joining::Stop);
+            if is_joint(one, other) && is_apart && left_out.is_empty() {
+                return self.write_joint(gap, one.phrase, other.phrase, out);
             }
         }
+        self.write_between(before, after, gap, left_out, joining, out)
+    }
+
+    /// Writes what has to be between two phrases, if it isn't written so.
+    fn write_between(
+        &mut self,
+        before: Option<Placed>,
+        after: Option<Placed>,
+        gap: Gap,
+        left_out: &[Placed],
+        joining: Joining,
+        out: &mut Outline<'a>,
+    ) -> Result<(), AllocError> {
         if is_written(before, after, gap.between, joining) {
             return self.write_pieces(gap, left_out, None, false, out);
         }
@@ -156,22 +162,129 @@ impl<'a> Draft<'a> {
         self.write_mark(gap, left_out, out)
     }
 
-    /// Notes a joint between two parts. A half beside itself is not sure.
+    /// Notes a joint between two parts: a comma is written, or all that is between them is left out. A half beside itself
+    /// is not sure.
     fn write_joint(
+        &mut self,
+        gap: Gap,
+        one: Phrase,
+        other: Phrase,
+        out: &mut Outline<'a>,
+    ) -> Result<(), AllocError> {
+        let is_half = match self.draft.steps_of(one) {
+            [step] => step.written.ends_with(b"2"),
+            _ => false,
+        };
+        if is_half && self.draft.have_same_steps(one, other) {
+            self.draft.doubt();
+        }
+        let start = self.draft.pieces.end_before(gap.first);
+        let end = self.draft.pieces.start(gap.end);
+        let begin = out.options.len();
+        let stop = if gap.end > gap.first {
+            self.draft.pieces.start(gap.first)
+        } else {
+            start
+        };
+        let stop_end = if gap.end > gap.first {
+            plus(stop, 1)
+        } else {
+            stop
+        };
+        out.options.push(change(stop, stop_end, b",", Rule::Comma))?;
+        let middle = out.options.len();
+        if start < end {
+            out.options.push(change(start, end, b"", Rule::OnePart))?;
+        }
+        self.note_joint(begin, middle, out)
+    }
+
+    /// Notes a joint whose options are from one index on, and those of the second way from another. A text with too many
+    /// isn't sure.
+    fn note_joint(
+        &mut self,
+        begin: usize,
+        middle: usize,
+        out: &mut Outline<'a>,
+    ) -> Result<(), AllocError> {
+        if out.joints.len() >= JOINTS_MOST {
+            self.draft.doubt();
+        }
+        out.joints.push(Joint {
+            changes: out.changes.len(),
+            first: Span {
+                first: begin,
+                end: middle,
+            },
+            second: Span {
+                first: middle,
+                end: out.options.len(),
+            },
+        })?;
+        Ok(())
+    }
+
+    /// Which steps of one of two parts with `and` between them may be for both.
+    fn shared_of(&self, one: Placed, other: Placed, joining: Joining, out: &Outline<'a>) -> Shared {
+        let (before, after) = (one.phrase, other.phrase);
+        let is_and = joining == Joining::And
+            || (joining == Joining::Other && self.draft.pieces.is(before.end, b"&"));
+        let is_close = after.first <= plus(before.end, 1) && out.joints.len() <= 1;
+        if !is_joint(one, other) || !is_and || !is_close || before.form == after.form {
+            return Shared::Nothing;
+        }
+        if after.form == Form::WithOf {
+            Shared::Tail
+        } else {
+            Shared::Head
+        }
+    }
+
+    /// Notes that the `of` of a part may be for the one before it too.
+    fn write_tail(
         &mut self,
         one: Phrase,
         other: Phrase,
         out: &mut Outline<'a>,
     ) -> Result<(), AllocError> {
-        let steps = one.steps.end.saturating_sub(one.steps.first);
-        if steps == 1 && self.have_same_steps(one, other) {
-            self.doubt();
+        let begin = out.options.len();
+        let place = self.draft.pieces.end_before(one.end);
+        self.copy_steps_of(other, true, place, out)?;
+        self.note_joint(begin, begin, out)
+    }
+
+    /// Notes that the steps before the `of` of a part may be for the one after it too.
+    fn write_head(
+        &mut self,
+        one: Phrase,
+        other: Phrase,
+        out: &mut Outline<'a>,
+    ) -> Result<(), AllocError> {
+        let begin = out.options.len();
+        let place = match self.draft.steps_of(other) {
+            [step, ..] => step.start,
+            [] => self.draft.pieces.start(other.first),
+        };
+        self.copy_steps_of(one, false, place, out)?;
+        self.note_joint(begin, begin, out)
+    }
+
+    /// Writes the steps of a part after its first `of`, or those before it, at a place where they aren't.
+    fn copy_steps_of(
+        &self,
+        part: Phrase,
+        is_after_of: bool,
+        place: usize,
+        out: &mut Outline<'a>,
+    ) -> Result<(), AllocError> {
+        let mut is_after = false;
+        for step in self.draft.steps_of(part) {
+            is_after = is_after || step.is_after_of;
+            if is_after == is_after_of {
+                let rule = Rule::CopiedStep(step.start, step.end);
+                out.options.push(change(place, place, step.written, rule))?;
+            }
         }
-        out.joints.push(Joint {
-            changes: out.changes.len(),
-            start: self.pieces.end_before(one.end),
-            end: self.pieces.start(other.first),
-        })?;
         Ok(())
     }
 
@@ -183,22 +296,17 @@ impl<'a> Draft<'a> {
         out: &mut Outline<'a>,
     ) -> Result<(), AllocError> {
         let is_comma = gap.between == Between::Comma;
-        let texts = if is_comma {
-            ", ; : . & - \u{2013} \u{2014}"
-        } else {
-            ", ; : . & -"
-        };
         let end = match left_out.first() {
             Some(placed) => placed.phrase.first,
             None => gap.end,
         };
         for index in gap.first..end {
-            if self.pieces.is(index, texts) {
+            if self.may_be_mark(index, is_comma) {
                 return self.write_pieces(gap, left_out, Some(index), is_comma, out);
             }
         }
-        let place = self.pieces.end_before(gap.first);
-        let is_apart = self.pieces.start(gap.first) > place;
+        let place = self.draft.pieces.end_before(gap.first);
+        let is_apart = self.draft.pieces.start(gap.first) > place;
         let (written, rule): (&'static [u8], Rule) = match (is_comma, is_apart) {
             (true, true) => (b",", Rule::Comma),
             (true, false) => (b", ", Rule::Comma),
@@ -238,7 +346,7 @@ impl<'a> Draft<'a> {
                 continue;
             }
             if self.is_word(index) && !self.may_leave_out(index, gap, rest) {
-                self.doubt();
+                self.draft.doubt();
             }
             match mark {
                 None => {}
@@ -249,9 +357,23 @@ impl<'a> Draft<'a> {
         Ok(())
     }
 
+    /// Whether a comma or a semicolon may be written instead of a piece.
+    fn may_be_mark(&self, index: usize, is_comma: bool) -> bool {
+        match self.draft.pieces.lower(index) {
+            b"," | b";" | b":" | b"." | b"&" | b"-" => true,
+            b"\xE2\x80\x93" | b"\xE2\x80\x94" => is_comma,
+            _ => false,
+        }
+    }
+
     /// Whether a piece is a word.
     fn is_word(&self, index: usize) -> bool {
-        self.pieces.is(index, "of the in said and &")
+        (self.draft.pieces.is(index, b"of")
+            || self.draft.pieces.is(index, b"the")
+            || self.draft.pieces.is(index, b"in")
+            || self.draft.pieces.is(index, b"said")
+            || self.draft.pieces.is(index, b"and")
+            || self.draft.pieces.is(index, b"&"))
     }
 
     /// Whether a word between phrases means nothing there: before a section or a township and range that is left out,
@@ -267,29 +389,37 @@ impl<'a> Draft<'a> {
             [placed, ..] => {
                 let is_next = placed.phrase.first == after || placed.phrase.first == plus(index, 1);
                 let is_moved = matches!(placed.phrase.names, Names::Sections | Names::Heading);
-                is_next && is_moved && !self.pieces.is(index, "and &")
+                is_next
+                    && is_moved
+                    && !(self.draft.pieces.is(index, b"and") || self.draft.pieces.is(index, b"&"))
             }
             [] => false,
         };
         let is_between = gap.between != Between::Nothing && gap.first > 0;
-        let is_and = self.pieces.is(index, "and &") && is_between && rest.is_empty();
-        let is_the = self.pieces.is(index, "the said") && gap.end > index && rest.is_empty();
+        let is_and = (self.draft.pieces.is(index, b"and") || self.draft.pieces.is(index, b"&"))
+            && is_between
+            && rest.is_empty();
+        let is_the = (self.draft.pieces.is(index, b"the") || self.draft.pieces.is(index, b"said"))
+            && gap.end > index
+            && rest.is_empty();
         is_before_moved || is_and || is_the || gap.first == 0
     }
 
     /// Leaves out a phrase, with the white space before it, but for words that a rule looks at as a whole.
     fn write_left_out(&mut self, placed: Placed, out: &mut Outline<'a>) -> Result<(), AllocError> {
-        let Role::LeftOut(rule) = placed.role else {
-            return Ok(());
+        let rule = match placed.phrase.names {
+            Names::Nothing(rule) => rule,
+            Names::Heading => Rule::MovedHeading,
+            _ => Rule::MovedSection,
         };
         let first = placed.phrase.first;
         let start = match rule {
-            Rule::Heading | Rule::Label => self.pieces.start(first),
-            _ => self.pieces.end_before(first),
+            Rule::Heading | Rule::Label => self.draft.pieces.start(first),
+            _ => self.draft.pieces.end_before(first),
         };
         out.changes.push(Change {
             start,
-            end: self.pieces.end_before(placed.phrase.end),
+            end: self.draft.pieces.end_before(placed.phrase.end),
             written: b"",
             rule,
         })?;
@@ -308,7 +438,7 @@ impl<'a> Draft<'a> {
         } else {
             (b";", Rule::Semicolon)
         };
-        if self.pieces.bytes(index) == written {
+        if self.draft.pieces.bytes(index) == written {
             return Ok(());
         }
         self.write_piece(index, written, rule, out)
@@ -317,7 +447,7 @@ impl<'a> Draft<'a> {
     /// Leaves out a piece.
     fn write_nothing(&self, index: usize, out: &mut Outline<'a>) -> Result<(), AllocError> {
         let is_mark = !matches!(
-            self.pieces.kind(index),
+            self.draft.pieces.kind(index),
             Kind::And | Kind::Of | Kind::The | Kind::Other
         );
         let rule = if is_mark { Rule::Mark } else { Rule::Word };
@@ -333,11 +463,31 @@ impl<'a> Draft<'a> {
         out: &mut Outline<'a>,
     ) -> Result<(), AllocError> {
         out.changes.push(Change {
-            start: self.pieces.start(index),
-            end: self.pieces.end(index),
+            start: self.draft.pieces.start(index),
+            end: self.draft.pieces.end(index),
             written,
             rule,
         })?;
         Ok(())
+    }
+}
+
+/// Whether a phrase begins an exception.
+fn has_except(list: &[Placed]) -> bool {
+    for placed in list {
+        if placed.phrase.names == Names::Except {
+            return true;
+        }
+    }
+    false
+}
+
+/// A change.
+pub(crate) fn change<'a>(start: usize, end: usize, written: &'a [u8], rule: Rule) -> Change<'a> {
+    Change {
+        start,
+        end,
+        written,
+        rule,
     }
 }

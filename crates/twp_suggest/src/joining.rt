@@ -1,8 +1,9 @@
 //! What joins two phrases, and whether it is sure what that means.
 
 use crate::arranging::{Placed, Role};
-use crate::draft::{Draft, Names, Phrase};
+use crate::plan::Plan;
 use twp_grammar::Kind;
+use twp_phrases::{Names, Phrase};
 
 /// What has to be between two phrases.
 #[derive(Clone, Copy, PartialEq, Eq)]
@@ -35,7 +36,7 @@ pub(crate) enum Joining {
     Other,
 }
 
-impl<'a> Draft<'a> {
+impl<'a> Plan<'a> {
     /// What joins the phrases before a gap and after it.
     pub(crate) fn joining(&self, gap: Gap, left_out: &[Placed]) -> Joining {
         let mut joining = Joining::Nothing;
@@ -49,7 +50,7 @@ impl<'a> Draft<'a> {
                 }
             }
             if index >= next {
-                joining = joined_with(joining, self.pieces.kind(index));
+                joining = joined_with(joining, self.draft.pieces.kind(index));
             }
         }
         joining
@@ -72,19 +73,39 @@ impl<'a> Draft<'a> {
         }
         let are_parts = before.names == Names::Part && after.names == Names::Part;
         match joining {
-            Joining::Nothing => !(are_parts && left_out.is_empty()) && !has_section(left_out),
-            Joining::Stop | Joining::Colon => true,
+            Joining::Nothing if are_parts && left_out.is_empty() => self.are_bare_cells(
+                before, after,
+            ),
+            Joining::Nothing => !has_section(left_out),
+            Joining::Stop => !(are_parts && left_out.is_empty()),
+            Joining::Colon => true,
             Joining::And => are_parts && before.form != after.form,
             Joining::Other => self.is_unsure_list(before, after),
             _ => false,
         }
     }
 
+    /// Whether two corners without a fraction are in cells of their own: the second may be a part of the first.
+    fn are_bare_cells(&self, before: Phrase, after: Phrase) -> bool {
+        self.draft.pieces.has_tab_before(after.first)
+            && matches!(
+                self.draft.pieces.kind(before.end.saturating_sub(1)),
+                Kind::Corner(_)
+            )
+            && matches!(
+                self.draft.pieces.kind(after.end.saturating_sub(1)),
+                Kind::Corner(_)
+            )
+    }
+
     /// Whether other pieces than commas and semicolons between two lands may mean something else: only an ampersand
     /// doesn't, between parts that both have an `of`, or none.
     fn is_unsure_list(&self, before: Phrase, after: Phrase) -> bool {
         for index in before.end..after.first {
-            if !self.pieces.is(index, "& , ;") {
+            if !(self.draft.pieces.is(index, b"&")
+                || self.draft.pieces.is(index, b",")
+                || self.draft.pieces.is(index, b";"))
+            {
                 return true;
             }
         }

@@ -1,30 +1,22 @@
 //! Readings of what people write as descriptions of land: which bytes of a text are left out, which are written
-//! instead, by which rule, and the description that this makes.
+//! instead, by which rule, and the description that comes of this.
 #![tactic(auto)]
 
-mod allowed;
 mod arranging;
-mod asides;
 mod candidates;
-mod change;
-mod draft;
-mod endings;
+mod claims;
+mod described;
 mod gaps;
-mod headings;
 mod joining;
-mod judging;
-mod labels;
-mod numbered;
-mod numerals;
-mod parts;
-mod phrases;
-mod pieces;
+mod manner;
+mod moved;
+mod named;
+mod on_plat;
+mod plan;
 mod reading;
-mod registers;
-mod rule;
-mod same;
-mod tables;
+mod unread;
 
-pub use change::Change;
+pub use manner::Manner;
 pub use reading::{Reading, readings_of};
-pub use rule::Rule;
+pub use twp_pieces::{Beyond, beyond_of};
+pub use twp_rules::{Change, Rule};

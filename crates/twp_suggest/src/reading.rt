@@ -3,17 +3,23 @@ ghost use Rattle.std.specs.Prelude.{◌≡◌, ◌↔◌, true, IsTrue, IfOk, If
 ghost use Rattle.twp_suggest.specs.Readings.{AreReadings, IsReading, IsAccepted, IsClear, AreOther};
 ghost use Rattle.twp_suggest.specs.Readings.{MayBeAdded};
 
-use crate::candidates::candidates_of;
-use crate::change::{Change, are_changes, changed};
+use crate::candidates::{made_by, outline_of};
+use crate::described::{Wording, described};
+use crate::manner::Manner;
+use crate::on_plat::{land_on, township_of};
+use crate::unread::Unread;
 use std::alloc::{AllocError, Global};
 use twp_doubts::doubts_in;
-use twp_read::{Clarity, Description, TextFault};
+use twp_land::{Land, Lanes};
+use twp_read::{Clarity, Description};
+use twp_rules::{Change, are_changes, changed};
 
-/// A reading of a text: the changes, from left to right, and the description that they make.
+/// A reading of a text: the changes, from left to right, and the description that comes of them.
 #[derive(Drop)]
 pub struct Reading<'a> {
     pub changes: Vec<Change<'a>>,
     pub text: Vec<u8>,
+    pub manner: Manner,
 }
 
 /// The most readings that are given.
@@ -28,24 +34,40 @@ pub fn readings_of<'a>(alloc: Global, text: &'a [u8]) -> Result<Vec<Reading<'a>>
     if is_clear(alloc, text)? {
         return itself(alloc, text);
     }
-    let list = candidates_of(alloc, text)?;
+    let Some(outline) = outline_of(alloc, text)? else {
+        return Ok(Vec::new(alloc));
+    };
+    let mut land = Lanes::empty();
     let mut readings = Vec::new(alloc);
-    for changes in list {
-        let reading = reading_with(alloc, text, changes)?;
-        add(&mut readings, reading)?;
+    for number in 0..outline.candidates() {
+        let changes = outline.changes_of(alloc, number)?;
+        let found = match reading_with(alloc, text, changes, outline.has_except, &mut land) {
+            Ok(found) => found,
+            Err(Unread::Refused) => return Ok(Vec::new(alloc)),
+            Err(Unread::Memory) => return Err(AllocError),
+        };
+        let Some(reading) = found else {
+            continue;
+        };
+        add(alloc, &mut readings, reading)?;
     }
     Ok(readings)
 }
 
-/// Adds a reading to others, if there is one, and room for it, and none of them has its text.
+/// Adds a reading to others, if there is room for it, and each of them has other land.
 #[tactic(auto, using(crate::proofs::ReadingFacts::one_more))]
-fn add<'a>(readings: &mut Vec<Reading<'a>>, new: Option<Reading<'a>>) -> Result<(), AllocError>
+fn add<'a>(
+    alloc: Global,
+    readings: &mut Vec<Reading<'a>>,
+    new: Reading<'a>,
+) -> Result<(), AllocError>
     ensures { IfOk result (λ _. MayBeAdded new.entry readings.old.items readings.new.items) }
 {
-    let Some(new) = new else {
+    if readings.len() >= READINGS_MOST {
         return Ok(());
-    };
-    if readings.len() >= READINGS_MOST || !is_other(readings.as_slice(), &new) {
+    }
+    let is_new = is_other(alloc, readings.as_slice(), &new)?;
+    if !is_new {
         return Ok(());
     }
     readings.push(new)?;
@@ -64,6 +86,7 @@ fn itself<'a>(alloc: Global, text: &'a [u8]) -> Result<Vec<Reading<'a>>, AllocEr
     readings.push(Reading {
         changes: Vec::new(alloc),
         text: copy,
+        manner: Manner::Changed,
     })?;
     Ok(readings)
 }
@@ -97,53 +120,71 @@ fn has_no_doubt(alloc: Global, text: &[u8]) -> Result<bool, AllocError>
     }
 }
 
-/// The reading that changes make, if they are allowed and the reader accepts what they make.
+/// The reading that changes make, if they are allowed and the reader accepts what they make. None if that names some
+/// land twice.
 fn reading_with<'a>(
     alloc: Global,
     text: &'a [u8],
     changes: Vec<Change<'a>>,
-) -> Result<Option<Reading<'a>>, AllocError>
+    has_except: bool,
+    land: &mut Lanes,
+) -> Result<Option<Reading<'a>>, Unread>
     ensures { IfOk result (λ it. IfSome it (IsReading text.now)) }
 {
     if !are_changes(text, changes.as_slice()) {
-        return Ok(None);
+        let made = made_by(alloc, text, changes.as_slice())?;
+        return match described(alloc, made, has_except, land)? {
+            Some(_) => Err(Unread::Refused),
+            None => Ok(None),
+        };
     }
     let made = changed(alloc, text, changes.as_slice())?;
-    if !is_accepted(alloc, made.as_slice())? {
+    let Some(Wording { text, manner }) = described(alloc, made, has_except, land)? else {
         return Ok(None);
-    }
+    };
     Ok(Some(Reading {
         changes,
-        text: made,
+        text,
+        manner,
     }))
 }
 
-/// Whether the reader accepts a text.
-fn is_accepted(alloc: Global, text: &[u8]) -> Result<bool, AllocError>
-    ensures { IfOk result (λ it. it ≡ true → IsAccepted text.now) }
-{
-    match Description::read(alloc, text) {
-        Ok(_) => Ok(true),
-        Err(TextFault::Memory) => Err(AllocError),
-        Err(_) => Ok(false),
-    }
-}
-
-/// Whether the text of a reading is none of these readings' texts.
-fn is_other(readings: &[Reading<'_>], new: &Reading<'_>) -> bool
-    ensures { result ≡ true → All (λ reading. AreOther reading new.now) readings.now }
+/// Whether the text of a reading is none of these readings' texts, and names other land.
+fn is_other(alloc: Global, readings: &[Reading<'_>], new: &Reading<'_>) -> Result<bool, AllocError>
+    ensures { IfOk result (λ it. it ≡ true → All (λ reading. AreOther reading new.now) readings.now) }
 {
     for reading in readings {
-        if !are_other(reading, new) {
-            return false;
+        let differs = are_other(alloc, reading, new)?;
+        if !differs {
+            return Ok(false);
         }
     }
-    true
+    Ok(true)
 }
 
-/// Whether two readings have different texts.
-fn are_other(one: &Reading<'_>, other: &Reading<'_>) -> bool
-    ensures { result ≡ true → AreOther one.now other.now }
+/// Whether two readings have different texts, which name different land.
+fn are_other(alloc: Global, one: &Reading<'_>, other: &Reading<'_>) -> Result<bool, AllocError>
+    ensures { IfOk result (λ it. it ≡ true → AreOther one.now other.now) }
 {
-    one.text.as_slice() != other.text.as_slice()
+    let are_texts = have_same_text(one, other);
+    if are_texts {
+        return Ok(false);
+    }
+    let Some(township) = township_of(alloc, one.text.as_slice())? else {
+        return Ok(false);
+    };
+    let Some(land) = land_on(alloc, one.text.as_slice(), township)? else {
+        return Ok(false);
+    };
+    let Some(more) = land_on(alloc, other.text.as_slice(), township)? else {
+        return Ok(false);
+    };
+    Ok(!land.same(&more))
+}
+
+/// Whether two readings have the same text.
+fn have_same_text(one: &Reading<'_>, other: &Reading<'_>) -> bool
+    ensures { IsTrue result ↔ (one.now.text.items ≡ other.now.text.items) }
+{
+    one.text.as_slice() == other.text.as_slice()
 }

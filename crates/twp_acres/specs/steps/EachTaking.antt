@@ -6,7 +6,7 @@ use Rattle.twp_area.specs.declared.account.Account.TheVariants.{Exact}
 use Rattle.twp_acres.specs.Answers.{IsNoDescription}
 use Rattle.twp_acres.specs.EachTract.{IsAnswerAt}
 use Rattle.twp_acres.specs.OnPlats.{HasAcresOn}
-use Rattle.twp_acres.specs.steps.Names.{has_name}
+use Rattle.twp_acres.specs.Names.{has_name}
 use Rattle.twp_acres.specs.Tracts.{TRACTS_MOST, tracts_heading, name_in, IsTractName}
 use Rattle.twp_acres.specs.TractFaults.{IsNameRepeated}
 use Rattle.twp_acres.specs.declared.each_tract.TractAnswer.{TractAnswer}

@@ -5,7 +5,7 @@ use Rattle.twp_lots.specs.LotTables.{ReturnedLots}
 use Rattle.twp_acres.specs.declared.stop.Stop.{Stop}
 use Rattle.twp_acres.specs.declared.stop.Stop.TheVariants as stop
 use Rattle.twp_acres.specs.declared.verdict.RunFault.TheVariants as run
-use Rattle.twp_calls.specs.LotCalls.{HasLotAreaOf, HasNoLotAreaOf}
+use Rattle.twp_lot_account.specs.LotLands.{HasLotAreaOf, HasNoLotAreaOf}
 
 -- why a description has no area by a lot table: it is refused, or memory ran out
 abbrev pub StopsByLots : ReturnedLots → List ℕ → Stop → Type 0

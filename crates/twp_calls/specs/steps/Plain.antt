@@ -1,8 +1,10 @@
--- The answers to tracts as plain data. No public contract cites this module.
+-- The answers to tracts, and their figures, as plain data. No public contract cites this module.
 use Rattle.std.specs.Prelude.{◌≡◌, ℕ, ◌<◌, List, length, take, slice_index_or}
+use Rattle.twp_acres.specs.declared.account_figures.TractFigure.{TractFigure}
 use Rattle.twp_acres.specs.declared.each_tract.TractAnswer.{TractAnswer}
 use Rattle.twp_calls.specs.EachCalls.{answer_of_tract}
 use Rattle.twp_calls.specs.TractNames.{IsEnded}
+use Rattle.twp_calls.specs.declared.account_call.TownshipTract.{TownshipTract}
 use Rattle.twp_calls.specs.declared.each_call.TownshipTractAnswer.{TownshipTractAnswer}
 
 -- the answer and the name are these, as plain data
@@ -16,3 +18,14 @@ pub record IsPlain (given : TractAnswer) (plain : TownshipTractAnswer) : Type 0 
 abbrev pub ArePlainTo : ℕ → List TractAnswer → List TownshipTractAnswer → Type 0
 ArePlainTo count given answers = (index : ℕ) (default : TractAnswer) (other : TownshipTractAnswer)
     → index < count → IsPlain (slice_index_or given index default) (slice_index_or answers index other)
+
+-- the figure and the name are these, as plain data
+pub record IsPlainTract (figure : TractFigure) (plain : TownshipTract) : Type 0 where
+  pub hundredths_is : plain.hundredths ≡ figure.hundredths
+  pub name_is : take plain.name_length plain.name ≡ figure.name.bytes
+  pub ended : IsEnded plain.name_length plain.name
+
+-- the first tracts, up to this number, are these as plain data
+abbrev pub ArePlainTractsTo : ℕ → List TractFigure → List TownshipTract → Type 0
+ArePlainTractsTo count figures tracts = (index : ℕ) (default : TractFigure) (other : TownshipTract)
+    → index < count → IsPlainTract (slice_index_or figures index default) (slice_index_or tracts index other)

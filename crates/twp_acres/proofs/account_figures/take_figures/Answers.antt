@@ -26,7 +26,7 @@ pub take-requires : goal.take-requires
 take-requires g c = c.records.invariant.tally.totals_are
 
 pub figure_of-requires : goal.figure_of-requires
-figure_of-requires g c = c.in_ok-hundredths.ensures.taken.is_record
+figure_of-requires g c = c.in_ok-hundredths.ensures.taken.takes.reads.is_record
 
 pub records-preserved : goal.records-preserved
 records-preserved g c =
@@ -57,7 +57,8 @@ returns-in_err-hundredths-clause-fault g c =
     err_from_is_err_and c.from_residual-in_err-hundredths.result
     c.from_residual-in_err-hundredths.ensures.1 in
     rw (gone.1, gone.2)
-    (refused_next c.args.plat.now rows c.records.taken _ c.records.invariant.tally is.within (omega arith) _
+    (refused_next c.args.plat.now.township rows c.records.taken _ c.records.invariant.tally.earlier is.within
+    (omega arith) _
     (rw is.is c.in_err-hundredths.ensures.fault))
 
 pub returns-clause-taken : goal.returns-clause-taken

@@ -1,6 +1,5 @@
 -- One land more was compared with those before it.
-use Rattle.std.proofs.Common.{◌≡◌, sym, ◌∙◌, subst, length, arith, refl}
-use Rattle.twp_acres.specs.steps.OverlapTaking.{AreFoundTo}
+use Rattle.std.proofs.Common.{◌≡◌, length, arith}
 use Rattle.twp_acres.proofs.OverlapFacts.{all_found, next_second, none_found}
 use Rattle.twp_acres.proofs.overlaps.overlaps_of.Goals as goal
 

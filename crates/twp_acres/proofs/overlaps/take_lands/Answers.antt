@@ -2,7 +2,7 @@
 use Rattle.std.proofs.Common.{◌≡◌, sym, ◌∙◌, length, subst, arith}
 use Rattle.twp_notes.specs.Records.{records_left}
 use Rattle.twp_notes.proofs.Taking.{next_record_is, no_record_left}
-use Rattle.twp_acres.specs.steps.OverlapTaking.{AreLandsTo, IsLandOf}
+use Rattle.twp_acres.specs.steps.OverlapTaking.{AreLandsTo}
 use Rattle.twp_acres.proofs.OverlapFacts.{lands_next, whole_lands}
 use Rattle.twp_acres.proofs.overlaps.take_lands.Goals as goal
 

@@ -48,7 +48,8 @@ returns-in_err-take-clause-fault g c =
     let is = next_record_is rows c.records.taken _ _ (sym c.records.invariant.rest ∙ next.0) in
     let gone = err_from_is_err_and c.from_residual-in_err-take.result c.from_residual-in_err-take.ensures.1 in
     rw (gone.1, gone.2)
-    (refused_next c.args.plat.now rows c.records.taken _ c.records.invariant.tally is.within (omega arith) _
+    (refused_next c.args.plat.now.township rows c.records.taken _ c.records.invariant.tally.earlier is.within
+    (omega arith) _
     (rw is.is c.in_err-take.ensures.fault))
 
 pub returns-clause-taken : goal.returns-clause-taken

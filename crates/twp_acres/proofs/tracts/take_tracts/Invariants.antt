@@ -14,7 +14,7 @@ invariant-records g l = record {
   within : l.taken ≤ length (records_left l.fn.records);
   few : l.taken ≤ TRACTS_MOST;
   tally : IsTallyOf l.plat (records_left l.fn.records) l.taken (tally_of g.L.Land.places l.account);
-  clear : l.account.clarity ≡ Clear → AreClearTracts (records_left l.fn.records) l.taken;
+  clear : l.account.tracts.clarity ≡ Clear → AreClearTracts (records_left l.fn.records) l.taken;
 }
 
 abbrev pub decreases-records : goal.decreases-records

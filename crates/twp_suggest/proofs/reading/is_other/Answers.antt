@@ -8,7 +8,7 @@ loop-reading-preserved c =
     All-more (λ reading. AreOther reading c.args.new.now) c.args.readings.now c.loop-reading.reading-index
     c.reading-item.result c.loop-reading-test.true c.loop-reading.invariant
     (subst (λ reading. AreOther reading c.args.new.now) c.reading-item.is
-    (c.are_other.ensures c.if-not-are_other.false))
+    (c.in_ok-differs.ensures c.if-not-differs.false))
 
 pub returns : goal.returns
 returns c =

@@ -1,9 +1,10 @@
-use Rattle.std.proofs.Common.{rules}
+use Rattle.std.proofs.Common.{rules, refl}
+use Rattle.twp_suggest.specs.declared.manner.Manner.TheVariants.{Changed}
 use Rattle.twp_suggest.proofs.ReadingFacts.{only_itself}
 use Rattle.twp_suggest.proofs.reading.itself.Goals as goal
 
 pub returns : goal.returns
 returns c =
     only_itself c.args.text.now c.push.new.self.items
-    (record { changes = c.new.result; text = c.extend_from_slice.new.self }) c.requires (search rules)
-    (search rules) (search rules)
+    (record { changes = c.new.result; text = c.extend_from_slice.new.self; manner = Changed }) c.requires
+    (search rules) (search rules) refl (search rules)

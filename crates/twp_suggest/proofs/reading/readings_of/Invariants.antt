@@ -2,5 +2,5 @@ use Rattle.twp_suggest.specs.Readings.{AreSomeReadings}
 use Rattle.twp_suggest.proofs.reading.readings_of.Given as goal
 
 -- these are readings so far
-abbrev pub invariant-loop-changes : goal.invariant-loop-changes
-invariant-loop-changes l = AreSomeReadings l.fn.text l.readings.items
+abbrev pub invariant-loop-number : goal.invariant-loop-number
+invariant-loop-number l = AreSomeReadings l.fn.text l.readings.items

@@ -1,7 +1,7 @@
 -- The set has one more name.
 use Rattle.std.proofs.Common.{◌∙◌}
 use Rattle.std.specs.Str.{bytes_eq}
-use Rattle.twp_acres.specs.steps.Names.{has_name}
+use Rattle.twp_acres.specs.Names.{has_name}
 use Rattle.twp_acres.proofs.NameFacts.{one_name_more}
 use Rattle.twp_acres.proofs.TractFacts.{either_of}
 use Rattle.twp_acres.proofs.names.Names.add.Goals as goal

@@ -1,63 +1,49 @@
--- The record is a tract's with a new name, and its land is added, or shares a place with the tracts
--- before it.
-use Rattle.std.proofs.Common.{refl, sym, ◌∙◌}
-use Rattle.twp_acres.proofs.FirstTractFaults.{description_refused}
+-- The tract was added, and its area is no larger than the remaining one.
+use Rattle.std.proofs.Common.{ℕ, Bool, sym, subst}
+use Rattle.csv.specs.Records.{fields_of}
+use Rattle.twp_acres.specs.EarlierTracts.{earlier_of, TakesLand}
+use Rattle.twp_acres.specs.steps.TractTaking.{AreTotals}
+use Rattle.twp_acres.proofs.EarlierFacts.{taken_apart, taken_places}
 use Rattle.twp_acres.proofs.TractAreas.{taken_from, totals_next}
-use Rattle.twp_acres.proofs.TractFacts.{is_anew}
 use Rattle.twp_acres.proofs.running_account.RunningAccount.take.Goals as goal
-
-pub returns-in-Err-clause-fault : goal.returns-in-Err-clause-fault
-returns-in-Err-clause-fault g c =
-    let tract = c.in-Some.ensures in
-    let anew = is_anew _ (rw (c.if-not-branch.false, tract.1) at c.in_ok-add.ensures.is_new) in
-    rw c.fault_of.ensures
-    (description_refused c.args.plat.now.township _ _ c.args.number _ (tract.0, anew)
-    (rw (c.township.ensures, tract.2) at c.in-Err.ensures.land))
-
-pub returns-then-meets_land-clause-fault : goal.returns-then-meets_land-clause-fault
-returns-then-meets_land-clause-fault g c =
-    let tract = c.in-Some.ensures in
-    let anew = is_anew _ (rw (c.if-not-branch.false, tract.1) at c.in_ok-add.ensures.is_new) in (
-      refl,
-      (tract.0, anew),
-      record {
-        more = g.L.Land.places c.describe_noting.new.land;
-        land = rw (c.township.ensures, tract.2) at c.in_default-describe_noting.ensures.land;
-        shared = c.meets_land.ensures.0 c.if-meets_land.true;
-      },
-    )
-
-pub take-requires-clause-over : goal.take-requires-clause-over
-take-requires-clause-over g c = c.area_of-area.ensures.over_is ∙ sym c.requires.total_is.over_is
 
 pub take-requires-clause-part : goal.take-requires-clause-part
 take-requires-clause-part g c =
-    (taken_from c.args.plat.now _ _ _ _ (λ shared. absurd (cc (c.meets_land.ensures.1 shared)))
-    c.area_of-area.ensures c.requires.remaining_is).0
+    let more : ℕ → ℕ → ℕ → Bool = g.L.Land.places c.read.new.self.tract in
+    let takes : TakesLand c.args.plat.now.township (fields_of c.args.row.now)
+    (earlier_of g.L.Land.places c.args.self.now.tracts) (earlier_of g.L.Land.places c.add.new.self) more =
+    record {
+      read = earlier_of g.L.Land.places c.read.new.self;
+      reads = rw c.township.ensures at c.in_ok-name.ensures.read;
+      adds = c.in_ok-add.ensures.added;
+    } in
+    (taken_from c.args.plat.now (g.L.Land.places c.args.self.now.tracts.land) more c.area_of-area.result
+    c.args.self.now.totals.remaining (taken_apart _ _ _ _ more takes)
+    (rw c.in_ok-add.ensures.tract at c.area_of-area.ensures) c.requires.remaining_is).0
 
 pub returns-clause-taken : goal.returns-clause-taken
 returns-clause-taken g c =
-    let tract = c.in-Some.ensures in
-    let anew = is_anew _ (rw (c.if-not-branch.false, tract.1) at c.in_ok-add.ensures.is_new) in
+    let more : ℕ → ℕ → ℕ → Bool = g.L.Land.places c.read.new.self.tract in
+    let takes : TakesLand c.args.plat.now.township (fields_of c.args.row.now)
+    (earlier_of g.L.Land.places c.args.self.now.tracts) (earlier_of g.L.Land.places c.add.new.self) more =
     record {
-      is_record = tract.0;
-      is_new = anew;
-      names_are = rw tract.1 at c.in_ok-add.ensures.names;
-      more = g.L.Land.places c.describe_noting.new.land;
-      land = rw (c.township.ensures, tract.2) at c.in_default-describe_noting.ensures.land;
-      whole = c.in_default-describe_noting.ensures.whole_lots;
-      apart = λ shared. absurd (cc (c.meets_land.ensures.1 shared));
-      places_are = c.add_land.ensures;
+      read = earlier_of g.L.Land.places c.read.new.self;
+      reads = rw c.township.ensures at c.in_ok-name.ensures.read;
+      adds = c.in_ok-add.ensures.added;
+    } in
+    let area_is = rw c.in_ok-add.ensures.tract at c.area_of-area.ensures in
+    record {
+      more = more;
+      takes = takes;
       hundredths = c.hundredths-hundredths.result;
       acres = record {
         area = c.area_of-area.result;
-        area_is = c.area_of-area.ensures;
+        area_is = area_is;
         rounded = c.hundredths-hundredths.ensures;
       };
       totals_are =
-          rw c.add_land.ensures
-          (totals_next c.args.plat.now _ _ _ _ c.area_of-area.result
-          (λ shared. absurd (cc (c.meets_land.ensures.1 shared))) c.area_of-area.ensures c.requires
-          c.take.ensures);
-      text_is = rw tract.1 at c.in_ok-write_tract.ensures.ok;
+          subst (λ p. AreTotals c.args.plat.now p c.take.new.self) (sym (taken_places _ _ _ _ more takes))
+          (totals_next c.args.plat.now _ _ _ _ c.area_of-area.result (taken_apart _ _ _ _ more takes) area_is
+          c.requires c.take.ensures);
+      text_is = rw c.in_ok-name.ensures.name at c.in_ok-write_tract.ensures.ok;
     }

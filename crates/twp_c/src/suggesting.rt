@@ -1,0 +1,26 @@
+//! The call for readings, as C calls it.
+ghost use Rattle.std.specs.Prelude.{◌≡◌, ◌≢◌};
+ghost use Rattle.twp_calls.specs.Answers.{ACCEPTED, NO_MEMORY};
+ghost use Rattle.twp_calls.specs.Suggestions.{IsSuggestCall, rooms};
+
+use std::alloc::Global;
+use twp_calls::{TownshipAnswer, TownshipChange, TownshipReading, TownshipSuggestion};
+
+/// The readings of a text as descriptions: where the text of each is, and its changes.
+#[unsafe(no_mangle)]
+pub extern "C" fn township_suggest(
+    alloc: Global,
+    description: &[u8],
+    readings: &mut [TownshipReading],
+    changes: &mut [TownshipChange],
+    bytes: &mut [u8],
+    suggestion: &mut TownshipSuggestion,
+) -> TownshipAnswer
+    ensures answer { IsSuggestCall description.now (rooms readings.old changes.old bytes.old)
+        (rooms readings.new changes.new bytes.new) suggestion.new result }
+    ensures kept { result.verdict ≢ ACCEPTED → (readings.new ≡ readings.old)
+        × (changes.new ≡ changes.old) × (bytes.new ≡ bytes.old) }
+    ensures unknown { result.verdict ≡ NO_MEMORY → suggestion.new ≡ suggestion.old }
+{
+    twp_calls::township_suggest(alloc, description, readings, changes, bytes, suggestion)
+}

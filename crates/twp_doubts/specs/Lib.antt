@@ -1,2 +1,0 @@
-pub mod ShownNotes
-pub mod steps

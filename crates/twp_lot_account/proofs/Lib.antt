@@ -1,0 +1,3 @@
+pub mod UnitedFigures
+pub mod LotFigures
+pub mod FirstLotTractFaults

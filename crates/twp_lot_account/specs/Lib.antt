@@ -1,0 +1,4 @@
+pub mod LotLands
+pub mod LotAccounts
+pub mod LotTractFaults
+pub mod steps

@@ -1,0 +1,125 @@
+//! What is left out: the meridian, acreage, labels, and land that is repeated in parentheses.
+
+use crate::draft::{Claim, Claimed, Draft, Names, Phrase, PlacedStep};
+use std::alloc::AllocError;
+use twp_grammar::Kind;
+use twp_pieces::plus;
+use twp_rules::Rule;
+
+impl<'a> Draft<'a> {
+    /// What is left out at an index.
+    pub fn aside(&mut self, index: usize) -> Result<Option<Phrase>, AllocError> {
+        let from = self.extent();
+        if let Some((rule, end)) = self.end_of_aside(index) {
+            return Ok(Some(self.phrase(Names::Nothing(rule), index, end, from)));
+        }
+        if self.pieces.is(index, b"(") {
+            return self.repeated(index);
+        }
+        Ok(None)
+    }
+
+    /// What is left out at an index, if it isn't in parentheses: its rule, and where it ends.
+    fn end_of_aside(&self, index: usize) -> Option<(Rule, usize)> {
+        if let Some(end) = self.end_of_figure(index) {
+            return Some((Rule::Acreage, end));
+        }
+        if let Some(end) = self.pieces.end_of_acreage(index) {
+            return Some((Rule::Acreage, end));
+        }
+        if let Some(end) = self.pieces.end_of_meridian(index) {
+            return Some((Rule::Meridian, end));
+        }
+        if self.names_land {
+            if let Some(end) = self.pieces.end_of_last_figure(index) {
+                return Some((Rule::Acreage, end));
+            }
+            if let Some(end) = self.pieces.end_of_trailer(index) {
+                return Some((Rule::Label, end));
+            }
+        }
+        let is_number = matches!(self.pieces.kind(index), Kind::Number(_));
+        if is_number && !self.pieces.begins_line(index) {
+            return None;
+        }
+        let end = self.pieces.end_of_label(index)?;
+        Some((Rule::Label, end))
+    }
+
+    /// Where a number in parentheses at an index ends, which is the acreage of the part before it.
+    fn end_of_figure(&self, index: usize) -> Option<usize> {
+        let close = plus(index, 2);
+        let is_figure = self.pieces.is(index, b"(")
+            && self.last_names() == Some(Names::Part)
+            && self.pieces.number(plus(index, 1)).is_some()
+            && self.pieces.is(close, b")");
+        if is_figure {
+            Some(plus(close, 1))
+        } else {
+            None
+        }
+    }
+
+    /// The parentheses at an index with the land before them again.
+    fn repeated(&mut self, index: usize) -> Result<Option<Phrase>, AllocError> {
+        let from = self.extent();
+        let first = self.pieces.after_being(plus(index, 1));
+        let Some(before) = self.phrases.last().copied() else {
+            return Ok(None);
+        };
+        let (what, close) = if matches!(self.pieces.kind(first), Kind::All) {
+            (Claimed::WholeSection, plus(first, 1))
+        } else {
+            let Some(part) = self.part(first)? else {
+                return Ok(None);
+            };
+            let is_same = before.names == Names::Part && self.have_same_steps(before, part);
+            let what = if is_same {
+                Claimed::Same
+            } else {
+                Claimed::Part(part.steps)
+            };
+            (what, part.end)
+        };
+        let is_land = matches!(before.names, Names::Part | Names::Lots);
+        if !is_land || !self.pieces.is(close, b")") {
+            return Ok(None);
+        }
+        let end = plus(close, 1);
+        self.shrink_changes(from);
+        if !matches!(what, Claimed::Same) {
+            self.claims.push(Claim { place: index, what })?;
+        }
+        Ok(Some(self.phrase(Names::Nothing(Rule::Repeated), index, end, from)))
+    }
+
+    /// Whether two aliquot parts have the same steps.
+    pub fn have_same_steps(&self, one: Phrase, other: Phrase) -> bool {
+        let first = self.steps_of(one);
+        let second = self.steps_of(other);
+        if first.len() != second.len() {
+            return false;
+        }
+        for index in 0..first.len() {
+            if written_at(first, index) != written_at(second, index) {
+                return false;
+            }
+        }
+        true
+    }
+
+    /// The steps of an aliquot part.
+    pub fn steps_of(&self, part: Phrase) -> &[PlacedStep] {
+        self.steps
+            .get(part.steps.first..part.steps.end)
+            .unwrap_or(&[])
+    }
+}
+
+/// How the step at an index is written.
+fn written_at(steps: &[PlacedStep], index: usize) -> &'static [u8] {
+    match steps.get(index) {
+        Some(step) => step.written,
+        None => b"",
+    }
+}

@@ -1,0 +1,280 @@
+//! A draft: the phrases that were found in a text so far, and the changes in them.
+
+use std::alloc::{AllocError, Global};
+use twp_pieces::{Pieces, plus};
+use twp_rules::{Change, Rule};
+
+/// What a phrase names.
+#[derive(Clone, Copy, PartialEq, Eq)]
+pub enum Names {
+    /// A township and range.
+    Heading,
+    /// A section, or several.
+    Sections,
+    /// An aliquot part.
+    Part,
+    /// Lots.
+    Lots,
+    /// All of a section.
+    All,
+    /// `except`, or words like it: what follows is not of the land.
+    Except,
+    /// Something that is left out by a rule.
+    Nothing(Rule),
+}
+
+/// A phrase of a text.
+#[derive(Clone, Copy)]
+pub struct Phrase {
+    pub names: Names,
+    /// The index of its first piece.
+    pub first: usize,
+    /// The index after its last piece.
+    pub end: usize,
+    /// The changes in it: the index of the first one, and the one after the last.
+    pub changes: Span,
+    /// Its steps, if it is an aliquot part.
+    pub steps: Span,
+    /// Its numbers, if it names sections or lots, or a township and range.
+    pub numbers: Span,
+    /// How it is written.
+    pub form: Form,
+}
+
+/// From one index up to another.
+#[derive(Clone, Copy, PartialEq, Eq)]
+pub struct Span {
+    pub first: usize,
+    pub end: usize,
+}
+
+/// What matters of how a phrase is written.
+#[derive(Clone, Copy, PartialEq, Eq)]
+pub enum Form {
+    /// Nothing does.
+    Plain,
+    /// An aliquot part with `of`.
+    WithOf,
+    /// Sections after a word in the plural.
+    Plural,
+    /// Sections whose numbers are not sure to be of sections.
+    Unsure,
+}
+
+/// A number: its value, and the pieces for it.
+#[derive(Clone, Copy)]
+pub struct Numeral {
+    pub value: u16,
+    /// The index of the first piece.
+    pub first: usize,
+    /// The index of the last piece.
+    pub last: usize,
+    /// The index after what names the number, and repeats it in parentheses.
+    pub end: usize,
+}
+
+/// A step of an aliquot part.
+#[derive(Clone, Copy, PartialEq, Eq)]
+pub struct PlacedStep {
+    /// Where it begins.
+    pub start: usize,
+    /// Where it ends.
+    pub end: usize,
+    /// How it is written in a description.
+    pub written: &'static [u8],
+    /// Whether `of` is before it.
+    pub is_after_of: bool,
+}
+
+/// What parentheses say that the land before them is.
+#[derive(Clone, Copy, PartialEq, Eq)]
+pub enum Claimed {
+    /// The same part.
+    Same,
+    /// All of its section.
+    WholeSection,
+    /// A part with these steps.
+    Part(Span),
+}
+
+/// What is said of land before a place, which has to be so.
+#[derive(Clone, Copy)]
+pub struct Claim {
+    /// The index of the piece where it is said.
+    pub place: usize,
+    pub what: Claimed,
+}
+
+/// The phrases of a text so far.
+#[derive(Drop)]
+pub struct Draft<'a> {
+    pub pieces: Pieces<'a>,
+    pub phrases: Vec<Phrase>,
+    /// The changes in them. One by which white space within a part is left out may be of several bytes, each of which is
+    /// to be left out by a change of its own.
+    pub changes: Vec<Change<'a>>,
+    pub steps: Vec<PlacedStep>,
+    pub numbers: Vec<Numeral>,
+    /// What has to be so of the land.
+    pub claims: Vec<Claim>,
+    /// Whether a section or land was found.
+    pub names_land: bool,
+    /// Whether something was found that makes the text unsure, or that isn't land.
+    pub is_unsure: bool,
+}
+
+/// There is room from the start for this many phrases, changes, steps, and numbers: most texts have fewer.
+const PHRASES_FIRST: usize = 8;
+
+const CHANGES_FIRST: usize = 16;
+
+const STEPS_FIRST: usize = 8;
+
+const NUMBERS_FIRST: usize = 8;
+
+/// How much of a draft there is.
+#[derive(Clone, Copy)]
+pub struct Extent {
+    changes: usize,
+    steps: usize,
+    numbers: usize,
+}
+
+impl Extent {
+    /// How many more steps there are than there were.
+    pub fn steps_after(self, from: Extent) -> usize {
+        self.steps.saturating_sub(from.steps)
+    }
+}
+
+impl<'a> Draft<'a> {
+    /// The draft of a text in which nothing was found yet.
+    pub fn new(alloc: Global, text: &'a [u8]) -> Result<Draft<'a>, AllocError> {
+        Ok(Draft {
+            pieces: Pieces::of(alloc, text)?,
+            phrases: Vec::with_capacity(alloc, PHRASES_FIRST)?,
+            changes: Vec::with_capacity(alloc, CHANGES_FIRST)?,
+            steps: Vec::with_capacity(alloc, STEPS_FIRST)?,
+            numbers: Vec::with_capacity(alloc, NUMBERS_FIRST)?,
+            claims: Vec::new(alloc),
+            names_land: false,
+            is_unsure: false,
+        })
+    }
+
+    /// How much there is.
+    pub fn extent(&self) -> Extent {
+        Extent {
+            changes: self.changes.len(),
+            steps: self.steps.len(),
+            numbers: self.numbers.len(),
+        }
+    }
+
+    /// Forgets what was added after that.
+    pub fn shrink(&mut self, extent: Extent) {
+        self.changes.truncate(extent.changes);
+        self.steps.truncate(extent.steps);
+        self.numbers.truncate(extent.numbers);
+    }
+
+    /// Forgets the changes that were added after that.
+    pub fn shrink_changes(&mut self, extent: Extent) {
+        self.changes.truncate(extent.changes);
+    }
+
+    /// A phrase of some pieces, with what was added after an extent.
+    pub fn phrase(&self, names: Names, first: usize, end: usize, from: Extent) -> Phrase {
+        Phrase {
+            names,
+            first,
+            end,
+            changes: Span {
+                first: from.changes,
+                end: self.changes.len(),
+            },
+            steps: Span {
+                first: from.steps,
+                end: self.steps.len(),
+            },
+            numbers: Span {
+                first: from.numbers,
+                end: self.numbers.len(),
+            },
+            form: Form::Plain,
+        }
+    }
+
+    /// The phrase before.
+    pub fn last_names(&self) -> Option<Names> {
+        match self.phrases.last() {
+            Some(phrase) => Some(phrase.names),
+            None => None,
+        }
+    }
+
+    /// Writes something instead of the bytes from one place up to another.
+    pub fn write(
+        &mut self,
+        start: usize,
+        end: usize,
+        written: &'static [u8],
+        rule: Rule,
+    ) -> Result<(), AllocError> {
+        self.changes.push(Change {
+            start,
+            end,
+            written,
+            rule,
+        })?;
+        Ok(())
+    }
+
+    /// Writes bytes of the text, from one place up to another, at a place where they aren't.
+    pub fn copy(&mut self, place: usize, from: usize, to: usize) -> Result<(), AllocError> {
+        self.changes.push(Change {
+            start: place,
+            end: place,
+            written: self.pieces.text.get(from..to).unwrap_or(b""),
+            rule: Rule::Copied(from, to),
+        })?;
+        Ok(())
+    }
+
+    /// Writes something instead of a piece.
+    pub fn replace(
+        &mut self,
+        index: usize,
+        written: &'static [u8],
+        rule: Rule,
+    ) -> Result<(), AllocError> {
+        let start = self.pieces.start(index);
+        let end = self.pieces.end(index);
+        self.write(start, end, written, rule)
+    }
+
+    /// Leaves out the pieces from one index up to another.
+    pub fn leave_out(&mut self, first: usize, end: usize, rule: Rule) -> Result<(), AllocError> {
+        let start = self.pieces.start(first);
+        let stop = self.pieces.end_before(end);
+        self.write(start, stop, b"", rule)
+    }
+
+    /// Leaves out each piece from one index up to another.
+    pub fn leave_out_each(
+        &mut self,
+        first: usize,
+        end: usize,
+        rule: Rule,
+    ) -> Result<(), AllocError> {
+        for index in first..end {
+            self.leave_out(index, plus(index, 1), rule)?;
+        }
+        Ok(())
+    }
+
+    /// Notes that the text isn't sure.
+    pub fn doubt(&mut self) {
+        self.is_unsure = true;
+    }
+}

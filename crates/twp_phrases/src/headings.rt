@@ -1,0 +1,251 @@
+//! Townships and ranges: `T. 2 N., R. 3 W.`, `T2N-R3W`, `2N 3W`, `0020N 0030W`, `Township Two North, Range Three West`.
+
+use crate::draft::{Draft, Names, Numeral, Phrase};
+use std::alloc::AllocError;
+use twp_grammar::Kind;
+use twp_pieces::plus;
+use twp_rules::Rule;
+
+impl<'a> Draft<'a> {
+    /// The township and range at an index.
+    pub fn heading(&mut self, index: usize) -> Result<Option<Phrase>, AllocError> {
+        let from = self.extent();
+        let mut next = index;
+        if self.pieces.is(next, b"all")
+            && (self.pieces.is(plus(next, 1), b"in") || self.pieces.is(plus(next, 1), b"of"))
+        {
+            self.leave_out(next, plus(next, 1), Rule::Word)?;
+            next = plus(next, 1);
+        }
+        if self.pieces.is(next, b"of") {
+            self.leave_out(next, plus(next, 1), Rule::Heading)?;
+            next = plus(next, 1);
+        }
+        if self.pieces.is(next, b"in") {
+            self.leave_out(next, plus(next, 1), Rule::Heading)?;
+            next = plus(next, 1);
+        }
+        let has_word = self.pieces.is(next, b"t")
+            || self.pieces.is(next, b"township")
+            || self.pieces.is(next, b"twp")
+            || self.pieces.is(next, b"tp");
+        next = self.heading_word(next, has_word, b"T.", b"T. ")?;
+        let Some(after) = self.tier(next, has_word)? else {
+            return Ok(None);
+        };
+        next = after;
+        let is_run = self.pieces.is(next, b"nr") || self.pieces.is(next, b"sr");
+        if is_run {
+            let place = self.pieces.start(next).saturating_add(1);
+            self.write(place, place, b" ", Rule::Heading)?;
+            next = plus(next, 1);
+        } else {
+            if !self.pieces.is_north_south(next) {
+                return Ok(None);
+            }
+            next = self.side(next)?;
+            next = self.after_same_tier(next)?;
+            next = self.before_range(next, has_word)?;
+            if (self.pieces.is(next, b"r")
+                || self.pieces.is(next, b"range")
+                || self.pieces.is(next, b"rng")
+                || self.pieces.is(next, b"rge"))
+                != has_word
+            {
+                return Ok(None);
+            }
+            next = self.range_word(next, has_word)?;
+        }
+        let Some(after) = self.tier(next, has_word)? else {
+            return Ok(None);
+        };
+        if !self.pieces.is_east_west(after) {
+            return Ok(None);
+        }
+        let end = self.side(after)?;
+        let end = self.after_same_tier(end)?;
+        Ok(Some(self.phrase(Names::Heading, index, end, from)))
+    }
+
+    /// The index after the township or the range that is repeated in parentheses at an index, as in `Township Two North
+    /// (T2N)`, which are left out.
+    fn after_same_tier(&mut self, index: usize) -> Result<usize, AllocError> {
+        let number = plus(index, 2);
+        let close = plus(index, 4);
+        let is_tier = self.pieces.is(index, b"(")
+            && (self.pieces.is(plus(index, 1), b"t") || self.pieces.is(plus(index, 1), b"r"))
+            && self.pieces.is(close, b")");
+        let value = self.numbers.last().map(|last| last.value);
+        let is_same = self.pieces.number(number) == value && value.is_some();
+        if !is_tier || !is_same {
+            return Ok(index);
+        }
+        self.leave_out(index, plus(close, 1), Rule::Repeated)?;
+        Ok(plus(close, 1))
+    }
+
+    /// Writes the letter of a township or a range for the word at an index, or where it is missing.
+    fn heading_word(
+        &mut self,
+        index: usize,
+        has_word: bool,
+        letter: &'static [u8],
+        inserted: &'static [u8],
+    ) -> Result<usize, AllocError> {
+        if !has_word {
+            let place = self.pieces.start(index);
+            self.write(place, place, inserted, Rule::Heading)?;
+            return Ok(index);
+        }
+        let next = plus(index, 1);
+        if self.pieces.bytes(index).len() > 1 {
+            self.replace(index, letter, Rule::Heading)?;
+            if matches!(self.pieces.kind(next), Kind::Stop) {
+                self.leave_out(next, plus(next, 1), Rule::Heading)?;
+                return Ok(plus(next, 1));
+            }
+        } else if matches!(self.pieces.kind(next), Kind::Stop) {
+            return Ok(plus(next, 1));
+        }
+        Ok(next)
+    }
+
+    /// The same for a range.
+    fn range_word(&mut self, index: usize, has_word: bool) -> Result<usize, AllocError> {
+        let is_joined = self.pieces.is_joined(index);
+        let inserted: &'static [u8] = if is_joined { b" R. " } else { b"R. " };
+        self.heading_word(index, has_word, b"R.", inserted)
+    }
+
+    /// The number of a township or a range at an index, before its side: the index after it.
+    fn tier(&mut self, index: usize, has_word: bool) -> Result<Option<usize>, AllocError> {
+        let next = plus(index, 1);
+        if self.pieces.has_digits(index, 4) {
+            return self.register_tier(index);
+        }
+        let Some(number) = self.numeral(index) else {
+            return Ok(None);
+        };
+        let is_side = self.pieces.is_north_south(number.end)
+            || self.pieces.is_east_west(number.end)
+            || (has_word
+                && (self.pieces.is(number.end, b"nr") || self.pieces.is(number.end, b"sr")));
+        let is_joined = self.pieces.is_joined(number.end) && number.end == next;
+        if !is_side || (!has_word && !is_joined) || number.value == 0 || number.value > 99 {
+            return Ok(None);
+        }
+        self.write_numeral(number)?;
+        Ok(Some(number.end))
+    }
+
+    /// The number of four digits of a township or a range at an index. A register's last digit is of a fraction.
+    fn register_tier(&mut self, index: usize) -> Result<Option<usize>, AllocError> {
+        let next = plus(index, 1);
+        let digits = self.pieces.bytes(index);
+        let is_side = self.pieces.is_north_south(next) || self.pieces.is_east_west(next);
+        if !is_side || !self.pieces.is_joined(next) {
+            return Ok(None);
+        }
+        let Some(value) = self.pieces.number(index) else {
+            return Ok(None);
+        };
+        if value % 10 != 0 || value == 0 || digits.first() != Some(&b'0') {
+            self.doubt();
+            return Ok(None);
+        }
+        let start = self.pieces.start(index);
+        let end = self.pieces.end(index);
+        let zeros: usize = if value < 100 { 2 } else { 1 };
+        self.write(start, start.saturating_add(zeros), b"", Rule::Zeros)?;
+        self.write(end.saturating_sub(1), end, b"", Rule::FractionDigit)?;
+        self.numbers.push(Numeral {
+            value: value / 10,
+            first: index,
+            last: index,
+            end: next,
+        })?;
+        Ok(Some(next))
+    }
+
+    /// Writes the side at an index, and passes over a period after it.
+    fn side(&mut self, index: usize) -> Result<usize, AllocError> {
+        if self.pieces.is(index, b"north") {
+            self.replace(index, b"N", Rule::Direction)?;
+        } else if self.pieces.is(index, b"south") {
+            self.replace(index, b"S", Rule::Direction)?;
+        } else if self.pieces.is(index, b"east") {
+            self.replace(index, b"E", Rule::Direction)?;
+        } else if self.pieces.is(index, b"west") {
+            self.replace(index, b"W", Rule::Direction)?;
+        }
+        let next = plus(index, 1);
+        if matches!(self.pieces.kind(next), Kind::Stop) && self.pieces.is_joined(next) {
+            return Ok(plus(next, 1));
+        }
+        Ok(next)
+    }
+
+    /// Passes over a comma between a township and its range, and leaves out a hyphen and `of`.
+    fn before_range(&mut self, index: usize, has_word: bool) -> Result<usize, AllocError> {
+        let mut next = index;
+        if matches!(self.pieces.kind(next), Kind::Comma) && has_word {
+            next = plus(next, 1);
+        }
+        if self.pieces.is_dash(next) {
+            self.replace(next, b" ", Rule::Heading)?;
+            next = plus(next, 1);
+        }
+        if self.pieces.is(next, b"of") && has_word {
+            self.leave_out(next, plus(next, 1), Rule::Heading)?;
+            next = plus(next, 1);
+        }
+        Ok(next)
+    }
+
+    /// Whether a township and range are at an index.
+    pub fn has_heading(&mut self, index: usize) -> Result<bool, AllocError> {
+        let from = self.extent();
+        let is_unsure = self.is_unsure;
+        let found = self.heading(index)?.is_some();
+        self.shrink(from);
+        self.is_unsure = is_unsure;
+        Ok(found)
+    }
+
+    /// Writes a township and range at a place where they aren't.
+    pub fn copy_heading(&mut self, place: usize, heading: Phrase) -> Result<(), AllocError> {
+        let first = heading.numbers.first;
+        let (Some(tier), Some(range)) = (
+            self.numbers.get(first).copied(),
+            self.numbers.get(plus(first, 1)).copied(),
+        ) else {
+            return Ok(());
+        };
+        let north = self.pieces.is(tier.end, b"n")
+            || self.pieces.is(tier.end, b"north")
+            || self.pieces.is(tier.end, b"nr");
+        let east = self.pieces.is_east_west(range.end)
+            && (self.pieces.is(range.end, b"e") || self.pieces.is(range.end, b"east"));
+        self.write(place, place, b"T. ", Rule::Heading)?;
+        self.copy_tier(place, tier)?;
+        self.write(
+            place,
+            place,
+            if north { b" N., R. " } else { b" S., R. " },
+            Rule::Heading,
+        )?;
+        self.copy_tier(place, range)?;
+        self.write(
+            place,
+            place,
+            if east { b" E., " } else { b" W., " },
+            Rule::Heading,
+        )
+    }
+
+    /// Writes the number of a township or a range at a place where it isn't.
+    fn copy_tier(&mut self, place: usize, number: Numeral) -> Result<(), AllocError> {
+        let dropped = usize::from(self.pieces.has_digits(number.first, 4));
+        self.copy_numeral(place, number, dropped)
+    }
+}

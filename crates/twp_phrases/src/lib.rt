@@ -1,0 +1,14 @@
+//! The phrases of a text that people write as a description of land: what each names, and the changes in it. None of
+//! this is trusted: each change is checked against its rule, and the text that they make is read.
+#![tactic(auto)]
+
+mod asides;
+mod draft;
+mod headings;
+mod numbered;
+mod numerals;
+mod parts;
+mod phrases;
+mod registers;
+
+pub use draft::{Claim, Claimed, Draft, Extent, Form, Names, Numeral, Phrase, PlacedStep, Span};

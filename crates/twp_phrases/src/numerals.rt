@@ -1,0 +1,240 @@
+//! Numbers in digits and in words.
+
+use crate::draft::{Draft, Numeral};
+use std::alloc::AllocError;
+use twp_grammar::Kind;
+use twp_pieces::plus;
+use twp_rules::Rule;
+
+/// The digits of a word for a number, in lowercase.
+fn digits_of(word: &[u8]) -> Option<&'static [u8]> {
+    let digits: &'static [u8] = match word {
+        b"one" => b"1",
+        b"two" => b"2",
+        b"three" => b"3",
+        b"four" => b"4",
+        b"five" => b"5",
+        b"six" => b"6",
+        b"seven" => b"7",
+        b"eight" => b"8",
+        b"nine" => b"9",
+        b"ten" => b"10",
+        b"eleven" => b"11",
+        b"twelve" => b"12",
+        b"thirteen" => b"13",
+        b"fourteen" => b"14",
+        b"fifteen" => b"15",
+        b"sixteen" => b"16",
+        b"seventeen" => b"17",
+        b"eighteen" => b"18",
+        b"nineteen" => b"19",
+        b"twenty" => b"20",
+        b"thirty" => b"30",
+        _ => return None,
+    };
+    Some(digits)
+}
+
+/// The first digit of a number that has two words, of which this is the first, in lowercase.
+fn tens_of(word: &[u8]) -> Option<&'static [u8]> {
+    match word {
+        b"twenty" => Some(b"2"),
+        b"thirty" => Some(b"3"),
+        _ => None,
+    }
+}
+
+/// The value of up to four digits.
+fn value_of(digits: &[u8]) -> u16 {
+    let mut value: u16 = 0;
+    for digit in digits {
+        value = value
+            .saturating_mul(10)
+            .saturating_add(u16::from(digit.saturating_sub(b'0')));
+    }
+    value
+}
+
+impl<'a> Draft<'a> {
+    /// The number at an index, in digits or in words. What repeats it in parentheses is part of it.
+    pub fn numeral(&self, index: usize) -> Option<Numeral> {
+        let found = match self.pieces.kind(index) {
+            Kind::Number(value) if self.pieces.bytes(index).len() <= 3 => Numeral {
+                value,
+                first: index,
+                last: index,
+                end: plus(index, 1),
+            },
+            Kind::Other => match self.damaged_digit(index) {
+                Some(digit) => Numeral {
+                    value: digit,
+                    first: index,
+                    last: index,
+                    end: plus(index, 1),
+                },
+                None => self.numeral_in_words(index)?,
+            },
+            _ => return None,
+        };
+        let found = self.with_damaged_digit(found);
+        let end = found.end;
+        let is_repeated = self.pieces.is(end, b"(")
+            && self.pieces.number(plus(end, 1)) == Some(found.value)
+            && self.pieces.is(plus(end, 2), b")");
+        Some(Numeral {
+            end: if is_repeated { plus(end, 3) } else { end },
+            ..found
+        })
+    }
+
+    /// The digit that scanning makes a letter of, at an index: `l` and `I` are 1, and `O` is 0.
+    fn damaged_digit(&self, index: usize) -> Option<u16> {
+        match self.pieces.bytes(index) {
+            b"l" | b"I" => Some(1),
+            b"O" => Some(0),
+            _ => None,
+        }
+    }
+
+    /// A number of one digit with another after it, one of which is a letter.
+    fn with_damaged_digit(&self, number: Numeral) -> Numeral {
+        let next = number.end;
+        if !self.pieces.is_joined(next)
+            || number.value > 9
+            || self.pieces.bytes(number.first).len() != 1
+        {
+            return number;
+        }
+        let digit = match self.pieces.number(next) {
+            Some(value) if self.pieces.has_digits(next, 1) => value,
+            Some(_) => return number,
+            None => match self.damaged_digit(next) {
+                Some(value) => value,
+                None => return number,
+            },
+        };
+        Numeral {
+            value: number.value.saturating_mul(10).saturating_add(digit),
+            last: next,
+            end: plus(next, 1),
+            ..number
+        }
+    }
+
+    /// The number at an index that is written in words.
+    fn numeral_in_words(&self, index: usize) -> Option<Numeral> {
+        let word = self.pieces.lower(index);
+        let value = value_of(digits_of(word)?);
+        let alone = Numeral {
+            value,
+            first: index,
+            last: index,
+            end: plus(index, 1),
+        };
+        if tens_of(word).is_none() {
+            return Some(alone);
+        }
+        let mut next = plus(index, 1);
+        if self.pieces.is(next, b"-") {
+            next = plus(next, 1);
+        }
+        match digits_of(self.pieces.lower(next)) {
+            Some(digits) if digits.len() == 1 => Some(Numeral {
+                value: value.saturating_add(value_of(digits)),
+                first: index,
+                last: next,
+                end: plus(next, 1),
+            }),
+            _ => Some(alone),
+        }
+    }
+
+    /// Where the digits of a number begin that aren't zeros before it.
+    fn without_zeros(&self, index: usize) -> usize {
+        let digits = self.pieces.bytes(index);
+        let zeros = digits.iter().take_while(|digit| **digit == b'0').count();
+        let zeros = zeros.min(digits.len().saturating_sub(1));
+        plus(self.pieces.start(index), zeros)
+    }
+
+    /// Writes a number in digits, without zeros before them, where it is, and leaves out what repeats it.
+    pub fn write_numeral(&mut self, number: Numeral) -> Result<(), AllocError> {
+        self.write_digits(number)?;
+        let last = plus(number.last, 1);
+        if number.end > last {
+            self.leave_out(last, number.end, Rule::Repeated)?;
+        }
+        self.numbers.push(number)?;
+        Ok(())
+    }
+
+    /// The same, without what repeats it.
+    fn write_digits(&mut self, number: Numeral) -> Result<(), AllocError> {
+        let Numeral { first, last, .. } = number;
+        let start = self.pieces.start(first);
+        if self.is_damaged(number) {
+            return self.mend_digits(first, plus(last, 1));
+        }
+        if matches!(self.pieces.kind(first), Kind::Number(_)) {
+            let begin = self.without_zeros(first);
+            if begin > start {
+                self.write(start, begin, b"", Rule::Zeros)?;
+            }
+            return Ok(());
+        }
+        let mut from = start;
+        if last > first {
+            from = self.pieces.start(last);
+            let tens = tens_of(self.pieces.lower(first)).unwrap_or(b"");
+            self.write(start, from, tens, Rule::Numeral)?;
+        }
+        let digits = digits_of(self.pieces.lower(last)).unwrap_or(b"");
+        let end = self.pieces.end(last);
+        self.write(from, end, digits, Rule::Numeral)
+    }
+
+    /// Whether a digit of a number is a letter.
+    fn is_damaged(&self, number: Numeral) -> bool {
+        self.damaged_digit(number.first).is_some() || self.damaged_digit(number.last).is_some()
+    }
+
+    /// Writes the digits that are letters, from one index up to another.
+    fn mend_digits(&mut self, first: usize, end: usize) -> Result<(), AllocError> {
+        for index in first..end {
+            match self.damaged_digit(index) {
+                Some(0) => self.replace(index, b"0", Rule::Damage)?,
+                Some(_) => self.replace(index, b"1", Rule::Damage)?,
+                None => {}
+            }
+        }
+        Ok(())
+    }
+
+    /// Writes a number at a place where it isn't, without the last so many digits.
+    pub fn copy_numeral(
+        &mut self,
+        place: usize,
+        number: Numeral,
+        dropped: usize,
+    ) -> Result<(), AllocError> {
+        let Numeral { first, last, .. } = number;
+        if self.is_damaged(number) {
+            self.doubt();
+        }
+        if matches!(self.pieces.kind(first), Kind::Number(_)) {
+            let from = self.without_zeros(first);
+            let to = self.pieces.end(first).saturating_sub(dropped);
+            return self.copy(place, from, to);
+        }
+        let mut from = self.pieces.start(first);
+        if last > first {
+            let to = self.pieces.start(last);
+            let tens = tens_of(self.pieces.lower(first)).unwrap_or(b"");
+            self.write(place, place, tens, Rule::Copied(from, to))?;
+            from = to;
+        }
+        let digits = digits_of(self.pieces.lower(last)).unwrap_or(b"");
+        let to = self.pieces.end(last);
+        self.write(place, place, digits, Rule::Copied(from, to))
+    }
+}

@@ -1,0 +1,2 @@
+pub mod SameTexts
+pub mod ChangeFacts

@@ -1,0 +1,4 @@
+pub mod Tables
+pub mod Endings
+pub mod Rules
+pub mod Changes

@@ -1,8 +1,0 @@
-use Rattle.std.proofs.Common.{arith, sym}
-use Rattle.twp_suggest.proofs.SameTexts.{ends_when}
-use Rattle.twp_suggest.proofs.endings.ends_with.Goals as goal
-
-pub returns : goal.returns
-returns c =
-    ends_when c.is_text.result c.args.seen.now c.args.end.now _ (omega arith) (sym c.split_at.ensures.back)
-    c.is_text.ensures

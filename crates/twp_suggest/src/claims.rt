@@ -1,0 +1,163 @@
+//! What a text says again in parentheses: it has to be the land before them.
+
+use crate::arranging::{Placed, Role};
+use crate::named::land_in;
+use crate::plan::Plan;
+use std::alloc::{AllocError, Global};
+use twp_land::Land;
+use twp_phrases::{Claim, Claimed, Names, Phrase};
+use twp_pieces::plus;
+
+/// The land before a place, which moves from one claim to the next.
+#[derive(Clone, Copy)]
+struct Before {
+    /// How many phrases are before the place.
+    count: usize,
+    /// The index of the first phrase of the last group.
+    group: usize,
+    /// The last land.
+    last: Option<Placed>,
+}
+
+impl Before {
+    /// The land before a place after that.
+    fn moved_to(self, place: usize, list: &[Placed]) -> Before {
+        let mut before = self;
+        let mut role = list.get(self.group).map(|placed| placed.role);
+        for index in self.count..list.len() {
+            let Some(placed) = list.get(index).copied() else {
+                break;
+            };
+            if placed.phrase.end > place {
+                break;
+            }
+            before.count = plus(index, 1);
+            if matches!(placed.role, Role::Kept(_)) && Some(placed.role) != role {
+                role = Some(placed.role);
+                before.group = index;
+            }
+            if is_land(placed) {
+                before.last = Some(placed);
+            }
+        }
+        before
+    }
+}
+
+impl<'a> Plan<'a> {
+    /// Whether the land is what the text says again.
+    pub(crate) fn claims_hold(&self, alloc: Global, list: &[Placed]) -> Result<bool, AllocError> {
+        let mut before = Before {
+            count: 0,
+            group: 0,
+            last: None,
+        };
+        for claim in &self.draft.claims {
+            before = before.moved_to(claim.place, list);
+            let group = list.get(before.group..).unwrap_or(&[]);
+            if !self.holds(alloc, *claim, before.last, group)? {
+                return Ok(false);
+            }
+        }
+        Ok(true)
+    }
+
+    /// Whether the last land before a claim, or all land of its section before it, is what is claimed. The phrases begin
+    /// with those of its section.
+    fn holds(
+        &self,
+        alloc: Global,
+        claim: Claim,
+        last: Option<Placed>,
+        group: &[Placed],
+    ) -> Result<bool, AllocError> {
+        let Some(last) = last else {
+            return Ok(false);
+        };
+        let Some(section) = self.section_of(last.role, group) else {
+            return Ok(false);
+        };
+        let mut claimed = section_text(alloc, section)?;
+        match claim.what {
+            Claimed::Same => return Ok(true),
+            Claimed::WholeSection => {}
+            Claimed::Part(span) => {
+                claimed.extend_from_slice(b", ")?;
+                for step in self.draft.steps.get(span.first..span.end).unwrap_or(&[]) {
+                    claimed.extend_from_slice(step.written)?;
+                }
+            }
+        }
+        let mut alone = section_text(alloc, section)?;
+        self.write_phrase(last.phrase, &mut alone)?;
+        if are_same(alloc, claimed.as_slice(), alone.as_slice())? {
+            return Ok(true);
+        }
+        let mut all = section_text(alloc, section)?;
+        for placed in group {
+            if placed.phrase.end > claim.place {
+                break;
+            }
+            if is_land(*placed) && placed.role == last.role {
+                self.write_phrase(placed.phrase, &mut all)?;
+            }
+        }
+        are_same(alloc, claimed.as_slice(), all.as_slice())
+    }
+
+    /// The number of the section of a group, with which phrases begin.
+    fn section_of(&self, role: Role, group: &[Placed]) -> Option<u16> {
+        for placed in group {
+            if placed.role != role {
+                continue;
+            }
+            if placed.phrase.names == Names::Sections {
+                return self.only_number(placed.phrase.numbers);
+            }
+            if let Some(section) = placed.section {
+                return self.only_number(section);
+            }
+        }
+        None
+    }
+
+    /// Appends a comma and the text of a phrase with its changes.
+    fn write_phrase(&self, phrase: Phrase, text: &mut Vec<u8>) -> Result<(), AllocError> {
+        text.extend_from_slice(b", ")?;
+        let mut at = self.draft.pieces.start(phrase.first);
+        let end = self.draft.pieces.end_before(phrase.end);
+        let span = phrase.changes;
+        for change in self.draft.changes.get(span.first..span.end).unwrap_or(&[]) {
+            text.extend_from_slice(self.draft.pieces.text.get(at..change.start).unwrap_or(b""))?;
+            text.extend_from_slice(change.written)?;
+            at = change.end;
+        }
+        text.extend_from_slice(self.draft.pieces.text.get(at..end).unwrap_or(b""))
+    }
+}
+
+/// Whether a phrase is land that is kept.
+fn is_land(placed: Placed) -> bool {
+    let is_kept = matches!(placed.role, Role::Kept(_));
+    is_kept && matches!(placed.phrase.names, Names::Part | Names::Lots | Names::All)
+}
+
+/// The text of a section.
+fn section_text(alloc: Global, number: u16) -> Result<Vec<u8>, AllocError> {
+    let mut text = Vec::new(alloc);
+    text.extend_from_slice(b"sec. ")?;
+    for digit in [number / 10 % 10, number % 10] {
+        text.push(b'0'.saturating_add(u8::try_from(digit).unwrap_or(0)))?;
+    }
+    Ok(text)
+}
+
+/// Whether two texts name the same land.
+fn are_same(alloc: Global, one: &[u8], other: &[u8]) -> Result<bool, AllocError> {
+    let first = land_in(alloc, one)?;
+    let second = land_in(alloc, other)?;
+    match (first, second) {
+        (Some(first), Some(second)) => Ok(first.same(&second)),
+        _ => Ok(false),
+    }
+}

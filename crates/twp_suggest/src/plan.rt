@@ -1,0 +1,19 @@
+//! What a text is to become: its phrases, and what was found of how they go together.
+
+use std::alloc::{AllocError, Global};
+use twp_phrases::Draft;
+
+/// The phrases of a text, which are arranged.
+#[derive(Drop)]
+pub(crate) struct Plan<'a> {
+    pub(crate) draft: Draft<'a>,
+}
+
+impl<'a> Plan<'a> {
+    /// The phrases of a text.
+    pub(crate) fn of(alloc: Global, text: &'a [u8]) -> Result<Plan<'a>, AllocError> {
+        let mut draft = Draft::new(alloc, text)?;
+        draft.find_phrases()?;
+        Ok(Plan { draft })
+    }
+}

@@ -1,0 +1,16 @@
+use std::alloc::AllocError;
+
+/// Why a text isn't read.
+#[derive(Clone, Copy, PartialEq, Eq)]
+pub(crate) enum Unread {
+    /// It names what no township has, or the reader refuses it.
+    Refused,
+    /// Memory ran out.
+    Memory,
+}
+
+impl From<AllocError> for Unread {
+    fn from(_: AllocError) -> Unread {
+        Unread::Memory
+    }
+}
