@@ -267,6 +267,91 @@ typedef struct township_part {
     uint8_t rows;
 } township_part;
 
+/* The most readings that a text has. */
+#define TOWNSHIP_READINGS_MOST 8
+
+/* Rules: why a reading changes a text. docs/DESCRIPTIONS.md shows what people write, and what is done with it. */
+#define TOWNSHIP_RULE_HALF 1u            /* a half is written `1/2` */
+#define TOWNSHIP_RULE_QUARTER 2u         /* a quarter is written `1/4` */
+#define TOWNSHIP_RULE_DIRECTION 3u       /* a word for a side or a corner is written as its letters */
+#define TOWNSHIP_RULE_NUMERAL 4u         /* a word for a number is written in digits */
+#define TOWNSHIP_RULE_COPIED 5u          /* a number that the text contains elsewhere is written where it belongs */
+#define TOWNSHIP_RULE_COPIED_STEP 6u     /* a step of an aliquot part is written again where it belongs, too */
+#define TOWNSHIP_RULE_DAMAGE 7u          /* a digit is written for a letter that scanning made of it, or a letter for
+                                            a digit */
+#define TOWNSHIP_RULE_EXCEPTION 8u       /* what follows is what the land is without */
+#define TOWNSHIP_RULE_ZEROS 9u           /* the zeros before a number are left out */
+#define TOWNSHIP_RULE_FRACTION_DIGIT 10u /* the fraction digit of a register is left out: a 0 after the number of a
+                                            township or a range */
+#define TOWNSHIP_RULE_HEADING 11u        /* the township and range are written `T. 2 N., R. 3 W.` */
+#define TOWNSHIP_RULE_SECTION_WORD 12u   /* the word for a section is written `sec.`, and for several `secs.` */
+#define TOWNSHIP_RULE_LOT_WORD 13u       /* the word for lots is written `lot` or `lots` */
+#define TOWNSHIP_RULE_THROUGH 14u        /* a hyphen or a dash between numbers is written `thru` */
+#define TOWNSHIP_RULE_AND 15u            /* an ampersand is written `and` */
+#define TOWNSHIP_RULE_COMMA 16u          /* a comma is written between parts, before them, or after a heading */
+#define TOWNSHIP_RULE_SEMICOLON 17u      /* a semicolon is written between one section, with its parts, and another */
+#define TOWNSHIP_RULE_ONE_PART 18u       /* white space within a part is left out */
+#define TOWNSHIP_RULE_MARK 19u           /* a mark that means nothing is left out */
+#define TOWNSHIP_RULE_WORD 20u           /* a word that means nothing is left out */
+#define TOWNSHIP_RULE_REPEATED 21u       /* parentheses that repeat what is before them are left out */
+#define TOWNSHIP_RULE_MOVED_SECTION 22u  /* a section is left out where it follows its land, and written before it */
+#define TOWNSHIP_RULE_MOVED_HEADING 23u  /* a township and range are left out, and written at the beginning */
+#define TOWNSHIP_RULE_MERIDIAN 24u       /* assumed: the meridian, state, or county is that of the field notes */
+#define TOWNSHIP_RULE_ACREAGE 25u        /* assumed: the acreage, which is not compared, is right */
+#define TOWNSHIP_RULE_LABEL 26u          /* assumed: a label is not land */
+
+/* Manners: how the text of a reading comes of the changed text. */
+#define TOWNSHIP_CHANGED 0u    /* it is the changed text */
+#define TOWNSHIP_LOTS_NAMED 1u /* it is the canonical description of the land of the changed text, in which an aliquot
+                                  part includes lots: they are named in its place */
+#define TOWNSHIP_REMAINDER 2u  /* it is the canonical description of the land before `except`, without the land after
+                                  it */
+
+/*
+ * A change that a reading makes: it leaves out the bytes of the text from `start` to before `end`, of which there may
+ * be none, and writes in their place `written_length` bytes, which begin at bytes[written].
+ */
+typedef struct township_change {
+    uint64_t start;
+    uint64_t end;
+    uint64_t written;
+    uint64_t written_length;
+    uint64_t copied;     /* what rule 5 or 6 copies is in the text from here to before `copied_end` */
+    uint64_t copied_end; /* with other rules, both are 0 */
+    uint32_t rule;       /* such as TOWNSHIP_RULE_QUARTER */
+    uint32_t assumes;    /* 1 if the rule assumes something that the text does not say; otherwise 0 */
+} township_change;
+
+/*
+ * A reading of a text: a description that township_acres and the other functions accept, or refuse for its land. It
+ * has `text_length` bytes, which begin at bytes[text], and comes of `changes_length` changes, from left to right,
+ * which begin at changes[changes].
+ */
+typedef struct township_reading {
+    uint64_t text;
+    uint64_t text_length;
+    uint64_t changes;
+    uint64_t changes_length;
+    uint32_t manner;   /* such as TOWNSHIP_CHANGED */
+    uint32_t reserved; /* 0 */
+} township_reading;
+
+/*
+ * How much township_suggest has to write, written or not. If there are no readings because lots and aliquot parts
+ * can't describe the land, the reason, such as `a portion needs a survey`, has `reason_length` bytes, which begin at
+ * bytes[reason], and the phrase that says so is in the text from `beyond` to before `beyond_end`. Otherwise these four
+ * are 0.
+ */
+typedef struct township_suggestion {
+    uint64_t readings; /* the number of readings: at most TOWNSHIP_READINGS_MOST */
+    uint64_t changes;  /* the number of changes, of all readings */
+    uint64_t bytes;    /* the number of bytes of all texts */
+    uint64_t reason;
+    uint64_t reason_length;
+    uint64_t beyond;
+    uint64_t beyond_end;
+} township_suggestion;
+
 /* Makes a plat from field notes. On any verdict other than TOWNSHIP_ACCEPTED, `plat` is unchanged. */
 township_answer township_read(const uint8_t *notes, size_t notes_length, township_plat *plat);
 
@@ -404,6 +489,17 @@ township_answer township_lots_land_area(const township_lots *lots, const townshi
                                         township_fraction *area);
 
 /*
+ * Writes to `tracts` the tracts of a list (CSV; see docs/TRACTS-FORMAT.md), each with its acreage by a lot table of its
+ * township, and returns the acreage of all tracts together in `hundredths`. Each figure is an exact area, rounded once,
+ * half up, so the total may differ from the sum of the tracts' figures. `length` is the number of tracts. The list is
+ * refused as in township_account; if the table lacks a lot of a tract, the verdict is TOWNSHIP_TRACT_REFUSED, with
+ * TOWNSHIP_REFUSAL_LOTS_LACKING and the first such lot as `inner_number` and `inner_at`. `room` and other verdicts are
+ * as in township_account: on any verdict other than TOWNSHIP_ACCEPTED, `tracts` is unchanged.
+ */
+township_answer township_lots_report(const township_lots *lots, const uint8_t *list, size_t list_length,
+                                     township_tract *tracts, size_t room);
+
+/*
  * Explain why field notes, a description, or a list is refused: each returns the same verdict, with the
  * line and column of the fault, and writes some lines of text, as the program shows them; or the verdict
  * is TOWNSHIP_NO_ROOM. `name` is the file name that the text shows, in UTF-8; if it is empty or not valid
@@ -467,6 +563,21 @@ township_answer township_explain_description_parts(const township_plat *plat, co
 township_answer township_explain_list_parts(const township_plat *plat, const uint8_t *list, size_t list_length,
                                             const uint8_t *name, size_t name_length, uint8_t *text, size_t room,
                                             township_explanation *explanation);
+
+/*
+ * Suggests how a text would be written as a description, without a plat: writes its readings, in a fixed order, their
+ * changes, and their texts. A text that can't be read in two ways has one reading. It has several if it can, and none
+ * if nothing is certain, or if lots and aliquot parts can't describe the land. An accepted description in which no
+ * place can be read in two ways is its own and only reading, without changes.
+ *
+ * If one of the three rooms is too small, the verdict is TOWNSHIP_NO_ROOM, and only `suggestion` is written: it says how
+ * much room is needed. With TOWNSHIP_NO_MEMORY, nothing is written. To find out what a reading comes to on a plat, pass
+ * its text to township_acres, township_normal, or township_explain_description.
+ */
+township_answer township_suggest(const uint8_t *description, size_t description_length,
+                                 township_reading *readings, size_t readings_room, township_change *changes,
+                                 size_t changes_room, uint8_t *bytes, size_t bytes_room,
+                                 township_suggestion *suggestion);
 
 /* Writes the version of this library, such as `1.0.0`. */
 township_answer township_version(uint8_t *text, size_t room);

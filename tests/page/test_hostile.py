@@ -143,6 +143,9 @@ def test_the_largest_answers_in_time(server: Interface) -> None:
     requests = [
         ("batch", {"descriptions": ["sec. 5, N1/2"] * 50_000}),
         ("report", {"tracts": tracts, "draw": True}),
+        ("suggest", {"text": "NENE" * 16_384, "draw": True}),
+        ("suggest", {"text": "sec. 14: NE4" + " NE4-" * 13_000, "draw": True}),
+        ("suggest", {"text": "(" * 65_000, "draw": True}),
         ("land", {"description": f"sec. 8, {', '.join(parts)}", "draw": True}),
     ]
     for kind, fields in requests:
@@ -166,10 +169,12 @@ def test_many_hostile_requests(server: Interface) -> None:
 
 
 def _hostile(count: int) -> Iterator[Tuple[str, str, bytes, Dict[str, str]]]:
-    frame = json.dumps({**NOMINAL, "description": "sec. 14, NE1/4."}).encode()
+    description = json.dumps({**NOMINAL, "description": "sec. 14, NE1/4."}).encode()
+    text = json.dumps({**NOMINAL, "text": "NENE, S2NE4 Sec 14-2N-3W (Boise Meridian)"}).encode()
     for _ in range(count):
         method = random.choice(["POST"] * 9 + ["PUT"])
-        kind = random.choice(["plat", "land", "compare", "report", "batch", "none"])
+        kind = random.choice(["plat", "land", "compare", "suggest", "report", "batch", "none"])
+        frame = text if kind == "suggest" else description
         damaged = bytearray(frame)
         for _ in range(random.randrange(1, 8)):
             damaged[random.randrange(len(damaged))] = random.randrange(256)

@@ -95,6 +95,37 @@ def test_compare_refused(server: Interface) -> None:
     assert list(refused) == ["first"] and refused["first"]["number"] == 66
 
 
+@pytest.mark.parametrize("text", ["NENE, S2NE4 Sec 14-2N-3W", "sec. 14: NE¼NE¼ SW¼SW¼", "N2 Sec 5", "N2 Sec 14-3N-3W", "the old mill", ""])
+def test_suggest(server: Interface, text: str) -> None:
+    answer = server.ask("suggest", notes=NOTES, text=text)
+    readings = PLAT.suggest(text)
+    assert [each["text"] for each in answer["readings"]] == [reading.text for reading in readings]
+    for each, reading in zip(answer["readings"], readings):
+        assert [change["rule"] for change in each["changes"]] == [change.rule for change in reading.changes]
+        if reading.refused is None:
+            assert (each["acres"]["exact"], each["canonical"]) == (str(reading.acres), reading.normal)
+        else:
+            assert (each["refused"]["of"], each["refused"]["number"]) == ("reading", reading.refused.number)
+
+
+def test_suggest_in_order(server: Interface) -> None:
+    # Two parts of 40 acres each; or one of a sixteenth of 40 acres.
+    answer = server.ask("suggest", **NOMINAL, text="sec. 14: NE¼NE¼ SW¼SW¼", draw=True)
+    assert [each["acres"]["exact"] for each in answer["readings"]] == ["80.00", "2.50"]
+    # The space is the 16th character: each `¼` before it has two bytes.
+    changes = [each["changes"] for each in answer["readings"]]
+    assert changes[0] == [{"start": 15, "end": 15, "written": ",", "rule": "comma"}]
+    assert changes[1] == [{"start": 15, "end": 16, "written": "", "rule": "one part"}]
+    drawings = [each["svg"] for each in answer["readings"]]
+    assert drawings[0] != drawings[1] and all(ET.fromstring(each) is not None for each in drawings)
+
+
+def test_suggest_nothing(server: Interface) -> None:
+    nothing = {"readings": [], "reason": None, "start": None, "end": None}
+    assert server.ask("suggest", **NOMINAL, text="the old mill") == nothing
+    assert "the field `text` is missing" in server.post("suggest", json.dumps(NOMINAL).encode()).json["error"]
+
+
 def test_report(server: Interface) -> None:
     tracts = [{"name": "A", "description": "sec. 7, lot 1."}, {"name": "B", "description": "sec. 7, lot 4."}]
     answer = server.ask("report", notes=NOTES, tracts=tracts)

@@ -124,6 +124,30 @@ def test_a_note(page: Page) -> None:
     assert page.text("#panel-land .back mark") == "SE1/4"
 
 
+def test_readings_are_picked(page: Page) -> None:
+    page.tab("land")
+    page.type("#description", "sec. 14: NE¼NE¼ SW¼SW¼")
+    page.wait_for_text("#readings", "Which was meant?")
+    # Two parts of 40 acres each; or one of a sixteenth of 40 acres.
+    assert [each.text for each in page.all("#readings strong")] == ["80.00 acres", "2.50 acres"]
+    assert len(page.all("#readings img")) == 2
+    page.one("#readings button").click()
+    page.wait_for_text("#land-answer", "80.00 acres")
+    assert page.value("#description") == "sec. 14: NE¼NE¼, SW¼SW¼"
+    assert page.focused() == "description" and page.all("#readings button") == []
+
+
+def test_a_reading_is_picked_by_keyboard(page: Page) -> None:
+    page.tab("land")
+    page.type("#description", "NENE, S2NE4 Sec 14-2N-3W")
+    page.wait_for_text("#readings", "Perhaps this was meant")
+    page.wait_for_text("#readings", "Sec 14-2N-3W is section, township, and range")
+    page.press(page.TAB)
+    page.press(page.ENTER)
+    page.wait_for_text("#land-answer", "120.00 acres")
+    assert page.value("#description") == "T. 2 N., R. 3 W., sec. 14, NE1/4NE1/4, S1/2NE1/4"
+
+
 def test_comparison(page: Page) -> None:
     page.tab("compare")
     page.type("#first", "sec. 14, N1/2.")

@@ -46,6 +46,12 @@ def a_refusal(page: Page) -> None:
     page.wait_for_text("#land-answer", "Refused 67")
 
 
+def the_readings(page: Page) -> None:
+    page.tab("land")
+    page.type("#description", "sec. 14: NE¼NE¼ SW¼SW¼")
+    page.wait_for_text("#readings", "2.50 acres")
+
+
 def a_section(page: Page) -> None:
     land(page)
     page.click_target("section", "5")
@@ -73,6 +79,7 @@ STATES: Dict[str, Callable[[Page], None]] = {
     "plat": the_plat,
     "land": land,
     "refusal": a_refusal,
+    "readings": the_readings,
     "section": a_section,
     "comparison": comparison,
     "tracts": tracts,

@@ -1,6 +1,7 @@
 """The shared library: how it is found, and how each of its verdicts is treated."""
 import ctypes
 import functools
+import itertools
 import os
 import re
 import subprocess
@@ -58,6 +59,8 @@ class Declared(unittest.TestCase):
         self.assertEqual([ctypes.sizeof(struct) for struct in structs], [4, 4612, 192, 6])
         structs = (_library.TractAnswer, _library.Overlap)
         self.assertEqual([ctypes.sizeof(struct) for struct in structs], [120, 16])
+        structs = (_library.Reading, _library.Change, _library.Suggestion)
+        self.assertEqual([ctypes.sizeof(struct) for struct in structs], [40, 56, 56])
 
     def test_fields_are_those_of_the_header(self):
         header = (TOP / "include" / "township.h").read_text()
@@ -74,6 +77,9 @@ class Declared(unittest.TestCase):
             (_library.Land, "land"),
             (_library.Lots, "lots"),
             (_library.Part, "part"),
+            (_library.Reading, "reading"),
+            (_library.Change, "change"),
+            (_library.Suggestion, "suggestion"),
         )
         for struct, name in structs:
             body = header.partition(f"typedef struct township_{name} {{")[2].partition("}")[0]
@@ -131,6 +137,7 @@ class Verdicts(unittest.TestCase):
         "figures": lambda: township.Plat.read(NOTES).total,
         "write_notes": lambda: uneven().write_notes(),
         "acres_many": lambda: uneven().acres_many(["sec. 14."]),
+        "suggest": lambda: township.suggest("sec. 14."),
         "version": township.version,
         "explain_notes_parts": lambda: township.Plat.read(b""),
         "explain_description_parts": lambda: uneven().acres(""),
@@ -147,15 +154,16 @@ class Verdicts(unittest.TestCase):
         "lots_area": lambda: LOTS.area("sec. 14."),
         "lots_land_acres": lambda: LOTS.acres(LAND),
         "lots_land_area": lambda: LOTS.area(LAND),
+        "lots_report": lambda: LOTS.report([]),
     }
 
     def test_notes(self):
-        for verdict, exception in self.EXCEPTIONS:
+        calls = {"explain_description": "sec. 14.", "explain_description_parts": "sec. 14, NE1/4 SE1/4."}
+        for (verdict, exception), name in itertools.product(self.EXCEPTIONS, calls):
             answer = _library.Answer(verdict=verdict)
-            with self.subTest(verdict=verdict):
-                with mock.patch.object(_library, "explain_description_parts", lambda *_: answer):
-                    with self.assertRaises(exception):
-                        uneven().notes("sec. 14.")
+            with self.subTest(verdict=verdict, name=name):
+                with mock.patch.object(_library, name, lambda *_: answer), self.assertRaises(exception):
+                    uneven().notes(calls[name])
 
     def test_each_call(self):
         for name, call in self.CALLS.items():
@@ -204,7 +212,7 @@ class Verdicts(unittest.TestCase):
         for call in (
             *(lambda: no_land.text, lambda: no_land.parts, lambda: no_land | LAND, lambda: LAND <= no_land),
             *(lambda: uneven().acres(no_land), lambda: LOTS.area(no_land)),
-            *(lambda: no_lots.acres(LAND), lambda: no_lots.area("sec. 14.")),
+            *(lambda: no_lots.acres(LAND), lambda: no_lots.area("sec. 14."), lambda: no_lots.report([])),
         ):
             with self.assertRaises(ValueError) as caught:
                 call()

@@ -184,6 +184,52 @@ class Measured(unittest.TestCase):
             for description in ("secs. 1 to 36.", "sec. 6, lots 1 to 7.", "sec. 7, lots 1 to 4; sec. 14, NE1/4."):
                 self.assertEqual(printed(plat).area(description), plat.area(description, "plat"))
 
+
+class Reports(RefusalCase):
+    def test_report(self):
+        # 40.45 acres; 40.50 and 80 acres.
+        report = table().report([("A", "sec. 5, lot 1."), ("the \"old\" place", "sec. 5, lot 2, S1/2NE1/4.")])
+        self.assertEqual(report.tracts, (("A", Decimal("40.45")), ("the \"old\" place", Decimal("120.50"))))
+        self.assertEqual(report.total, Decimal("160.95"))
+        self.assertEqual(table().report([]), ((), Decimal("0.00")))
+        self.assertEqual(table().report_csv(b"name,description\nA,sec. 14\n").total, Decimal("640.00"))
+
+    def test_total_is_rounded_once(self):
+        # Each tract has 5/8 of an acre, 0.63 rounded; together they have 1.25.
+        smallest = [("A", "sec. 14, NE1/4NE1/4NE1/4NE1/4NE1/4."), ("B", "sec. 14, NW1/4NE1/4NE1/4NE1/4NE1/4.")]
+        report = table().report(smallest)
+        self.assertEqual([tract.acres for tract in report.tracts], [Decimal("0.63")] * 2)
+        self.assertEqual(report.total, Decimal("1.25"))
+
+    def test_lacking_lot(self):
+        # Of section 5, the table has lots 1 and 2. The lot comes before what is wrong with later tracts.
+        for tracts, record, at in (
+            ([("A", "sec. 5, lots 1 to 4.")], 2, 503),
+            ([("A", "sec. 14."), ("B", "sec. 14; sec. 5, lot 4.")], 3, 504),
+            ([("A", "sec. 14."), ("B", "sec. 7, lot 1."), ("A", "sec. 15.")], 3, 701),
+        ):
+            with self.subTest(tracts=tracts):
+                refused = self.refused(table().report, tracts)
+                self.assertEqual((refused.number, refused.at, refused.inner), (83, record, (94, at)))
+                sentence = f"the lot table has no record for lot {at % 100} of section {at // 100}"
+                self.assertEqual(str(refused), f"tracts: record {record}: {sentence}")
+
+    def test_refused(self):
+        # A list is refused as on a plat, before any later lot that is lacking.
+        lacking = ("Z", "sec. 31, lot 1.")
+        for tracts in (
+            [("", "sec. 14.")],
+            [("A", "sec. 14."), ("A", "sec. 15."), lacking],
+            [("A", "sec. 14, NE1/4 and N1/2."), lacking],
+            [("A", "sec. 5, lot 5."), lacking],
+            [("A", "sec. 14."), ("B", "sec. 14, NE1/4."), lacking],
+        ):
+            with self.subTest(tracts=tracts):
+                self.assertEqual(self.refused(table().report, tracts), self.refused(uneven().report, tracts))
+        for given in (b"", b"name;description\n"):
+            self.assertEqual(self.refused(table().report_csv, given), self.refused(uneven().report_csv, given))
+
+
 class Differences(unittest.TestCase):
     def test_each_lot_that_differs(self):
         # The plat's figures of lots 1 and 2 of section 5 are 40.45 and 40.55.

@@ -6,6 +6,7 @@ mod land;
 mod lists;
 mod lots;
 mod structs;
+mod suggesting;
 #[cfg(test)]
 mod tests;
 
@@ -15,9 +16,12 @@ pub(crate) use self::explanations::{
 pub(crate) use self::land::{land_acres, land_area, land_combine, land_compare, land_parts};
 pub(crate) use self::land::{land_read, land_text};
 pub(crate) use self::lists::{account, overlaps, report, report_each};
-pub(crate) use self::lots::{lots_acres, lots_area, lots_land_acres, lots_land_area, lots_read};
+pub(crate) use self::lots::{lots_acres, lots_area, lots_land_acres, lots_land_area};
+pub(crate) use self::lots::{lots_read, lots_report};
 pub(crate) use self::structs::{Answer, Designation, Explanation, Figures, Fraction, Land, Lots};
+pub(crate) use self::structs::{Change, Reading, Suggestion};
 pub(crate) use self::structs::{Overlap, Part, Parts, Totals, Tract, TractAnswer};
+pub(crate) use self::suggesting::suggest;
 
 // Verdicts.
 pub(crate) const ACCEPTED: u32 = 0;
@@ -66,6 +70,14 @@ pub(crate) const CONTAINS: u32 = 1;
 pub(crate) const IS_CONTAINED: u32 = 2;
 pub(crate) const OVERLAPS: u32 = 3;
 pub(crate) const DISJOINT: u32 = 4;
+
+// Manners of readings.
+pub(crate) const CHANGED: u32 = 0;
+pub(crate) const LOTS_NAMED: u32 = 1;
+pub(crate) const REMAINDER: u32 = 2;
+
+/// The most readings of a text.
+pub(crate) const READINGS_MOST: usize = 8;
 
 // Sides of the base line, and of the principal meridian.
 pub(crate) const NORTH: u8 = 0;

@@ -49,6 +49,7 @@ mod note;
 mod parse;
 mod part;
 mod plat;
+mod readings;
 mod refused;
 mod report;
 mod text;
@@ -67,8 +68,9 @@ pub use self::note::Note;
 pub use self::parse::ParseError;
 pub use self::part::Part;
 pub use self::plat::{NoPlat, Plat, LINES};
+pub use self::readings::{suggest, Beyond, Change, Manner, Reading, Rule, Suggestion};
 pub use self::refused::{Refusal, Refused};
-pub use self::report::{Overlap, Report, Tract, TractAnswer, TractRefusal};
+pub use self::report::{LotsReport, Overlap, Report, Tract, TractAnswer, TractRefusal};
 pub use self::township::{EastWest, NorthSouth, Township};
 
 /// Returns the version of the library, such as `1.0.0`.

@@ -3,10 +3,11 @@
 use crate::acres::Acres;
 use crate::answer::{Fault, OtherTownship};
 use crate::area::Area;
-use crate::ffi;
+use crate::ffi::{self, TRACTS_MOST};
 use crate::land::Land;
 use crate::lot_faults::{refused_lots, LACKING};
-use crate::refused::{Refused, DESCRIPTION, LAND, LOT_TABLE};
+use crate::refused::{Refused, DESCRIPTION, LAND, LIST, LOT_TABLE};
+use crate::report::{list_of, LotsReport};
 use crate::township::Township;
 use std::error::Error;
 use std::fmt;
@@ -186,6 +187,77 @@ impl Lots {
             Ok(_) => Ok(Area::from_fraction(area)),
             Err(fault) => Err(NoLandAcres::Lacking(refused_lots(fault, LAND))),
         }
+    }
+
+    /// Returns the acreage of each tract of a list (CSV, at most 1,048,576 bytes; see
+    /// `docs/TRACTS-FORMAT.md`), and that of all tracts together.
+    ///
+    /// # Errors
+    ///
+    /// Returns [`Refused`], with a number from 80 to 85, if the list is refused. If a tract's
+    /// description is refused, the number is 83, and `inner` contains the description's own refusal;
+    /// its number is 94 if the tract contains a lot that the table lacks.
+    ///
+    /// ```
+    /// # use township::{Lots, Refusal};
+    /// let lots = Lots::read(b"section,lot,acres\nT,2,N,3,W\n5,1,40.45\n5,2,40.55\n")?;
+    /// let list = "name,description\nA,\"sec. 5, lot 1.\"\nB,\"sec. 5, lot 2, S1/2NE1/4.\"\n";
+    /// let report = lots.report(list)?;
+    /// assert_eq!(report.tracts[1].to_string(), "tract B: 120.55 acres");
+    /// assert_eq!(report.total.to_string(), "161.00");
+    ///
+    /// let refused = lots.report("name,description\nA,\"sec. 5, lot 3.\"\n").unwrap_err();
+    /// assert_eq!((refused.number, refused.at), (83, 2));
+    /// assert_eq!(refused.inner, Some(Refusal { number: 94, at: 503 }));
+    /// # Ok::<(), township::Refused>(())
+    /// ```
+    pub fn report(&self, list: impl AsRef<[u8]>) -> Result<LotsReport, Refused> {
+        let list = list.as_ref();
+        let mut tracts = vec![ffi::Tract::BLANK; TRACTS_MOST];
+        match ffi::lots_report(&self.data, list, &mut tracts).accepted() {
+            Ok(answer) => {
+                let tracts = &tracts[..answer.text_length()];
+                Ok(LotsReport::from_data(tracts, answer.hundredths))
+            }
+            Err(fault) => Err(self.list_refused(fault, list)),
+        }
+    }
+
+    /// Returns the same for tracts, each a name and a description. There may be at most 1,000 tracts,
+    /// and they must not overlap. A name is 1 to 64 bytes of printable ASCII, and each name must be
+    /// unique.
+    ///
+    /// # Errors
+    ///
+    /// The same as for [`Lots::report`]. Locations refer to the list that the tracts make: the tract
+    /// with index k is record k + 2.
+    ///
+    /// ```
+    /// # let lots = township::Lots::read(b"section,lot,acres\nT,2,N,3,W\n5,1,40.45\n")?;
+    /// let report = lots.report_of([("A", "sec. 5, lot 1."), ("B", "sec. 14.")])?;
+    /// assert_eq!(report.total.to_string(), "680.45");
+    /// # Ok::<(), township::Refused>(())
+    /// ```
+    pub fn report_of<N, D>(
+        &self,
+        tracts: impl IntoIterator<Item = (N, D)>,
+    ) -> Result<LotsReport, Refused>
+    where
+        N: AsRef<[u8]>,
+        D: AsRef<[u8]>,
+    {
+        self.report(list_of(tracts))
+    }
+
+    /// Returns the refusal of a list of tracts, with its explanation.
+    fn list_refused(&self, fault: Fault, list: &[u8]) -> Refused {
+        if fault.inner.is_some_and(|inner| inner.number == LACKING) {
+            return refused_lots(fault, LIST);
+        }
+        let plat = self.township().nominal_plat();
+        Refused::explained(fault, |room, parts| {
+            ffi::explain_list_parts(&plat, list, LIST, room, parts)
+        })
     }
 
     /// Returns the refusal of a description, with its explanation.

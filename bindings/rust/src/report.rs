@@ -43,6 +43,17 @@ pub struct Report {
     pub remaining: Acres,
 }
 
+/// The report on a list of tracts by a lot table. Each figure is an exact area, rounded independently.
+#[derive(Clone, Debug, PartialEq, Eq, Hash)]
+#[cfg_attr(feature = "serde", derive(serde::Serialize, serde::Deserialize))]
+#[non_exhaustive]
+pub struct LotsReport {
+    /// The tracts, in the order of the list.
+    pub tracts: Vec<Tract>,
+    /// The acreage of all tracts together.
+    pub total: Acres,
+}
+
 /// The answer to a tract of a list, whatever is wrong with the others.
 #[derive(Clone, Debug, PartialEq, Eq, Hash)]
 #[cfg_attr(feature = "serde", derive(serde::Serialize, serde::Deserialize))]
@@ -119,6 +130,15 @@ impl Report {
             tracts: tracts.iter().map(Tract::from_data).collect(),
             total: Acres::from_hundredths(totals.total),
             remaining: Acres::from_hundredths(totals.remaining),
+        }
+    }
+}
+
+impl LotsReport {
+    pub(crate) fn from_data(tracts: &[ffi::Tract], total: u64) -> LotsReport {
+        LotsReport {
+            tracts: tracts.iter().map(Tract::from_data).collect(),
+            total: Acres::from_hundredths(total),
         }
     }
 }

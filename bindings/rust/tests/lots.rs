@@ -3,7 +3,7 @@
 mod samples;
 
 use samples::{even, uneven};
-use township::{Account, Acres, Land, Lots, NoLandAcres, Plat};
+use township::{Account, Acres, Land, Lots, NoLandAcres, Plat, Refusal};
 
 const HEADING: &str = "section,lot,acres\nT,2,N,3,W\n";
 const TABLE: &str = "section,lot,acres\nT,2,N,3,W\n5,1,40.45\n6,7,36.86\n5,2,40.50\n";
@@ -146,6 +146,72 @@ fn refused_descriptions() {
         let refused = uneven().acres(description).unwrap_err();
         assert_eq!(table().acres(description), Err(refused.clone()));
         assert_eq!(table().area(description), Err(refused));
+    }
+}
+
+#[test]
+fn report() {
+    // 40.45 acres; 40.50 and 80 acres.
+    let tracts = [
+        ("A", "sec. 5, lot 1."),
+        ("the \"old\" place", "sec. 5, lot 2, S1/2NE1/4."),
+    ];
+    let report = table().report_of(tracts).unwrap();
+    let shown: Vec<_> = report.tracts.iter().map(ToString::to_string).collect();
+    assert_eq!(
+        shown,
+        [
+            "tract A: 40.45 acres",
+            "tract the \"old\" place: 120.50 acres"
+        ]
+    );
+    assert_eq!(report.total, acres(16_095));
+    let none = table().report("name,description\n").unwrap();
+    assert_eq!((none.tracts, none.total), (vec![], acres(0)));
+    // Each tract has 5/8 of an acre, 0.63 rounded; together they have 1.25.
+    let smallest = [
+        ("A", "sec. 14, NE1/4NE1/4NE1/4NE1/4NE1/4."),
+        ("B", "sec. 14, NW1/4NE1/4NE1/4NE1/4NE1/4."),
+    ];
+    let report = table().report_of(smallest).unwrap();
+    assert!(report.tracts.iter().all(|tract| tract.acres == acres(63)));
+    assert_eq!(report.total, acres(125));
+}
+
+#[test]
+fn refused_lists() {
+    // Of section 5, the table has lots 1 and 2. The lot comes before what is wrong with later tracts.
+    for (list, at, lot) in [
+        ("A,\"sec. 5, lots 1 to 4.\"\n", 2, 503),
+        ("A,sec. 14.\nB,\"sec. 14; sec. 5, lot 4.\"\n", 3, 504),
+        ("A,sec. 14.\nB,\"sec. 7, lot 1.\"\nA,sec. 15.\n", 3, 701),
+    ] {
+        let list = "name,description\n".to_owned() + list;
+        let refused = table().report(&list).unwrap_err();
+        assert_eq!((refused.number, refused.at), (83, at));
+        let inner = Refusal {
+            number: 94,
+            at: lot,
+        };
+        assert_eq!(refused.inner, Some(inner));
+        let (lot, section) = (lot % 100, lot / 100);
+        assert_eq!(
+            refused.to_string(),
+            format!(
+                "tracts: record {at}: the lot table has no record for lot {lot} of section {section}"
+            )
+        );
+    }
+    // Other lists are refused as on a plat, before any later lot that is lacking.
+    for list in [
+        "",
+        "name;description\n",
+        "name,description\nA,sec. 14.\nA,sec. 15.\nZ,\"sec. 31, lot 1.\"\n",
+        "name,description\nA,\"sec. 14, NE1/4 and N1/2.\"\nZ,\"sec. 31, lot 1.\"\n",
+        "name,description\nA,sec. 14.\nB,\"sec. 14, NE1/4.\"\nZ,\"sec. 31, lot 1.\"\n",
+    ] {
+        let refused = uneven().report(list).unwrap_err();
+        assert_eq!(table().report(list), Err(refused));
     }
 }
 

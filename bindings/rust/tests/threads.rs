@@ -5,8 +5,8 @@ mod samples;
 use samples::{uneven, NOTES, TRACTS};
 use std::sync::Barrier;
 use std::thread;
-use township::{Account, Acres, Area, Comparison, Difference, Figures, Land, Lots, NoLandAcres};
-use township::{Note, OtherTownship, Part, Plat, Refused, Report, Township};
+use township::{Account, Acres, Area, Comparison, Difference, Figures, Land, Lots, LotsReport};
+use township::{NoLandAcres, Note, OtherTownship, Part, Plat, Refused, Report, Township};
 
 const THREADS: usize = 4;
 const ROUNDS: usize = 200;
@@ -24,6 +24,7 @@ struct Answers {
     normal: Result<String, Refused>,
     many: Vec<Result<Acres, Refused>>,
     notes: Result<Vec<Note>, Refused>,
+    readings: township::Suggestion,
     printed: String,
     figures: Figures,
     written: String,
@@ -40,6 +41,7 @@ struct Answers {
     lots_area: Result<Area, Refused>,
     lots_land_acres: Result<Acres, NoLandAcres>,
     lots_land_area: Result<Area, NoLandAcres>,
+    lots_report: Result<LotsReport, Refused>,
     differences: Result<Vec<Difference>, OtherTownship>,
     refused: Result<Acres, Refused>,
     refused_notes: Result<Plat, Refused>,
@@ -61,6 +63,7 @@ fn answers_on(plat: &Plat) -> Answers {
         normal: plat.normal("sec. 14, SE1/4, NE1/4, NW1/4."),
         many: plat.acres_many(&["sec. 6.", "sec. 7, lot 5."], Account::Exact),
         notes: plat.notes("sec. 14, NE1/4 SE1/4."),
+        readings: township::suggest("sec. 14: NE1/4NE1/4 SW1/4SW1/4"),
         printed: plat.print(),
         figures: plat.figures(),
         written: plat.write_notes(),
@@ -77,6 +80,7 @@ fn answers_on(plat: &Plat) -> Answers {
         lots_area: lots.area("sec. 5, lots 1 and 2."),
         lots_land_acres: lots.land_acres(&other),
         lots_land_area: lots.land_area(&land),
+        lots_report: lots.report("name,description\nA,\"sec. 5, lot 1.\"\nB,sec. 14.\n"),
         differences: plat.differences(&lots),
         refused: plat.acres("sec. 14, NE1/4 and N1/2."),
         refused_notes: Plat::read(b"line,between\n"),
@@ -142,6 +146,7 @@ fn values_go_to_other_threads() {
     goes::<Lots>();
     goes::<Part>();
     goes::<Report>();
+    goes::<LotsReport>();
     goes::<township::TractAnswer>();
     goes::<Refused>();
     let plat = thread::spawn(uneven).join().unwrap();

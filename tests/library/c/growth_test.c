@@ -120,6 +120,9 @@ static township_land land;
 static township_lots lots;
 static uint32_t comparison;
 static township_part parts[8];
+static township_reading readings[TOWNSHIP_READINGS_MOST];
+static township_change changes[8];
+static township_suggestion suggestion;
 static room *texts;
 
 /* Land of the township of the plat, and another. */
@@ -281,6 +284,24 @@ static township_answer call_lots_land_area(void) {
     return township_lots_land_area(&table, &first, &area);
 }
 
+static township_answer call_lots_report(void) {
+    return township_lots_report(&table, BYTES("name,description\nA,\"sec. 5, lot 1.\"\nB,sec. 14.\n"), tracts, 2);
+}
+
+static township_answer call_lots_report_refused(void) {
+    return township_lots_report(&table, BYTES("name,description\nA,sec. 14.\nB,\"sec. 5, lot 3.\"\n"), tracts, 2);
+}
+
+static township_answer call_suggest(void) {
+    return township_suggest(BYTES("sec. 14: NE1/4NE1/4 SW1/4SW1/4"), readings, TOWNSHIP_READINGS_MOST, changes, 8,
+                            room_text(texts), MOST_TEXT, &suggestion);
+}
+
+static township_answer call_suggest_itself(void) {
+    return township_suggest(BYTES("sec. 14, NE1/4."), readings, TOWNSHIP_READINGS_MOST, changes, 8, room_text(texts),
+                            MOST_TEXT, &suggestion);
+}
+
 static const struct {
     const char *name;
     township_answer (*call)(void);
@@ -318,6 +339,10 @@ static const struct {
     {"township_lots_area", call_lots_area},
     {"township_lots_land_acres", call_lots_land_acres},
     {"township_lots_land_area", call_lots_land_area},
+    {"township_lots_report", call_lots_report},
+    {"township_lots_report, refused", call_lots_report_refused},
+    {"township_suggest", call_suggest},
+    {"township_suggest, a description", call_suggest_itself},
 };
 
 /* Everything that a call can write. */
@@ -333,6 +358,9 @@ typedef struct written {
     township_part parts[8];
     township_tract_answer each[2];
     township_overlap overlaps[2];
+    township_reading readings[TOWNSHIP_READINGS_MOST];
+    township_change changes[8];
+    township_suggestion suggestion;
     room texts;
 } written;
 
@@ -351,6 +379,9 @@ static void clear(void) {
     memset(&lots, 0, sizeof lots);
     comparison = 0;
     memset(parts, 0, sizeof parts);
+    memset(readings, 0, sizeof readings);
+    memset(changes, 0, sizeof changes);
+    memset(&suggestion, 0, sizeof suggestion);
     room_clear(texts);
 }
 
@@ -366,6 +397,9 @@ static void keep(written *in) {
     memcpy(in->parts, parts, sizeof parts);
     memcpy(in->each, each, sizeof each);
     memcpy(in->overlaps, overlaps, sizeof overlaps);
+    memcpy(in->readings, readings, sizeof readings);
+    memcpy(in->changes, changes, sizeof changes);
+    in->suggestion = suggestion;
     in->texts = *texts;
 }
 

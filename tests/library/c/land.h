@@ -1,4 +1,4 @@
-/* The tests of the calls on land, and of those by a lot table. */
+/* The tests of the calls on land, of those by a lot table, and of the call for readings. */
 #ifndef LAND_H
 #define LAND_H
 
@@ -9,6 +9,9 @@ void answers_land(const township_plat *plat);
 
 /* Tries each call by a lot table. */
 void answers_lots(void);
+
+/* Tries the call for readings, with the plat of samples/b1.csv. */
+void answers_readings(const township_plat *plat);
 
 /* Land of T. 2 N., R. 3 W., which the description names. */
 township_land land_of(const char *text);

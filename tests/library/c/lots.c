@@ -166,10 +166,106 @@ static void refuses_lots(void) {
     refuses_land(&lots, &other, bare(TOWNSHIP_OTHER_TOWNSHIP));
 }
 
+/* Room for tracts, with one more after it. */
+typedef struct tracts_by_lots {
+    township_tract tracts[3];
+} tracts_by_lots;
+
+static tracts_by_lots blank_tracts(void) {
+    tracts_by_lots made;
+
+    memset(&made, NEVER, sizeof made);
+    return made;
+}
+
+static township_answer report_by(const township_lots *lots, const char *text, tracts_by_lots *to, size_t room) {
+    bytes list = bytes_of(text);
+    township_answer answer = township_lots_report(lots, list.at, list.length, to->tracts, room);
+
+    drop(list);
+    return answer;
+}
+
+static bool is_tract_by_lots(const township_tract *tract, const char *name, uint64_t hundredths) {
+    char wanted[TOWNSHIP_NAME_ROOM] = {0};
+
+    memcpy(wanted, name, strlen(name));
+    return tract->hundredths == hundredths && tract->name_length == strlen(name) &&
+           memcmp(tract->name, wanted, sizeof wanted) == 0;
+}
+
+/* An answer with this total, in hundredths of an acre, and this number of tracts. */
+static township_answer totaled(uint32_t verdict, uint64_t hundredths, size_t count) {
+    township_answer answer = with_length(verdict, count);
+
+    answer.hundredths = hundredths;
+    return answer;
+}
+
+#define LIST "name,description\n"
+
+static void reports_tracts(void) {
+    township_lots lots = lots_of(TABLE);
+    tracts_by_lots none = blank_tracts();
+    tracts_by_lots found = none;
+    /* 40.45 acres; 40.55 and 80 acres. */
+    static const char *const two = LIST "A,\"sec. 5, lot 1.\"\n\"the \"\"old\"\" place\",\"sec. 5, lot 2, S1/2NE1/4.\"\n";
+    /* Each has 5/8 of an acre, 0.63 rounded; together they have 1.25. */
+    static const char *const smallest = LIST "A,\"sec. 14, NE1/4NE1/4NE1/4NE1/4NE1/4.\"\n"
+                                             "B,\"sec. 14, NW1/4NE1/4NE1/4NE1/4NE1/4.\"\n";
+
+    CHECK_ANSWER(report_by(&lots, two, &found, 2), totaled(TOWNSHIP_ACCEPTED, 16100, 2));
+    CHECK(is_tract_by_lots(&found.tracts[0], "A", 4045));
+    CHECK(is_tract_by_lots(&found.tracts[1], "the \"old\" place", 12055));
+    CHECK(memcmp(&found.tracts[2], &none.tracts[2], sizeof found.tracts[2]) == 0);
+    CHECK_ANSWER(report_by(&lots, smallest, &found, 3), totaled(TOWNSHIP_ACCEPTED, 125, 2));
+    CHECK(is_tract_by_lots(&found.tracts[0], "A", 63) && is_tract_by_lots(&found.tracts[1], "B", 63));
+
+    found = none;
+    CHECK_ANSWER(report_by(&lots, LIST, &found, 0), totaled(TOWNSHIP_ACCEPTED, 0, 0));
+    for (size_t room = 0; room < 2; room++) {
+        CHECK_ANSWER(report_by(&lots, two, &found, room), totaled(TOWNSHIP_NO_ROOM, 16100, 2));
+    }
+    CHECK(memcmp(&found, &none, sizeof found) == 0);
+}
+
+/* The first fault of a list is that of township_account, but a lot that the table lacks is one of its tract. */
+static void refuses_lists(void) {
+    township_lots lots = lots_of(TABLE);
+    township_lots much = lots;
+    tracts_by_lots none = blank_tracts();
+    const struct {
+        const char *list;
+        township_answer wanted;
+    } rows[] = {
+        {"", refused(81, 1)},
+        {"name;description\n", refused(81, 1)},
+        {LIST "A,sec. 5, lot 1.\n", refused(81, 2)},
+        {LIST "A,sec. 14.\nA,\"sec. 5, lot 3.\"\n", refused(82, 3)},
+        {LIST "A,\"sec. 14, NE1/4 and N1/2.\"\nB,\"sec. 5, lot 3.\"\n", tract_refused(2, 67, 19)},
+        {LIST "A,\"sec. 5, lot 5.\"\n", tract_refused(2, 64, 12)},
+        {LIST "A,sec. 14.\nB,\"sec. 14, NE1/4.\"\nC,\"sec. 5, lot 3.\"\n", refused(84, 3)},
+        {LIST "A,\"sec. 5, lots 1 and 3.\"\nA,sec. 14.\n", tract_refused(2, 94, 503)},
+        {LIST "A,sec. 14.\nB,\"sec. 14; sec. 31, lot 4.\"\n", tract_refused(3, 94, 3104)},
+        {LIST "A,sec. 14.\nB,\"sec. 15; sec. 6, lots 6 and 7.\"\nA,sec. 16.\n", tract_refused(3, 94, 606)},
+    };
+
+    for (size_t i = 0; i < COUNT(rows); i++) {
+        tracts_by_lots found = none;
+
+        CHECK_ANSWER(report_by(&lots, rows[i].list, &found, 3), rows[i].wanted);
+        CHECK(memcmp(&found, &none, sizeof found) == 0);
+    }
+    much.figures[46] = 100000;
+    CHECK_ANSWER(report_by(&much, LIST, &none, 3), bare(TOWNSHIP_NO_LOTS));
+}
+
 void answers_lots(void) {
     reads_lots();
     refuses_tables();
     measures_land();
     refuses_lacking();
     refuses_lots();
+    reports_tracts();
+    refuses_lists();
 }

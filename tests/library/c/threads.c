@@ -7,7 +7,7 @@
 #include "check.h"
 
 #define THREADS 4
-#define CALLS 34
+#define CALLS 36
 
 /* The stack that the library requires, and room for the thread's own calls. */
 #define STACK ((256 + 64) * 1024)
@@ -20,6 +20,7 @@ typedef struct round_answers {
     township_plat_figures figures;
     township_answer many[2];
     township_tract tracts[2];
+    township_tract tracts_by_lots[2];
     township_totals totals;
     township_tract_answer each[2];
     township_overlap overlaps[2];
@@ -30,6 +31,9 @@ typedef struct round_answers {
     township_fraction areas[3];
     township_part parts[16];
     township_explanation explanations[3];
+    township_reading readings[2];
+    township_change changes[2];
+    township_suggestion suggestion;
     uint8_t texts[CALLS][8192];
 } round_answers;
 
@@ -69,6 +73,8 @@ static void call_on_land(const township_plat *plat, round_answers *to) {
     answer[26] = township_lots_land_acres(&to->lots, &other);
     answer[27] = township_lots_land_area(&to->lots, &other, &to->areas[2]);
     answer[28] = township_land_parts(&to->combined, to->parts, sizeof to->parts / sizeof *to->parts);
+    answer[35] = township_lots_report(&to->lots, BYTES("name,description\nA,\"sec. 6, lot 1.\"\nB,sec. 14.\n"),
+                                      to->tracts_by_lots, 2);
 }
 
 /* Calls each function that explains and gives the parts of its text. */
@@ -118,6 +124,8 @@ static void call_all(bytes notes, const township_plat *plat, round_answers *to) 
     answer[30] = township_overlaps(plat, BYTES("name,description\nA,sec. 6.\nA,sec. 6.\n"), to->overlaps, 2);
     call_on_land(plat, to);
     call_explaining(plat, to);
+    answer[34] = township_suggest(BYTES("sec. 14: NE1/4NE1/4 SW1/4SW1/4"), to->readings, 2, to->changes, 2,
+                                  to->texts[34], sizeof to->texts[34], &to->suggestion);
 }
 
 /* Whether the land, the lot tables, and the areas of two rounds are the same. */
@@ -125,7 +133,15 @@ static bool same_land(const round_answers *a, const round_answers *b) {
     return memcmp(&a->land, &b->land, sizeof a->land) == 0 && a->comparison == b->comparison &&
            memcmp(&a->combined, &b->combined, sizeof a->combined) == 0 &&
            memcmp(&a->lots, &b->lots, sizeof a->lots) == 0 && memcmp(a->areas, b->areas, sizeof a->areas) == 0 &&
+           memcmp(a->tracts_by_lots, b->tracts_by_lots, sizeof a->tracts_by_lots) == 0 &&
            memcmp(a->parts, b->parts, sizeof a->parts) == 0;
+}
+
+/* Whether the readings of two rounds are the same. */
+static bool same_readings(const round_answers *a, const round_answers *b) {
+    return memcmp(a->readings, b->readings, sizeof a->readings) == 0 &&
+           memcmp(a->changes, b->changes, sizeof a->changes) == 0 &&
+           memcmp(&a->suggestion, &b->suggestion, sizeof a->suggestion) == 0;
 }
 
 /* Whether the figures, the accounts, and the answers to many descriptions of two rounds are the same. */
@@ -146,12 +162,13 @@ static bool same_round(const round_answers *a, const round_answers *b) {
     }
     return memcmp(&a->read, &b->read, sizeof a->read) == 0 && memcmp(&a->area, &b->area, sizeof a->area) == 0 &&
            memcmp(a->texts, b->texts, sizeof a->texts) == 0 &&
-           memcmp(a->explanations, b->explanations, sizeof a->explanations) == 0 && same_figures(a, b) && same_land(a, b);
+           memcmp(a->explanations, b->explanations, sizeof a->explanations) == 0 && same_figures(a, b) &&
+           same_land(a, b) && same_readings(a, b);
 }
 
 /* Whether a call of a round explains a refusal. */
 static bool is_explained(int call) {
-    return (call >= 7 && call <= 9) || call >= 31;
+    return (call >= 7 && call <= 9) || (call >= 31 && call <= 33);
 }
 
 static void *run(void *given) {

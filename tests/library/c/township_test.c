@@ -667,6 +667,7 @@ int main(int count, char **words) {
     refuses_accounts(&plat);
     answers_land(&plat);
     answers_lots();
+    answers_readings(&plat);
     call_from_threads(notes, rounds);
     drop(notes);
     return checked();

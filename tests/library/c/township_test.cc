@@ -15,6 +15,9 @@ static_assert(sizeof(township_lots) == 192, "a lot table has 47 figures and a de
 static_assert(sizeof(township_part) == 6, "a part has 6 bytes");
 static_assert(sizeof(township_tract_answer) == 120, "the answer to a tract has 120 bytes");
 static_assert(sizeof(township_overlap) == 16, "an overlap has 16 bytes");
+static_assert(sizeof(township_reading) == 40, "a reading has 4 numbers of 8 bytes and 2 of 4");
+static_assert(sizeof(township_change) == 56, "a change has 6 numbers of 8 bytes and 2 of 4");
+static_assert(sizeof(township_suggestion) == 56, "a suggestion has 7 numbers of 8 bytes");
 
 static const std::uint8_t *bytes(const std::string &text) {
     return reinterpret_cast<const std::uint8_t *>(text.data());
@@ -90,13 +93,29 @@ static std::uint64_t shared(const std::string &notes, const std::string &list) {
     return holds ? overlap.hundredths : 0;
 }
 
+// The first reading of a text that has two.
+static std::string first_reading(const std::string &given) {
+    township_reading readings[TOWNSHIP_READINGS_MOST]{};
+    township_change changes[8]{};
+    std::uint8_t texts[256]{};
+    township_suggestion said{};
+    const township_answer answer = township_suggest(bytes(given), given.size(), readings, TOWNSHIP_READINGS_MOST,
+                                                    changes, 8, texts, sizeof texts, &said);
+
+    if (answer.verdict != TOWNSHIP_ACCEPTED || said.readings != 2) {
+        return "";
+    }
+    return std::string(reinterpret_cast<const char *>(texts) + readings[0].text, readings[0].text_length);
+}
+
 int main(int count, char **words) {
     std::ifstream file(count > 1 ? words[1] : "samples/b1.csv", std::ios::binary);
     const std::string notes((std::istreambuf_iterator<char>(file)), std::istreambuf_iterator<char>());
     const bool holds = hundredths(notes, "sec. 5, lot 1.") == 4045 && figure(notes) == 4045 && has_corner() &&
                        returned("section,lot,acres\nT,2,N,3,W\n5,1,40.45\n", "sec. 5, lot 1.") == 4045 &&
                        tract(notes, "name,description\nA,\"sec. 5, lot 1.\"\n") == "A: 4045" &&
-                       shared(notes, "name,description\nA,sec. 14\nB,\"sec. 14, NE1/4\"\n") == 16000;
+                       shared(notes, "name,description\nA,sec. 14\nB,\"sec. 14, NE1/4\"\n") == 16000 &&
+                       first_reading("sec. 14, NE1/4 SW1/4") == "sec. 14, NE1/4, SW1/4";
 
     std::cout << holds << " passed, " << !holds << " failed\n";
     return !holds;

@@ -27,8 +27,9 @@ from ._many import Answers
 from ._note import Note
 from ._parts import Part
 from ._plat import Plat
+from ._readings import Change, Reading, Readings, suggest
 from ._refused import Refusal, Refused, failure_of
-from ._report import Overlap, Report, Tract, TractAnswer
+from ._report import LotsReport, Overlap, Report, Tract, TractAnswer
 from ._rounding import rounded
 from ._township import EastWest, NorthSouth, Township
 from ._version import __version__
@@ -36,10 +37,12 @@ from ._version import __version__
 __all__ = [
     "Account",
     "Answers",
+    "Change",
     "Difference",
     "EastWest",
     "Land",
     "Lots",
+    "LotsReport",
     "NorthSouth",
     "Note",
     "Notes",
@@ -47,6 +50,8 @@ __all__ = [
     "Overlap",
     "Part",
     "Plat",
+    "Reading",
+    "Readings",
     "Refusal",
     "Refused",
     "Report",
@@ -56,12 +61,13 @@ __all__ = [
     "TractAnswer",
     "__version__",
     "rounded",
+    "suggest",
     "version",
 ]
 
 for _public in (
-    *(Answers, Difference, Land, Lots, Note, Notes, OtherPlace, Overlap, Part, Plat),
-    *(Refusal, Refused, Report, Section, Township, Tract, TractAnswer),
+    *(Answers, Change, Difference, Land, Lots, LotsReport, Note, Notes, OtherPlace, Overlap, Part, Plat),
+    *(Reading, Readings, Refusal, Refused, Report, Section, Township, Tract, TractAnswer),
 ):
     # Tracebacks and pickles name each class as users import it.
     _public.__module__ = __name__

@@ -15,6 +15,7 @@ from ._land import Land
 from ._lots import Lots
 from ._many import Answers, answers_of
 from ._note import Note, notes_of
+from ._readings import Reading, Readings, suggest
 from ._refused import DESCRIPTION, Refused, exception_of, failure_of
 from ._reporting import Reporting
 from ._text import Text, encoded
@@ -99,14 +100,42 @@ class Answering(Reporting):
 write a comma after NE1/4 (320.00 acres)
         """
         given = encoded(description)
-        explain = _library.explain_description_parts
-        parts = byref(self._parts)
-        answer, text, explained = explained_by(
-            explain, parts, given, len(given), DESCRIPTION, len(DESCRIPTION)
-        )
-        if answer.verdict != _library.ACCEPTED:
-            raise self._exception_of(answer, given)
-        return notes_of(answer, text, explained)
+        asked = (byref(self._parts), given, len(given), DESCRIPTION, len(DESCRIPTION))
+        # Nearly all accepted descriptions have no note, which the answer says without a text.
+        answer = _library.without_text(_library.explain_description, *asked)
+        if answer.verdict == _library.ACCEPTED:
+            return []
+        if answer.verdict == _library.NO_ROOM:
+            answer, text, explained = explained_by(_library.explain_description_parts, *asked)
+            if answer.verdict == _library.ACCEPTED:
+                return notes_of(answer, text, explained)
+        raise self._exception_of(answer, given)
+
+    def suggest(self, text: Text, account: Account = "exact") -> Readings:
+        """Return the readings of a text: the descriptions that it may mean, in a fixed order, with their acreage.
+
+        A text that can be read in several ways has several readings. It has none if nothing is certain, or if lots
+        and aliquot parts can't describe the land; `reason` then says why. Readings are for people to choose from:
+        no other method uses them. If the plat refuses a reading, its `refused` says why.
+
+        >>> for reading in plat.suggest("sec. 14: NE¼NE¼ SW¼SW¼"):
+        ...     print(reading.acres, reading.text)
+        80.00 sec. 14: NE¼NE¼, SW¼SW¼
+        2.50 sec. 14: NE¼NE¼SW¼SW¼
+        >>> plat.suggest("N2 Sec 14-3N-3W")[0].refused.number
+        61
+        """
+        code_of(account)
+        found = suggest(text)
+        return Readings([self._on_plat(each, account) for each in found], found.reason, found.beyond)
+
+    def _on_plat(self, reading: Reading, account: Account) -> Reading:
+        """Return what a reading comes to on the plat."""
+        try:
+            acres = self.acres(reading.text, account)
+            return reading._replace(acres=acres, normal=self.normal(reading.text))
+        except Refused as refused:
+            return reading._replace(refused=refused)
 
     def acres_of(
         self, descriptions: Iterable[Text], account: Account = "exact"

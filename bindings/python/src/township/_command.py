@@ -14,6 +14,7 @@ from ._batch.workbook import is_workbook
 from ._draw import add_draw
 from ._measuring import Command, acres_command, compare_command
 from ._serve import add_serve
+from ._suggest import suggest_command
 
 #: The most processes that can be asked for.
 _JOBS_MOST = 1024
@@ -34,6 +35,13 @@ says in which township each is, as in T. 2 N., R. 3 W. The same columns are writ
   sentence   what is wrong, in words
   note       both readings of the first place that can be read in two ways, if it is accepted
   canonical  the canonical description, which is the same for all descriptions of the same land
+
+With --suggest, these are added, too. They never change the columns above:
+
+  reading        how the text would be written as a description, if it can be read in only one way
+  readings       the number of its readings
+  assumes        what that reading assumes
+  reading_acres  the acreage of that reading
 """
 
 _STATUS = """\
@@ -104,6 +112,7 @@ def _options_in(batch: argparse.ArgumentParser, asked: argparse.Namespace) -> Op
         encoding=asked.encoding,
         output=output,
         resume=asked.resume,
+        suggest=asked.suggest,
         jobs=asked.jobs,
     )
 
@@ -125,6 +134,7 @@ def _parsers() -> Tuple[argparse.ArgumentParser, Dict[str, Command]]:
     return parser, {
         "acres": acres_command(commands),
         "compare": compare_command(commands),
+        "suggest": suggest_command(commands),
         "batch": _batch_command(commands),
     }
 
@@ -209,6 +219,9 @@ def _add_outputs(batch: argparse.ArgumentParser) -> None:
         type=_count,
         default=1,
         help="answer in N processes, for a long list (default: 1; a workbook is written by one)",
+    )
+    batch.add_argument(
+        "--suggest", action="store_true", help="add columns on the readings of each description"
     )
     batch.add_argument(
         "--prefix", metavar="TEXT", default="", help="begin the name of each added column with this text"

@@ -63,6 +63,14 @@ DISJOINT = 4
 # What an explanation shows of the input.
 SHOWN_BYTES = 2
 
+# Manners of readings.
+CHANGED = 0
+LOTS_NAMED = 1
+REMAINDER = 2
+
+#: The most readings of a text.
+READINGS_MOST = 8
+
 # Sides of the base line, and of the principal meridian.
 NORTH = 0
 SOUTH = 1
@@ -217,6 +225,48 @@ class Overlap(ctypes.Structure):
     _fields_ = [("first", c_uint32), ("second", c_uint32), ("hundredths", c_uint64)]
 
 
+class Reading(ctypes.Structure):
+    """`township_reading`: 40 bytes."""
+
+    _fields_ = [
+        ("text", c_uint64),
+        ("text_length", c_uint64),
+        ("changes", c_uint64),
+        ("changes_length", c_uint64),
+        ("manner", c_uint32),
+        ("reserved", c_uint32),
+    ]
+
+
+class Change(ctypes.Structure):
+    """`township_change`: 56 bytes."""
+
+    _fields_ = [
+        ("start", c_uint64),
+        ("end", c_uint64),
+        ("written", c_uint64),
+        ("written_length", c_uint64),
+        ("copied", c_uint64),
+        ("copied_end", c_uint64),
+        ("rule", c_uint32),
+        ("assumes", c_uint32),
+    ]
+
+
+class Suggestion(ctypes.Structure):
+    """`township_suggestion`: 56 bytes."""
+
+    _fields_ = [
+        ("readings", c_uint64),
+        ("changes", c_uint64),
+        ("bytes", c_uint64),
+        ("reason", c_uint64),
+        ("reason_length", c_uint64),
+        ("beyond", c_uint64),
+        ("beyond_end", c_uint64),
+    ]
+
+
 def _load() -> ctypes.CDLL:
     """Load the library that the environment variable names, or else the one in the package's folder."""
     path = os.environ.get(VARIABLE) or BESIDE
@@ -236,6 +286,8 @@ _ROOM = (POINTER(c_char), c_size_t)
 _OFFSETS = (POINTER(c_size_t), c_size_t)
 _ANSWERS = (POINTER(Answer), c_size_t)
 _TRACTS = (POINTER(Tract), c_size_t)
+_READINGS = (POINTER(Reading), c_size_t)
+_CHANGES = (POINTER(Change), c_size_t)
 _TOWNSHIP = POINTER(Designation)
 _LAND = POINTER(Land)
 _LOTS = POINTER(Lots)
@@ -274,6 +326,7 @@ explain_list = _call("township_explain_list", _PLAT, *_BYTES, *_BYTES, *_ROOM)
 explain_notes_parts = _call("township_explain_notes_parts", *_BYTES, *_BYTES, *_ROOM, _EXPLANATION)
 explain_description_parts = _call("township_explain_description_parts", _PLAT, *_BYTES, *_BYTES, *_ROOM, _EXPLANATION)
 explain_list_parts = _call("township_explain_list_parts", _PLAT, *_BYTES, *_BYTES, *_ROOM, _EXPLANATION)
+suggest = _call("township_suggest", *_BYTES, *_READINGS, *_CHANGES, *_ROOM, POINTER(Suggestion))
 version = _call("township_version", *_ROOM)
 land_read = _call("township_land_read", _TOWNSHIP, *_BYTES, _LAND)
 land_acres = _call("township_land_acres", _PLAT, _LAND, c_uint32)
@@ -287,6 +340,7 @@ lots_acres = _call("township_lots_acres", _LOTS, *_BYTES)
 lots_area = _call("township_lots_area", _LOTS, *_BYTES, _AREA)
 lots_land_acres = _call("township_lots_land_acres", _LOTS, _LAND)
 lots_land_area = _call("township_lots_land_area", _LOTS, _LAND, _AREA)
+lots_report = _call("township_lots_report", _LOTS, *_BYTES, *_TRACTS)
 
 #: The buffer size for a first call, in bytes. It holds all but long canonical texts and field notes.
 USUAL_ROOM = 4096
@@ -300,6 +354,11 @@ class _Usual(threading.local):
 
 
 _usual = _Usual()
+
+
+def without_text(call: Callable[..., Answer], *arguments: object) -> Answer:
+    """Call a function that writes a text, without room for it. The answer has the length of the text."""
+    return call(*arguments, _usual.buffer, 0)
 
 
 def text_by(call: Callable[..., Answer], *arguments: object) -> Tuple[Answer, str]:

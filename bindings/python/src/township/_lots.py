@@ -5,14 +5,15 @@ from ctypes import byref
 from decimal import Decimal
 from fractions import Fraction
 from types import MappingProxyType
-from typing import Any, List, Mapping, Optional, Tuple, Union
+from typing import Any, Iterable, List, Mapping, Optional, Tuple, Union
 
 from . import _library
 from ._decimals import Number, scaled
 from ._figures import acres_of_hundredths, fraction_of
 from ._land import Land
 from ._lot_faults import LACKING, refused_lots
-from ._refused import DESCRIPTION, LAND, LOT_TABLE, Refused, exception_of, failure_of, hinted
+from ._refused import DESCRIPTION, LAND, LIST, LOT_TABLE, Refused, exception_of, failure_of, hinted
+from ._report import LotsReport, list_of, report_by
 from ._spelling import Named, township_named
 from ._text import Path, Text, encoded, names_a_file, shown
 from ._township import Township, codes_of, nominal_plat_of, township_of
@@ -174,6 +175,51 @@ class Lots:
             answer = _library.lots_area(byref(self._parts), given, len(given), byref(area))
             self._check_description(answer, given)
         return fraction_of(area)
+
+    def report(self, tracts: Iterable[Tuple[Text, Text]]) -> LotsReport:
+        """Return the acreage of tracts, each a name and a description, and that of all of them together.
+
+        There may be at most 1,000 tracts, and they must not overlap. A name is 1 to 64 bytes of printable
+        ASCII, and each name must be unique.
+
+        If the tracts are refused, the location in `Refused` refers to the list that they make: the tract with
+        index k is record k + 2.
+
+        >>> lots = township.Lots.of_figures("T. 2 N., R. 3 W.", {(5, 1): "40.45", (5, 2): "40.55"})
+        >>> report = lots.report([("A", "sec. 5, lot 1."), ("B", "sec. 5, lot 2, S1/2NE1/4.")])
+        >>> report.tracts
+        (Tract(name='A', acres=Decimal('40.45')), Tract(name='B', acres=Decimal('120.55')))
+        >>> report.total
+        Decimal('161.00')
+        """
+        return self.report_csv(list_of(tracts))
+
+    def report_csv(self, tracts: Text) -> LotsReport:
+        """Return the same for a list of tracts (CSV, at most 1,048,576 bytes; see `docs/TRACTS-FORMAT.md`).
+
+        Raise `Refused`, with a number from 80 to 85, if the list is refused. If a tract's description is
+        refused, the number is 83, and `inner` contains the description's own refusal; its number is 94 if the
+        tract contains a lot that the table lacks.
+
+        >>> lots = township.Lots.of_figures("T. 2 N., R. 3 W.", {(5, 1): "40.45", (5, 2): "40.55"})
+        >>> lots.report_csv("name,description\\nA,\"sec. 5, lots 1 and 3.\"\\n")
+        Traceback (most recent call last):
+            ...
+        township.Refused: tracts: record 2: the lot table has no record for lot 3 of section 5
+        """
+        given = encoded(tracts)
+        answer, report = report_by(byref(self._parts), given)
+        if answer.verdict != _library.ACCEPTED:
+            raise self._list_exception(answer, given)
+        return report
+
+    def _list_exception(self, answer: _library.Answer, given: bytes) -> Exception:
+        """Return the exception for a list of tracts that is not accepted."""
+        if answer.verdict == _library.TRACT_REFUSED and answer.inner_number == LACKING:
+            return refused_lots(answer, LIST.decode())
+        explain = _library.explain_list_parts
+        plat = nominal_plat_of(self.township)
+        return exception_of(answer, explain, byref(plat), given, len(given), source=LIST)
 
     def _check_description(self, answer: _library.Answer, given: bytes) -> None:
         """Raise the exception for a description that is not accepted."""

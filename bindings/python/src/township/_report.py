@@ -29,6 +29,15 @@ class Report(NamedTuple):
     remaining: Decimal
 
 
+class LotsReport(NamedTuple):
+    """The report on a list of tracts by a lot table. Each figure is an exact area, rounded independently."""
+
+    #: The tracts, in the order of the list.
+    tracts: Tuple[Tract, ...]
+    #: The acreage of all tracts together.
+    total: Decimal
+
+
 class TractAnswer(NamedTuple):
     """The answer to a tract of a list, whatever is wrong with the others: its acreage or its refusal."""
 
@@ -60,6 +69,15 @@ def report_on(parts: object, given: bytes) -> Tuple[_library.Answer, Report]:
     answer = _library.account(parts, given, len(given), tracts, len(tracts), ctypes.byref(totals))
     shown = tuple(map(_tract_of, tracts[: answer.length]))
     return answer, Report(shown, acres_of_hundredths(totals.total), acres_of_hundredths(totals.remaining))
+
+
+def report_by(lots: object, given: bytes) -> Tuple[_library.Answer, LotsReport]:
+    """Return the library's answer to a list of tracts by a lot table, and its report, which is empty if it is not
+    accepted."""
+    tracts = (_library.Tract * _library.TRACTS_MOST)()
+    answer = _library.lots_report(lots, given, len(given), tracts, len(tracts))
+    shown = tuple(map(_tract_of, tracts[: answer.length]))
+    return answer, LotsReport(shown, acres_of_hundredths(answer.hundredths))
 
 
 def answers_on(parts: object, given: bytes) -> Tuple[_library.Answer, Tuple[TractAnswer, ...]]:

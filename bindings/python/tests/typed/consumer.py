@@ -8,8 +8,8 @@ from typing import Iterator, List, Mapping, Optional, Tuple, Union
 
 import township
 import township.pandas
-from township import Account, Difference, EastWest, Land, Lots, NorthSouth, Notes, Overlap, Part, Plat, Refusal
-from township import Refused, Report, Section, Township, Tract, TractAnswer
+from township import Account, Change, Difference, EastWest, Land, Lots, NorthSouth, Notes, Overlap, Part, Plat
+from township import Reading, Readings, Refusal, Refused, Report, Section, Township, Tract, TractAnswer, suggest
 
 
 def answers(plat: Plat, account: Account) -> Iterator[Union[Decimal, Refused]]:
@@ -67,6 +67,24 @@ def lands(plat: Plat, lots: Lots) -> Optional[Decimal]:
     differences: List[Difference] = plat.differences(Lots.of_figures(land.township, lots.figures))
     drawings: List[str] = [plat.svg(), plat.svg(land=land, section=14), plat.svg(land=b"sec. 14.")]
     return acres[0] + differences[0].by if is_less and areas and lot and drawings else None
+
+
+def readings(plat: Plat) -> Optional[Decimal]:
+    found: Readings = plat.suggest(b"NENE Sec 14", account="plat")
+    reading: Reading = suggest("NENE Sec 14")[0]
+    changes: Tuple[Change, ...] = reading.changes
+    places: List[int] = [place for change in changes for place in (change.start, change.end)]
+    words: List[str] = [reading.text, reading.manner, *reading.assumptions, *(change.written for change in changes)]
+    reason: Optional[str] = found.reason
+    beyond: Optional[Tuple[int, int]] = found.beyond
+    refused: Optional[Refused] = found[0].refused
+    return found[0].acres if words and places and not (reason or beyond or refused) else None
+
+
+def wrong_readings(plat: Plat) -> None:
+    plat.suggest(14)  # type: ignore[arg-type]
+    plat.suggest("sec. 14.", account="printed")  # type: ignore[arg-type]
+    plat.acres(suggest("sec. 14.")[0])  # type: ignore[arg-type]
 
 
 def wrong_lands(plat: Plat, land: Land, lots: Lots) -> None:

@@ -1,6 +1,6 @@
 //! The library's functions on lot tables.
 
-use super::structs::{Answer, Fraction, Land, Lots};
+use super::structs::{Answer, Fraction, Land, Lots, Tract};
 
 // The requirements on pointers are those of the functions above.
 extern "C" {
@@ -19,6 +19,13 @@ extern "C" {
     fn township_lots_land_acres(lots: *const Lots, land: *const Land) -> Answer;
     fn township_lots_land_area(lots: *const Lots, land: *const Land, area: *mut Fraction)
         -> Answer;
+    fn township_lots_report(
+        lots: *const Lots,
+        list: *const u8,
+        list_length: usize,
+        tracts: *mut Tract,
+        room: usize,
+    ) -> Answer;
 }
 
 /// Reads a lot table. It is valid only if the answer accepts it.
@@ -57,4 +64,18 @@ pub(crate) fn lots_land_area(lots: &Lots, land: &Land) -> (Answer, Fraction) {
     // SAFETY: references meet the library's requirements.
     let answer = unsafe { township_lots_land_area(lots, land, &mut area) };
     (answer, area)
+}
+
+/// Writes the tracts of a list, by a lot table. They are valid only if the answer accepts the list.
+pub(crate) fn lots_report(lots: &Lots, list: &[u8], tracts: &mut [Tract]) -> Answer {
+    // SAFETY: slices and a reference meet the library's requirements.
+    unsafe {
+        township_lots_report(
+            lots,
+            list.as_ptr(),
+            list.len(),
+            tracts.as_mut_ptr(),
+            tracts.len(),
+        )
+    }
 }

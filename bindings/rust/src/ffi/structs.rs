@@ -234,6 +234,45 @@ pub(crate) struct Part {
     pub(crate) rows: u8,
 }
 
+/// `township_reading`: where the text and the changes of a reading are.
+#[repr(C)]
+#[derive(Clone, Copy, Debug, Default, PartialEq, Eq)]
+pub(crate) struct Reading {
+    pub(crate) text: u64,
+    pub(crate) text_length: u64,
+    pub(crate) changes: u64,
+    pub(crate) changes_length: u64,
+    pub(crate) manner: u32,
+    pub(crate) reserved: u32,
+}
+
+/// `township_change`: what a change leaves out, and where what it writes is.
+#[repr(C)]
+#[derive(Clone, Copy, Debug, Default, PartialEq, Eq)]
+pub(crate) struct Change {
+    pub(crate) start: u64,
+    pub(crate) end: u64,
+    pub(crate) written: u64,
+    pub(crate) written_length: u64,
+    pub(crate) copied: u64,
+    pub(crate) copied_end: u64,
+    pub(crate) rule: u32,
+    pub(crate) assumes: u32,
+}
+
+/// `township_suggestion`: how much there is, and why there are no readings.
+#[repr(C)]
+#[derive(Clone, Copy, Debug, Default, PartialEq, Eq)]
+pub(crate) struct Suggestion {
+    pub(crate) readings: u64,
+    pub(crate) changes: u64,
+    pub(crate) bytes: u64,
+    pub(crate) reason: u64,
+    pub(crate) reason_length: u64,
+    pub(crate) beyond: u64,
+    pub(crate) beyond_end: u64,
+}
+
 // The library is compiled for these layouts.
 const _: () = assert!(size_of::<Parts>() == 340 && offset_of!(Parts, number) == 336);
 const _: () = assert!(size_of::<Answer>() == 48 && offset_of!(Answer, hundredths) == 32);
@@ -247,3 +286,6 @@ const _: () = assert!(size_of::<Designation>() == 4);
 const _: () = assert!(size_of::<Land>() == 4612 && offset_of!(Land, township) == 4608);
 const _: () = assert!(size_of::<Lots>() == 192 && offset_of!(Lots, township) == 188);
 const _: () = assert!(size_of::<Part>() == 6 && offset_of!(Part, rows) == 5);
+const _: () = assert!(size_of::<Reading>() == 40 && offset_of!(Reading, manner) == 32);
+const _: () = assert!(size_of::<Change>() == 56 && offset_of!(Change, rule) == 48);
+const _: () = assert!(size_of::<Suggestion>() == 56);

@@ -43,6 +43,9 @@ fn numbers_are_those_of_the_header() {
         ("IS_CONTAINED", IS_CONTAINED),
         ("OVERLAPS", OVERLAPS),
         ("DISJOINT", DISJOINT),
+        ("CHANGED", CHANGED),
+        ("LOTS_NAMED", LOTS_NAMED),
+        ("REMAINDER", REMAINDER),
         ("EXACT", EXACT),
         ("BY_PLAT", BY_PLAT),
         ("NORTH", u32::from(NORTH)),
@@ -60,6 +63,7 @@ fn numbers_are_those_of_the_header() {
         ("LOTS", LOTS),
         ("TRACTS_MOST", TRACTS_MOST),
         ("NAME_ROOM", NAME_ROOM),
+        ("READINGS_MOST", READINGS_MOST),
     ] {
         let line = format!("#define TOWNSHIP_{name} {number}\n");
         assert!(HEADER.contains(&line), "the header has no line {line}");
@@ -177,6 +181,7 @@ fn land_and_lots_that_are_none_are_found_out_by_each_call() {
     );
     assert_eq!(lots_land_acres(&none, &some), no_lots);
     assert_eq!(lots_land_area(&none, &some).0, no_lots);
+    assert_eq!(lots_report(&none, b"", &mut [Tract::BLANK]), no_lots);
     assert_eq!(room, [0; 64]);
 }
 

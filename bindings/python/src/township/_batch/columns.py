@@ -9,6 +9,9 @@ from .stopped import Stopped
 #: The columns that a batch adds.
 ADDED = ("acres", "refusal", "at", "sentence", "note", "canonical")
 
+#: The columns on readings, which it adds after them if it is asked to suggest readings.
+SUGGESTED = ("reading", "readings", "assumes", "reading_acres")
+
 #: The number of columns that a message lists, and the number of characters of each name.
 _SHOWN = 12
 _SHOWN_CHARACTERS = 40
@@ -40,9 +43,9 @@ def column_in(heading: Sequence[str], name: str, option: str, place: str) -> int
     )
 
 
-def added_to(heading: Sequence[str], prefix: str, place: str) -> List[str]:
+def added_to(heading: Sequence[str], prefix: str, place: str, suggests: bool = False) -> List[str]:
     """Return the names of the added columns, or stop if the heading has one of them."""
-    names = [prefix + name for name in ADDED]
+    names = [prefix + name for name in (*ADDED, *(SUGGESTED if suggests else ()))]
     for name in names:
         if name in heading:
             raise Stopped(

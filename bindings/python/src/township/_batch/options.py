@@ -34,5 +34,7 @@ class Options(NamedTuple):
     output: Optional[str] = None
     #: Whether to go on where the output ends.
     resume: bool = False
+    #: Whether to add columns on the readings of each description.
+    suggest: bool = False
     #: The number of processes that answer records.
     jobs: int = 1

@@ -31,7 +31,7 @@ def run_batch(options: Options) -> Status:
     notes = _Notes(options)
     _check_output(options.output, [options.list, *notes.files])
     with source_of(options) as source:
-        answers = Answers(notes.plats_for(source, options), source.column, options.account)
+        answers = Answers(notes.plats_for(source, options), source.column, options.account, options.suggest)
         try:
             with Interrupts() as interrupts:
                 _answer(source, answers, options, interrupts)
@@ -89,7 +89,7 @@ def _check_output(output: Optional[str], inputs: Sequence[str]) -> None:
 
 def _answer(source: Source, answers: Answers, options: Options, interrupts: Interrupts) -> None:
     """Write the list with its answers."""
-    heading = [*source.heading, *added_to(source.heading, options.prefix, source.place)]
+    heading = [*source.heading, *added_to(source.heading, options.prefix, source.place, options.suggest)]
     records = interrupts.between(source.records)
     begun = False
     if options.resume and options.output is not None:

@@ -15,6 +15,7 @@ from .guard import LOCAL_HOSTS, guard
 from .limits import BODY_MOST
 from .replies import failed, replied
 from .refusals import Json, refused_json
+from .suggesting import suggest_answer
 from .tracts import report_answer
 
 #: The answers, by the last part of their route.
@@ -22,6 +23,7 @@ ANSWERS: Dict[str, Callable[[bytes], Json]] = {
     "plat": plat_answer,
     "land": land_answer,
     "compare": compare_answer,
+    "suggest": suggest_answer,
     "report": report_answer,
     "batch": batch_answer,
 }

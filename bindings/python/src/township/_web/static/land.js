@@ -4,11 +4,15 @@ import { ask } from "./api.js";
 import { failure, landAnswer, noteAnswer, refusalAnswer } from "./answer.js";
 import { byId } from "./dom.js";
 import { follow, mark } from "./marks.js";
+import * as readings from "./readings.js";
 import { basis, kept } from "./store.js";
+
+let change = () => {};
 
 /** Prepares the panel. `onChange(name, text)` is called when the description changes. */
 export function prepare(onChange) {
   const area = byId("description");
+  change = onChange;
   follow(area);
   area.addEventListener("input", () => onChange("description", area.value));
 }
@@ -34,6 +38,7 @@ export async function refresh(request) {
   if (kept.description.trim() === "") {
     place.replaceChildren("Write a description to see its land and acreage.");
     mark(area, []);
+    readings.clear();
     return undefined;
   }
   try {
@@ -43,13 +48,24 @@ export async function refresh(request) {
     if (refused !== undefined) {
       place.replaceChildren(refusalAnswer(refused));
       mark(area, refused.of === "description" ? [{ ...refused, kind: "wrong" }] : []);
+      if (refused.of === "description") await readings.suggest(kept.description, pick);
     } else {
       place.replaceChildren(...landAnswer(answer), ...answer.notes.map(noteAnswer));
       mark(area, answer.notes.map((note) => ({ ...note, kind: "note" })));
+      if (answer.notes.length > 0) await readings.suggest(kept.description, pick);
+      else readings.clear();
     }
     return answer;
   } catch (error) {
     place.replaceChildren(failure(error));
     return null;
   }
+}
+
+/** Takes a reading as the description. */
+function pick(description) {
+  const area = byId("description");
+  change("description", description);
+  fill();
+  area.focus();
 }

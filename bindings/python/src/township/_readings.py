@@ -1,0 +1,199 @@
+"""Readings: what a text that is not written as descriptions are may mean, as descriptions."""
+from __future__ import annotations
+
+from ctypes import byref, create_string_buffer
+from decimal import Decimal
+from typing import Any, List, NamedTuple, Optional, Sequence, Tuple, Union, overload
+
+from . import _library
+from ._refused import Refused, failure_of
+from ._text import Text, encoded
+
+#: The names of the rules, in the order of their numbers, which begin with 1.
+RULES = (
+    *("half", "quarter", "direction", "numeral", "copied", "copied step", "damage", "exception"),
+    *("zeros", "fraction digit", "heading", "section word", "lot word", "through", "and", "comma"),
+    *("semicolon", "one part", "mark", "word", "repeated", "moved section", "moved heading", "meridian"),
+    *("acreage", "label"),
+)
+
+#: What rules assume that the text does not say.
+ASSUMED = {
+    "meridian": "the meridian, state, or county is that of the field notes",
+    "acreage": "the acreage is not compared",
+    "label": "this is not land",
+}
+
+#: How the text of a reading comes of the changed text, by the numbers of manners.
+MANNERS = ("changed", "lots named", "remainder")
+
+#: The room for changes and for bytes in a first call. It is enough for all but long texts.
+_CHANGES, _BYTES = 64, 2048
+
+
+class Change(NamedTuple):
+    """A change that a reading makes: it leaves out some bytes of the text, and writes others in their place.
+
+    >>> change, = township.suggest("sec. 14, NE.")[0].changes
+    >>> change
+    Change(start=11, end=11, left_out='', written='1/4', rule='quarter')
+    """
+
+    #: The place: the bytes of the text in UTF-8 from `start` to before `end`, of which there may be none.
+    start: int
+    end: int
+    #: These bytes, as text.
+    left_out: str
+    #: What is written in their place.
+    written: str
+    #: The name of the rule by which this is done, such as `quarter`. `docs/DESCRIPTIONS.md` shows what each does.
+    rule: str
+
+    @property
+    def assumption(self) -> Optional[str]:
+        """What the change assumes, in words, or `None`.
+
+        >>> [change.assumption for change in township.suggest("TRACT 1: sec. 14, NE1/4.")[0].changes]
+        ['without `TRACT 1:`: this is not land']
+        """
+        assumed = ASSUMED.get(self.rule)
+        return None if assumed is None else f"without `{' '.join(self.left_out.split())}`: {assumed}"
+
+
+class Reading(NamedTuple):
+    """A reading of a text: the description, and the changes from which it comes.
+
+    >>> reading, = plat.suggest("NENE, S2NE4 Sec 14-2N-3W, Boise Meridian")
+    >>> reading.acres
+    Decimal('120.00')
+    >>> reading.assumptions
+    ('without `Boise Meridian`: the meridian, state, or county is that of the field notes',)
+    """
+
+    #: The description.
+    text: str
+    #: The changes of the text, from left to right.
+    changes: Tuple[Change, ...]
+    #: How the description comes of the changed text. `changed`: it is that text. `lots named`: it is the canonical
+    #: description of its land, in which an aliquot part includes lots. `remainder`: it is the canonical description of
+    #: the land before `except`, without the land after it.
+    manner: str
+    #: The acreage on the plat. `None` if there is no plat, or if the plat refuses the description.
+    acres: Optional[Decimal] = None
+    #: The canonical description of the land, if there is an acreage.
+    normal: Optional[str] = None
+    #: The refusal of the description on the plat, such as one of another township. `None` if it is accepted.
+    refused: Optional[Refused] = None
+
+    @property
+    def assumptions(self) -> Tuple[str, ...]:
+        """What the reading assumes that the text does not say."""
+        return tuple(filter(None, (change.assumption for change in self.changes)))
+
+
+class Readings(Sequence[Reading]):
+    """The readings of a text, in a fixed order: at most 8.
+
+    If there are none, nothing about the text is certain, or lots and aliquot parts can't describe the land: then
+    there is a `reason`.
+
+    >>> for reading in township.suggest("sec. 14: NE¼NE¼ SW¼SW¼"):
+    ...     print(reading.text)
+    sec. 14: NE¼NE¼, SW¼SW¼
+    sec. 14: NE¼NE¼SW¼SW¼
+    """
+
+    __slots__ = ("_readings", "reason", "beyond")
+
+    #: Why lots and aliquot parts can't describe the land, such as `a portion needs a survey`, or `None`.
+    reason: Optional[str]
+    #: The phrase that says so: the bytes of the text in UTF-8 from the first number to before the second one.
+    beyond: Optional[Tuple[int, int]]
+
+    def __init__(
+        self, readings: Sequence[Reading], reason: Optional[str] = None, beyond: Optional[Tuple[int, int]] = None
+    ) -> None:
+        self._readings = tuple(readings)
+        self.reason = reason
+        self.beyond = beyond
+
+    def __len__(self) -> int:
+        return len(self._readings)
+
+    @overload
+    def __getitem__(self, index: int) -> Reading: ...
+
+    @overload
+    def __getitem__(self, index: slice) -> Tuple[Reading, ...]: ...
+
+    def __getitem__(self, index: Union[int, slice]) -> Union[Reading, Tuple[Reading, ...]]:
+        return self._readings[index]
+
+    def __eq__(self, other: object) -> bool:
+        if not isinstance(other, Readings):
+            return NotImplemented
+        return (self._readings, self.reason, self.beyond) == (other._readings, other.reason, other.beyond)
+
+    def __hash__(self) -> int:
+        return hash((self._readings, self.reason, self.beyond))
+
+    def __repr__(self) -> str:
+        return f"<township.Readings: {[reading.text for reading in self._readings]}>"
+
+
+def suggest(text: Text) -> Readings:
+    """Return the readings of a text as descriptions, without a plat: they have no acreage. See `Plat.suggest`.
+
+    >>> township.suggest("N2 Sec 14")[0].text
+    'sec. 14, N1/2'
+    >>> township.suggest("sec. 14, that portion of the NE/4 lying north of the road").reason
+    'a portion needs a survey'
+    """
+    given = encoded(text)
+    return _Suggested(given).readings()
+
+
+class _Suggested:
+    """What the library writes for a text."""
+
+    def __init__(self, given: bytes) -> None:
+        self._given = given
+        self._said = _library.Suggestion()
+        self._readings = (_library.Reading * _library.READINGS_MOST)()
+        if self._call(_CHANGES, _BYTES) == _library.NO_ROOM:
+            self._call(self._said.changes, self._said.bytes)
+
+    def _call(self, changes: int, size: int) -> int:
+        """Call the library with this much room. Return its verdict, if it is that there is an answer, or no room."""
+        given, readings = self._given, _library.READINGS_MOST
+        self._changes: Any = (_library.Change * changes)()
+        buffer = create_string_buffer(size)
+        answer = _library.suggest(
+            given, len(given), self._readings, readings, self._changes, changes, buffer, size, byref(self._said)
+        )
+        if answer.verdict not in (_library.ACCEPTED, _library.NO_ROOM):
+            raise failure_of(answer.verdict)
+        self._bytes = buffer.raw
+        verdict: int = answer.verdict
+        return verdict
+
+    def readings(self) -> Readings:
+        said = self._said
+        found = [self._reading(each) for each in self._readings[: said.readings]]
+        if not said.reason_length:
+            return Readings(found)
+        return Readings(found, self._text(said.reason, said.reason_length), (said.beyond, said.beyond_end))
+
+    def _reading(self, data: _library.Reading) -> Reading:
+        changes: List[_library.Change] = self._changes[data.changes : data.changes + data.changes_length]
+        text = self._text(data.text, data.text_length)
+        return Reading(text, tuple(map(self._change, changes)), MANNERS[data.manner])
+
+    def _change(self, data: _library.Change) -> Change:
+        left_out = self._given[data.start : data.end].decode("utf-8", "surrogateescape")
+        written = self._text(data.written, data.written_length)
+        return Change(data.start, data.end, left_out, written, RULES[data.rule - 1])
+
+    def _text(self, start: int, length: int) -> str:
+        # A description is UTF-8. Only the bytes that a change leaves out may not be.
+        return self._bytes[start : start + length].decode("utf-8", "surrogateescape")

@@ -1,0 +1,58 @@
+/** The readings of a text: what it would be as a description, side by side, to be picked. */
+
+import { grouped } from "./answer.js";
+import { ask } from "./api.js";
+import { byId, make } from "./dom.js";
+import { basis } from "./store.js";
+
+/** Shows no readings. */
+export function clear() {
+  byId("readings").replaceChildren();
+}
+
+/**
+ * Asks for the readings of a text, and shows them, each with its acreage and its drawing. `pick(description)` is called
+ * for the one that is picked. A text whose only reading is the text itself needs none.
+ */
+export async function suggest(text, pick) {
+  const place = byId("readings");
+  try {
+    const answer = await ask("suggest", { ...basis(), text, draw: true });
+    if (answer === null) return;
+    const { readings = [], reason } = answer;
+    if (readings.length === 0) {
+      place.replaceChildren(...(reason ? [make("p", {}, `Lots and aliquot parts can't describe this land: ${reason}.`)] : []));
+    } else if (readings.length > 1 || readings[0].text !== text) {
+      place.replaceChildren(heading(readings.length), make("ol", { class: "readings" }, ...readings.map((each) => item(each, pick))));
+    } else {
+      clear();
+    }
+  } catch {
+    // The answer to the description says what is wrong.
+    clear();
+  }
+}
+
+function heading(count) {
+  return make("h2", {}, count === 1 ? "Perhaps this was meant" : "Which was meant?");
+}
+
+/** Returns a reading as a button, with what it does below it. */
+function item(reading, pick) {
+  const description = reading.text.trim();
+  const button = make("button", { type: "button", class: "reading" }, picture(reading), acreage(reading), make("span", {}, description));
+  button.addEventListener("click", () => pick(description));
+  const phrases = reading.phrases.map(({ text, meaning }) => `${text} ${meaning}`);
+  const said = [...phrases, ...reading.assumptions].map((each) => make("li", {}, each));
+  return make("li", {}, button, said.length === 0 ? null : make("ul", {}, ...said));
+}
+
+function picture({ svg }) {
+  // The drawing is a picture of its own, so that its names don't meet those of other drawings.
+  return svg === undefined ? null : make("img", { alt: "", src: `data:image/svg+xml,${encodeURIComponent(svg)}` });
+}
+
+function acreage({ acres, refused }) {
+  const said = refused === undefined ? `${grouped(acres.exact)} acres` : `Refused ${refused.number}: ${refused.sentence}`;
+  return make("strong", {}, said);
+}

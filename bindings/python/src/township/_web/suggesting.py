@@ -1,0 +1,71 @@
+"""The answer on a text that is not written as descriptions are: its readings, each with its acreage."""
+from __future__ import annotations
+
+from .._drawing import svg_of
+from .._drawing.of_plat import shade_of, subject_of
+from .._land import Land
+from .._phrases import phrases_of
+from .._readings import Change, Reading, suggest
+from .._refused import Refused
+from .._text import encoded
+from .answers import BASIS, land_json
+from .basis import Basis
+from .given import Given
+from .refusals import Json, refused_json
+
+
+def suggest_answer(body: bytes) -> Json:
+    """Answer with the readings of a text, in their order, or with the reason that there are none."""
+    given = Given(body, BASIS | {"text", "draw"})
+    text = given.text("text")
+    draws = given.flag("draw")
+    basis = given.basis()
+    found = suggest(text)
+    written = encoded(text)
+    start, end = (None, None) if found.beyond is None else (_place(written, byte) for byte in found.beyond)
+    return {
+        "readings": [_reading_json(basis, written, reading, draws) for reading in found],
+        "reason": found.reason,
+        "start": start,
+        "end": end,
+    }
+
+
+def _reading_json(basis: Basis, given: bytes, reading: Reading, draws: bool) -> Json:
+    """Return a reading, with its acreage and its drawing, or the refusal of its description."""
+    found: Json = {
+        "text": reading.text,
+        "manner": reading.manner,
+        "changes": [_change_json(given, change) for change in reading.changes],
+        "phrases": [{"text": each.text, "meaning": each.meaning} for each in phrases_of(given, reading.changes)],
+        "assumptions": list(reading.assumptions),
+    }
+    try:
+        land = basis.plat.land(reading.text)
+    except Refused as refused:
+        return {**found, "refused": refused_json(refused, "reading", reading.text)}
+    found.update(land_json(basis, land))
+    if draws:
+        found["svg"] = _drawing(basis, land)
+    return found
+
+
+def _change_json(given: bytes, change: Change) -> Json:
+    return {
+        "start": _place(given, change.start),
+        "end": _place(given, change.end),
+        "written": change.written,
+        "rule": change.rule,
+    }
+
+
+def _drawing(basis: Basis, land: Land) -> str:
+    """Return the drawing of land: of its section, if it is in only one."""
+    sections = list(land.sections)
+    section = sections[0] if len(sections) == 1 else None
+    return svg_of(subject_of(basis.plat, shade_of(basis.plat, land, "Land"), lots=basis.lots), section)
+
+
+def _place(given: bytes, byte: int) -> int:
+    """Return the number of characters (Unicode code points) before a byte of a text."""
+    return len(given[:byte].decode("utf-8", "replace"))

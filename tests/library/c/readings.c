@@ -1,0 +1,139 @@
+/* Tries the call for readings. */
+#include "land.h"
+
+#include <stdlib.h>
+#include <string.h>
+
+#include "check.h"
+#include "given.h"
+
+_Static_assert(sizeof(township_reading) == 40, "a reading has 4 numbers of 8 bytes and 2 of 4");
+_Static_assert(sizeof(township_change) == 56, "a change has 6 numbers of 8 bytes and 2 of 4");
+_Static_assert(sizeof(township_suggestion) == 56, "a suggestion has 7 numbers of 8 bytes");
+
+#define COUNT(array) (sizeof(array) / sizeof *(array))
+#define MOST_CHANGES 64
+
+/* Where the call writes, filled with NEVER before it. */
+typedef struct rooms {
+    township_reading readings[TOWNSHIP_READINGS_MOST];
+    township_change changes[MOST_CHANGES];
+    uint8_t bytes[4096];
+    township_suggestion suggestion;
+} rooms;
+
+static township_answer suggest(bytes text, rooms *to, size_t readings, size_t changes, size_t room) {
+    memset(to, NEVER, sizeof *to);
+    return township_suggest(text.at, text.length, to->readings, readings, to->changes, changes, to->bytes, room,
+                            &to->suggestion);
+}
+
+static township_answer suggest_all(bytes text, rooms *to) {
+    return suggest(text, to, COUNT(to->readings), COUNT(to->changes), COUNT(to->bytes));
+}
+
+/* Adds the form of a reading to `shown`: its text, and for each change its place, its rule, and what it writes. */
+static void show(const rooms *from, const township_reading *reading, char *shown, size_t size) {
+    size_t at = strlen(shown);
+
+    at += (size_t)snprintf(shown + at, size - at, "%.*s|%u\n", (int)reading->text_length,
+                           (const char *)from->bytes + reading->text, reading->manner);
+    for (uint64_t i = 0; i < reading->changes_length; i++) {
+        const township_change *change = &from->changes[reading->changes + i];
+
+        at += (size_t)snprintf(shown + at, size - at, "%d-%d %u %u %d-%d [%.*s]\n", (int)change->start,
+                               (int)change->end, change->rule, change->assumes, (int)change->copied,
+                               (int)change->copied_end, (int)change->written_length,
+                               (const char *)from->bytes + change->written);
+    }
+}
+
+/* A text has exactly these readings, and beyond them nothing was written. */
+static void reads(const char *text, const char *wanted) {
+    bytes given = bytes_of(text);
+    rooms found, none;
+    char shown[4096] = "";
+
+    memset(&none, NEVER, sizeof none);
+    CHECK_ANSWER(suggest_all(given, &found), bare(TOWNSHIP_ACCEPTED));
+    for (uint64_t i = 0; i < found.suggestion.readings; i++) {
+        CHECK(found.readings[i].reserved == 0);
+        show(&found, &found.readings[i], shown, sizeof shown);
+    }
+    CHECK(strcmp(shown, wanted) == 0);
+    if (strcmp(shown, wanted) != 0) {
+        printf("%s:\n%s", text, shown);
+    }
+    CHECK(memcmp(found.readings + found.suggestion.readings, none.readings,
+                 sizeof none.readings - found.suggestion.readings * sizeof *none.readings) == 0);
+    CHECK(memcmp(found.changes + found.suggestion.changes, none.changes,
+                 sizeof none.changes - found.suggestion.changes * sizeof *none.changes) == 0);
+    CHECK(memcmp(found.bytes + found.suggestion.bytes, none.bytes, sizeof none.bytes - found.suggestion.bytes) == 0);
+    drop(given);
+}
+
+static void has_readings(void) {
+    /* A description without a doubtful place is its own reading. */
+    reads("sec. 14, NE1/4.", "sec. 14, NE1/4.|0\n");
+    /* White space between two parts: a comma is written at byte 17, or the space from there to 18 is left out. */
+    reads("sec. 14: NE\302\274NE\302\274 SW\302\274SW\302\274", "sec. 14: NE\302\274NE\302\274, SW\302\274SW\302\274|0\n"
+                                                               "17-17 16 0 0-0 [,]\n"
+                                                               "sec. 14: NE\302\274NE\302\274SW\302\274SW\302\274|0\n"
+                                                               "17-18 18 0 0-0 []\n");
+    /* Without the space between them, they are one part. */
+    reads("sec. 14, NENE", "sec. 14, NE1/4NE1/4|0\n"
+                           "11-11 2 0 0-0 [1/4]\n"
+                           "13-13 2 0 0-0 [1/4]\n");
+    /* The label is left out, and assumed not to be land. */
+    reads("TRACT 1: sec. 14, NE1/4.", " sec. 14, NE1/4.|0\n"
+                                      "0-8 26 1 0-0 []\n");
+    /* Nothing is certain. */
+    reads("", "");
+    reads("the old mill", "");
+    reads("sec. 14\377", "");
+}
+
+/* With too little room, of whatever kind, only the sizes are written. */
+static void has_no_room(void) {
+    bytes given = bytes_of("sec. 14: NE1/4NE1/4 SW1/4SW1/4");
+    rooms whole, found, none;
+    const size_t readings = 2, changes = 2;
+
+    CHECK_ANSWER(suggest_all(given, &whole), bare(TOWNSHIP_ACCEPTED));
+    CHECK(whole.suggestion.readings == readings && whole.suggestion.changes == changes);
+    const size_t room = (size_t)whole.suggestion.bytes;
+    const size_t less[][3] = {
+        {readings - 1, changes, room}, {readings, changes - 1, room}, {readings, changes, room - 1}, {0, 0, 0}};
+    for (size_t i = 0; i < COUNT(less); i++) {
+        memset(&none, NEVER, sizeof none);
+        CHECK_ANSWER(suggest(given, &found, less[i][0], less[i][1], less[i][2]), bare(TOWNSHIP_NO_ROOM));
+        CHECK(memcmp(&found.suggestion, &whole.suggestion, sizeof whole.suggestion) == 0);
+        none.suggestion = whole.suggestion;
+        CHECK(memcmp(&found, &none, sizeof none) == 0);
+    }
+    CHECK_ANSWER(suggest(given, &found, readings, changes, room), bare(TOWNSHIP_ACCEPTED));
+    CHECK(memcmp(&found, &whole, sizeof whole) == 0);
+    drop(given);
+}
+
+/* What readings come to on a plat, by the call for many descriptions and by others. */
+static void are_measured(const township_plat *plat) {
+    bytes given = bytes_of("sec. 14: NE1/4NE1/4 SW1/4SW1/4");
+    const uint64_t wanted[] = {8000, 250};
+    rooms found;
+
+    CHECK_ANSWER(suggest_all(given, &found), bare(TOWNSHIP_ACCEPTED));
+    for (size_t i = 0; i < COUNT(wanted); i++) {
+        const township_reading *reading = &found.readings[i];
+        const uint8_t *text = found.bytes + reading->text;
+
+        CHECK_ANSWER(township_acres(plat, text, (size_t)reading->text_length, TOWNSHIP_EXACT), acres(wanted[i]));
+    }
+    drop(given);
+}
+
+void answers_readings(const township_plat *plat) {
+    has_readings();
+    has_no_room();
+    are_measured(plat);
+}
