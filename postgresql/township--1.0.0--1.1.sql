@@ -41,3 +41,18 @@ COMMENT ON FUNCTION refusal(lots, land) IS 'why land has no acreage by a lot tab
 CREATE FUNCTION parts(land land, OUT section int4, OUT lot int4, OUT part land) RETURNS SETOF record
 AS 'MODULE_PATHNAME', 'twpg_parts' LANGUAGE C IMMUTABLE STRICT PARALLEL SAFE COST 50 ROWS 4;
 COMMENT ON FUNCTION parts(land) IS 'the parts of land that its text names: lots, and other parts of sections';
+
+-- How a text would be written as a description: a row for each reading, or one without a reading. Most texts have one.
+
+CREATE FUNCTION suggest(description text, OUT reading text, OUT changes int4, OUT assumes text[], OUT reason text)
+RETURNS SETOF record
+AS 'MODULE_PATHNAME', 'twpg_suggest' LANGUAGE C IMMUTABLE STRICT PARALLEL SAFE COST 500 ROWS 1;
+COMMENT ON FUNCTION suggest(text) IS 'the descriptions that a text can be read as, or a row without one';
+
+CREATE FUNCTION suggest(
+    plat plat, description text, account text DEFAULT 'exact',
+    OUT reading text, OUT acres numeric, OUT changes int4, OUT assumes text[], OUT reason text
+) RETURNS SETOF record
+AS 'MODULE_PATHNAME', 'twpg_suggest_on_plat' LANGUAGE C IMMUTABLE STRICT PARALLEL SAFE COST 500 ROWS 1;
+COMMENT ON FUNCTION suggest(plat, text, text)
+IS 'the descriptions that a text can be read as, with their acres, or a row without one';

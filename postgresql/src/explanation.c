@@ -1,189 +1,101 @@
 /*
- * The parts of the library's explanations. An explanation has at most 8 lines of at most 100 columns:
+ * The library's explanations. Each is a text, as the program shows it, and its parts as data:
  *
  *     township: d:1:20: this land was named before
  *       1 | sec. 14, NE1/4 and N1/2.
  *         |                    ^^^^
  *       `NE1/4` at 1:10 overlaps it; both include sec. 14, NE1/4.
  *
- * It begins with the program, the name of the text, and the place, if there is one. The sentence after them
- * may be continued on two more lines; then come the excerpt, if there is one, and the help, if there is any.
+ * The database shows the sentence, the excerpt, and the hints in places of their own, and breaks no lines.
  */
 #include "twpg.h"
 
 #include "lib/stringinfo.h"
-#include "mb/pg_wchar.h"
 
 /* The name that the library gives to the text that it explains. It is as short as can be, since nobody sees
    it. */
 static const uint8_t NAME[] = {'d'};
 
-#define PROGRAM "township: "
-#define NOTE "note: "
-#define COLUMNS 100
-#define SENTENCE_LINES 3
-#define LINES_MOST 16
+/* Every line of a sentence continues the one before. */
+#define ALL_LINES UINT32_MAX
 
-typedef struct twpg_lines {
-    char *lines[LINES_MOST];
-    int count;
-} twpg_lines;
-
-/* The lines of a text, which is cut into them. */
-static twpg_lines lines_of(char *text) {
-    twpg_lines found = {{NULL}, 0};
-
-    while (*text != '\0' && found.count < LINES_MOST) {
-        char *end = strchr(text, '\n');
-
-        found.lines[found.count++] = text;
-        if (end == NULL) {
-            break;
-        }
-        *end = '\0';
-        text = end + 1;
-    }
-    return found;
-}
-
-static const char *after_spaces(const char *line) {
-    return line + strspn(line, " ");
-}
-
-/* Whether a line belongs to an excerpt: after spaces, the number of a line or nothing, and a bar. */
-static bool is_excerpt(const char *line, bool with_number) {
-    const char *at = after_spaces(line);
-    size_t digits = strspn(at, "0123456789");
-
-    if (at == line || (with_number && digits == 0)) {
-        return false;
-    }
-    return after_spaces(at + digits)[0] == '|';
-}
-
-static int columns_of(const char *text, size_t length) {
-    int columns = 0;
-    size_t at;
-
-    for (at = 0; at < length; at++) {
-        columns += ((unsigned char)text[at] & 0xC0) != 0x80;
-    }
-    return columns;
-}
-
-/* Whether a line continues the sentence before it, in an explanation without an excerpt: its first word would
-   not have fit on the line before. Otherwise it is help. */
-static bool continues(const char *before, const char *line) {
-    const char *word = after_spaces(line);
-
-    return columns_of(before, strlen(before)) + 1 + columns_of(word, strcspn(word, " ")) > COLUMNS;
-}
-
-/* Joins lines, from the first one to the one before the last, or returns NULL if there are none. What was
-   broken because it was too long is on one line again. */
-static char *joined(const twpg_lines *text, int first, int last) {
-    StringInfoData whole;
-    int index;
-
-    if (first >= last) {
-        return NULL;
-    }
-    initStringInfo(&whole);
-    for (index = first; index < last; index++) {
-        const char *line = text->lines[index];
-
-        if (index > first) {
-            appendStringInfoChar(&whole, continues(text->lines[index - 1], line) ? ' ' : '\n');
-        }
-        appendStringInfoString(&whole, after_spaces(line));
-    }
-    return twpg_from_utf8(whole.data);
-}
-
-/* The lines of an excerpt as they are. */
-static char *excerpt_in(const twpg_lines *text, int first, int last) {
-    StringInfoData excerpt;
-    int index;
-
-    if (first >= last) {
-        return NULL;
-    }
-    initStringInfo(&excerpt);
-    for (index = first; index < last; index++) {
-        appendStringInfo(&excerpt, "%s%s", index > first ? "\n" : "", text->lines[index]);
-    }
-    return twpg_from_utf8(excerpt.data);
-}
-
-/* The sentence without what is before it: the program, the name, the place, and the word `note`. */
-static char *without_place(char *sentence) {
-    char *at = sentence;
-
-    if (strncmp(at, PROGRAM, strlen(PROGRAM)) == 0) {
-        char *colon = strstr(at + strlen(PROGRAM), ": ");
-
-        at = colon == NULL ? at : colon + 2;
-    }
-    return strncmp(at, NOTE, strlen(NOTE)) == 0 ? at + strlen(NOTE) : at;
-}
-
-twpg_explanation twpg_split(const char *explained, township_answer answer) {
-    twpg_lines text = lines_of(pstrdup(explained));
-    twpg_explanation parts = {answer.line, answer.column, NULL, NULL, NULL};
-    int excerpt = 0;
-    int help;
-
-    while (excerpt < text.count && !is_excerpt(text.lines[excerpt], true)) {
-        excerpt++;
-    }
-    help = excerpt;
-    while (help < text.count && is_excerpt(text.lines[help], help == excerpt)) {
-        help++;
-    }
-    parts.excerpt = excerpt_in(&text, excerpt, help);
-    if (parts.excerpt == NULL) {
-        excerpt = Min(1, text.count);
-        while (excerpt < Min(SENTENCE_LINES, text.count) && continues(text.lines[excerpt - 1], text.lines[excerpt])) {
-            excerpt++;
-        }
-        help = excerpt;
-    }
-    parts.sentence = joined(&text, 0, excerpt);
-    parts.sentence = parts.sentence == NULL ? "" : without_place(parts.sentence);
-    parts.help = joined(&text, help, text.count);
-    return parts;
-}
+/* Field notes, or a description with the plat that it is on; and the parts of the explanation, which the library
+   writes. */
+typedef struct twpg_explaining {
+    const township_plat *plat;
+    twpg_bytes given;
+    township_explanation *parts;
+} twpg_explaining;
 
 static township_answer write_of_description(const void *given, uint8_t *text, size_t room) {
-    const twpg_described *land = given;
+    const twpg_explaining *it = given;
 
-    return township_explain_description(land->plat, land->description.start, land->description.length, NAME,
-                                        sizeof NAME, text, room);
+    return township_explain_description_parts(it->plat, it->given.start, it->given.length, NAME, sizeof NAME, text,
+                                              room, it->parts);
 }
 
 static township_answer write_of_notes(const void *given, uint8_t *text, size_t room) {
-    const twpg_bytes *notes = given;
+    const twpg_explaining *it = given;
 
-    return township_explain_notes(notes->start, notes->length, NAME, sizeof NAME, text, room);
+    return township_explain_notes_parts(it->given.start, it->given.length, NAME, sizeof NAME, text, room, it->parts);
+}
+
+/* The lines of a part, without their indentation. A line continues the one before if its bit is set: then they are one
+   line here. */
+static char *joined(const char *text, uint64_t start, uint64_t length, uint32_t continued) {
+    const char *at = text + start;
+    const char *end = at + length;
+    StringInfoData lines;
+    int line;
+
+    initStringInfo(&lines);
+    for (line = 0; at < end; line++) {
+        const char *feed = memchr(at, '\n', (size_t)(end - at));
+        const char *line_end = feed == NULL ? end : feed;
+
+        if (line > 0) {
+            appendStringInfoChar(&lines, (continued >> line & 1) != 0 ? ' ' : '\n');
+        }
+        at += strspn(at, " ");
+        appendBinaryStringInfo(&lines, at, (int)(line_end - at));
+        at = line_end + 1;
+    }
+    return twpg_from_utf8(lines.data);
+}
+
+/* The lines of an excerpt as they are, without the last line feed. */
+static char *excerpt_of(const char *text, const township_explanation *parts) {
+    return twpg_text_in(text, parts->excerpt, parts->excerpt_length - 1);
 }
 
 /* The explanation that a writer writes. Want of memory is an error, and any other verdict has no text. */
-static twpg_explanation explanation_by(twpg_writer writer, const void *given) {
+static twpg_explanation explanation_by(twpg_writer writer, const township_plat *plat, twpg_bytes given) {
+    township_explanation parts = {0};
+    twpg_explaining explaining = {plat, given, &parts};
+    twpg_explanation explained = {0};
+    township_answer answer;
     char *text;
-    township_answer answer = twpg_write(writer, given, &text);
 
+    answer = twpg_write(writer, &explaining, &text);
     if (answer.verdict != TOWNSHIP_ACCEPTED && answer.verdict != TOWNSHIP_REFUSED) {
         twpg_fail(answer.verdict);
     }
-    return twpg_split(text, answer);
+    explained.line = answer.line;
+    explained.column = answer.column;
+    explained.sentence = joined(text, parts.sentence, parts.sentence_length, ALL_LINES);
+    if (parts.excerpt_length > 0) {
+        explained.excerpt = excerpt_of(text, &parts);
+    }
+    if (parts.hints_length > 0) {
+        explained.help = joined(text, parts.hints, parts.hints_length, parts.continued);
+    }
+    return explained;
 }
 
 twpg_explanation twpg_explain_description(const township_plat *plat, twpg_bytes description) {
-    twpg_described land = {plat, description};
-
-    return explanation_by(write_of_description, &land);
+    return explanation_by(write_of_description, plat, description);
 }
 
 twpg_explanation twpg_explain_notes(twpg_bytes notes) {
-    return explanation_by(write_of_notes, &notes);
+    return explanation_by(write_of_notes, NULL, notes);
 }

@@ -172,7 +172,7 @@ static township_designation township_of(const township_plat *plat) {
 /* The land of a description in the township of a plat. */
 PG_FUNCTION_INFO_V1(twpg_land_on_plat);
 Datum twpg_land_on_plat(PG_FUNCTION_ARGS) {
-    township_designation township = township_of((const township_plat *)PG_GETARG_POINTER(0));
+    township_designation township = township_of(PG_GETARG_PLAT(0));
 
     return land_read(&township, twpg_bytes_of_text(PG_GETARG_TEXT_PP(1)));
 }
@@ -211,7 +211,7 @@ Datum twpg_land_or_null(PG_FUNCTION_ARGS) {
 
 PG_FUNCTION_INFO_V1(twpg_land_on_plat_or_null);
 Datum twpg_land_on_plat_or_null(PG_FUNCTION_ARGS) {
-    township_designation township = township_of((const township_plat *)PG_GETARG_POINTER(0));
+    township_designation township = township_of(PG_GETARG_PLAT(0));
 
     return land_or_null(fcinfo, &township);
 }

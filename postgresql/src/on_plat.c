@@ -6,8 +6,6 @@
 
 #include "miscadmin.h"
 
-#define PG_GETARG_PLAT(n) ((const township_plat *)PG_GETARG_POINTER(n))
-
 /* The first two arguments. The library needs much of the stack, so there must be some. */
 static twpg_described described(FunctionCallInfo fcinfo) {
     twpg_described land = {PG_GETARG_PLAT(0), twpg_bytes_of_text(PG_GETARG_TEXT_PP(1))};

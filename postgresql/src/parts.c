@@ -48,7 +48,8 @@ Datum twpg_parts(PG_FUNCTION_ARGS) {
     size_t count;
     size_t index;
 
-    InitMaterializedSRF(fcinfo, 0);
+    /* To look the columns up in each call would leave memory behind until the query ends. */
+    InitMaterializedSRF(fcinfo, MAT_SRF_USE_EXPECTED_DESC);
     result = (ReturnSetInfo *)fcinfo->resultinfo;
     check_stack_depth();
     twpg_land_of(PG_GETARG_LAND(0), &land);

@@ -11,8 +11,6 @@
 
 #define BINARY_VERSION 1
 
-#define PG_GETARG_PLAT(n) ((const township_plat *)PG_GETARG_POINTER(n))
-
 StaticAssertDecl(sizeof(township_plat) == 340, "the size of the type plat, which its table of types says");
 
 PG_FUNCTION_INFO_V1(twpg_plat_in);

@@ -6,8 +6,6 @@
 
 #include "miscadmin.h"
 
-#define PG_GETARG_PLAT(n) ((const township_plat *)PG_GETARG_POINTER(n))
-
 /* A text in a record, which may be missing. */
 static void set_text(Datum *value, bool *is_null, const char *text) {
     *is_null = text == NULL;

@@ -38,6 +38,11 @@ char *twpg_from_utf8(const char *utf8) {
     return text == utf8 ? pstrdup(utf8) : text;
 }
 
+/* A part of a text that the library has written: so many bytes from a place on. */
+char *twpg_text_in(const char *utf8, uint64_t start, uint64_t length) {
+    return twpg_from_utf8(pnstrdup(utf8 + start, (size_t)length));
+}
+
 /* Writes a text, which the caller owns; it is empty if there is none. The library says how much room a long
    one needs. */
 township_answer twpg_write(twpg_writer writer, const void *given, char **written) {

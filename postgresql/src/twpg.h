@@ -17,6 +17,9 @@
 
 #include <township.h>
 
+/* An argument that is a plat, which is stored as the library's plain data. */
+#define PG_GETARG_PLAT(n) ((const township_plat *)PG_GETARG_POINTER(n))
+
 /* The number of what is in two different townships, which is no refusal of a text. The library has a verdict for it. */
 #define TWPG_OTHER_TOWNSHIP 100u
 
@@ -30,11 +33,11 @@ typedef struct twpg_bytes {
 typedef township_answer (*twpg_writer)(const void *given, uint8_t *text, size_t room);
 
 /* A text of the library that explains a refusal or is a note, in its parts and in the encoding of the
-   database. A part that is missing is NULL. */
+   database. A part that is missing is NULL, except that the sentence is empty. */
 typedef struct twpg_explanation {
     uint32_t line; /* counted from 1, or 0 if the fault is not on any line */
     uint32_t column;
-    char *sentence;
+    char *sentence; /* on one line */
     char *excerpt;
     char *help;
 } twpg_explanation;
@@ -49,11 +52,11 @@ typedef struct twpg_described {
 twpg_bytes twpg_bytes_of(const char *given, size_t length);
 twpg_bytes twpg_bytes_of_text(const text *given);
 char *twpg_from_utf8(const char *utf8);
+char *twpg_text_in(const char *utf8, uint64_t start, uint64_t length);
 township_answer twpg_write(twpg_writer writer, const void *given, char **written);
 char *twpg_one_line(char *written);
 
 /* explanation.c: the parts of the library's explanations. */
-twpg_explanation twpg_split(const char *explained, township_answer answer);
 twpg_explanation twpg_explain_description(const township_plat *plat, twpg_bytes description);
 twpg_explanation twpg_explain_notes(twpg_bytes notes);
 

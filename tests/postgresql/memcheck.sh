@@ -1,12 +1,17 @@
 # The same hostile values once more, and some queries, in a single process under memcheck. The server itself
 # writes bytes that were never set, so only what memcheck says of the extension and the library counts.
 if has valgrind && [ -f "$work/hostile.sql" ]; then
+    sed '1d; s/\\/\\\\/g; s/\\\\\([nt]\)/\\\1/g' "$root/tests/descriptions/written.tsv" | sql -d received -c 'CREATE TABLE written (id text, source text,
+        weight text, description text, land text, forms text)' -c 'COPY written FROM STDIN'
     (cd "$work/server" && as_server pg_ctl -D "$work/server/data" -m fast -w stop) > "$work/lost" 2>&1
     {
         head -n 1500 "$work/hostile.sql" | sed 's/^\\copy/COPY/; s/ with (format binary)/ WITH (FORMAT binary)/'
         cat << 'END'
 SELECT acres(plat, 'sec. 5, lot 1.'), refusal(plat, 'sec. 5, N1/2.'), notes(plat, 'sec. 14, NE1/4 SE1/4.') FROM plats
 SELECT area(plat, 'sec. 7, lot 1.'), normal(plat, 'sec. 7, lot 1; sec. 8.'), plat::text::plat FROM plats
+SELECT count(suggested) FROM plats, written, suggest(plat, description) AS suggested
+SELECT count(suggested) FROM written, suggest(left(description, length(description) / 2)) AS suggested
+SELECT count(refused), count(noted) FROM plats, written, refusal(plat, description) AS refused, notes(plat, description) AS noted
 SELECT union_of(land) FROM lands WHERE township(land) = 'T. 1 N., R. 1 W.'
 SELECT overlaps(id, land) FROM lands
 SELECT count(*) FROM lands a, lands b WHERE a.land && b.land OR a.land @> b.land OR a.land = b.land

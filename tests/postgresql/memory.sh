@@ -20,6 +20,8 @@ SELECT area(plat, 'sec. 5, lot 1.') FROM plats;
 SELECT normal(plat, 'sec. 5, lot 1.') FROM plats;
 SELECT refusal(plat, 'sec. 5, lot 5.') FROM plats;
 SELECT notes(plat, 'sec. 14, NE1/4 SE1/4.') FROM plats;
+SELECT suggest('NENE Sec 14');
+SELECT suggest(plat, 'NENE Sec 14') FROM plats;
 SELECT plat FROM plats;
 SELECT refusal('line,between,and,quarter,corner');
 SELECT ''::plat;
@@ -30,6 +32,6 @@ END
     echo "\\! rm $work/refused"
     echo "SELECT acres(plat, 'sec. 5, lot 1.') FROM plats;"
 } > "$work/refusing.sql"
-{ yes 'ERROR:  53200' | head -n 12; echo 40.45; } > "$work/wanted"
+{ yes 'ERROR:  53200' | head -n 14; echo 40.45; } > "$work/wanted"
 sql -d memory < "$work/refusing.sql" > "$work/found"
 same 'refused memory'

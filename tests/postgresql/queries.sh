@@ -62,7 +62,7 @@ done
 wait $canceled
 shows 'a canceled query' 'ERROR:  canceling statement due to user request' cat "$work/canceled"
 
-# A million answers, refusals, and explanations leave nothing in the memory of the server's process: its
+# A million answers, refusals, explanations, and readings leave nothing in the memory of the server's process: its
 # growth, in KiB, from the end of the first tenth.
 cat > "$work/memory.sql" << 'END'
 CREATE FUNCTION resident() RETURNS int LANGUAGE sql AS
@@ -71,7 +71,9 @@ CREATE FUNCTION work(many int) RETURNS int8 LANGUAGE sql VOLATILE AS $$
     SELECT sum(coalesce(length(normal(plat, CASE WHEN n % 2 = 0 THEN 'sec. 14, SE1/4.' ELSE 'sec. 15.' END)), 0)
                + coalesce((refusal(plat, 'sec. 5, lot ' || 5 + n % 9)).number, 0)
                + coalesce(acres_or_null(plat, 'sec. 5, lot ' || n % 9), 0)
-               + (area(plat, 'sec. 7, lot 1.')).denominator)::int8
+               + (area(plat, 'sec. 7, lot 1.')).denominator
+               + (SELECT sum(length(coalesce(reading, reason)) + cardinality(coalesce(assumes, '{}')))
+                  FROM suggest(plat, (ARRAY['NE/4 Sec. 14, Boise Meridian', 'sec. 14: NE4 SW4', 'a portion'])[1 + n % 3])))::int8
     FROM plats, generate_series(1, many) AS n
 $$;
 SELECT work(20000) > 0 AS done;

@@ -1,7 +1,7 @@
 #!/bin/sh
 # Compiles the extension for PostgreSQL over the library in lib/, or in the folder that is named first (with
 # its header in the one that is named second), starts a server of its own, and tests the extension there: its
-# regression tests, worked cases, the statements of docs/POSTGRESQL.md, encodings, parallel queries,
+# regression tests, worked cases, readings, the statements of docs/POSTGRESQL.md, encodings, parallel queries,
 # cancellation, a killed process, hostile binary input, races, and dumps. The worked cases are those of
 # tests/program/rows, or of the zip file that TOWNSHIP_CASES names. A test whose tool is missing is skipped,
 # and named in a line 'skipped: NAME'. The last line is 'N passed, M failed'.
@@ -68,7 +68,7 @@ else
     fail 'the regression tests' "$work/out"
 fi
 
-for part in extension upgrade cases documents encodings queries received races dumps processes memory memcheck; do
+for part in extension upgrade cases readings documents encodings queries received races dumps processes memory memcheck; do
     . "$tests/$part.sh"
 done
 ended

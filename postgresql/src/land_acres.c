@@ -1,0 +1,159 @@
+/*
+ * The acres and the exact area of land, on a plat or by a lot table, and why a lot table gives none.
+ */
+#include "land.h"
+#include "lots.h"
+
+#include "miscadmin.h"
+
+/* Land, and what measures it: a plat, by an account, or a lot table if there is no plat. */
+typedef struct twpg_measured {
+    township_land land;
+    const township_plat *plat;
+    uint32_t account;
+    const township_lots *lots;
+} twpg_measured;
+
+/* The second argument. The library needs much of the stack, so there must be some. */
+static void get_land(FunctionCallInfo fcinfo, twpg_measured *measured) {
+    check_stack_depth();
+    twpg_land_of(PG_GETARG_LAND(1), &measured->land);
+}
+
+static void get_on_plat(FunctionCallInfo fcinfo, twpg_measured *measured) {
+    get_land(fcinfo, measured);
+    measured->plat = PG_GETARG_PLAT(0);
+    measured->account = twpg_account_of(PG_GETARG_TEXT_PP(2));
+    measured->lots = NULL;
+}
+
+static void get_by_lots(FunctionCallInfo fcinfo, twpg_measured *measured) {
+    get_land(fcinfo, measured);
+    measured->plat = NULL;
+    measured->account = TOWNSHIP_EXACT;
+    measured->lots = PG_GETARG_LOTS(0);
+}
+
+static township_answer acres_of(const twpg_measured *measured) {
+    return measured->plat != NULL ? township_land_acres(measured->plat, &measured->land, measured->account)
+                                  : township_lots_land_acres(measured->lots, &measured->land);
+}
+
+static township_answer area_of(const twpg_measured *measured, township_fraction *area) {
+    return measured->plat != NULL ? township_land_area(measured->plat, &measured->land, measured->account, area)
+                                  : township_lots_land_area(measured->lots, &measured->land, area);
+}
+
+/* The designation of the plat or of the lot table. */
+static const uint8_t *township_of(const twpg_measured *measured) {
+    return measured->plat != NULL ? &measured->plat->number : &measured->lots->township.number;
+}
+
+/* The error for any verdict but ACCEPTED. Land is refused only by a lot table, which lacks one of its lots. */
+static void check(township_answer answer, const twpg_measured *measured) {
+    if (answer.verdict == TOWNSHIP_REFUSED) {
+        twpg_explanation explained = twpg_explain_lacking(answer.at);
+
+        twpg_refuse(answer, &explained);
+    }
+    if (answer.verdict != TOWNSHIP_ACCEPTED) {
+        twpg_fail_of_two(answer.verdict, township_of(measured), &measured->land.township.number);
+    }
+}
+
+static Datum acres(const twpg_measured *measured) {
+    township_answer answer = acres_of(measured);
+
+    check(answer, measured);
+    return twpg_acres_datum(answer.hundredths);
+}
+
+/* The same, or NULL if the lot table lacks a lot of the land, or if the land is in another township. */
+static Datum acres_or_null(FunctionCallInfo fcinfo, const twpg_measured *measured) {
+    township_answer answer = acres_of(measured);
+
+    if (answer.verdict == TOWNSHIP_REFUSED || answer.verdict == TOWNSHIP_OTHER_TOWNSHIP) {
+        PG_RETURN_NULL();
+    }
+    check(answer, measured);
+    return twpg_acres_datum(answer.hundredths);
+}
+
+static Datum area(FunctionCallInfo fcinfo, const twpg_measured *measured) {
+    township_fraction found = {0, 0, 1};
+
+    check(area_of(measured, &found), measured);
+    return twpg_area_datum(fcinfo, &found);
+}
+
+PG_FUNCTION_INFO_V1(twpg_acres_of_land);
+Datum twpg_acres_of_land(PG_FUNCTION_ARGS) {
+    twpg_measured measured;
+
+    get_on_plat(fcinfo, &measured);
+    return acres(&measured);
+}
+
+PG_FUNCTION_INFO_V1(twpg_acres_of_land_or_null);
+Datum twpg_acres_of_land_or_null(PG_FUNCTION_ARGS) {
+    twpg_measured measured;
+
+    get_on_plat(fcinfo, &measured);
+    return acres_or_null(fcinfo, &measured);
+}
+
+PG_FUNCTION_INFO_V1(twpg_area_of_land);
+Datum twpg_area_of_land(PG_FUNCTION_ARGS) {
+    twpg_measured measured;
+
+    get_on_plat(fcinfo, &measured);
+    return area(fcinfo, &measured);
+}
+
+PG_FUNCTION_INFO_V1(twpg_acres_of_land_by_lots);
+Datum twpg_acres_of_land_by_lots(PG_FUNCTION_ARGS) {
+    twpg_measured measured;
+
+    get_by_lots(fcinfo, &measured);
+    return acres(&measured);
+}
+
+PG_FUNCTION_INFO_V1(twpg_acres_of_land_by_lots_or_null);
+Datum twpg_acres_of_land_by_lots_or_null(PG_FUNCTION_ARGS) {
+    twpg_measured measured;
+
+    get_by_lots(fcinfo, &measured);
+    return acres_or_null(fcinfo, &measured);
+}
+
+PG_FUNCTION_INFO_V1(twpg_area_of_land_by_lots);
+Datum twpg_area_of_land_by_lots(PG_FUNCTION_ARGS) {
+    twpg_measured measured;
+
+    get_by_lots(fcinfo, &measured);
+    return area(fcinfo, &measured);
+}
+
+/* Why a lot table gives no acres, or NULL. A table of another township has a number, but no place. */
+PG_FUNCTION_INFO_V1(twpg_refusal_of_land_by_lots);
+Datum twpg_refusal_of_land_by_lots(PG_FUNCTION_ARGS) {
+    twpg_explanation explained = {0, 0, NULL, NULL, NULL};
+    twpg_measured measured;
+    township_answer answer;
+
+    get_by_lots(fcinfo, &measured);
+    answer = acres_of(&measured);
+    if (answer.verdict == TOWNSHIP_ACCEPTED) {
+        PG_RETURN_NULL();
+    }
+    if (answer.verdict == TOWNSHIP_OTHER_TOWNSHIP) {
+        answer.number = TWPG_OTHER_TOWNSHIP;
+        explained.sentence = pstrdup(TWPG_TWO_TOWNSHIPS);
+        explained.help = twpg_two_townships(township_of(&measured), &measured.land.township.number);
+    } else if (answer.verdict == TOWNSHIP_REFUSED) {
+        explained = twpg_explain_lacking(answer.at);
+    } else {
+        twpg_fail(answer.verdict);
+    }
+    return twpg_refusal_datum(fcinfo, answer, &explained);
+}

@@ -1,0 +1,223 @@
+/*
+ * The function suggest: how a text, as people write it, would be written as a description. It returns a row for each of
+ * the text's readings. A text that has none has one row without a reading, so that a join with it keeps every text.
+ */
+#include "twpg.h"
+
+#include "catalog/pg_type.h"
+#include "funcapi.h"
+#include "lib/stringinfo.h"
+#include "miscadmin.h"
+#include "utils/array.h"
+#include "utils/tuplestore.h"
+
+/* The room for the changes and the texts of nearly all readings. */
+#define USUAL_CHANGES 64
+#define USUAL_BYTES 4096
+
+/* A text, the plat that its readings are on, or NULL, and what the library suggests. */
+typedef struct twpg_suggested {
+    twpg_bytes text;
+    const township_plat *plat;
+    uint32_t account;
+    township_suggestion sizes;
+    township_reading readings[TOWNSHIP_READINGS_MOST];
+    township_change *changes;
+    uint8_t *bytes;
+} twpg_suggested;
+
+/* A row, to which its values are added from left to right: the reading; its acres, if there is a plat; how many changes
+   make the text a description; what they assume; and the reason why there is no reading. */
+typedef struct twpg_row {
+    Datum values[5];
+    bool nulls[5];
+    int count;
+} twpg_row;
+
+/* What the rules assume that the text does not say. The words are those of the package for Python. */
+static const struct {
+    uint32_t rule;
+    const char *words;
+} assumptions[] = {
+    {TOWNSHIP_RULE_MERIDIAN, "the meridian, state, or county is that of the field notes"},
+    {TOWNSHIP_RULE_ACREAGE, "the acreage is not compared"},
+    {TOWNSHIP_RULE_LABEL, "this is not land"},
+};
+
+static township_answer suggest_in(twpg_suggested *suggested, size_t changes, size_t bytes) {
+    suggested->changes = palloc(changes * sizeof *suggested->changes);
+    suggested->bytes = palloc(bytes);
+    return township_suggest(suggested->text.start, suggested->text.length, suggested->readings,
+                            lengthof(suggested->readings), suggested->changes, changes, suggested->bytes, bytes,
+                            &suggested->sizes);
+}
+
+/* Finds the readings. The library says how much room many need. */
+static void suggest(twpg_suggested *suggested) {
+    township_answer answer;
+
+    check_stack_depth();
+    answer = suggest_in(suggested, USUAL_CHANGES, USUAL_BYTES);
+    if (answer.verdict == TOWNSHIP_NO_ROOM) {
+        answer = suggest_in(suggested, (size_t)suggested->sizes.changes, (size_t)suggested->sizes.bytes);
+    }
+    if (answer.verdict != TOWNSHIP_ACCEPTED) {
+        twpg_fail(answer.verdict);
+    }
+}
+
+/* Adds some bytes of a text on one line: each run of white space becomes one space, and none is left at the ends. */
+static void append_line(StringInfo line, const uint8_t *at, const uint8_t *end) {
+    int begun = line->len;
+    bool is_after_white = false;
+
+    for (; at < end; at++) {
+        if (memchr(" \t\n\r\f\v", *at, 6) != NULL) {
+            is_after_white = true;
+            continue;
+        }
+        if (is_after_white && line->len > begun) {
+            appendStringInfoChar(line, ' ');
+        }
+        appendStringInfoChar(line, (char)*at);
+        is_after_white = false;
+    }
+}
+
+/* What a change assumes, with the phrase that it leaves out. */
+static Datum assumption_by(const township_change *change, twpg_bytes text) {
+    const char *words = "this means nothing here";
+    StringInfoData assumption;
+    size_t index;
+
+    for (index = 0; index < lengthof(assumptions); index++) {
+        if (assumptions[index].rule == change->rule) {
+            words = assumptions[index].words;
+        }
+    }
+    initStringInfo(&assumption);
+    appendStringInfoString(&assumption, "without `");
+    append_line(&assumption, text.start + change->start, text.start + change->end);
+    appendStringInfo(&assumption, "`: %s", words);
+    return CStringGetTextDatum(twpg_from_utf8(assumption.data));
+}
+
+/* What a reading assumes, as an array. */
+static Datum assumed_by(const twpg_suggested *suggested, const township_reading *reading) {
+    const township_change *changes = suggested->changes + reading->changes;
+    Datum *assumed = palloc((size_t)(reading->changes_length + 1) * sizeof *assumed);
+    int count = 0;
+    uint64_t index;
+
+    for (index = 0; index < reading->changes_length; index++) {
+        if (changes[index].assumes != 0) {
+            assumed[count++] = assumption_by(&changes[index], suggested->text);
+        }
+    }
+    return PointerGetDatum(construct_array(assumed, count, TEXTOID, -1, false, TYPALIGN_INT));
+}
+
+static void add_value(twpg_row *row, Datum value) {
+    row->values[row->count++] = value;
+}
+
+static void add_null(twpg_row *row) {
+    row->nulls[row->count++] = true;
+}
+
+/* Adds the text of a reading. It is on one line, as canonical descriptions are in the database: line feeds mean no more
+   than spaces in a description. */
+static void add_text(twpg_row *row, const twpg_suggested *suggested, const township_reading *reading) {
+    const uint8_t *text = suggested->bytes + reading->text;
+    StringInfoData line;
+
+    initStringInfo(&line);
+    append_line(&line, text, text + reading->text_length);
+    add_value(row, CStringGetTextDatum(twpg_from_utf8(line.data)));
+}
+
+/* Adds the acres of a reading. The plat can refuse it, as one with the heading of another township. */
+static void add_acres(twpg_row *row, const twpg_suggested *suggested, const township_reading *reading) {
+    township_answer answer = township_acres(suggested->plat, suggested->bytes + reading->text,
+                                            (size_t)reading->text_length, suggested->account);
+
+    if (answer.verdict == TOWNSHIP_ACCEPTED) {
+        add_value(row, twpg_acres_datum(answer.hundredths));
+    } else if (answer.verdict == TOWNSHIP_REFUSED) {
+        add_null(row);
+    } else {
+        twpg_fail(answer.verdict);
+    }
+}
+
+static twpg_row row_of(const twpg_suggested *suggested, const township_reading *reading) {
+    twpg_row row = {{0}, {false}, 0};
+
+    add_text(&row, suggested, reading);
+    if (suggested->plat != NULL) {
+        add_acres(&row, suggested, reading);
+    }
+    add_value(&row, Int32GetDatum((int32)reading->changes_length));
+    add_value(&row, assumed_by(suggested, reading));
+    add_null(&row);
+    return row;
+}
+
+/* The row of a text without readings, with the reason if lots and aliquot parts can't describe the land. */
+static twpg_row row_without_reading(const twpg_suggested *suggested) {
+    const township_suggestion *sizes = &suggested->sizes;
+    twpg_row row = {{0}, {false}, 0};
+    int before_reason = suggested->plat != NULL ? 4 : 3;
+
+    while (row.count < before_reason) {
+        add_null(&row);
+    }
+    if (sizes->reason_length == 0) {
+        add_null(&row);
+    } else {
+        char *reason = twpg_text_in((const char *)suggested->bytes, sizes->reason, sizes->reason_length);
+
+        add_value(&row, CStringGetTextDatum(reason));
+    }
+    return row;
+}
+
+static void put_row(FunctionCallInfo fcinfo, twpg_row row) {
+    ReturnSetInfo *result = (ReturnSetInfo *)fcinfo->resultinfo;
+
+    tuplestore_putvalues(result->setResult, result->setDesc, row.values, row.nulls);
+}
+
+/* Returns the rows of a text. */
+static Datum suggested_rows(FunctionCallInfo fcinfo, twpg_suggested *suggested) {
+    uint64_t index;
+
+    /* To look the columns up in each call would leave memory behind until the query ends. */
+    InitMaterializedSRF(fcinfo, MAT_SRF_USE_EXPECTED_DESC);
+    suggest(suggested);
+    for (index = 0; index < suggested->sizes.readings; index++) {
+        put_row(fcinfo, row_of(suggested, &suggested->readings[index]));
+    }
+    if (suggested->sizes.readings == 0) {
+        put_row(fcinfo, row_without_reading(suggested));
+    }
+    PG_RETURN_NULL();
+}
+
+PG_FUNCTION_INFO_V1(twpg_suggest);
+Datum twpg_suggest(PG_FUNCTION_ARGS) {
+    twpg_suggested suggested = {.text = twpg_bytes_of_text(PG_GETARG_TEXT_PP(0))};
+
+    return suggested_rows(fcinfo, &suggested);
+}
+
+PG_FUNCTION_INFO_V1(twpg_suggest_on_plat);
+Datum twpg_suggest_on_plat(PG_FUNCTION_ARGS) {
+    twpg_suggested suggested = {
+        .text = twpg_bytes_of_text(PG_GETARG_TEXT_PP(1)),
+        .plat = PG_GETARG_PLAT(0),
+        .account = twpg_account_of(PG_GETARG_TEXT_PP(2)),
+    };
+
+    return suggested_rows(fcinfo, &suggested);
+}
