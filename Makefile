@@ -49,6 +49,8 @@ e2e: township
 descriptions: township
 	@cd crates/twp_readings && rt run > /dev/null
 	@python3 tests/descriptions/suggested.py
+	@python3 tests/descriptions/suggested.py ./township crates/twp_readings/out/twp_readings \
+		tests/descriptions/practice.tsv
 
 ## check          prove all crates, and nothing else
 check:
@@ -75,6 +77,7 @@ bench:
 	@sh bench/lands.sh
 	@sh bench/descriptions.sh
 	@sh bench/library.sh
+	@sh bench/readings.sh
 	@sh bench/instructions.sh
 
 ## install        install what `make township lib` built below PREFIX, /usr/local if none is given; proves nothing again

@@ -2,8 +2,9 @@
  * Makes one call of the library again and again, for bench/library.sh: `library NOTES CALL COUNT`. CALL is `read`
  * (notes to a plat), or a description on the kept plat: `one` part, `two` sections, `three` sections, three `whole`
  * sections, an `overlap` that is refused, `fifty` or `hundred` parts; or its canonical text: `text-one`, `text-three`;
- * or `land` (one part to land), or `combine` or `compare` (land of one section with other land). Prints the sum of the
- * calls' answers, so that no call is optimized away, and their processor time in seconds.
+ * or `land` (one part to land), or `combine` or `compare` (land of one section with other land); or the readings of a
+ * description (`same`), of a text as leases have it (`a lease`), or of white space between two parts (`ways`). Prints
+ * the sum of the calls' answers, so that no call is optimized away, and their processor time in seconds.
  */
 #include "township.h"
 
@@ -66,6 +67,22 @@ static uint64_t on_land(const char *call, long count) {
     return sum;
 }
 
+/* The readings of a text, as often as they are to be found. Returns the sum of the answers. */
+static uint64_t readings(const char *given, long count) {
+    static township_reading found[TOWNSHIP_READINGS_MOST];
+    static township_change changes[64];
+    township_suggestion said;
+    uint64_t sum = 0;
+
+    for (long done = 0; done < count; done++) {
+        sum += township_suggest((const uint8_t *)given, strlen(given), found, TOWNSHIP_READINGS_MOST, changes, 64, text,
+                                sizeof text, &said)
+                   .verdict;
+        sum += said.bytes;
+    }
+    return sum;
+}
+
 int main(int argc, char **argv) {
     if (argc != 4) {
         fputs("usage: library NOTES CALL COUNT\n", stderr);
@@ -96,6 +113,12 @@ int main(int argc, char **argv) {
             answer = township_normal(&plat, text, length, written, sizeof written);
             sum += answer.length + written[0];
         }
+    } else if (strcmp(argv[2], "same") == 0) {
+        sum = readings("sec. 14, NE1/4.", count);
+    } else if (strcmp(argv[2], "a lease") == 0) {
+        sum = readings("NENE, S2NE4 Sec 14-2N-3W", count);
+    } else if (strcmp(argv[2], "ways") == 0) {
+        sum = readings("sec. 14: NE1/4NE1/4 SW1/4SW1/4", count);
     } else {
         size_t length = description_of(argv[2]);
         for (long made = 0; made < count; made++) {

@@ -16,6 +16,11 @@ if python=$(sh "$root/tools/python_with.sh" argparse); then
     begin descriptions "$python" "$root/tests/descriptions/check.py" "$program"
     begin advice "$python" "$root/tests/descriptions/follow.py" "$program"
     begin readings "$python" "$root/tests/descriptions/suggested.py" "$program"
+    # The descriptions of another author.
+    reader=$root/crates/twp_readings/out/twp_readings
+    begin practice "$python" "$root/tests/descriptions/suggested.py" "$program" "$reader" \
+        "$root/tests/descriptions/practice.tsv"
+    begin followed "$python" "$root/tests/descriptions/follow.py" "$program" "$root/tests/descriptions/practice.tsv"
 else
     skip 'the descriptions, since there is no Python here'
 fi

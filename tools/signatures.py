@@ -21,8 +21,9 @@ Calls = Dict[str, List[Parameter]]
 BYTES, ROOM, LENGTH = "bytes", "room for bytes", "length"
 OFFSETS, ANSWERS, TRACTS, PARTS = "offsets", "room for answers", "room for tracts", "room for parts"
 TRACT_ANSWERS, OVERLAPS = "room for answers to tracts", "room for overlaps"
+READINGS, CHANGES = "room for readings", "room for changes"
 # Each of these is a pointer, and its length follows it.
-SLICES = (BYTES, ROOM, OFFSETS, ANSWERS, TRACTS, TRACT_ANSWERS, OVERLAPS, PARTS)
+SLICES = (BYTES, ROOM, OFFSETS, ANSWERS, TRACTS, TRACT_ANSWERS, OVERLAPS, PARTS, READINGS, CHANGES)
 # What each type is, in the languages where a slice is a pointer and a length, and in Rattle.
 C_TYPES = {
     "const township_plat *": "plat",
@@ -43,6 +44,9 @@ C_TYPES = {
     "township_overlap *": OVERLAPS,
     "township_totals *": "totals to write",
     "township_part *": PARTS,
+    "township_reading *": READINGS,
+    "township_change *": CHANGES,
+    "township_suggestion *": "suggestion to write",
     "uint32_t": "number",
     "size_t": LENGTH,
 }
@@ -59,6 +63,9 @@ RUST_TYPES = {
     "*mut Overlap": OVERLAPS,
     "*mut Totals": "totals to write",
     "*mut Part": PARTS,
+    "*mut Reading": READINGS,
+    "*mut Change": CHANGES,
+    "*mut Suggestion": "suggestion to write",
     "*const u8": BYTES,
     "*mut u8": ROOM,
     "*const Designation": "township",
@@ -89,6 +96,9 @@ RATTLE_TYPES = {
     "&mut [TownshipOverlap]": OVERLAPS,
     "&mut TownshipTotals": "totals to write",
     "&mut [TownshipPart]": PARTS,
+    "&mut [TownshipReading]": READINGS,
+    "&mut [TownshipChange]": CHANGES,
+    "&mut TownshipSuggestion": "suggestion to write",
     "&[u8]": BYTES,
     "&mut [u8]": ROOM,
     "u32": "number",
@@ -103,6 +113,9 @@ PYTHON_TYPES = {
     "*_OFFSETS": OFFSETS,
     "*_ANSWERS": ANSWERS,
     "*_PARTS": PARTS,
+    "*_READINGS": READINGS,
+    "*_CHANGES": CHANGES,
+    "POINTER(Suggestion)": "suggestion to write",
     "_TOWNSHIP": "township",
     "_LAND": "land",
     "_LOTS": "lots",

@@ -5,8 +5,8 @@
 
 PROGRAM is the path of `township`, by default ./township. ROWS is a file in the form of written.tsv, which is the
 default. Each description is given to the program with the field notes of samples/b1.csv. Where it is refused, its
-first message is followed: the corrected text is taken if there is one; otherwise, what the message says to write
-or to delete is written or deleted. This is repeated for the message of the text that comes of it, some rounds long.
+first message is followed: the corrected text, or the only reading, is taken if there is one; otherwise, what the
+message says to write or to delete is written or deleted. This is repeated for the message of the text that comes of it, some rounds long.
 Advice that names several readings, or only says what is wrong, is not followed, since it doesn't decide.
 
 A row passes if the land that this ends in is the land understood, or if it ends in no land. A row that is
@@ -27,6 +27,9 @@ from check import NOTES, ROWS, Program, Row  # noqa: E402
 
 ROUNDS = 12
 
+# What the last line of a message begins with, before a description that can be taken as it is.
+ENDINGS = ("corrected: ", "perhaps: ")
+
 
 class Message:
     """The message of a refused description: where it is refused, and the help, on one line."""
@@ -37,12 +40,12 @@ class Message:
         carets = [number for number, line in enumerate(lines) if re.fullmatch(r" +\| *\^+", line)]
         self.width = lines[carets[0]].count("^") if carets else 0
         after = lines[carets[0] + 1:] if carets else []
-        self.corrected = None
+        self.description = None
         self.help = ""
         for line in after:
             line = line.strip()
-            if line.startswith("corrected: "):
-                self.corrected = line[len("corrected: "):]
+            if line.startswith(ENDINGS):
+                self.description = line.partition(": ")[2]
             elif line:
                 self.help += (" " if self.help else "") + line
 
@@ -69,16 +72,16 @@ def sign_at(text, message):
 def joined_before(text, start, written):
     """Where what is written begins: with the characters before the refused ones, if they begin it."""
     for first in range(max(0, start - 12), start + 1):
-        before = text[first:start].strip()
-        if before and written.lower().startswith(before.lower()):
+        before = text[first:start].rstrip()
+        if before and not before[0].isspace() and written.lower().startswith(before.lower()):
             return first
     return start
 
 
 def followed(text, message):
     """The text with what the message says to write or to delete. None if it says neither."""
-    if message.corrected is not None:
-        return message.corrected
+    if message.description is not None:
+        return message.description
     advice = re.split(r"; and \d+ more of the same", message.help)[0]
     start, end = sign_at(text, message)
     delete = re.fullmatch(r"delete `([^`]*)`", advice)

@@ -82,6 +82,7 @@ OTHERS = (
             "twp_calls::explaining::township_explain_description_parts",
             "twp_calls::explaining::township_explain_list_parts",
             "twp_calls::explaining::township_version",
+            "twp_calls::suggesting::township_suggest",
         ),
     ),
     Subject(
@@ -110,6 +111,7 @@ OTHERS = (
             "twp_calls::lot_answers::township_lots_area",
             "twp_calls::lot_answers::township_lots_land_acres",
             "twp_calls::lot_answers::township_lots_land_area",
+            "twp_calls::lots_report_call::township_lots_report",
             "twp_lots::laws::one_lot_area",
             "twp_lots::laws::lot_areas_add",
             "twp_lots::laws::lot_area_is_plat_area",

@@ -12,7 +12,7 @@ NAMED = (
     "crates/twp_calls/src/lib.rt",
     "packaging/libtownship.map",
     "tests/library/c/township_test.c tests/library/c/land.c tests/library/c/lots.c tests/library/c/lists.c "
-    "tests/library/c/explanations.c",
+    "tests/library/c/explanations.c tests/library/c/readings.c",
     "tests/library/c/threads.c",
     "tests/library/c/growth_test.c",
     "tools/reading_list/subjects.py",

@@ -1,0 +1,80 @@
+"""The numbers of the rules of readings, and of their manners: the definitions say them, and the header and the bindings
+repeat them. The words for what rules assume are those of the package for Python, which the extension for PostgreSQL
+repeats."""
+
+import re
+from typing import Dict, List
+
+from reading import HEADER, PYTHON, RUST, Compared, text_of
+
+WHAT = "rules of readings in the header and the bindings"
+
+SQL = "postgresql/src/suggest.c"
+
+DEFINITIONS = "crates/twp_calls/specs/Suggestions.antt"
+
+
+def compare() -> Compared:
+    text = text_of(DEFINITIONS)
+    numbers = {plain(name): int(number) for name, number in re.findall(r"^number_of \(?(\w+).* = (\d+)$", text, re.M)}
+    manners = {plain(name): int(number) for name, number in re.findall(r"^manner_of (\w+) = (\d+)$", text, re.M)}
+    assumes = {plain(name) for name in re.findall(r"^assumes_of (\w+) = 1$", text, re.M)}
+    header = text_of(HEADER)
+    wanted = {**numbers, **{f"manner {name}": number for name, number in manners.items()}}
+    differences: List[str] = []
+    for place, found in (
+        (HEADER, {**numbers_in(r"^#define TOWNSHIP_RULE_(\w+) (\d+)u", header), **manners_in(header, manners)}),
+        (f"{PYTHON}/_readings.py", {**in_order("RULES", 1, PYTHON), **manners_in_order(PYTHON)}),
+        (f"{RUST}/readings/rule.rs", {**rust_rules(), **{f"manner {name}": n for name, n in manners.items()}}),
+    ):
+        if found != wanted:
+            differences.append(f"{place}: the rules are {found}, and those of {DEFINITIONS} are {wanted}")
+    for place, found in (
+        (HEADER, {plain(name) for name in re.findall(r"^#define TOWNSHIP_RULE_(\w+) +\d+u +/\* assumed", header, re.M)}),
+        (f"{PYTHON}/_readings.py", set(re.findall(r'^    "([a-z ]+)": "', text_of(f"{PYTHON}/_readings.py"), re.M))),
+    ):
+        if found != assumes:
+            differences.append(f"{place}: the rules that assume something are {found}, and not {assumes}")
+    words = words_in(r'^    "([a-z ]+)": "(.*)",$', text_of(f"{PYTHON}/_readings.py"))
+    repeated = words_in(r'^    \{TOWNSHIP_RULE_(\w+), "(.*)"\},$', text_of(SQL))
+    if repeated != words:
+        differences.append(f"{SQL}: the words for what is assumed are {repeated}, and not {words}")
+    return 3 * len(wanted) + 3, differences
+
+
+def plain(name: str) -> str:
+    """`FractionDigit` and `FRACTION_DIGIT` as `fraction digit`."""
+    if not name.isupper():
+        name = re.sub(r"(?<!^)(?=[A-Z])", "_", name)
+    return name.lower().replace("_", " ")
+
+
+def numbers_in(form: str, text: str) -> Dict[str, int]:
+    return {plain(name): int(number) for name, number in re.findall(form, text, re.M)}
+
+
+def words_in(form: str, text: str) -> Dict[str, str]:
+    return {plain(name): words for name, words in re.findall(form, text, re.M)}
+
+
+def manners_in(header: str, manners: Dict[str, int]) -> Dict[str, int]:
+    found = {}
+    for name in manners:
+        for number in re.findall(rf"^#define TOWNSHIP_{name.upper().replace(' ', '_')} (\d+)u", header, re.M):
+            found[f"manner {name}"] = int(number)
+    return found
+
+
+def in_order(constant: str, first: int, folder: str) -> Dict[str, int]:
+    """The names in a tuple of Python, by their place."""
+    [inside] = re.findall(rf"^{constant} = \((.*?)\n?\)$", text_of(f"{folder}/_readings.py"), re.M | re.S)
+    return {name: first + index for index, name in enumerate(re.findall(r'"([a-z ]+)"', inside))}
+
+
+def manners_in_order(folder: str) -> Dict[str, int]:
+    return {f"manner {name}": index for name, index in in_order("MANNERS", 0, folder).items()}
+
+
+def rust_rules() -> Dict[str, int]:
+    [inside] = re.findall(r"^const RULES: \[Rule; \d+\] = \[(.*?)\];", text_of(f"{RUST}/readings/rule.rs"), re.M | re.S)
+    return {plain(name): 1 + index for index, name in enumerate(re.findall(r"Rule::(\w+)", inside))}
