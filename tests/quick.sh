@@ -1,9 +1,10 @@
 #!/bin/sh
-# Checks that need no proofs and take seconds: the layout of definitions and proofs, that each wrong body kept for
-# releases still fits the code, and that what several files repeat is the same in all of them. `make test` begins with
-# them, so that they don't fail after an hour of proofs. The last line is 'N passed, M failed'.
+# Checks that need no proofs and take seconds: the layout of sources, definitions, and proofs, that each wrong body kept
+# for releases still fits the code, and that what several files repeat is the same in all of them. `make test` begins
+# with them, so that they don't fail after an hour of proofs. The last line is 'N passed, M failed'.
 . "$(dirname "$0")/lib.sh"
 cd "$root" || exit 1
+try 'the layout of sources' sh tools/formatted.sh
 if python=$(python_with argparse); then
     try 'the layout of definitions and proofs' "$python" tools/wrap_proofs.py --check
     try 'the wrong bodies for releases fit the code' "$python" tools/bugs.py --check

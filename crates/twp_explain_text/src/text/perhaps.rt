@@ -42,7 +42,8 @@ pub(crate) fn write_perhaps(
 fn write_on_one_line(alloc: Global, text: &[u8], out: &mut String) -> Result<(), AllocError> {
     let mut line = Vec::new(alloc);
     for byte in text {
-        line.push(if byte.is_ascii_whitespace() { b' ' } else { *byte })?;
+        let is_blank = byte.is_ascii_whitespace();
+        line.push(if is_blank { b' ' } else { *byte })?;
     }
     write_escaped(line.as_slice(), out)
 }
