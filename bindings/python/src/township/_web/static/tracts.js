@@ -10,6 +10,8 @@ const HEADING = ["name", "description", "acres", "acres_plat", "refusal", "at", 
 const PAIRS_SHOWN = 50;
 let answered = { tracts: [], answers: [] };
 let selected = null;
+/** The rows of the table, in order, each with the text of all that it was made from. */
+let shown = [];
 
 /** Prepares the panel. `onChange(name, text)` is called when the list changes, `onSelect()` when a tract is picked. */
 export function prepare(onChange, onSelect) {
@@ -79,32 +81,49 @@ function summary(tracts, answer) {
   return [figures, make("div", { class: "note" }, heading, list)];
 }
 
+/** Shows a row for each tract. A row that stays as it was is kept, since a long list takes a while to lay out. */
 function showTable(answer) {
   const overlapping = new Set(answer.overlaps.flatMap(({ first, second }) => [first, second]));
   const focused = document.activeElement?.dataset?.tract;
   const byLots = "lots" in answer.remaining.acres;
   byId("tracts-by-lots").hidden = !byLots;
   byId("tracts-table").classList.toggle("by-lots", byLots);
-  const accepted = rowOf({}, figureCells(answer.remaining.acres));
-  const wrong = rowOf({ "aria-colspan": byLots ? "4" : "3" });
-  wrong.className = "wrong";
-  const rows = answer.tracts.map((tract, index) => {
-    const row = (tract.refused === undefined ? accepted : wrong).cloneNode(true);
-    const pick = row.firstChild.firstChild;
-    pick.textContent = tract.name;
-    pick.dataset.tract = String(index);
-    pick.setAttribute("aria-pressed", String(index === selected));
-    if (tract.refused === undefined) {
-      figuresOf(tract.acres).forEach((figure, place) => (row.children[place + 1].textContent = figure));
-      if (index === selected) row.className = "chosen";
-    }
-    const words = tract.refused === undefined ? withoutHeading(tract.canonical) : refusalWords(tract.refused);
-    row.lastChild.textContent = overlapping.has(index) ? `${words} (overlaps)` : words;
-    return row;
+  const blank = {
+    accepted: rowOf({}, figureCells(answer.remaining.acres)),
+    wrong: rowOf({ "aria-colspan": byLots ? "4" : "3" }),
+  };
+  blank.wrong.className = "wrong";
+  const before = shown;
+  shown = answer.tracts.map((tract, index) => {
+    const entry = { tract, index, byLots, isSelected: index === selected, overlaps: overlapping.has(index) };
+    const contents = JSON.stringify(entry);
+    return before[index]?.contents === contents ? before[index] : { contents, row: filledRow(blank, entry) };
   });
-  byId("tracts-table").tBodies[0].replaceChildren(...rows);
+  const body = byId("tracts-table").tBodies[0];
+  shown.forEach(({ row }, index) => {
+    const old = before[index]?.row;
+    if (old === undefined) body.append(row);
+    else if (old !== row) old.replaceWith(row);
+  });
+  before.slice(shown.length).forEach(({ row }) => row.remove());
   byId("tracts-table").hidden = false;
   if (focused !== undefined) document.querySelector(`button[data-tract="${focused}"]`)?.focus();
+}
+
+/** Returns the row of a tract, filled in over a copy of a blank one. */
+function filledRow(blank, { tract, index, isSelected, overlaps }) {
+  const row = (tract.refused === undefined ? blank.accepted : blank.wrong).cloneNode(true);
+  const pick = row.firstChild.firstChild;
+  pick.textContent = tract.name;
+  pick.dataset.tract = String(index);
+  pick.setAttribute("aria-pressed", String(isSelected));
+  if (tract.refused === undefined) {
+    figuresOf(tract.acres).forEach((figure, place) => (row.children[place + 1].textContent = figure));
+    if (isSelected) row.className = "chosen";
+  }
+  const words = tract.refused === undefined ? withoutHeading(tract.canonical) : refusalWords(tract.refused);
+  row.lastChild.textContent = overlaps ? `${words} (overlaps)` : words;
+  return row;
 }
 
 /** Returns a row that is copied for each tract: its button, its figures, and its words, in a cell with attributes. */
