@@ -21,8 +21,8 @@ use Rattle.clap.specs.Faults.{check_fault, defaults_fault, entered_fault, level_
 use Rattle.clap.specs.Faults.{walk_fault}
 use Rattle.clap.specs.declared.builder.value_parser.ValueParser.{ValueParser}
 use Rattle.clap.specs.declared.builder.value_parser.ValueParser.TheVariants as vp
-use Rattle.twp_area.specs.declared.account.Account.{Account}
-use Rattle.twp_area.specs.declared.account.Account.TheVariants as account
+use Rattle.twp_plat.specs.declared.account.Account.{Account}
+use Rattle.twp_plat.specs.declared.account.Account.TheVariants as account
 use Rattle.twp_command.specs.Commands.{TakesAccounts, account_name, acres, normal, plat, report, township}
 use Rattle.twp_command.specs.Commands.{township_with}
 use Rattle.twp_command.specs.steps.Parses.{HasAccount, HasValue, IsWhole}

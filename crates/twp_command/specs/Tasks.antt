@@ -3,7 +3,7 @@ use Rattle.std.specs.Prelude.{◌≡◌, ◌≢◌, List, [], ◌∷◌, Option,
 use Rattle.clap.specs.Words.{App, IsAmong, Row, Text, fault_of, first_of, subcommand_of}
 use Rattle.clap.specs.declared.error.kind.ErrorKind.{ErrorKind}
 use Rattle.clap.specs.declared.error.kind.ErrorKind.TheVariants.{DisplayHelp}
-use Rattle.twp_area.specs.declared.account.Account.{Account}
+use Rattle.twp_plat.specs.declared.account.Account.{Account}
 use Rattle.twp_command.specs.Commands.{IsTownship, account_name}
 use Rattle.twp_command.specs.declared.task.Task.{Task}
 use Rattle.twp_command.specs.declared.task.Task.TheVariants.{Plat, Acres, Normal, Report}

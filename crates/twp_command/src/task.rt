@@ -11,7 +11,7 @@ use clap::error::ErrorKind;
 use clap::{ArgMatches, Error as ParseError};
 use std::alloc::{AllocError, AllocFailed, Global};
 use thiserror::Error;
-use twp_area::Account;
+use twp_plat::Account;
 
 /// What the program is asked to do.
 #[derive(Drop)]

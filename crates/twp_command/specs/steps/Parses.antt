@@ -3,7 +3,7 @@ use Rattle.std.specs.Prelude.{◌≡◌, ◌≢◌, ◌⊎◌, List, Option, Som
 use Rattle.clap.specs.Words.{Row, Text, first_of}
 use Rattle.clap.specs.declared.error.kind.ErrorKind.{ErrorKind}
 use Rattle.clap.specs.declared.error.kind.ErrorKind.TheVariants.{DisplayHelp, OutOfMemory}
-use Rattle.twp_area.specs.declared.account.Account.{Account}
+use Rattle.twp_plat.specs.declared.account.Account.{Account}
 use Rattle.twp_command.specs.Commands.{account_name}
 use Rattle.twp_command.specs.declared.task.TaskFault.{TaskFault}
 use Rattle.twp_command.specs.declared.task.TaskFault.TheVariants.{Usage, Help, Memory}
