@@ -6,7 +6,7 @@ use twp_acres::{
     Account, RunFault, Verdict, run_acres, run_acres_as, run_normal, run_plat, run_report,
 };
 use twp_grid::Device;
-use twp_input::run_joined;
+use twp_program::run_joined;
 
 /// Which run to call.
 #[derive(Clone, Copy)]
