@@ -3,8 +3,6 @@ pub mod ListWalk
 pub mod PartWalk
 pub mod Walk
 pub mod Reading
-pub mod WordFacts
-pub mod WhiteFacts
 pub mod ReaderFacts
 pub mod Leading
 pub mod StandingSteps
@@ -13,8 +11,6 @@ pub mod FrontFacts
 pub mod NumberFacts
 pub mod FirstTextFaults
 pub mod OneAnswer
-pub mod LetterFacts
-pub mod PlaceFacts
 pub mod WatchFacts
 pub mod NoSeveral
 pub mod NoDoubts
