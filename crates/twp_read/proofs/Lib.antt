@@ -16,3 +16,4 @@ pub mod NoSeveral
 pub mod NoDoubts
 pub mod Watched
 pub mod QuietFacts
+pub mod DoubtFacts

@@ -9,9 +9,9 @@ ghost use Rattle.twp_read.specs.Doubts.{joins_part, begin_with_part_of, begin_wi
 ghost use Rattle.twp_read.specs.Doubts.{is_of_step, begins_step, is_number, is_singular};
 ghost use Rattle.twp_read.specs.Doubts.{is_padded};
 
+use crate::doubt::{Doubt, DoubtfulPlace, Doubts, begins_step, is_padded, is_singular};
 use std::alloc::{AllocError, Global};
 use twp_grammar::{Kind, Token, Tokens};
-use twp_read::{Doubt, DoubtfulPlace, Doubts, begins_step, is_padded, is_singular};
 
 /// There is room from the start for one token for each of this many bytes: most texts have fewer.
 const BYTES_TO_TOKEN: usize = 2;

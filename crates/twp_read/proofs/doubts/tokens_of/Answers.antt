@@ -2,8 +2,8 @@
 use Rattle.std.proofs.Common.{List, [], map, subst, sym}
 use Rattle.twp_grammar.specs.declared.token.Token.{Token as Piece}
 use Rattle.twp_grammar.specs.Tokens.{Left, seen}
-use Rattle.twp_doubts.proofs.DoubtFacts.{Cut, cut_begun, cut_more, cut_whole}
-use Rattle.twp_doubts.proofs.doubts.tokens_of.Goals as goal
+use Rattle.twp_read.proofs.DoubtFacts.{Cut, cut_begun, cut_more, cut_whole}
+use Rattle.twp_read.proofs.doubts.tokens_of.Goals as goal
 
 pub loop-token-init : goal.loop-token-init
 loop-token-init c =

@@ -1,7 +1,7 @@
 -- One more token is looked at.
 use Rattle.std.proofs.Common.{◌<◌, ◌≤◌, ◌-◌, sym, arith, length}
-use Rattle.twp_doubts.proofs.DoubtFacts.{all_from, next_found, next_none, room_left}
-use Rattle.twp_doubts.proofs.doubts.doubts_of.Goals as goal
+use Rattle.twp_read.proofs.DoubtFacts.{all_from, next_found, next_none, room_left}
+use Rattle.twp_read.proofs.doubts.doubts_of.Goals as goal
 
 pub count_of-requires : goal.count_of-requires
 count_of-requires c =

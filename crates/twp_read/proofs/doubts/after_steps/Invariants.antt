@@ -1,7 +1,7 @@
 use Rattle.std.proofs.Common.{◌≡◌, length, map}
 use Rattle.twp_grammar.specs.Tokens.{seen}
 use Rattle.twp_read.specs.Doubts.{after_steps}
-use Rattle.twp_doubts.proofs.doubts.after_steps.Given as goal
+use Rattle.twp_read.proofs.doubts.after_steps.Given as goal
 
 -- what was passed over is letters and fractions
 abbrev pub invariant-loop-left : goal.invariant-loop-left

@@ -1,8 +1,8 @@
 use Rattle.std.proofs.Common.{drop, length, map, ◌≤◌, ◌<◌}
 use Rattle.twp_grammar.specs.Tokens.{seen}
 use Rattle.twp_read.specs.Doubts.{doubts}
-use Rattle.twp_doubts.proofs.DoubtFacts.{AreFound}
-use Rattle.twp_doubts.proofs.doubts.doubts_of.Given as goal
+use Rattle.twp_read.proofs.DoubtFacts.{AreFound}
+use Rattle.twp_read.proofs.doubts.doubts_of.Given as goal
 
 -- the places of the tokens from here on were found
 abbrev pub invariant-loop-index : goal.invariant-loop-index

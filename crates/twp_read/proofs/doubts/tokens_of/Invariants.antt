@@ -1,7 +1,7 @@
 use Rattle.std.proofs.Common.{length, map}
 use Rattle.twp_grammar.specs.Tokens.{seen}
-use Rattle.twp_doubts.proofs.DoubtFacts.{Cut}
-use Rattle.twp_doubts.proofs.doubts.tokens_of.Given as goal
+use Rattle.twp_read.proofs.DoubtFacts.{Cut}
+use Rattle.twp_read.proofs.doubts.tokens_of.Given as goal
 
 -- these are the tokens so far
 abbrev pub invariant-loop-token : goal.invariant-loop-token
