@@ -10,12 +10,14 @@ ghost use Rattle.twp_explain.specs.steps.ListDoubts.{AreOfList, Takes};
 mod acres;
 mod heading;
 mod lists;
+mod mark;
 mod parts;
 mod sentence;
 mod span;
 mod spelled;
 
 use crate::note::acres::Reckoner;
+pub use crate::note::mark::without_mark;
 use crate::note::sentence::sentence_of;
 use crate::note::span::end_of_place;
 use csv::ByteRecord;

@@ -21,6 +21,7 @@ pub mod AreaLaws
 pub mod WholeAreas
 pub mod AreaFacts
 pub mod PlatFigureFacts
+pub mod PlatNoteFacts
 pub mod PlatLaws
 pub mod FinerAreas
 pub mod CombinedAreas

@@ -7,6 +7,7 @@ pub mod LotFigures
 pub mod Laws
 pub mod LandAreas
 pub mod PlatFigures
+pub mod PlatNotes
 pub mod PlatAccounts
 pub mod LandAreaLaws
 pub mod PlatAccountLaws

@@ -1,7 +1,7 @@
 -- The text is read as the length.
 use Rattle.std.proofs.Common.{◌≡◌, ◌∙◌, Ok, refl, sym}
-use Rattle.twp_calls.proofs.WritingFacts.{is_text_of}
-use Rattle.twp_calls.proofs.writing.length_of.Goals as goal
+use Rattle.twp_plat.proofs.PlatNoteFacts.{is_text_of}
+use Rattle.twp_plat.proofs.writing.length_of.Goals as goal
 
 pub unwrap-requires : goal.unwrap-requires
 unwrap-requires c =

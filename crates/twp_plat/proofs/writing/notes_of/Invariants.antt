@@ -1,7 +1,7 @@
 use Rattle.std.proofs.Common.{◌≡◌, ℕ, ◌<◌, length, get_or}
 use Rattle.twp_notes.specs.FieldNotes.{nothing_returned}
-use Rattle.twp_calls.specs.steps.Returning.{returned_with}
-use Rattle.twp_calls.proofs.writing.notes_of.Given as goal
+use Rattle.twp_plat.specs.PlatNotes.{returned_with}
+use Rattle.twp_plat.proofs.writing.notes_of.Given as goal
 
 -- the distances of the lines so far
 abbrev pub invariant-loop-index : goal.invariant-loop-index

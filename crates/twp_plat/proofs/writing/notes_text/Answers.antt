@@ -1,6 +1,6 @@
 -- The text is that of the notes.
-use Rattle.twp_calls.proofs.WritingFacts.{appended}
-use Rattle.twp_calls.proofs.writing.notes_text.Goals as goal
+use Rattle.twp_plat.proofs.PlatNoteFacts.{appended}
+use Rattle.twp_plat.proofs.writing.notes_text.Goals as goal
 
 pub returns : goal.returns
 returns c = record {

@@ -1,4 +1,4 @@
--- The field notes that are written for a plat. No public contract cites this module.
+-- The field notes that are written for a plat.
 use Rattle.std.specs.Prelude.{◌≡◌, ℕ, ◌+◌, List, length}
 use Rattle.twp_grid.specs.Lines.{LINE_COUNT, IsLine}
 use Rattle.twp_notes.specs.FieldNotes.{FieldNotes, returned_of}

@@ -1,8 +1,8 @@
 -- One more line has its distances, and then each line has.
 use Rattle.std.proofs.Common.{arith}
 use Rattle.std.proofs.lemmas.Grind.{common_steps}
-use Rattle.twp_calls.proofs.WritingFacts.{lines_next}
-use Rattle.twp_calls.proofs.writing.notes_of.Goals as goal
+use Rattle.twp_plat.proofs.PlatNoteFacts.{lines_next}
+use Rattle.twp_plat.proofs.writing.notes_of.Goals as goal
 
 pub loop-index-preserved : goal.loop-index-preserved
 loop-index-preserved c = record {
