@@ -48,7 +48,7 @@ OTHERS = (
         (
             "twp_acres::running::run_acres_as",
             "twp_acres::laws::one_answer_by",
-            "twp_area::laws::plat_area_is_near",
+            "twp_plat::laws::plat_area_is_near",
         ),
     ),
     Subject(
@@ -97,10 +97,10 @@ OTHERS = (
             "twp_calls::combining::township_land_compare",
             "twp_acres::laws::acres_on_are_of_land",
             "twp_acres::laws::text_of_land_is_its_description",
-            "twp_area::laws::union_and_intersection_add",
-            "twp_area::laws::difference_and_intersection_add",
-            "twp_area::laws::plat_union_and_intersection_add",
-            "twp_area::laws::plat_difference_and_intersection_add",
+            "twp_plat::laws::union_and_intersection_add",
+            "twp_plat::laws::difference_and_intersection_add",
+            "twp_plat::laws::plat_union_and_intersection_add",
+            "twp_plat::laws::plat_difference_and_intersection_add",
         ),
     ),
     Subject(

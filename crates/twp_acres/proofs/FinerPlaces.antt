@@ -1,7 +1,7 @@
 -- If each place is divided into four, descriptions of land keep their meaning.
 use Rattle.std.proofs.Common.{◌*◌, refl, arith}
-use Rattle.twp_area.specs.PlatAccounts.{IsNominalShare}
-use Rattle.twp_area.proofs.FinerAreas.{position_of_four, same_area, same_plat_area, township_of_four}
+use Rattle.twp_plat.specs.PlatAccounts.{IsNominalShare}
+use Rattle.twp_plat.proofs.FinerAreas.{position_of_four, same_area, same_plat_area, township_of_four}
 use Rattle.twp_grammar.proofs.FinerItems.{on_plat_finer, land_finer}
 use Rattle.twp_spell.proofs.FinerTexts.{same_text}
 use Rattle.twp_acres.specs.FinerPlaces.{FinerPlacesKeepAll, FinerPlacesKeepPlatAreas, ThirtySecondsKeepAll}

@@ -1,7 +1,7 @@
 -- The laws of land that callers keep.
 use Rattle.std.proofs.Common.{◌≡◌, subst}
 use Rattle.twp_grid.specs.Places.{PLACE_DIGITS}
-use Rattle.twp_area.specs.PlatAccounts.{IsAreaBy}
+use Rattle.twp_plat.specs.PlatAccounts.{IsAreaBy}
 use Rattle.twp_spell.proofs.ReadBack.{read_back}
 use Rattle.twp_acres.specs.OnLandLaws.{AcresOnAreOfLand, TextOfLandIsItsDescription}
 use Rattle.twp_acres.proofs.OneAnswer.{one_land}

@@ -7,11 +7,11 @@ use Rattle.twp_grid.specs.Places.{PLACE_DIGITS}
 use Rattle.twp_grid.specs.Townships.{Designation}
 use Rattle.twp_grid.specs.declared.refusal.Refusal.{Refusal}
 use Rattle.twp_plat.specs.Plats.{TownshipPlat}
-use Rattle.twp_area.specs.PlatAccounts.{IsAreaBy}
-use Rattle.twp_area.specs.declared.account.Account.{Account}
-use Rattle.twp_area.specs.declared.account.Account.TheVariants.{Exact, Plat}
-use Rattle.twp_area.proofs.AreaLaws.{one_land_area}
-use Rattle.twp_area.proofs.PlatLaws.{one_plat_area}
+use Rattle.twp_plat.specs.PlatAccounts.{IsAreaBy}
+use Rattle.twp_plat.specs.declared.account.Account.{Account}
+use Rattle.twp_plat.specs.declared.account.Account.TheVariants.{Exact, Plat}
+use Rattle.twp_plat.proofs.AreaLaws.{one_land_area}
+use Rattle.twp_plat.proofs.PlatLaws.{one_plat_area}
 use Rattle.twp_acres.specs.Answers.{ArePlatted, Describe, IsNoDescription, IsLandOnPlat, IsRefusal}
 use Rattle.twp_acres.specs.Answers.{refusal_line}
 use Rattle.twp_acres.specs.AccountAnswers.{HasAcresBy, IsAcresAnswerBy}

@@ -8,12 +8,12 @@ use Rattle.twp_acres.specs.AccountAnswers.{ArePlatHundredthsOf, HasAcresBy, HasP
 use Rattle.twp_acres.specs.AccountAnswers.{IsAcresAnswerBy}
 use Rattle.twp_acres.specs.Answers.{Describe, IsRefusal}
 use Rattle.twp_acres.specs.Laws.{OneAnswerBy}
-use Rattle.twp_area.specs.declared.account.Account.{Account}
-use Rattle.twp_area.specs.declared.account.Account.TheVariants.{Exact, Plat}
+use Rattle.twp_plat.specs.declared.account.Account.{Account}
+use Rattle.twp_plat.specs.declared.account.Account.TheVariants.{Exact, Plat}
 use Rattle.twp_acres.specs.declared.verdict.Verdict.{Verdict}
 use Rattle.twp_acres.specs.declared.verdict.Verdict.TheVariants.{Accepted, Refused, TractRefused}
 use Rattle.twp_acres.proofs.OneAnswer.{not_land, one_acres, one_land, one_plat, one_refusal}
-use Rattle.twp_area.proofs.PlatLaws.{one_plat_area}
+use Rattle.twp_plat.proofs.PlatLaws.{one_plat_area}
 
 -- the plat area of land rounds to only one number of hundredths
 one_plat_hundredths : (plat : TownshipPlat) (places : ℕ → ℕ → ℕ → Bool) (h h' : ℕ)

@@ -21,7 +21,7 @@ use Rattle.twp_acres.specs.Answers.{AreHundredthsOf, HasAcres, IsAcresAnswer}
 use Rattle.twp_acres.specs.Laws.{OneAnswerOfLand}
 use Rattle.twp_acres.specs.declared.verdict.Verdict.{Verdict}
 use Rattle.twp_acres.specs.declared.verdict.Verdict.TheVariants.{Accepted, Refused, TractRefused}
-use Rattle.twp_area.proofs.AreaLaws.{one_land_area}
+use Rattle.twp_plat.proofs.AreaLaws.{one_land_area}
 
 -- the plat of notes, or their fault
 abbrev made : TownshipPlat → Result TownshipPlat PlatFault

@@ -9,13 +9,13 @@ use Rattle.twp_grid.proofs.LotFacts.{position_of_lot_is, lot_count_is, count_by_
 use Rattle.twp_grid.specs.declared.refusal.Refusal.{Refusal}
 use Rattle.twp_plat.specs.Plats.{TownshipPlat}
 use Rattle.twp_acres.specs.Answers.{IsNoPlat}
-use Rattle.twp_area.specs.PlatFigures.{PlatFigures, AreFigures}
+use Rattle.twp_plat.specs.PlatFigures.{PlatFigures, AreFigures}
 use Rattle.twp_acres.specs.PlatAnswers.{texts_to, lot_text, lots_text}
 use Rattle.twp_acres.specs.PlatAnswers.{section_line, section_name, total_text, plat_text}
 use Rattle.twp_acres.specs.PlatAnswers.{IsPrintedPlat, IsPlatAnswer}
 use Rattle.twp_acres.specs.declared.verdict.Verdict.{Verdict}
 use Rattle.twp_acres.specs.declared.verdict.Verdict.TheVariants.{Accepted, Refused, TractRefused}
-use Rattle.twp_area.proofs.FigureFacts.{same_lot, same_section, same_township}
+use Rattle.twp_plat.proofs.PlatFigureFacts.{same_lot, same_section, same_township}
 use Rattle.twp_acres.proofs.OneAnswer.{one_plat, not_platted, one_plat_refusal}
 
 -- texts are the same if they agree on the numbers from 1 on

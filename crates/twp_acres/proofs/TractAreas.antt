@@ -8,16 +8,16 @@ use Rattle.twp_land.specs.Lands.{no_places, union, SharePlace}
 use Rattle.twp_plat.specs.Plats.{TownshipPlat}
 use Rattle.twp_plat.specs.Pieces.{over_of}
 use Rattle.twp_plat.specs.Pieces.{ArePieces}
-use Rattle.twp_area.specs.steps.Bounds.{OF_POSITION}
-use Rattle.twp_area.specs.LandAreas.{section_sum, township_sum, IsLandArea}
-use Rattle.twp_area.specs.Laws.{township_places}
+use Rattle.twp_plat.specs.steps.Bounds.{OF_POSITION}
+use Rattle.twp_plat.specs.LandAreas.{section_sum, township_sum, IsLandArea}
+use Rattle.twp_plat.specs.LandAreaLaws.{township_places}
 use Rattle.twp_acres.specs.ReportAnswers.{other_places}
 use Rattle.twp_acres.specs.TractLaws.{RestAddsUp}
 use Rattle.twp_acres.specs.steps.TractTaking.{AreTotals, TakesArea}
 use Rattle.twp_acres.specs.declared.totals.Totals.{Totals}
-use Rattle.twp_area.proofs.AreaLaws.{one_land_area, disjoint_areas_add, rest_of_places}
-use Rattle.twp_area.proofs.AreaLaws.{rest_within, is_place_of}
-use Rattle.twp_area.proofs.WholeAreas.{section_none}
+use Rattle.twp_plat.proofs.AreaLaws.{one_land_area, disjoint_areas_add, rest_of_places}
+use Rattle.twp_plat.proofs.AreaLaws.{rest_within, is_place_of}
+use Rattle.twp_plat.proofs.WholeAreas.{section_none}
 
 pub rest_adds_up : RestAddsUp
 rest_adds_up plat places area rest whole is others all =

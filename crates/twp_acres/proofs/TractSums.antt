@@ -9,11 +9,11 @@ use Rattle.twp_notes.specs.Records.{Fields}
 use Rattle.twp_plat.specs.Plats.{TownshipPlat}
 use Rattle.twp_plat.specs.Pieces.{over_of}
 use Rattle.twp_plat.specs.Pieces.{ArePieces}
-use Rattle.twp_area.specs.LandAreas.{IsLandArea}
-use Rattle.twp_area.specs.Laws.{AreDisjoint}
+use Rattle.twp_plat.specs.LandAreas.{IsLandArea}
+use Rattle.twp_plat.specs.LandAreaLaws.{AreDisjoint}
 use Rattle.twp_acres.specs.Tracts.{tract_records, AreTracts, IsLandOfTracts}
 use Rattle.twp_acres.specs.TractLaws.{AreTractAreas, TractsAddUp}
-use Rattle.twp_area.proofs.AreaLaws.{one_land_area, disjoint_areas_add}
+use Rattle.twp_plat.proofs.AreaLaws.{one_land_area, disjoint_areas_add}
 use Rattle.twp_acres.proofs.TractAreas.{no_area}
 use Rattle.twp_acres.proofs.TractLands.{no_land, land_next, one_land_of_tracts}
 

@@ -4,7 +4,7 @@ use Rattle.std.specs.Prelude.{◌≡◌, ◌≢◌, ℕ, ◌≤◌, ◌<◌, Lis
 use Rattle.twp_grid.specs.Townships.{Designation}
 use Rattle.twp_notes.specs.Records.{Fields, record_at, record_numbered, records_of}
 use Rattle.twp_plat.specs.Plats.{TownshipPlat}
-use Rattle.twp_area.specs.declared.account.Account.TheVariants.{Exact}
+use Rattle.twp_plat.specs.declared.account.Account.TheVariants.{Exact}
 use Rattle.twp_acres.specs.OnPlats.{HasAcresOn}
 use Rattle.twp_acres.specs.Tracts.{TRACTS_LIMIT, TRACTS_MOST, tracts_heading, tract_records}
 use Rattle.twp_acres.specs.Tracts.{name_in, description_in, IsTractRecord}

@@ -8,8 +8,8 @@ use Rattle.twp_grid.specs.Places.{places_across}
 use Rattle.twp_grid.specs.Townships.{Designation}
 use Rattle.twp_land.specs.FinerLands.{finer_land}
 use Rattle.twp_plat.specs.Plats.{TownshipPlat}
-use Rattle.twp_area.specs.LandAreas.{IsLandArea, places_of_position, township_sum}
-use Rattle.twp_area.specs.PlatAccounts.{IsNominalShare, IsPlatArea}
+use Rattle.twp_plat.specs.LandAreas.{IsLandArea, places_of_position, township_sum}
+use Rattle.twp_plat.specs.PlatAccounts.{IsNominalShare, IsPlatArea}
 use Rattle.twp_grammar.specs.declared.item.Item.{Item}
 use Rattle.twp_grammar.specs.OnPlat.{AreOnPlat, IsLandOfItems}
 use Rattle.twp_spell.specs.CanonicalText.{IsCanonicalText}

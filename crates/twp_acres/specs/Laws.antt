@@ -1,7 +1,7 @@
 -- Laws over the answers of the runs.
 use Rattle.std.specs.Prelude.{◌≡◌, ℕ, List, Bool}
 use Rattle.twp_plat.specs.Plats.{TownshipPlat}
-use Rattle.twp_area.specs.declared.account.Account.{Account}
+use Rattle.twp_plat.specs.declared.account.Account.{Account}
 use Rattle.twp_acres.specs.Answers.{IsLandOnPlat}
 use Rattle.twp_acres.specs.Answers.{IsAcresAnswer}
 use Rattle.twp_acres.specs.AccountAnswers.{IsAcresAnswerBy}

@@ -6,8 +6,8 @@ use Rattle.twp_grid.specs.Places.{PLACE_DIGITS}
 use Rattle.twp_grid.specs.Townships.{Designation}
 use Rattle.twp_land.specs.Lands.{HasWholeLots}
 use Rattle.twp_plat.specs.Plats.{TownshipPlat}
-use Rattle.twp_area.specs.PlatAccounts.{IsAreaBy}
-use Rattle.twp_area.specs.declared.account.Account.{Account}
+use Rattle.twp_plat.specs.PlatAccounts.{IsAreaBy}
+use Rattle.twp_plat.specs.declared.account.Account.{Account}
 use Rattle.twp_acres.specs.Answers.{Describe}
 use Rattle.twp_acres.specs.OnPlats.{StopsOn}
 use Rattle.twp_acres.specs.declared.stop.Stop.{Stop}

@@ -5,9 +5,9 @@ use Rattle.twp_measure.specs.Areas.{Fraction, IsRounded}
 use Rattle.twp_grid.specs.Places.{PLACE_DIGITS}
 use Rattle.twp_grid.specs.Townships.{Designation}
 use Rattle.twp_plat.specs.Plats.{TownshipPlat}
-use Rattle.twp_area.specs.PlatAccounts.{IsAreaBy}
-use Rattle.twp_area.specs.PlatFigures.{PlatFigures, AreFigures}
-use Rattle.twp_area.specs.declared.account.Account.{Account}
+use Rattle.twp_plat.specs.PlatAccounts.{IsAreaBy}
+use Rattle.twp_plat.specs.PlatFigures.{PlatFigures, AreFigures}
+use Rattle.twp_plat.specs.declared.account.Account.{Account}
 use Rattle.twp_spell.specs.CanonicalText.{IsCanonicalText}
 use Rattle.twp_acres.specs.Answers.{Describe, IsNoDescription}
 use Rattle.twp_acres.specs.PlatAnswers.{plat_text}

@@ -5,7 +5,7 @@ use Rattle.twp_grid.specs.Winding.{SECTION_COUNT}
 use Rattle.twp_grid.specs.Lots.{number_of_lots}
 use Rattle.twp_grid.specs.Townships.{line_feed}
 use Rattle.twp_plat.specs.Plats.{TownshipPlat}
-use Rattle.twp_area.specs.PlatFigures.{PlatFigures, AreFigures}
+use Rattle.twp_plat.specs.PlatFigures.{PlatFigures, AreFigures}
 use Rattle.twp_acres.specs.Answers.{AnswersRefusal, ArePlatted, IsNoPlat}
 use Rattle.twp_acres.specs.declared.verdict.Verdict.{Verdict}
 use Rattle.twp_acres.specs.declared.verdict.Verdict.TheVariants.{Accepted, Refused, TractRefused}

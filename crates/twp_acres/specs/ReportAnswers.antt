@@ -8,7 +8,7 @@ use Rattle.twp_notes.specs.Records.{Fields, record_at}
 use Rattle.twp_plat.specs.Plats.{TownshipPlat}
 use Rattle.twp_acres.specs.Answers.{AnswersRefusal, ArePlatted, Describe, IsNoPlat, refusal_line}
 use Rattle.twp_acres.specs.Answers.{AreHundredthsOf, acres_line}
-use Rattle.twp_area.specs.Laws.{township_places}
+use Rattle.twp_plat.specs.LandAreaLaws.{township_places}
 use Rattle.twp_acres.specs.Tracts.{name_in, description_in, tract_records}
 use Rattle.twp_acres.specs.Tracts.{IsTractList, IsLandOfTracts}
 use Rattle.twp_acres.specs.TractFaults.{IsFirstTractFault, verdict_of}

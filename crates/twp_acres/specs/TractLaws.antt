@@ -6,8 +6,8 @@ use Rattle.twp_grid.specs.Spans.{total}
 use Rattle.twp_notes.specs.Records.{Fields, record_at}
 use Rattle.twp_plat.specs.Plats.{TownshipPlat}
 use Rattle.twp_acres.specs.Answers.{Describe}
-use Rattle.twp_area.specs.LandAreas.{IsLandArea}
-use Rattle.twp_area.specs.Laws.{township_places}
+use Rattle.twp_plat.specs.LandAreas.{IsLandArea}
+use Rattle.twp_plat.specs.LandAreaLaws.{township_places}
 use Rattle.twp_acres.specs.Laws.{IsOne}
 use Rattle.twp_acres.specs.Tracts.{description_in, tract_records, IsTractList, IsLandOfTracts}
 use Rattle.twp_acres.specs.ReportAnswers.{other_places, IsReportAnswer}

@@ -14,9 +14,8 @@ use crate::on_plat::acres_noting;
 use crate::stages::read_texts;
 use crate::verdict::{RunFault, Verdict};
 use std::alloc::Global;
-use twp_area::Account;
 use twp_grid::Source;
-use twp_plat::Plat;
+use twp_plat::{Account, Plat};
 use twp_read::Clarity;
 
 /// The answer for field notes and a description. The description is read only if the notes make a

@@ -17,9 +17,8 @@ use crate::tracts::FIRST_TRACT;
 use arrayvec::ArrayString;
 use csv::ByteRecord;
 use std::alloc::{AllocError, Global};
-use twp_area::Account;
 use twp_notes::{Records, field};
-use twp_plat::Plat;
+use twp_plat::{Account, Plat};
 
 /// The answer to a tract of a list.
 #[derive(Clone, Copy)]

@@ -1,5 +1,5 @@
 //! Laws of answers that follow from their definitions. Each law is a contract, and its function
-//! does nothing. The laws of areas are in `twp_area`.
+//! does nothing. The laws of areas are in `twp_plat`.
 ghost use Rattle.twp_acres.specs.TractLaws.{RestAddsUp, TractsAddUp, OneReportAnswer};
 ghost use Rattle.twp_acres.specs.Laws.{OneAnswer, OneAnswerOfLand, OnePlatAnswer, OneNormalAnswer};
 ghost use Rattle.twp_acres.specs.Laws.{OneAnswerBy};

@@ -1,5 +1,5 @@
 //! The answers on a plat, and the runs: each reads field notes, and for most runs a second text,
-//! finds the answer, and writes it. The areas of land come from `twp_area`.
+//! finds the answer, and writes it. The areas of land come from `twp_plat`.
 #![tactic(auto)]
 
 mod account_figures;
@@ -42,5 +42,5 @@ pub use stop::Stop;
 pub use tract::is_heading;
 pub use tract_fault::{TRACTS_LIMIT, TRACTS_MOST, TractFault};
 pub use tracts::{FIRST_TRACT, account_of as account_of_tracts};
-pub use twp_area::{Account, area_of, plat_area_of};
+pub use twp_plat::{Account, area_of, plat_area_of};
 pub use verdict::{RunFault, Verdict};

@@ -6,10 +6,9 @@ ghost use Rattle.twp_acres.specs.OnLands.{IsLandOf, AnswersIn, AreAcresOf};
 use crate::stages::describe_into;
 use crate::stop::Stop;
 use std::alloc::Global;
-use twp_area::{Account, area_by};
 use twp_grid::Township;
 use twp_land::{Land, Lanes};
-use twp_plat::Plat;
+use twp_plat::{Account, Plat, area_by};
 
 /// The land that a description names in a township, or why there is none, as for `acres_on`. It
 /// depends on the township's designation and the lots of townships alone, so there is no plat.

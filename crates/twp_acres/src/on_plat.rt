@@ -10,10 +10,9 @@ use crate::stop::Stop;
 use crate::tract_fault::{TRACTS_LIMIT, TractFault};
 use crate::tracts::account_of;
 use std::alloc::Global;
-use twp_area::{Account, area_by};
 use twp_land::{Land, Lanes};
 use twp_measure::Area;
-use twp_plat::Plat;
+use twp_plat::{Account, Plat, area_by};
 use twp_read::Clarity;
 use twp_spell::spell;
 

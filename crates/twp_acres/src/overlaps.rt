@@ -20,11 +20,10 @@ use crate::tract_fault::{TRACTS_LIMIT, TRACTS_MOST, TractFault};
 use crate::tracts::FIRST_TRACT;
 use csv::ByteRecord;
 use std::alloc::{AllocError, Global};
-use twp_area::area_of;
 use twp_grid::Township;
 use twp_land::{Land, Lanes};
 use twp_notes::Records;
-use twp_plat::Plat;
+use twp_plat::{Plat, area_of};
 
 /// Two tracts of a list that overlap.
 #[derive(Clone, Copy)]

@@ -3,7 +3,7 @@ ghost use Rattle.std.specs.Prelude.{◌≡◌, ◌≤◌, ◌++◌, false, OnOk,
 ghost use Rattle.twp_grid.specs.Lots.{number_of_lots};
 ghost use Rattle.twp_notes.specs.FieldNotes.{NOTES_MOST};
 ghost use Rattle.twp_plat.specs.Pieces.{IsSectionArea};
-ghost use Rattle.twp_area.specs.PlatFigures.{PlatFigures, AreFigures};
+ghost use Rattle.twp_plat.specs.PlatFigures.{PlatFigures, AreFigures};
 ghost use Rattle.twp_acres.specs.PlatAnswers.{IsPlatAnswer};
 ghost use Rattle.twp_acres.specs.PlatAnswers.{lot_text, total_text, section_name, section_line};
 ghost use Rattle.twp_acres.specs.OnPlats.{IsTextOfPlat};

@@ -22,8 +22,8 @@ use crate::verdict::{RunFault, Verdict};
 use crate::writing::write_whole;
 use crate::{acres_answer, normal_answer, plat_answer, report_answer};
 use std::alloc::Global;
-use twp_area::Account;
 use twp_grid::{Sink, Source};
+use twp_plat::Account;
 use twp_read::Clarity;
 
 /// Writes the acres of the land described, if the field notes make a plat and the parts of the

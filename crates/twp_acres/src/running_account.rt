@@ -16,9 +16,8 @@ use crate::totals::Totals;
 use crate::tract_fault::TractFault;
 use csv::ByteRecord;
 use std::alloc::{AllocError, Global};
-use twp_area::area_of;
 use twp_land::Land;
-use twp_plat::Plat;
+use twp_plat::{Plat, area_of};
 use twp_read::Clarity;
 
 /// The account of the tracts so far.

@@ -14,7 +14,7 @@ use Rattle.twp_acres.specs.declared.stop.Stop.{Stop}
 use Rattle.twp_acres.specs.declared.stop.Stop.TheVariants as stop
 use Rattle.twp_acres.specs.declared.tract_fault.TractFault.{TractFault}
 use Rattle.twp_calls.specs.Answers.{stopped, answer_of_fault, answer_of_verdict}
-use Rattle.twp_area.specs.declared.account.Account.{Account}
+use Rattle.twp_plat.specs.declared.account.Account.{Account}
 use Rattle.twp_calls.specs.Answers.{ACCEPTED, bare}
 use Rattle.twp_calls.specs.Calls.{Answers, IsRefusedFor, IsRefusedList, refused_for, no_memory}
 use Rattle.twp_calls.specs.Calls.{OfDescription, OfDescriptionBy, account_of, on_plat, by_account}

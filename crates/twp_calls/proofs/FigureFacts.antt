@@ -11,8 +11,8 @@ use Rattle.twp_grid.specs.Lots.{number_of_lots}
 use Rattle.twp_plat.specs.Plats.{TownshipPlat, IsPlat}
 use Rattle.twp_plat.specs.Pieces.{IsSectionArea, IsTownshipArea}
 use Rattle.twp_plat.specs.LotFigures.{IsFigureOfLot}
-use Rattle.twp_area.specs.PlatFigures.{PlatFigures, AreFigures}
-use Rattle.twp_area.proofs.FigureFacts.{plat_figures, same_lot, same_section, same_township}
+use Rattle.twp_plat.specs.PlatFigures.{PlatFigures, AreFigures}
+use Rattle.twp_plat.proofs.PlatFigureFacts.{plat_figures, same_lot, same_section, same_township}
 use Rattle.twp_calls.specs.Figures.{LOTS_MOST, IsLotOrNone, AreNumbersOf, ShowsFigures, place_of_lot}
 use Rattle.twp_calls.specs.declared.figures.TownshipPlatFigures.{TownshipPlatFigures}
 use Rattle.twp_calls.specs.steps.Filling.{AreLotsTo, AreSectionsTo, IsOfPlace}

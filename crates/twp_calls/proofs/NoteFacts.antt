@@ -3,7 +3,7 @@ use Rattle.std.proofs.Common.{◌≡◌, ℕ, ◌<◌, List, Option, Some, None,
 use Rattle.std.proofs.Common.{ap, inl, inr, arith}
 use Rattle.twp_measure.specs.Areas.{Fraction}
 use Rattle.twp_plat.specs.Plats.{TownshipPlat}
-use Rattle.twp_area.specs.declared.account.Account.TheVariants.{Exact}
+use Rattle.twp_plat.specs.declared.account.Account.TheVariants.{Exact}
 use Rattle.twp_acres.specs.OnPlats.{HasAreaOn}
 use Rattle.twp_acres.specs.ReportAnswers.{IsAccountOf}
 use Rattle.twp_diagnose.specs.declared.given.Given.{Given}

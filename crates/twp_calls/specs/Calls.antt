@@ -4,8 +4,8 @@ use Rattle.std.specs.Prelude.{◌==◌, if◌then◌else◌, codes}
 use Rattle.twp_measure.specs.Areas.{Fraction}
 use Rattle.twp_grid.specs.declared.refusal.Refusal.{Refusal}
 use Rattle.twp_plat.specs.Plats.{TownshipPlat}
-use Rattle.twp_area.specs.declared.account.Account.{Account}
-use Rattle.twp_area.specs.declared.account.Account.TheVariants.{Exact, Plat}
+use Rattle.twp_plat.specs.declared.account.Account.{Account}
+use Rattle.twp_plat.specs.declared.account.Account.TheVariants.{Exact, Plat}
 use Rattle.twp_acres.specs.Answers.{ArePlatted, IsNoPlat, IsNoDescription}
 use Rattle.twp_acres.specs.OnPlats.{HasAcresOn, HasAreaOn, HasNormalOn, IsTextOfPlat}
 use Rattle.twp_acres.specs.ReportAnswers.{IsAccountOf}

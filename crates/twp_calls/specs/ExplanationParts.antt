@@ -1,8 +1,7 @@
 -- The parts of an explanation, or of a note, as numbers: where in the input its place is, and the other place
 -- that it names; and where in the text its sentence, its excerpt, its hints, and the corrected description
 -- are.
-use Rattle.std.specs.Prelude.{◌≡◌, ℕ, ◌+◌, ◌-◌, List, length, take, drop, Option, Some, None, codes}
-use Rattle.std.specs.Prelude.{slice_range}
+use Rattle.std.specs.Prelude.{◌≡◌, ℕ, ◌-◌, List, Option, Some, None, slice_range}
 use Rattle.twp_excerpt.specs.declared.message.Parts.{Parts}
 use Rattle.twp_excerpt.specs.declared.spot.Span.{Span}
 use Rattle.twp_grammar.specs.Sentences.{IsReadAs}
@@ -11,6 +10,7 @@ use Rattle.twp_diagnose.specs.declared.explanation.Explanation.{Explanation}
 use Rattle.twp_diagnose.specs.declared.explanation.OtherPlace.{OtherPlace}
 use Rattle.twp_diagnose.specs.declared.location.Location.{Location}
 use Rattle.twp_diagnose.specs.declared.location.Location.TheVariants.{Whole, Line, Field, Part}
+use Rattle.twp_explain.specs.NoteMarks.{IsSentenceOf}
 use Rattle.twp_explain.specs.declared.note.Note.{Note}
 use Rattle.twp_calls.specs.declared.explanation.TownshipExplanation.{TownshipExplanation}
 
@@ -95,20 +95,6 @@ pub record ArePartsOf (explanation : Explanation) (parts : TownshipExplanation) 
   pub repair_is : IsRepair explanation.text.bytes.items repair
   pub parts_are : parts
       ≡ numbers_of explanation.place explanation.other explanation.parts explanation.parts.sentence repair
-
--- what the sentence of a note begins with
-abbrev pub MARK : List ℕ
-MARK = codes "note: "
-
--- the mark is at a place of a text
-abbrev pub HasMarkAt : List ℕ → ℕ → Type 0
-HasMarkAt text at = take (length MARK) (drop at text) ≡ MARK
-
--- the sentence of a note, without the mark if it begins with one
-pub record IsSentenceOf (text : List ℕ) (whole sentence : Span) : Type 0 where
-  pub ends : sentence.end ≡ whole.end
-  pub unmarked : ¬ HasMarkAt text whole.start → sentence.start ≡ whole.start
-  pub marked : HasMarkAt text whole.start → sentence.start ≡ whole.start + length MARK
 
 -- the parts of a note
 pub record ArePartsOfNote (note : Note) (parts : TownshipExplanation) : Type 0 where

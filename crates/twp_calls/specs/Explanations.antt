@@ -9,7 +9,7 @@ use Rattle.twp_grid.specs.Townships.{Designation}
 use Rattle.twp_grid.specs.declared.refusal.Refusal.{Refusal}
 use Rattle.twp_measure.specs.Areas.{Fraction}
 use Rattle.twp_plat.specs.Plats.{TownshipPlat}
-use Rattle.twp_area.specs.declared.account.Account.TheVariants.{Exact}
+use Rattle.twp_plat.specs.declared.account.Account.TheVariants.{Exact}
 use Rattle.twp_acres.specs.Answers.{ArePlatted, IsNoPlat, IsNoDescription}
 use Rattle.twp_acres.specs.OnPlats.{HasAreaOn}
 use Rattle.twp_acres.specs.ReportAnswers.{IsAccountOf}

@@ -4,5 +4,4 @@ pub mod LotSteps
 pub mod Noting
 pub mod PartSteps
 pub mod Plain
-pub mod Returning
 pub mod Suggesting

@@ -1,14 +1,13 @@
 //! The parts of an explanation or of a note, as numbers.
-ghost use Rattle.std.specs.Prelude.{◌≡◌, ◌↔◌, ◌+◌, ◌≤◌, true, length, IfOk, IsTrue};
-ghost use Rattle.twp_calls.specs.ExplanationParts.{ArePartsOf, ArePartsOfNote, CanBeRead, HasMarkAt};
-ghost use Rattle.twp_calls.specs.ExplanationParts.{IsRepair, IsSentenceOf, MARK as NOTE_MARK};
+ghost use Rattle.std.specs.Prelude.{◌≡◌, true, IfOk};
+ghost use Rattle.twp_calls.specs.ExplanationParts.{ArePartsOf, ArePartsOfNote, CanBeRead, IsRepair};
 ghost use Rattle.twp_calls.specs.ExplanationParts.{numbers_of, other_bytes, other_code};
 ghost use Rattle.twp_calls.specs.ExplanationParts.{other_record, shown_bytes, shown_code, size_of};
 
 use std::alloc::{AllocError, Global};
 use twp_diagnose::{Explanation, Location, OtherPlace};
 use twp_excerpt::{Parts, Span};
-use twp_explain::Note;
+use twp_explain::{Note, without_mark};
 use twp_read::{Description, TextFault};
 
 /// Nothing of the input is shown; a line is named; or bytes are underlined.
@@ -17,9 +16,6 @@ const NOTHING: u32 = 0;
 const LINE: u32 = 1;
 
 const BYTES: u32 = 2;
-
-/// What the sentence of a note begins with.
-const MARK: &[u8] = b"note: ";
 
 /// The parts of an explanation or of a note. A part of the text is an offset in it, and a length.
 #[repr(C)]
@@ -235,26 +231,4 @@ fn is_read(alloc: Global, text: &[u8]) -> Result<bool, AllocError>
         Err(TextFault::Memory) => Err(AllocError),
         Err(_) => Ok(false),
     }
-}
-
-/// The sentence of a note, without the mark if it begins with one.
-fn without_mark(text: &[u8], sentence: Span) -> Span
-    ensures { IsSentenceOf text.now sentence result }
-{
-    let Span { start, end } = sentence;
-    if !has_mark_at(text, start) {
-        return sentence;
-    }
-    Span {
-        start: start.saturating_add(MARK.len()),
-        end,
-    }
-}
-
-/// Whether the mark is at a place of a text.
-fn has_mark_at(text: &[u8], at: usize) -> bool
-    ensures value { IsTrue result ↔ HasMarkAt text.now at }
-    ensures within { IsTrue result → at + length NOTE_MARK ≤ length text.now }
-{
-    at <= text.len() && text[at..].starts_with(MARK)
 }

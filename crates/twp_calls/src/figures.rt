@@ -1,6 +1,6 @@
 //! The figures of a printed plat, as numbers.
 ghost use Rattle.std.specs.Prelude.{◌≡◌, ◌≢◌, ◌+◌, ◌<◌};
-ghost use Rattle.twp_area.specs.PlatFigures.{PlatFigures, AreFigures};
+ghost use Rattle.twp_plat.specs.PlatFigures.{PlatFigures, AreFigures};
 ghost use Rattle.twp_calls.specs.Answers.{ACCEPTED};
 ghost use Rattle.twp_calls.specs.Figures.{IsFiguresCall};
 ghost use Rattle.twp_calls.specs.steps.Filling.{AreLotsTo, AreSectionsTo, IsOfPlace};

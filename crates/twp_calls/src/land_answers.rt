@@ -16,7 +16,7 @@ use crate::verdict::{
 };
 use std::alloc::Global;
 use twp_acres::{acres_of, land_of};
-use twp_area::area_by;
+use twp_plat::area_by;
 use twp_spell::spell;
 
 /// The land that a description names in a township.

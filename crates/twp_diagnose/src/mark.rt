@@ -8,8 +8,7 @@ ghost use Rattle.twp_diagnose.specs.steps.Marking.{EndsLinks, EndsPart, end_of_l
 ghost use Rattle.twp_diagnose.specs.steps.Marking.{after_of_word, after_the, is_of, is_the, is_step};
 
 use twp_excerpt::Span;
-use twp_grammar::{Kind, Token};
-use twp_read::Tokens;
+use twp_grammar::{Kind, Token, Tokens};
 
 /// The bytes of the token at a place of a text. None of them where no token stands
 /// there.

@@ -7,9 +7,8 @@ ghost use Rattle.twp_diagnose.specs.Sights.{is_apart, shown_place, IsSignAfter, 
 
 use crate::mark::next_token;
 use twp_excerpt::{end_of_text, first_size};
-use twp_grammar::{Expected, Kind};
+use twp_grammar::{Expected, Kind, Tokens};
 use twp_grid::Refusal;
-use twp_read::Tokens;
 
 /// A token of a text, or a character that is not allowed in a description. It has no bytes where the
 /// text begins or ends.

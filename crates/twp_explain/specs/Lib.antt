@@ -5,4 +5,5 @@ pub mod FoundFaults
 pub mod BlamedTracts
 pub mod OtherTracts
 pub mod ShownNotes
+pub mod NoteMarks
 pub mod steps

@@ -10,24 +10,25 @@ ghost use Rattle.twp_explain.specs.steps.ListDoubts.{AreOfList, Takes};
 mod acres;
 mod heading;
 mod lists;
+mod mark;
 mod parts;
 mod sentence;
 mod span;
 mod spelled;
 
 use crate::note::acres::Reckoner;
+pub use crate::note::mark::without_mark;
 use crate::note::sentence::sentence_of;
 use crate::note::span::end_of_place;
 use csv::ByteRecord;
 use std::alloc::{AllocError, Global};
 use twp_acres::{Account, TRACTS_MOST, read_plat};
 use twp_diagnose::{Given, Listed, Located, Location, Origin, message_at, text_in};
-use twp_doubts::doubts_in;
 use twp_excerpt::{Parts, Span, Spot, write_escaped};
 use twp_grid::Bytes;
 use twp_notes::Records;
 use twp_plat::Plat;
-use twp_read::Doubts;
+use twp_read::{Doubts, doubts_in};
 
 /// What is noted of input that was accepted.
 #[derive(Drop)]

@@ -16,8 +16,8 @@ use Rattle.twp_grammar.specs.declared.kind.Kind.{Kind}
 use Rattle.twp_grammar.specs.declared.kind.Kind.TheVariants.{Half, Quarter, Number, Comma, Semicolon, Colon}
 use Rattle.twp_grammar.specs.declared.kind.Kind.TheVariants.{Stop, BadNumber, BadByte}
 use Rattle.twp_grammar.specs.declared.lexeme.Lexeme.{Lexeme}
-use Rattle.twp_grammar.specs.steps.Cutting.{lexeme, cut_word, numeral_of, cut_number, cut_digits, cut_mark}
-use Rattle.twp_grammar.specs.steps.Cutting.{cut}
+use Rattle.twp_grammar.specs.Cutting.{lexeme, cut_word, numeral_of, cut_number, cut_digits, cut_mark}
+use Rattle.twp_grammar.specs.Cutting.{cut}
 use Rattle.std.specs.Str.{str_to_ascii_lowercase}
 use Rattle.twp_grammar.specs.Tokens.{is_white, Word, same_bytes, words, kind_among, kind_of_word, begins_with}
 use Rattle.twp_grammar.specs.Tokens.{IsWholeRun, Begins, IsNumber, IsGoodToken, a_word, a_number}

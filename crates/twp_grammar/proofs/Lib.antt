@@ -13,3 +13,7 @@ pub mod CutPlaces
 pub mod Membership
 pub mod TreeFacts
 pub mod FinerItems
+pub mod ByteFacts
+pub mod LetterFacts
+pub mod WordFacts
+pub mod WhiteFacts

@@ -8,7 +8,7 @@ use Rattle.std.specs.Str.{all_ascii_digits}
 use Rattle.std.specs.List.{list_all, prefix_len}
 use Rattle.twp_grammar.specs.declared.kind.Kind.TheVariants.{Number, BadNumber}
 use Rattle.twp_grammar.specs.declared.lexeme.Lexeme.{Lexeme}
-use Rattle.twp_grammar.specs.steps.Cutting.{lexeme, numeral_of, cut_number, cut_digits}
+use Rattle.twp_grammar.specs.Cutting.{lexeme, numeral_of, cut_number, cut_digits}
 use Rattle.std.specs.Str.Parse.{AllDigits, digits_value}
 use Rattle.std.proofs.Math.Nat.{pow-suc}
 use Rattle.std.proofs.Math.Dec.{leb}

@@ -10,7 +10,7 @@ use Rattle.std.proofs.lemmas.List.Folds.{length-prefix_len}
 use Rattle.std.proofs.Math.Seq.{take-append_seam, drop-append_seam}
 use Rattle.twp_grammar.specs.declared.kind.Kind.{Kind}
 use Rattle.twp_grammar.specs.declared.lexeme.Lexeme.{Lexeme}
-use Rattle.twp_grammar.specs.steps.Cutting.{lexeme, cut, IsFirstIn}
+use Rattle.twp_grammar.specs.Cutting.{lexeme, cut, IsFirstIn}
 use Rattle.twp_grammar.specs.Tokens.{is_white, begins_with, StartsWith, HasTokens, Token}
 use Rattle.twp_grammar.proofs.ByteRuns.{run_len, front_passes, front_ends}
 use Rattle.twp_grammar.proofs.Cuts.{IsTheCut, the_cut, IsFirstToken, cut_is_token, kind_of_cut, size_of_cut}

@@ -7,4 +7,4 @@ pub mod ItemPlaces
 pub mod Machine
 pub mod Laws
 pub mod OnPlat
-pub mod steps
+pub mod Cutting

@@ -8,10 +8,10 @@ use Rattle.twp_grid.specs.Spans.{position_block}
 use Rattle.twp_land.specs.Lands.{HasWholeLots, count_held, no_places, union}
 use Rattle.twp_land.proofs.CombinedLots.{combined_lots_are_whole}
 use Rattle.twp_land.proofs.LotFacts.{has_lot}
-use Rattle.twp_area.specs.LandAreas.{places_of_position}
-use Rattle.twp_area.specs.PlatAccounts.{holds_lot}
-use Rattle.twp_area.specs.steps.Bounds.{OF_POSITION, TO_POSITION}
-use Rattle.twp_area.proofs.SectionSums.{held_of_lot, places_where}
+use Rattle.twp_plat.specs.LandAreas.{places_of_position}
+use Rattle.twp_plat.specs.PlatAccounts.{holds_lot}
+use Rattle.twp_plat.specs.steps.Bounds.{OF_POSITION, TO_POSITION}
+use Rattle.twp_plat.proofs.SectionSums.{held_of_lot, places_where}
 use Rattle.twp_lots.specs.LotAreas.{HasFigures}
 use Rattle.twp_lots.specs.LotTables.{ReturnedLots}
 use Rattle.twp_lots.proofs.LackingFacts.{number_within}

@@ -8,14 +8,14 @@ use Rattle.twp_land.specs.Lands.{HasWholeLots}
 use Rattle.twp_land.proofs.LotFacts.{fills}
 use Rattle.twp_land.proofs.CombinedLots.{combined_lots_are_whole}
 use Rattle.twp_plat.proofs.RatioFacts.{cancelled}
-use Rattle.twp_area.specs.LandAreas.{places_of_position, township_sum}
-use Rattle.twp_area.specs.PlatFigures.{PlatFigures}
-use Rattle.twp_area.specs.PlatAccounts.{holds_lot, lots_held, places_off_lots, printed_units}
-use Rattle.twp_area.specs.steps.Accounts.{position_units}
-use Rattle.twp_area.proofs.AreaLaws.{some_places}
-use Rattle.twp_area.proofs.CombinedAreas.{union_and_intersection_sums, difference_and_intersection_sums}
-use Rattle.twp_area.proofs.LotSums.{filtered, sum_by_lots}
-use Rattle.twp_area.proofs.PlatLaws.{shared, one_share, table-ext}
+use Rattle.twp_plat.specs.LandAreas.{places_of_position, township_sum}
+use Rattle.twp_plat.specs.PlatFigures.{PlatFigures}
+use Rattle.twp_plat.specs.PlatAccounts.{holds_lot, lots_held, places_off_lots, printed_units}
+use Rattle.twp_plat.specs.steps.Accounts.{position_units}
+use Rattle.twp_plat.proofs.AreaLaws.{some_places}
+use Rattle.twp_plat.proofs.CombinedAreas.{union_and_intersection_sums, difference_and_intersection_sums}
+use Rattle.twp_plat.proofs.LotSums.{filtered, sum_by_lots}
+use Rattle.twp_plat.proofs.PlatLaws.{shared, one_share, table-ext}
 use Rattle.twp_lots.specs.LotTables.{ReturnedLots}
 use Rattle.twp_lots.specs.LotAreas.{returned_units, IsLotArea}
 use Rattle.twp_lots.specs.Laws.{OneLotArea, HasFiguresOf, LotAreaIsPlatArea, LotAreasAdd}

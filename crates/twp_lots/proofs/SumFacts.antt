@@ -10,12 +10,12 @@ use Rattle.twp_land.specs.Lands.{no_places, LieWithin}
 use Rattle.twp_land.specs.Lands.{HasWholeLots}
 use Rattle.twp_land.proofs.LotFacts.{has_lot}
 use Rattle.twp_land.proofs.LandRanges.{nothing_within}
-use Rattle.twp_area.specs.LandAreas.{section_sum}
-use Rattle.twp_area.specs.PlatAccounts.{lots_held, places_off_lots}
-use Rattle.twp_area.specs.steps.Bounds.{OF_POSITION, REGULAR_UNITS, REGULAR_PLACE_UNITS}
-use Rattle.twp_area.proofs.AreaFacts.{sections_sum, sum-without}
-use Rattle.twp_area.proofs.LotSums.{sum_by_lots}
-use Rattle.twp_area.proofs.SectionSums.{AreRegular}
+use Rattle.twp_plat.specs.LandAreas.{section_sum}
+use Rattle.twp_plat.specs.PlatAccounts.{lots_held, places_off_lots}
+use Rattle.twp_plat.specs.steps.Bounds.{OF_POSITION, REGULAR_UNITS, REGULAR_PLACE_UNITS}
+use Rattle.twp_plat.proofs.AreaFacts.{sections_sum, sum-without}
+use Rattle.twp_plat.proofs.LotSums.{sum_by_lots}
+use Rattle.twp_plat.proofs.SectionSums.{AreRegular}
 use Rattle.twp_lots.specs.LotTables.{ReturnedLots}
 use Rattle.twp_lots.specs.LotAreas.{returned_units, IsLotArea}
 use Rattle.twp_lots.specs.steps.SectionUnits.{lot_units, position_units_by}

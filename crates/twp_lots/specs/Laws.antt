@@ -6,8 +6,8 @@ use Rattle.twp_grid.specs.Lots.{position_of_lot}
 use Rattle.twp_land.specs.Lands.{union, intersection, difference}
 use Rattle.twp_land.specs.Lands.{HasWholeLots}
 use Rattle.twp_plat.specs.Plats.{TownshipPlat}
-use Rattle.twp_area.specs.PlatFigures.{PlatFigures, AreFigures}
-use Rattle.twp_area.specs.PlatAccounts.{IsPlatArea}
+use Rattle.twp_plat.specs.PlatFigures.{PlatFigures, AreFigures}
+use Rattle.twp_plat.specs.PlatAccounts.{IsPlatArea}
 use Rattle.twp_lots.specs.LotTables.{ReturnedLots, figure_of}
 use Rattle.twp_lots.specs.LotAreas.{IsLotArea}
 

@@ -4,7 +4,7 @@ use Rattle.std.specs.Prelude.{◌≡◌, ℕ, ◌+◌, ◌*◌, ◌<◌, ◌≤�
 use Rattle.twp_measure.specs.Areas.{Fraction, HUNDREDTH_OF_AN_ACRE}
 use Rattle.twp_grid.specs.Winding.{IsSection}
 use Rattle.twp_grid.specs.Lots.{Lot, lot, position_of_lot}
-use Rattle.twp_area.specs.PlatAccounts.{holds_lot, lots_held, places_off_lots, IsNominalShare}
+use Rattle.twp_plat.specs.PlatAccounts.{holds_lot, lots_held, places_off_lots, IsNominalShare}
 use Rattle.twp_lots.specs.LotTables.{ReturnedLots, figure_of}
 
 -- a lot's units: 100,000 for each hundredth of an acre that is returned for it

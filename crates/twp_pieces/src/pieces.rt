@@ -2,8 +2,7 @@
 
 use crate::words::is_same;
 use std::alloc::{AllocError, Global};
-use twp_grammar::{Kind, Token};
-use twp_read::Tokens;
+use twp_grammar::{Kind, Token, Tokens};
 
 /// The pieces of a text, from left to right.
 #[derive(Drop)]

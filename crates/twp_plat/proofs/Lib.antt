@@ -12,3 +12,16 @@ mod WorkedPieces
 pub mod SectionPieces
 pub mod AreaSums
 pub mod QuarterLines
+pub mod PositionSums
+pub mod RegularFacts
+pub mod SectionSums
+pub mod RegularUnits
+pub mod LotSums
+pub mod AreaLaws
+pub mod WholeAreas
+pub mod AreaFacts
+pub mod PlatFigureFacts
+pub mod PlatNoteFacts
+pub mod PlatLaws
+pub mod FinerAreas
+pub mod CombinedAreas

@@ -5,4 +5,10 @@ pub mod Pieces
 pub mod Formula
 pub mod LotFigures
 pub mod Laws
+pub mod LandAreas
+pub mod PlatFigures
+pub mod PlatNotes
+pub mod PlatAccounts
+pub mod LandAreaLaws
+pub mod PlatAccountLaws
 pub mod steps

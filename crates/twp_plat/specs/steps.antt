@@ -1,2 +1,4 @@
 pub mod LineFaults
 pub mod SideLimits
+pub mod Accounts
+pub mod Bounds

@@ -1,16 +1,24 @@
 //! The plat of a township: which returned lengths make one, the closing quarters of its lines, and
-//! the exact areas of its sections' positions, of its sections, and of the township, as fractions.
+//! the exact areas of its sections' positions, of its sections, and of the township, as fractions;
+//! and the areas of land on it, also as fractions: exact, or with the acreage that the plat shows for
+//! whole lots. Also the other way, field notes that make a plat.
 #![tactic(auto)]
 
+mod account;
 mod area;
 mod closing;
 mod fault;
+mod land_area;
 pub mod laws;
 mod lot_figure;
 mod piece;
 mod plat;
 mod quarters;
+mod writing;
 
+pub use account::Account;
 pub use closing::{CLOSING_LEAST, CLOSING_MOST, HALF_LEAST, HALF_MOST, QUARTER_MILE};
 pub use fault::{HalfMile, PlatFault};
+pub use land_area::{area_by, area_of, plat_area_of};
 pub use plat::Plat;
+pub use writing::notes_text;

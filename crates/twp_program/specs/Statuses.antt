@@ -10,8 +10,8 @@ use Rattle.twp_program.specs.declared.ending.Ending.{Ending}
 use Rattle.twp_program.specs.declared.ending.Ending.TheVariants.{Answered, Helps, Misused, Failed}
 use Rattle.twp_program.specs.declared.ending.Failure.{Failure}
 use Rattle.twp_program.specs.declared.ending.Failure.TheVariants.{Run}
-use Rattle.twp_command.specs.declared.task.TaskFault.{TaskFault}
-use Rattle.twp_command.specs.declared.task.TaskFault.TheVariants.{Usage, Help, Memory}
+use Rattle.twp_program.specs.declared.task.TaskFault.{TaskFault}
+use Rattle.twp_program.specs.declared.task.TaskFault.TheVariants.{Usage, Help, Memory}
 
 -- 0 if the input was accepted or help was asked for, 1 if the input was refused, 2 if the command
 -- line was misused, 3 if there is no answer

@@ -1,9 +1,10 @@
 ghost use Rattle.std.specs.Prelude.{◌≡◌};
 ghost use Rattle.twp_program.specs.Statuses.{ending_of, ending_of_fault, failing, status_of};
 
+use crate::name::Name;
+use crate::task::TaskFault;
 use thiserror::Error;
 use twp_acres::{RunFault, Verdict};
-use twp_command::{Name, TaskFault};
 
 /// How the program ends.
 #[derive(Drop)]

@@ -5,16 +5,17 @@ ghost use Rattle.twp_program.specs.Endings.{IsRunFailure, IsWordsFault};
 ghost use Rattle.twp_program.specs.Statuses.{IsStatusOf, words_fault};
 
 use crate::ending::{Ended, Ending, Failure, NO_ANSWER, outcome_of};
+use crate::joined::run_joined_noting;
+use crate::kept::Kept;
 use crate::showing::show_joined;
 use crate::subcommand::run_task;
+use crate::task::read_task;
 use std::env::Env;
 use std::io::ErrorKind;
 use std::rt::Files;
 use std::{env, io};
 use twp_acres::{RunFault, Verdict};
-use twp_command::read_task;
 use twp_grid::Device;
-use twp_input::{Kept, run_joined_noting};
 use twp_read::Clarity;
 
 /// Runs the program, and reports on standard error why there is no answer. It returns the ending

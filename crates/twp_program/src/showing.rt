@@ -4,18 +4,19 @@
 ghost use Rattle.std.specs.Prelude.{◌≡◌, ◌≢◌, ◌↔◌, Ok, Some, IfSome, IsTrue};
 ghost use Rattle.twp_acres.specs.declared.verdict.Verdict.TheVariants.{Accepted};
 ghost use Rattle.twp_explain.specs.Refusals.{first_refusal};
-ghost use Rattle.twp_input.specs.KeptBytes.{copy_of};
+ghost use Rattle.twp_program.specs.KeptBytes.{copy_of};
 ghost use Rattle.twp_program.specs.ShownExplanations.{AreJoinedNotes, IsExplanationOf, IsFile};
 ghost use Rattle.twp_program.specs.ShownExplanations.{IsJoinedDescription, ShowsEither, ShowsNoted};
 ghost use Rattle.twp_program.specs.ShownExplanations.{ShowsText};
 
 use crate::ending::Failure;
 use crate::files::{OpenedNotes, OpenedText};
+use crate::joined::split_at_line_feed;
+use crate::kept::Kept;
 use std::alloc::Global;
 use twp_acres::{Account, Verdict};
 use twp_diagnose::{Explanation, Given};
 use twp_explain::{Note, explain_land, explain_list, explain_plat, note_land, note_list};
-use twp_input::{Kept, split_at_line_feed};
 use twp_read::Clarity;
 
 /// The name of standard input in messages.

@@ -12,14 +12,15 @@ ghost use Rattle.twp_program.specs.Endings.{EndsRun, FailsOn, IsVerdictOf, RunsO
 
 use crate::ending::{Failure, outcome_of};
 use crate::files::{OpenedNotes, OpenedText, open_notes, open_text};
+use crate::name::Name;
 use crate::showing::{show_land, show_list, show_plat};
+use crate::task::Task;
 use std::alloc::Global;
 use std::io;
 use std::rt::Files;
 use twp_acres::{
     Account, Verdict, run_acres_noting, run_normal_noting, run_plat, run_report_noting,
 };
-use twp_command::{Name, Task};
 use twp_grid::{Device, Sink, Source};
 use twp_read::Clarity;
 

@@ -17,7 +17,7 @@ use Rattle.twp_grammar.specs.declared.kind.Kind.TheVariants.{T, R, NorthSouth, E
 use Rattle.twp_grammar.specs.declared.kind.Kind.TheVariants.{Comma, Colon, Number}
 use Rattle.twp_grammar.specs.declared.state.State.{State}
 use Rattle.twp_grammar.specs.declared.state.State.TheVariants as past
-use Rattle.twp_grammar.specs.steps.Cutting.{IsFirstIn}
+use Rattle.twp_grammar.specs.Cutting.{IsFirstIn}
 use Rattle.twp_grammar.specs.Tokens.{Token, StartsWith, begins_with, is_white, kind_of_word}
 use Rattle.twp_grammar.specs.Tokens.IsToken.{good}
 use Rattle.twp_grammar.specs.Tokens.IsGoodToken.{a_word, a_stop, a_colon}

@@ -23,7 +23,7 @@ use Rattle.twp_read.specs.steps.Usual.{Leads, end_of}
 use Rattle.twp_read.specs.steps.Watching.{is_step, is_usual, AreUsual, end_from}
 use Rattle.twp_read.proofs.WatchFacts.{usual_then, stays_then, no_white_after_step, usual_token}
 use Rattle.twp_grammar.proofs.TokenFacts.{all_white}
-use Rattle.twp_read.proofs.WordFacts.{both}
+use Rattle.twp_grammar.proofs.WordFacts.{both}
 use Rattle.twp_read.proofs.Reading.{run-append, go_on}
 use Rattle.twp_read.proofs.ReaderFacts.{Front}
 

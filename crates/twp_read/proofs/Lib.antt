@@ -3,8 +3,6 @@ pub mod ListWalk
 pub mod PartWalk
 pub mod Walk
 pub mod Reading
-pub mod WordFacts
-pub mod WhiteFacts
 pub mod ReaderFacts
 pub mod Leading
 pub mod StandingSteps
@@ -13,10 +11,9 @@ pub mod FrontFacts
 pub mod NumberFacts
 pub mod FirstTextFaults
 pub mod OneAnswer
-pub mod LetterFacts
-pub mod PlaceFacts
 pub mod WatchFacts
 pub mod NoSeveral
 pub mod NoDoubts
 pub mod Watched
 pub mod QuietFacts
+pub mod DoubtFacts

@@ -13,7 +13,7 @@ use Rattle.twp_read.specs.declared.usual.list.Listed.{Listed}
 use Rattle.twp_read.specs.declared.usual.list.Listed.TheVariants as listed
 use Rattle.twp_grammar.specs.declared.state.State.{State}
 use Rattle.twp_grammar.specs.declared.state.State.TheVariants as past
-use Rattle.twp_grammar.specs.steps.Cutting.{IsFirstIn, cut_digits, cut}
+use Rattle.twp_grammar.specs.Cutting.{IsFirstIn, cut_digits, cut}
 use Rattle.twp_grammar.specs.Tokens.{Token, StartsWith, is_white}
 use Rattle.twp_grammar.specs.Grammar.{class_of, comma, number}
 use Rattle.twp_grammar.specs.Machine.{next}

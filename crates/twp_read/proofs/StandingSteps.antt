@@ -9,13 +9,13 @@ use Rattle.twp_grammar.specs.declared.item.Step.{Step}
 use Rattle.twp_grammar.specs.declared.kind.Kind.{Kind}
 use Rattle.twp_grammar.specs.declared.kind.Kind.TheVariants.{Half, Quarter}
 use Rattle.twp_read.specs.declared.usual.step.UsualStep.{UsualStep}
-use Rattle.twp_grammar.specs.steps.Cutting.{small_letter}
+use Rattle.twp_grammar.specs.Cutting.{small_letter}
 use Rattle.twp_grammar.specs.Tokens.{IsToken, IsGoodToken, begins_with, is_white, kind_among, words}
 use Rattle.twp_grammar.specs.Tokens.IsToken.{good}
 use Rattle.twp_grammar.specs.Tokens.IsGoodToken.{a_word, a_half, a_half_sign, a_quarter, a_quarter_sign}
 use Rattle.twp_read.specs.steps.Usual.{IsKindAt, IsStepAt, letters_of, fraction_of, BeginWithStep}
-use Rattle.twp_read.proofs.LetterFacts.{by_bit, by_its_bit}
-use Rattle.twp_read.proofs.WordFacts.{IsLetter, is_letter}
+use Rattle.twp_grammar.proofs.LetterFacts.{by_bit, by_its_bit}
+use Rattle.twp_grammar.proofs.WordFacts.{IsLetter, is_letter}
 use Rattle.twp_read.proofs.Leading.{made}
 
 -- the letters that bytes begin with are those of a step, where its fraction follows

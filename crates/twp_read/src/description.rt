@@ -9,11 +9,10 @@ use crate::doubt::Clarity;
 use crate::fault::{TEXT_LIMIT, TextFault};
 use crate::items::Items;
 use crate::reached::Reached;
-use crate::token::{Tokens, first_token};
 use crate::watch::Watch;
 use std::alloc::Global;
 use std::marker::Model;
-use twp_grammar::{Expected, Item, Kind, State};
+use twp_grammar::{Expected, Item, Kind, State, Tokens, first_token};
 
 /// There is room from the start for one item for each of this many bytes: fine aliquot parts take
 /// some twenty.

@@ -1,23 +1,20 @@
-//! The reader of descriptions: the bytes are cut into tokens, and the tokens are read as the items
-//! that a sentence of the grammar names; or the place where a text goes wrong is reported, and what
-//! could be there.
+//! The reader of descriptions: the tokens of a text are read as the items that a sentence of the grammar
+//! names; or the place where the text goes wrong is reported, and what could be there. Also the places of
+//! accepted descriptions that can be read in two ways, though the grammar reads them in one.
 #![tactic(auto)]
 
 mod description;
 mod doubt;
+mod doubts;
 mod fault;
 mod item_change;
 mod items;
 pub mod laws;
-mod lexeme;
 mod reached;
-mod token;
 mod usual;
 mod watch;
-mod white;
-mod word;
 
 pub use description::{Description, Noted};
 pub use doubt::{Clarity, Doubt, DoubtfulPlace, Doubts, begins_step, is_padded, is_singular};
+pub use doubts::doubts_in;
 pub use fault::{TEXT_LIMIT, TextFault};
-pub use token::Tokens;

@@ -2,8 +2,7 @@
 
 use std::alloc::{AllocError, Global};
 use twp_excerpt::first_size;
-use twp_grammar::{Expected, Kind};
-use twp_read::Tokens;
+use twp_grammar::{Expected, Kind, Tokens};
 
 /// The most bytes of a text whose signs are all looked at.
 pub const SHORT: usize = 1_000;

@@ -9,9 +9,8 @@ use crate::manner::Manner;
 use crate::on_plat::{land_on, township_of};
 use crate::unread::Unread;
 use std::alloc::{AllocError, Global};
-use twp_doubts::doubts_in;
 use twp_land::{Land, Lanes};
-use twp_read::{Clarity, Description};
+use twp_read::{Clarity, Description, doubts_in};
 use twp_rules::{Change, are_changes, changed};
 
 /// A reading of a text: the changes, from left to right, and the description that comes of them.

@@ -2,7 +2,7 @@
 use Rattle.std.specs.Prelude.{◌≡◌, ◌≢◌, ℕ, ◌+◌, ◌<◌, List, length, true, Bool, MatchBool, ⊤, Result, Ok, Err}
 use Rattle.twp_notes.specs.Records.{Fields, record_at}
 use Rattle.twp_plat.specs.Plats.{TownshipPlat}
-use Rattle.twp_area.specs.declared.account.Account.TheVariants.{Exact}
+use Rattle.twp_plat.specs.declared.account.Account.TheVariants.{Exact}
 use Rattle.twp_acres.specs.Answers.{IsNoDescription}
 use Rattle.twp_acres.specs.EachTract.{IsAnswerAt}
 use Rattle.twp_acres.specs.OnPlats.{HasAcresOn}

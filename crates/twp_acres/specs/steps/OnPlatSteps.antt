@@ -2,7 +2,7 @@
 -- contract cites this module.
 use Rattle.std.specs.Prelude.{◌≡◌, ℕ, List, Result, Ok, Err}
 use Rattle.twp_plat.specs.Plats.{TownshipPlat}
-use Rattle.twp_area.specs.declared.account.Account.{Account}
+use Rattle.twp_plat.specs.declared.account.Account.{Account}
 use Rattle.twp_acres.specs.Answers.{AnswersRefusal, ArePlatted, IsNoDescription, IsNoText}
 use Rattle.twp_acres.specs.Answers.{IsRefusal}
 use Rattle.twp_acres.specs.Answers.{acres_line}

@@ -8,7 +8,7 @@ use Rattle.twp_grid.specs.Townships.{Designation}
 use Rattle.twp_notes.specs.Records.{Fields}
 use Rattle.twp_plat.specs.Plats.{TownshipPlat}
 use Rattle.twp_acres.specs.Answers.{AreHundredthsOf}
-use Rattle.twp_area.specs.LandAreas.{IsLandArea}
+use Rattle.twp_plat.specs.LandAreas.{IsLandArea}
 use Rattle.twp_acres.specs.EarlierTracts.{AreEarlier, Earlier, earlier_of, TakesLand}
 use Rattle.twp_acres.specs.Tracts.{TRACTS_MOST, name_in, AreTracts}
 use Rattle.twp_acres.specs.TractFaults.{HasAt, turn_of}

@@ -1,6 +1,6 @@
 -- How the figures of a plat are filled in, place by place. No public contract cites this module.
 use Rattle.std.specs.Prelude.{◌≡◌, ℕ, ◌+◌, ◌<◌, ◌/◌, ◌%◌, List, slice_index_or}
-use Rattle.twp_area.specs.PlatFigures.{PlatFigures}
+use Rattle.twp_plat.specs.PlatFigures.{PlatFigures}
 use Rattle.twp_calls.specs.Figures.{LOTS_MOST, IsLotOrNone}
 
 -- the number is that of the lot, if there is one, whose figure has this place

@@ -3,9 +3,8 @@ use crate::note::sentence::Doubtful;
 use crate::note::span::place_of;
 use std::alloc::AllocError;
 use twp_excerpt::write_escaped;
-use twp_grammar::Kind;
+use twp_grammar::{Kind, Tokens};
 use twp_grid::{EastWest, NorthSouth};
-use twp_read::Tokens;
 
 /// How many digits registers write, of which the last is a fraction of a township.
 const DIGITS: usize = 4;

@@ -3,8 +3,7 @@ use crate::note::sentence::Doubtful;
 use crate::note::span::{after_word, end_of_list, number_from, second_number, section_at};
 use crate::note::spelled::{between, write_numbers};
 use std::alloc::{AllocError, Global};
-use twp_grammar::Kind;
-use twp_read::Tokens;
+use twp_grammar::{Kind, Tokens};
 
 /// Appends what is said of several sections.
 pub(crate) fn write_sections(

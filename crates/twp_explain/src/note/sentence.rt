@@ -4,8 +4,8 @@ use crate::note::heading::write_heading;
 use crate::note::lists::{write_lots, write_sections};
 use crate::note::parts::{write_joined, write_shared};
 use std::alloc::{AllocError, Global};
-use twp_grammar::Kind;
-use twp_read::{Doubt, DoubtfulPlace, Tokens};
+use twp_grammar::{Kind, Tokens};
+use twp_read::{Doubt, DoubtfulPlace};
 
 /// A text with a doubtful place, and what its acres are reckoned by.
 #[derive(Clone, Copy)]

@@ -1,6 +1,6 @@
 //! Which tokens of a text a note is about.
-use twp_grammar::Kind;
-use twp_read::{Doubt, DoubtfulPlace, Tokens};
+use twp_grammar::{Kind, Tokens};
+use twp_read::{Doubt, DoubtfulPlace};
 
 /// Tokens in a row of which a note speaks.
 #[derive(Clone, Copy)]

@@ -1,8 +1,7 @@
 //! Tokens as they are usually written.
 use std::alloc::AllocError;
-use twp_grammar::Kind;
+use twp_grammar::{Kind, Tokens};
 use twp_grid::{Corner, EastWest, NorthSouth};
-use twp_read::Tokens;
 
 /// The bytes from a place up to another.
 pub(crate) fn between(bytes: &[u8], from: usize, to: usize) -> &[u8] {

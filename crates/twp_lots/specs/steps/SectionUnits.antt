@@ -2,9 +2,9 @@
 -- module.
 use Rattle.std.specs.Prelude.{ℕ, ◌+◌, ◌*◌}
 use Rattle.twp_measure.specs.Areas.{HUNDREDTH_OF_AN_ACRE}
-use Rattle.twp_area.specs.steps.Accounts.{position_units}
-use Rattle.twp_area.specs.steps.Bounds.{LOTS_MOST, REGULAR_UNITS, REGULAR_PLACE_UNITS}
-use Rattle.twp_area.specs.steps.Bounds.{SECTION_PLACES_MOST}
+use Rattle.twp_plat.specs.steps.Accounts.{position_units}
+use Rattle.twp_plat.specs.steps.Bounds.{LOTS_MOST, REGULAR_UNITS, REGULAR_PLACE_UNITS}
+use Rattle.twp_plat.specs.steps.Bounds.{SECTION_PLACES_MOST}
 use Rattle.twp_lots.specs.LotTables.{ReturnedLots, figure_of, FIGURE_MOST}
 
 -- the units that are returned for a lot

@@ -19,7 +19,7 @@ use Rattle.twp_read.specs.declared.usual.list.Listed.TheVariants as listed
 use Rattle.twp_grammar.specs.declared.state.State.{State}
 use Rattle.twp_grammar.specs.declared.state.State.TheVariants as past
 use Rattle.twp_grammar.specs.Tokens.{Token, StartsWith, HasTokens, is_white, begins_with, kind_among, words}
-use Rattle.twp_grammar.specs.steps.Cutting.{small_letter}
+use Rattle.twp_grammar.specs.Cutting.{small_letter}
 use Rattle.twp_grammar.specs.declared.item.Numeral.{Numeral}
 use Rattle.twp_grammar.specs.Grammar.{number}
 use Rattle.twp_grammar.specs.Machine.{next}

@@ -7,12 +7,11 @@ ghost use Rattle.twp_read.specs.steps.Usual.{Leads, IsNumberAfter, begins_with_z
 ghost use Rattle.twp_grammar.specs.Sentences.{TEXT_LIMIT};
 
 use crate::items::Items;
-use crate::lexeme::byte_at;
 use crate::reached::Reached;
 use crate::usual::bytes::goes_on;
 use crate::usual::list::{UsualNumber, number_at};
 use std::alloc::AllocError;
-use twp_grammar::{Item, State};
+use twp_grammar::{Item, State, byte_at};
 use twp_grid::{EastWest, NorthSouth};
 
 /// How many bytes `T. ` has.

@@ -12,12 +12,10 @@ ghost use Rattle.twp_grammar.specs.Sentences.{TEXT_LIMIT};
 
 use crate::item_change::Change;
 use crate::items::Items;
-use crate::lexeme::{byte_at, digits, lexeme_at};
 use crate::reached::Reached;
 use crate::usual::bytes::goes_on;
-use crate::white::after_white;
 use std::alloc::AllocError;
-use twp_grammar::{Item, Kind, Numeral, State};
+use twp_grammar::{Item, Kind, Numeral, State, after_white, byte_at, digits, lexeme_at};
 
 /// How many bytes a comma has.
 const COMMA: usize = 1;

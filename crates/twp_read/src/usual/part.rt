@@ -10,9 +10,8 @@ use crate::reached::Reached;
 use crate::usual::bytes::goes_on;
 use crate::usual::chain::take_more_steps;
 use crate::usual::step::{UsualStep, step_at};
-use crate::white::after_white;
 use std::alloc::{AllocError, Global};
-use twp_grammar::State;
+use twp_grammar::{State, after_white};
 
 /// How many bytes a half or a quarter has.
 const FRACTION: usize = 3;

@@ -11,9 +11,8 @@ use crate::items::Items;
 use crate::reached::Reached;
 use crate::usual::bytes::goes_on;
 use crate::usual::list::{Listed, number_after};
-use crate::white::after_white;
 use std::alloc::AllocError;
-use twp_grammar::{Item, State};
+use twp_grammar::{Item, State, after_white};
 
 /// How many bytes `sec. ` has.
 const SEC: usize = 5;

@@ -3,7 +3,7 @@
 use std::alloc::AllocError;
 use std::io;
 use twp_acres::Account;
-use twp_command::{Name, Task, TaskFault, read_task};
+use twp_program::{Name, Task, TaskFault, read_task};
 
 /// Words separated by single spaces.
 static COMMAND_LINES: [&str; 10] = [

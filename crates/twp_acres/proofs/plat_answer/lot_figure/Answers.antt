@@ -1,4 +1,4 @@
-use Rattle.twp_area.proofs.FigureFacts.{same_lot}
+use Rattle.twp_plat.proofs.PlatFigureFacts.{same_lot}
 use Rattle.twp_acres.proofs.plat_answer.lot_figure.Goals as goal
 
 pub returns : goal.returns

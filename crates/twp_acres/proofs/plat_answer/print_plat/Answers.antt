@@ -4,7 +4,7 @@ use Rattle.twp_grid.specs.Spans.{over_positions}
 use Rattle.twp_grid.proofs.TotalFacts.{total-zero}
 use Rattle.twp_land.proofs.LotFacts.{section_is}
 use Rattle.twp_plat.proofs.AreaSums.{sections_next, sections_most, township_area}
-use Rattle.twp_area.proofs.FigureFacts.{same_township, figures_of}
+use Rattle.twp_plat.proofs.PlatFigureFacts.{same_township, figures_of}
 use Rattle.twp_acres.specs.PlatAnswers.{section_line}
 use Rattle.twp_acres.proofs.PlatTexts.{no_texts, lines_grow, lines_all, lines_end}
 use Rattle.twp_acres.proofs.plat_answer.print_plat.Goals as goal

@@ -3,7 +3,7 @@ use Rattle.twp_grid.specs.Spans.{total, over_positions}
 use Rattle.twp_plat.specs.Closing.{CLOSING_MOST}
 use Rattle.twp_plat.specs.Pieces.{over_of, OVER_MOST}
 use Rattle.twp_plat.specs.Pieces.{ArePieces}
-use Rattle.twp_area.specs.PlatFigures.{PlatFigures, AreFigures}
+use Rattle.twp_plat.specs.PlatFigures.{PlatFigures, AreFigures}
 use Rattle.twp_acres.specs.PlatAnswers.{texts_to, section_line}
 use Rattle.twp_acres.proofs.plat_answer.print_plat.Given as goal
 

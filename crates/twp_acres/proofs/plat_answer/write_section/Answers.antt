@@ -1,7 +1,7 @@
 use Rattle.std.proofs.Common.{◌≡◌, ℕ, ◌+◌, List, ap, arith}
 use Rattle.twp_grid.specs.Lots.{number_of_lots}
-use Rattle.twp_area.specs.PlatFigures.{PlatFigures}
-use Rattle.twp_area.proofs.FigureFacts.{same_section}
+use Rattle.twp_plat.specs.PlatFigures.{PlatFigures}
+use Rattle.twp_plat.proofs.PlatFigureFacts.{same_section}
 use Rattle.twp_acres.specs.PlatAnswers.{section_name, lot_text, total_text, lots_text}
 use Rattle.twp_acres.proofs.PlatTexts.{texts_begin, texts_grow, texts_end, on_ok}
 use Rattle.twp_acres.proofs.plat_answer.write_section.Goals as goal

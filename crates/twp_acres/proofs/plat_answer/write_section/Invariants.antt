@@ -1,5 +1,5 @@
 use Rattle.std.proofs.Common.{◌≡◌, ◌++◌}
-use Rattle.twp_area.specs.PlatFigures.{PlatFigures, AreFigures}
+use Rattle.twp_plat.specs.PlatFigures.{PlatFigures, AreFigures}
 use Rattle.twp_acres.specs.PlatAnswers.{section_name, texts_to, lot_text}
 use Rattle.twp_acres.proofs.plat_answer.write_section.Given as goal
 

@@ -1,5 +1,5 @@
 use Rattle.std.proofs.Common.{◌≡◌, length}
-use Rattle.twp_area.specs.PlatFigures.{PlatFigures, AreFigures}
+use Rattle.twp_plat.specs.PlatFigures.{PlatFigures, AreFigures}
 use Rattle.twp_calls.specs.steps.Filling.{AreSectionsTo}
 use Rattle.twp_calls.proofs.figures.sections_of.Given as goal
 

@@ -1,6 +1,6 @@
 use Rattle.std.proofs.Common.{arith}
 use Rattle.twp_land.proofs.LotFacts.{section_is}
-use Rattle.twp_area.proofs.AreaFacts.{grows, area_is}
+use Rattle.twp_plat.proofs.AreaFacts.{grows, area_is}
 use Rattle.twp_lots.proofs.SumFacts.{sum-first, sum-next, sum-last, sum-none, lot_area}
 use Rattle.twp_lots.proofs.area.sum_by_lots.Goals as goal
 

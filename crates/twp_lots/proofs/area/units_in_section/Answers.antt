@@ -2,11 +2,11 @@
 -- remaining places lie off the lots.
 use Rattle.std.proofs.Common.{◌≡◌, ℕ, ◌+◌, ◌*◌, ◌≤◌, sym, arith}
 use Rattle.twp_land.proofs.LotFacts.{few_lots}
-use Rattle.twp_area.specs.steps.Bounds.{SECTION_PLACES_MOST}
-use Rattle.twp_area.proofs.SectionSums.{places_where, piece_where, places_held, places_not_held, piece_held}
-use Rattle.twp_area.proofs.SectionSums.{piece_not_held, of_lots-none, of_lots-next, lots_within, few_places}
-use Rattle.twp_area.proofs.SectionSums.{sum_of_section}
-use Rattle.twp_area.proofs.AreaFacts.{lot_at_is, grows}
+use Rattle.twp_plat.specs.steps.Bounds.{SECTION_PLACES_MOST}
+use Rattle.twp_plat.proofs.SectionSums.{places_where, piece_where, places_held, places_not_held, piece_held}
+use Rattle.twp_plat.proofs.SectionSums.{piece_not_held, of_lots-none, of_lots-next, lots_within, few_places}
+use Rattle.twp_plat.proofs.SectionSums.{sum_of_section}
+use Rattle.twp_plat.proofs.AreaFacts.{lot_at_is, grows}
 use Rattle.twp_lots.specs.steps.SectionUnits.{position_units_by}
 use Rattle.twp_lots.proofs.SumFacts.{units_at, regular_by}
 use Rattle.twp_lots.proofs.area.units_in_section.Goals as goal

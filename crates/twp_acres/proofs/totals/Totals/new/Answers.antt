@@ -2,7 +2,7 @@
 use Rattle.std.proofs.Common.{ap, ◌∙◌}
 use Rattle.twp_measure.specs.Areas.{Fraction}
 use Rattle.twp_acres.proofs.TractAreas.{totals_none}
-use Rattle.twp_area.proofs.WholeAreas.{township_area_is_of_land}
+use Rattle.twp_plat.proofs.WholeAreas.{township_area_is_of_land}
 use Rattle.twp_acres.proofs.totals.Totals.new.Goals as goal
 
 pub returns : goal.returns

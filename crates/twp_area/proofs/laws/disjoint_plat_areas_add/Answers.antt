@@ -1,5 +1,0 @@
-use Rattle.twp_area.proofs.PlatLaws as laws
-use Rattle.twp_area.proofs.laws.disjoint_plat_areas_add.Goals as goal
-
-pub returns : goal.returns
-returns c = laws.disjoint_plat_areas_add

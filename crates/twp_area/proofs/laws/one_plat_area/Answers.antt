@@ -1,5 +1,0 @@
-use Rattle.twp_area.proofs.PlatLaws as laws
-use Rattle.twp_area.proofs.laws.one_plat_area.Goals as goal
-
-pub returns : goal.returns
-returns c = laws.one_plat_area

@@ -1,5 +1,0 @@
-use Rattle.twp_area.proofs.CombinedAreas as laws
-use Rattle.twp_area.proofs.laws.plat_difference_and_intersection_add.Goals as goal
-
-pub returns : goal.returns
-returns c = laws.plat_difference_and_intersection_add

@@ -1,5 +1,0 @@
-use Rattle.twp_area.proofs.CombinedAreas as laws
-use Rattle.twp_area.proofs.laws.union_and_intersection_add.Goals as goal
-
-pub returns : goal.returns
-returns c = laws.union_and_intersection_add

@@ -1,5 +1,0 @@
-pub mod HelpWords
-pub mod CommandWalk
-pub mod CommandDefaults
-pub mod TaskFacts
-pub mod TownshipWords

@@ -1,2 +1,0 @@
-pub mod JoinedFacts
-pub mod KeptFacts

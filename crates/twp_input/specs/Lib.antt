@@ -1,2 +1,0 @@
-pub mod KeptBytes
-pub mod Joined
