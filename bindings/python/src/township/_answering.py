@@ -13,7 +13,7 @@ from ._explanation import explained_by
 from ._figures import acres_of_hundredths, fraction_of
 from ._land import Land
 from ._lots import Lots
-from ._many import Answers, answers_of
+from ._many import Answers, answers_of, noted_of, texts_of
 from ._note import Note, notes_of
 from ._readings import Reading, Readings, suggest
 from ._refused import DESCRIPTION, Refused, exception_of, failure_of
@@ -173,6 +173,14 @@ write a comma after NE1/4 (320.00 acres)
         if isinstance(descriptions, (str, bytes)):
             raise TypeError("this takes many descriptions; for one there is Plat.acres")
         return answers_of(byref(self._parts), list(descriptions), code_of(account), self._exception_of)
+
+    def _normal_many(self, descriptions: Sequence[Text]) -> List[str]:
+        """Return the canonical texts of descriptions, each on one line: nothing for one that is refused."""
+        return texts_of(byref(self._parts), descriptions)
+
+    def _noted(self, descriptions: Sequence[Text]) -> List[int]:
+        """Return the indexes of the descriptions on which there is a note, or that are refused."""
+        return noted_of(byref(self._parts), descriptions)
 
     def _each_acres(self, descriptions: Iterable[Text], code: int) -> Iterator[Union[Decimal, Refused]]:
         """Yield the answers of `acres_of`. Whatever does not depend on the description is computed once."""

@@ -356,6 +356,11 @@ class _Usual(threading.local):
 _usual = _Usual()
 
 
+def usual_buffer() -> "ctypes.Array[c_char]":
+    """Return this thread's buffer for first calls."""
+    return _usual.buffer
+
+
 def without_text(call: Callable[..., Answer], *arguments: object) -> Answer:
     """Call a function that writes a text, without room for it. The answer has the length of the text."""
     return call(*arguments, _usual.buffer, 0)
