@@ -82,7 +82,7 @@ class Answers(Sequence[Union[Decimal, Refused]]):
 
 def answers_of(parts: object, descriptions: Sequence[Text], code: int, refuse: Refuse) -> Answers:
     """Return the answers to many descriptions on a plat, by the account with this code."""
-    given, offsets = _in_a_row(descriptions)
+    given, offsets = in_a_row(descriptions)
     count = len(descriptions)
     words = array(_WORD, bytes(8 * _WORDS * count))
     answers = _answers_in(words)
@@ -98,7 +98,7 @@ def _answers_in(words: "array[int]") -> "ctypes.Array[_library.Answer]":
     return (_library.Answer * (len(words) // _WORDS)).from_buffer(words)
 
 
-def _in_a_row(descriptions: Sequence[Text]) -> Tuple[bytes, "array[int]"]:
+def in_a_row(descriptions: Sequence[Text]) -> Tuple[bytes, "array[int]"]:
     """Return the bytes of all descriptions in a row, and the offsets between them."""
     try:
         text = "".join(descriptions)  # type: ignore[arg-type]
@@ -112,37 +112,3 @@ def _in_a_row(descriptions: Sequence[Text]) -> Tuple[bytes, "array[int]"]:
 def _offsets(texts: Sequence[Text]) -> "array[int]":
     """Return the offsets between texts in a row, from 0 to the length of them all."""
     return array(_WORD, accumulate(map(len, texts), initial=0))
-
-
-def texts_of(parts: object, descriptions: Sequence[Text]) -> List[str]:
-    """Return the canonical texts of descriptions on a plat, each on one line: nothing for one that is refused."""
-    call = _library.normal
-    string_at = ctypes.string_at
-    buffer = _library.usual_buffer()
-    room = _library.USUAL_ROOM
-    texts: List[str] = []
-    for given in map(encoded, descriptions):
-        answer = call(parts, given, len(given), buffer, room)
-        verdict = answer.verdict
-        if verdict == _library.ACCEPTED:
-            text = string_at(buffer, answer.length).decode()
-        elif verdict == _library.REFUSED:
-            text = ""
-        else:
-            answer, text = _library.text_by(call, parts, given, len(given))
-            if answer.verdict != _library.ACCEPTED:
-                raise failure_of(answer.verdict)
-        texts.append(text.rstrip("\n").replace("\n", " "))
-    return texts
-
-
-def noted_of(parts: object, descriptions: Sequence[Text]) -> List[int]:
-    """Return the indexes of the descriptions on which there is a note, or that are refused."""
-    call = _library.explain_description
-    buffer = _library.usual_buffer()
-    noted: List[int] = []
-    for index, given in enumerate(map(encoded, descriptions)):
-        answer = call(parts, given, len(given), b"", 0, buffer, 0)
-        if answer.verdict != _library.ACCEPTED:
-            noted.append(index)
-    return noted

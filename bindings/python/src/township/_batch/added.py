@@ -2,7 +2,7 @@
 from __future__ import annotations
 
 import functools
-from typing import Any, Dict, List
+from typing import Any, Dict, List, Sequence
 
 from .._figures import acres_of_hundredths
 
@@ -24,6 +24,15 @@ class Added:
         self.canonical = canonical
         #: All fields of the other records, by their index.
         self.others: Dict[int, List[Any]] = {}
+
+    def put(self, indexes: Sequence[int], hundredths: List[int], canonical: List[str]) -> None:
+        """Put these at the indexes, which are in order."""
+        if len(indexes) == len(self.hundredths):
+            self.hundredths, self.canonical = hundredths, canonical
+            return
+        for index, number, text in zip(indexes, hundredths, canonical):
+            self.hundredths[index] = number
+            self.canonical[index] = text
 
     def fields_of(self, index: int) -> List[Any]:
         """Return the fields that are added to a record."""

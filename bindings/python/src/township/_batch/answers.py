@@ -3,12 +3,11 @@ from __future__ import annotations
 
 import itertools
 from dataclasses import dataclass
-from typing import Any, Dict, Iterable, Iterator, List, Optional, Sequence, Tuple, Union, cast
+from typing import Any, Dict, Iterable, Iterator, List, Sequence, Tuple, Union
 
 from .._account import Account
 from .._phrases import tidy
 from .._plat import Plat
-from .._refused import Refused
 from .added import Added
 from .cells import text_of
 from .columns import ADDED, SUGGESTED
@@ -85,7 +84,9 @@ class Answers:
         added = Added([0] * rows.number, [""] * rows.number)
         for index, fault in rows.faults.items():
             added.others[index] = self._unanswered(fault)
-        descriptions = list(map(_description, rows.column(self._column)))
+        descriptions = rows.column(self._column)
+        if isinstance(rows, ReadRows):
+            descriptions = list(map(_description, descriptions))
         for found, indexes in self._by_plat(rows):
             if isinstance(found, str):
                 added.others.update((index, self._unanswered(found)) for index in indexes)
@@ -93,8 +94,11 @@ class Answers:
                 self._answer(found, descriptions, indexes, added)
         return added
 
-    def _by_plat(self, rows: Rows) -> Iterator[Tuple[Found, List[int]]]:
+    def _by_plat(self, rows: Rows) -> Iterator[Tuple[Found, Sequence[int]]]:
         """Yield the plats of the records without a fault, or the reasons that there are none, and the indexes."""
+        if not (self.plats.columns or rows.faults):
+            yield self.plats.plat_of(), range(rows.number)
+            return
         indexes: Dict[Tuple[Any, ...], List[int]] = {}
         for index, fields in enumerate(self._plat_fields(rows)):
             if index not in rows.faults:
@@ -115,26 +119,24 @@ class Answers:
     def _answer(self, plat: Plat, descriptions: Sequence[str], indexes: Sequence[int], added: Added) -> None:
         """Answer the descriptions with these indexes on a plat, and count them."""
         chosen = [descriptions[index] for index in indexes]
-        answers = plat.acres_many(chosen, self._account)
-        for index, hundredths, canonical in zip(indexes, answers.hundredths, plat._normal_many(chosen)):
-            added.hundredths[index] = hundredths
-            added.canonical[index] = canonical
-        for place in plat._noted(chosen):
+        answers = plat._full_answers(chosen, self._account)
+        added.put(indexes, answers.hundredths, answers.texts(on_one_line=True))
+        for place in answers.noted:
             fields = added.fields_of(indexes[place])
-            fields[_NOTE] = _note_on(plat, chosen[place])
+            fields[_NOTE] = answers.sentence(place)
             added.others[indexes[place]] = fields
         for place in answers.refused:
-            added.others[indexes[place]] = self._refused(cast(Refused, answers[place]), chosen[place])
+            added.others[indexes[place]] = self._refused(*answers.refusal(place), answers.sentence(place))
+            self.counts.undecoded += any("\udc80" <= each <= "\udcff" for each in chosen[place])
         self.counts.accepted += len(chosen) - len(answers.refused)
         if self._suggests:
             for index, description in zip(indexes, chosen):
                 added.others[index] = added.fields_of(index) + self._suggested(plat, description)
 
-    def _refused(self, refused: Refused, description: str) -> List[Any]:
+    def _refused(self, number: int, at: int, sentence: str) -> List[Any]:
         """Return the fields of a refusal, and count it."""
         self.counts.refused += 1
-        self.counts.undecoded += any("\udc80" <= each <= "\udcff" for each in description)
-        return [None, refused.number, refused.at, refused.sentence, None, None]
+        return [None, number, at, sentence, None, None]
 
     def _suggested(self, plat: Plat, description: str) -> List[Any]:
         """Return the fields on the readings of a description. Only if it has one reading does that have fields."""
@@ -144,14 +146,6 @@ class Answers:
         reading, = readings
         assumed = "; ".join(dict.fromkeys(reading.assumptions)) or None
         return [tidy(reading.text), 1, assumed, reading.acres]
-
-
-def _note_on(plat: Plat, description: str) -> Optional[str]:
-    """Return the note on a description, if it is accepted and has one."""
-    try:
-        return next((note.sentence for note in plat.notes(description)), None)
-    except Refused:
-        return None
 
 
 def _description(cell: Any) -> str:

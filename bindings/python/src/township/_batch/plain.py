@@ -7,8 +7,7 @@ from __future__ import annotations
 
 import functools
 import re
-from itertools import repeat
-from typing import Any, Dict, List, Mapping, NamedTuple, Optional, Pattern, Sequence, Tuple
+from typing import Any, List, Mapping, NamedTuple, Optional, Pattern, Sequence, Tuple
 
 from .added import Added, acres_text_of
 from .chunks import Chunk

@@ -124,7 +124,7 @@ class Records:
 
 
 def _uneven_record(row: List[str], last_line: str, line: int, shape: Shape) -> Record:
-    """Return the record of a row that has not as many fields as the heading. `last_line` is the last line of the row."""
+    """Return the record of a row that has not as many fields as the heading. `last_line` is its last line."""
     width, column, _ = shape
     fields = (row + [""] * width)[:width]
     # In some rows, Excel leaves out the fields at the end that are empty.
