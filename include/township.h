@@ -108,8 +108,10 @@ extern "C" {
 #define TOWNSHIP_NO_ROOM 5u       /* the text needs `length` bytes and `room` is smaller: nothing is written */
 #define TOWNSHIP_NO_MEMORY 6u     /* memory ran out, and nothing was written: every function may return this
                                      except township_version, township_figures, and those that take land
-                                     and write no text and no parts; township_acres_many, in its answers */
-#define TOWNSHIP_NO_RANGE 7u      /* township_acres_many: no bytes are between these two offsets */
+                                     and write no text and no parts; township_acres_many and
+                                     township_answer_many, in their answers */
+#define TOWNSHIP_NO_RANGE 7u      /* township_acres_many, township_answer_many: no bytes are between these two
+                                     offsets */
 #define TOWNSHIP_NO_LAND 8u       /* the land you passed is not valid: it has no township, or contains part of a
                                      lot */
 #define TOWNSHIP_NO_LOTS 9u       /* the lot table you passed is not valid */
@@ -157,6 +159,20 @@ typedef struct township_answer {
     uint64_t hundredths;   /* of an acre, rounded once, half up */
     uint64_t length;       /* the number of bytes in the text, or of elements, written or not */
 } township_answer;
+
+/* The room for the canonical text of each description that township_answer_many answers. */
+#define TOWNSHIP_TEXT_ROOM 256
+
+/* What township_answer_many answers about a description. Bytes of `text` after the text that was written are
+   unchanged. */
+typedef struct township_full_answer {
+    township_answer acres;  /* the answer of township_acres */
+    township_answer normal; /* the answer of township_normal, for room of TOWNSHIP_TEXT_ROOM bytes */
+    township_answer note;   /* if `acres` accepts the description, the answer of township_explain_description
+                               without room, whose verdict is TOWNSHIP_NO_ROOM if there is a note; if not,
+                               the same answer */
+    uint8_t text[TOWNSHIP_TEXT_ROOM]; /* the canonical text */
+} township_full_answer;
 
 /*
  * An exact area: `units` over `over`, in square thousandths of a chain (10,000,000 make an acre);
@@ -424,6 +440,17 @@ township_answer township_acres_many(const township_plat *plat, const uint8_t *de
                                     size_t descriptions_length, const size_t *offsets,
                                     size_t offsets_length, uint32_t account, township_answer *answers,
                                     size_t room);
+
+/*
+ * Answers many descriptions as township_acres_many does, each with its canonical text, and says whether there is a
+ * note on it. Call township_normal for a text that is longer than TOWNSHIP_TEXT_ROOM bytes, and
+ * township_explain_description for the text of a note or of an explanation. If the plat or the account is not valid,
+ * each answer says so.
+ */
+township_answer township_answer_many(const township_plat *plat, const uint8_t *descriptions,
+                                     size_t descriptions_length, const size_t *offsets,
+                                     size_t offsets_length, uint32_t account,
+                                     township_full_answer *answers, size_t room);
 
 /* Writes to `land` the land that a description names in a township. The description is refused exactly if it is
    refused on the plats of that township. On any verdict other than TOWNSHIP_ACCEPTED, `land` is unchanged. */

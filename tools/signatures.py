@@ -3,8 +3,8 @@
 
     python3 tools/signatures.py
 
-include/township.h is the source. The functions behind the library (twp_calls), its exports (twp_c), and the
-declarations in the bindings for Rust and Python must have the same calls, with the same parameters in the same
+include/township.h is the source. The functions behind the library (twp_calls and twp_many), its exports (twp_c),
+and the declarations in the bindings for Rust and Python must have the same calls, with the same parameters in the same
 order, and, except in Python, with the same names. Each difference is named; the status is 1 if there are any.
 """
 
@@ -20,10 +20,11 @@ Calls = Dict[str, List[Parameter]]
 
 BYTES, ROOM, LENGTH = "bytes", "room for bytes", "length"
 OFFSETS, ANSWERS, TRACTS, PARTS = "offsets", "room for answers", "room for tracts", "room for parts"
+FULL_ANSWERS = "room for full answers"
 TRACT_ANSWERS, OVERLAPS = "room for answers to tracts", "room for overlaps"
 READINGS, CHANGES = "room for readings", "room for changes"
 # Each of these is a pointer, and its length follows it.
-SLICES = (BYTES, ROOM, OFFSETS, ANSWERS, TRACTS, TRACT_ANSWERS, OVERLAPS, PARTS, READINGS, CHANGES)
+SLICES = (BYTES, ROOM, OFFSETS, ANSWERS, FULL_ANSWERS, TRACTS, TRACT_ANSWERS, OVERLAPS, PARTS, READINGS, CHANGES)
 # What each type is, in the languages where a slice is a pointer and a length, and in Rattle.
 C_TYPES = {
     "const township_plat *": "plat",
@@ -39,6 +40,7 @@ C_TYPES = {
     "uint32_t *": "number to write",
     "const size_t *": OFFSETS,
     "township_answer *": ANSWERS,
+    "township_full_answer *": FULL_ANSWERS,
     "township_tract *": TRACTS,
     "township_tract_answer *": TRACT_ANSWERS,
     "township_overlap *": OVERLAPS,
@@ -58,6 +60,7 @@ RUST_TYPES = {
     "*mut Explanation": "explanation to write",
     "*const usize": OFFSETS,
     "*mut Answer": ANSWERS,
+    "*mut FullAnswer": FULL_ANSWERS,
     "*mut Tract": TRACTS,
     "*mut TractAnswer": TRACT_ANSWERS,
     "*mut Overlap": OVERLAPS,
@@ -91,6 +94,7 @@ RATTLE_TYPES = {
     "&mut u32": "number to write",
     "&[usize]": OFFSETS,
     "&mut [TownshipAnswer]": ANSWERS,
+    "&mut [TownshipFullAnswer]": FULL_ANSWERS,
     "&mut [TownshipTract]": TRACTS,
     "&mut [TownshipTractAnswer]": TRACT_ANSWERS,
     "&mut [TownshipOverlap]": OVERLAPS,
@@ -112,6 +116,7 @@ PYTHON_TYPES = {
     "_EXPLANATION": "explanation to write",
     "*_OFFSETS": OFFSETS,
     "*_ANSWERS": ANSWERS,
+    "*_FULL_ANSWERS": FULL_ANSWERS,
     "*_PARTS": PARTS,
     "*_READINGS": READINGS,
     "*_CHANGES": CHANGES,
@@ -196,12 +201,13 @@ def text_of(*paths: str) -> str:
 
 def main() -> int:
     header = c_calls(text_of("include/township.h"))
-    calls = rust_like_calls(text_of(*paths_of("crates/twp_calls/src")), RATTLE_TYPES)
+    behind = [*paths_of("crates/twp_calls/src"), *paths_of("crates/twp_many/src")]
+    calls = rust_like_calls(text_of(*behind), RATTLE_TYPES)
     exports = rust_like_calls(text_of(*paths_of("crates/twp_c/src")), RATTLE_TYPES)
     rust = rust_like_calls(text_of("bindings/rust/src/ffi.rs", *paths_of("bindings/rust/src/ffi", "rs")), RUST_TYPES)
     python = python_calls(text_of("bindings/python/src/township/_library.py"))
     found = [
-        *differences("crates/twp_calls", header, calls),
+        *differences("crates/twp_calls and twp_many", header, calls),
         *differences("crates/twp_c", header, exports),
         *differences("bindings/rust", header, rust),
         *differences("bindings/python", as_python_has_them(header), python),

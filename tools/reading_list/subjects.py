@@ -74,6 +74,7 @@ OTHERS = (
             "twp_calls::overlaps_call::township_overlaps",
             "twp_calls::figures::township_figures",
             "twp_calls::many::township_acres_many",
+            "twp_many::many::township_answer_many",
             "twp_calls::writing::township_write_notes",
             "twp_calls::explaining_texts::township_explain_notes",
             "twp_calls::explaining_texts::township_explain_description",

@@ -9,10 +9,10 @@ WHAT = "names of calls in lists and tests"
 
 #: Where each call is named, as in C: a file, or several files that together name each.
 NAMED = (
-    "crates/twp_calls/src/lib.rt",
+    "crates/twp_calls/src/lib.rt crates/twp_many/src/lib.rt",
     "packaging/libtownship.map",
     "tests/library/c/township_test.c tests/library/c/land.c tests/library/c/lots.c tests/library/c/lists.c "
-    "tests/library/c/explanations.c tests/library/c/readings.c",
+    "tests/library/c/many.c tests/library/c/explanations.c tests/library/c/readings.c",
     "tests/library/c/threads.c",
     "tests/library/c/growth_test.c",
     "tools/reading_list/subjects.py",

@@ -3,15 +3,20 @@
 import re
 from typing import Dict, List
 
-from reading import CALLS, HEADER, PYTHON, RUST, Compared, number_of, text_of
+from reading import CALLS, HEADER, MANY, PYTHON, RUST, Compared, number_of, text_of
 
 WHAT = "constants of the header, in the library and the bindings"
 
 #: Those that a binding repeats: the comments above them in the header.
 OF_BINDINGS = ("Verdicts.", "Accounts:", "Which side of the base line", "The number of section lines")
 
-#: What each file has to repeat.
-REPEATED = {f"{CALLS}/verdict.rt": ("Verdicts.",), RUST: OF_BINDINGS, f"{PYTHON}/_library.py": OF_BINDINGS}
+#: What each file has to repeat, besides those whose names it has.
+REPEATED = {
+    f"{CALLS}/verdict.rt": ("Verdicts.",),
+    f"{MANY}/many.rt": (),
+    RUST: OF_BINDINGS,
+    f"{PYTHON}/_library.py": OF_BINDINGS,
+}
 
 
 def compare() -> Compared:

@@ -14,6 +14,7 @@ SOURCES = (".rt", ".rs", ".py")
 
 HEADER = "include/township.h"
 CALLS = "crates/twp_calls/src"
+MANY = "crates/twp_many/src"
 RUST = "bindings/rust/src"
 PYTHON = "bindings/python/src/township"
 

@@ -4,7 +4,7 @@ import re
 from math import prod
 from typing import Dict, List, Tuple
 
-from reading import CALLS, HEADER, PYTHON, RUST, Compared, text_of
+from reading import CALLS, HEADER, MANY, PYTHON, RUST, Compared, text_of
 
 WHAT = "structs in the library and the bindings, with the fields of the header's"
 
@@ -24,7 +24,7 @@ def compare() -> Compared:
     wanted = structs_of_header(text_of(HEADER))
     differences = []
     for place, found in (
-        (CALLS, structs_of_rattle(text_of(CALLS))),
+        (f"{CALLS} and {MANY}", structs_of_rattle(text_of(CALLS) + text_of(MANY))),
         (RUST, structs_of_rust(text_of(RUST))),
         (PYTHON, structs_of_python(text_of(PYTHON))),
     ):

@@ -160,7 +160,7 @@ class Ended(BatchCase):
         self.assert_gone(children)
 
     def test_memory_that_runs_out(self):
-        with mock.patch("township._batch.answers.Answers.added_to", side_effect=MemoryError):
+        with mock.patch("township._batch.answers.Answers.added_to_all", side_effect=MemoryError):
             run = self.run_words("batch", NOTES, self.put("description\nsec. 14.\n"), "--jobs", 2)
         self.assertEqual((run.returncode, run.stderr), (3, b"township: out of memory\n"))
 

@@ -137,6 +137,7 @@ class Verdicts(unittest.TestCase):
         "figures": lambda: township.Plat.read(NOTES).total,
         "write_notes": lambda: uneven().write_notes(),
         "acres_many": lambda: uneven().acres_many(["sec. 14."]),
+        "answer_many": lambda: uneven().normal_many(["sec. 14."]),
         "suggest": lambda: township.suggest("sec. 14."),
         "version": township.version,
         "explain_notes_parts": lambda: township.Plat.read(b""),

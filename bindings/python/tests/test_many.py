@@ -5,9 +5,11 @@ import unittest
 from concurrent.futures import ThreadPoolExecutor
 from decimal import Decimal
 from importlib.util import find_spec
+from unittest import mock
 
 import township
 from samples import even, uneven
+from township import _library
 
 ACCEPTED = "sec. 5, lots 1 and 2, S1/2NE1/4."
 REFUSED = "sec. 14, NE1/4 and N1/2."
@@ -65,6 +67,51 @@ class Many(unittest.TestCase):
                 self.assertEqual(answers.refused, [1, 3])
                 hundredths = [0 if k in (1, 3) else 100 * acres for k, acres in enumerate(wanted)]
                 self.assertEqual(list(answers.hundredths), hundredths)
+
+    def test_canonical_texts_by_one_call(self):
+        # The last text is longer than the room that the call has for each.
+        long = "; ".join(f"sec. {section}" for section in range(1, 37, 2)) + "."
+        descriptions = [ACCEPTED, REFUSED, b"sec. 36.", "", "sec. 14, N\u00bd.", "sec. 14, NE1/4 SE1/4.", long]
+        texts = uneven().normal_many(descriptions)
+        for description, text in zip(descriptions, texts):
+            try:
+                self.assertEqual(text, uneven().normal(description))
+            except township.Refused as refused:
+                self.assertEqual(text, refused)
+        self.assertGreater(len(texts[-1]), 256)
+        self.assertEqual([isinstance(text, str) for text in texts], [True, False, True, False, True, True, True])
+        self.assertEqual(uneven().normal_many(()), [])
+
+    def test_one_description_is_not_many_texts(self):
+        for description in ("sec. 14.", b"sec. 14."):
+            with self.assertRaises(TypeError):
+                uneven().normal_many(description)
+
+    def test_everything_by_one_call(self):
+        descriptions = [ACCEPTED, REFUSED, "sec. 14, NE1/4 SE1/4.", "", "sec. 7, lots 1 to 4."]
+        for account, hundredths in (("exact", 15640), ("plat", 15642)):
+            answers = uneven()._full_answers(descriptions, account)
+            self.assertEqual(answers.hundredths, [16100, 0, 4000, 0, hundredths])
+            self.assertEqual((answers.refused, answers.noted), ([1, 3], [2]))
+            self.assertEqual(answers.refused_at(1), uneven().normal_many([REFUSED])[0])
+            self.assertEqual(answers.refusal(1), (67, 19))
+            self.assertEqual(answers.sentence(1), answers.refused_at(1).sentence)
+            self.assertEqual(answers.sentence(2), uneven().notes(descriptions[2])[0].sentence)
+            one_line = answers.texts(on_one_line=True)
+            self.assertEqual(one_line, [text[:-1].replace("\n", " ") for text in answers.texts()])
+            self.assertEqual(one_line[1:3], ["", "T. 2 N., R. 3 W., sec. 14, NE1/4SE1/4."])
+
+    def test_memory_that_runs_out_for_one(self):
+        for name in ("acres", "normal", "note"):
+            def answer_many(*given, name=name):
+                answer = real(*given)
+                getattr(given[6][1], name).verdict = _library.NO_MEMORY
+                return answer
+
+            real = _library.answer_many
+            with self.subTest(name=name), mock.patch.object(_library, "answer_many", answer_many):
+                with self.assertRaises(MemoryError):
+                    uneven().normal_many(["sec. 14.", "sec. 15."])
 
     def test_by_one_call_in_ascii_alone(self):
         answers = uneven().acres_many(("sec. 5, lot 1.", REFUSED))

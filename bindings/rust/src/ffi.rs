@@ -20,7 +20,7 @@ pub(crate) use self::lots::{lots_acres, lots_area, lots_land_acres, lots_land_ar
 pub(crate) use self::lots::{lots_read, lots_report};
 pub(crate) use self::structs::{Answer, Designation, Explanation, Figures, Fraction, Land, Lots};
 pub(crate) use self::structs::{Change, Reading, Suggestion};
-pub(crate) use self::structs::{Overlap, Part, Parts, Totals, Tract, TractAnswer};
+pub(crate) use self::structs::{FullAnswer, Overlap, Part, Parts, Totals, Tract, TractAnswer};
 pub(crate) use self::suggesting::suggest;
 
 // Verdicts.
@@ -54,6 +54,9 @@ pub(crate) const LOTS: usize = 47;
 /// The most tracts of a list, and the room for a tract's name, in bytes.
 pub(crate) const TRACTS_MOST: usize = 1_000;
 pub(crate) const NAME_ROOM: usize = 68;
+
+/// The room for the canonical text of each of many descriptions, in bytes.
+pub(crate) const TEXT_ROOM: usize = 256;
 
 // Accounts.
 pub(crate) const EXACT: u32 = 0;
@@ -122,6 +125,16 @@ extern "C" {
         offsets_length: usize,
         account: u32,
         answers: *mut Answer,
+        room: usize,
+    ) -> Answer;
+    fn township_answer_many(
+        plat: *const Parts,
+        descriptions: *const u8,
+        descriptions_length: usize,
+        offsets: *const usize,
+        offsets_length: usize,
+        account: u32,
+        answers: *mut FullAnswer,
         room: usize,
     ) -> Answer;
     // Outside tests, those with the parts of the text, in a module below, take the place of these three.
@@ -233,6 +246,29 @@ pub(crate) fn acres_many(
     // SAFETY: slices and a reference meet the library's requirements.
     unsafe {
         township_acres_many(
+            plat,
+            descriptions.as_ptr(),
+            descriptions.len(),
+            offsets.as_ptr(),
+            offsets.len(),
+            account,
+            answers.as_mut_ptr(),
+            answers.len(),
+        )
+    }
+}
+
+/// Writes everything that is answered about the descriptions between offsets, by an account.
+pub(crate) fn answer_many(
+    plat: &Parts,
+    descriptions: &[u8],
+    offsets: &[usize],
+    account: u32,
+    answers: &mut [FullAnswer],
+) -> Answer {
+    // SAFETY: slices and a reference meet the library's requirements.
+    unsafe {
+        township_answer_many(
             plat,
             descriptions.as_ptr(),
             descriptions.len(),

@@ -33,7 +33,7 @@ pub(crate) fn accepted_text_by(call: impl Fn(&mut [u8]) -> Answer) -> String {
 }
 
 /// Returns the text of an answer from the buffer. All texts that the library writes are UTF-8.
-fn text_in(room: &[u8], answer: Answer) -> String {
+pub(crate) fn text_in(room: &[u8], answer: Answer) -> String {
     String::from_utf8_lossy(&room[..answer.text_length()]).into_owned()
 }
 

@@ -394,6 +394,22 @@ fn many_by_one_call() {
 }
 
 #[test]
+fn canonical_texts_of_many_are_those_of_each() {
+    let plat = uneven();
+    // The text of the last one is longer than the room that the call for many has for it.
+    let long: Vec<_> = (1..=36)
+        .step_by(2)
+        .map(|section| format!("sec. {section}"))
+        .collect();
+    let long = format!("{}.", long.join("; "));
+    let descriptions = ["sec. 14, S1/2, N1/2.", "sec. 5, lot 5.", "", &long];
+    let wanted: Vec<_> = descriptions.map(|land| plat.normal(land)).into();
+    assert!(wanted[3].as_ref().unwrap().len() > 256);
+    assert_eq!(plat.normal_many(&descriptions), wanted);
+    assert!(plat.normal_many(&[""; 0]).is_empty());
+}
+
+#[test]
 fn many_are_taken_one_at_a_time() {
     let plat = uneven();
     let endless = (8..).map(|section| format!("sec. {section}."));

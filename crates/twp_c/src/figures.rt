@@ -3,9 +3,11 @@ ghost use Rattle.std.specs.Prelude.{◌≡◌, ◌≢◌};
 ghost use Rattle.twp_calls.specs.Answers.{ACCEPTED};
 ghost use Rattle.twp_calls.specs.Figures.{IsFiguresCall};
 ghost use Rattle.twp_calls.specs.ManyAnswers.{IsManyCall};
+ghost use Rattle.twp_many.specs.FullAnswers.{IsFullCall};
 
 use std::alloc::Global;
 use twp_calls::{TownshipAnswer, TownshipPlat, TownshipPlatFigures};
+use twp_many::TownshipFullAnswer;
 
 /// The figures that the printed plat shows: of each lot, of each section, and of the township.
 #[unsafe(no_mangle)]
@@ -35,4 +37,21 @@ pub extern "C" fn township_acres_many(
     ensures kept { result.verdict ≢ ACCEPTED → answers.new ≡ answers.old }
 {
     twp_calls::township_acres_many(alloc, plat, descriptions, offsets, account, answers)
+}
+
+/// Everything that is answered about many descriptions, which are given in the same way.
+#[unsafe(no_mangle)]
+pub extern "C" fn township_answer_many(
+    alloc: Global,
+    plat: &TownshipPlat,
+    descriptions: &[u8],
+    offsets: &[usize],
+    account: u32,
+    answers: &mut [TownshipFullAnswer],
+) -> TownshipAnswer
+    ensures answer { IsFullCall plat.now descriptions.now offsets.now account
+        answers.old answers.new result }
+    ensures kept { result.verdict ≢ ACCEPTED → answers.new ≡ answers.old }
+{
+    twp_many::township_answer_many(alloc, plat, descriptions, offsets, account, answers)
 }

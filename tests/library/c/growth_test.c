@@ -116,6 +116,7 @@ static township_totals totals;
 static township_tract_answer each[2];
 static township_overlap overlaps[2];
 static township_answer answers[2];
+static township_full_answer full[2];
 static township_land land;
 static township_lots lots;
 static uint32_t comparison;
@@ -220,6 +221,12 @@ static township_answer call_many(void) {
     static const size_t offsets[] = {0, 8, 22};
 
     return township_acres_many(&plat, BYTES("sec. 14.sec. 7, lot 1."), offsets, 3, TOWNSHIP_EXACT, answers, 2);
+}
+
+static township_answer call_answer_many(void) {
+    static const size_t offsets[] = {0, 8, 22};
+
+    return township_answer_many(&plat, BYTES("sec. 14.sec. 7, lot 1."), offsets, 3, TOWNSHIP_EXACT, full, 2);
 }
 
 static township_answer call_note_description(void) {
@@ -375,6 +382,7 @@ static void clear(void) {
     memset(each, 0, sizeof each);
     memset(overlaps, 0, sizeof overlaps);
     memset(answers, 0, sizeof answers);
+    memset(full, 0, sizeof full);
     memset(&land, 0, sizeof land);
     memset(&lots, 0, sizeof lots);
     comparison = 0;
@@ -462,6 +470,32 @@ static void refuse_many_in_turn(void) {
     printf("township_acres_many: %ld growths refused\n", growth - 1);
 }
 
+/* Whether an answer is the usual one, or that memory ran out. */
+static bool is_usual(township_answer answer, township_answer wanted) {
+    return same_answer(answer, wanted) || same_answer(answer, bare(TOWNSHIP_NO_MEMORY));
+}
+
+/* The same of each of the answers in full. */
+static void refuse_full_in_turn(void) {
+    township_full_answer wanted[2];
+    long growth = 0;
+
+    CHECK_ANSWER(make(call_answer_many, 0, &after), with_length(TOWNSHIP_ACCEPTED, 2));
+    memcpy(wanted, full, sizeof wanted);
+    CHECK(wanted[0].acres.hundredths == 64000 && wanted[1].normal.length == 33);
+    do {
+        CHECK_ANSWER(make(call_answer_many, ++growth, &found), with_length(TOWNSHIP_ACCEPTED, 2));
+        for (int i = 0; i < 2; i++) {
+            CHECK(is_usual(full[i].acres, wanted[i].acres) && is_usual(full[i].normal, wanted[i].normal) &&
+                  is_usual(full[i].note, wanted[i].note));
+            CHECK(full[i].normal.verdict == TOWNSHIP_ACCEPTED ? memcmp(full[i].text, wanted[i].text, 256) == 0
+                                                              : full[i].text[0] == 0);
+        }
+    } while (was_refused && growth < 100000);
+    CHECK(!was_refused);
+    printf("township_answer_many: %ld growths refused\n", growth - 1);
+}
+
 int main(int count, char **words) {
     notes = bytes_of_file(count > 1 ? words[1] : "samples", "b1.csv");
     texts = room_new();
@@ -473,6 +507,7 @@ int main(int count, char **words) {
         refuse_in_turn(calls[i].name, calls[i].call);
     }
     refuse_many_in_turn();
+    refuse_full_in_turn();
     drop(notes);
     free(texts);
     return checked();

@@ -7,7 +7,7 @@
 #include "check.h"
 
 #define THREADS 4
-#define CALLS 36
+#define CALLS 37
 
 /* The stack that the library requires, and room for the thread's own calls. */
 #define STACK ((256 + 64) * 1024)
@@ -19,6 +19,7 @@ typedef struct round_answers {
     township_fraction area;
     township_plat_figures figures;
     township_answer many[2];
+    township_full_answer full[2];
     township_tract tracts[2];
     township_tract tracts_by_lots[2];
     township_totals totals;
@@ -117,6 +118,7 @@ static void call_all(bytes notes, const township_plat *plat, round_answers *to) 
                                        BYTES("tracts.csv"), to->texts[12], sizeof to->texts[12]);
     answer[13] = township_figures(plat, &to->figures);
     answer[14] = township_acres_many(plat, BYTES("sec. 6.sec. 7, lot 5."), offsets, 3, TOWNSHIP_EXACT, to->many, 2);
+    answer[36] = township_answer_many(plat, BYTES("sec. 6.sec. 7, lot 1."), offsets, 3, TOWNSHIP_EXACT, to->full, 2);
     answer[15] = township_write_notes(plat, to->texts[15], sizeof to->texts[15]);
     answer[16] = township_account(plat, BYTES("name,description\nA,\"sec. 7, lot 1.\"\nB,sec. 6.\n"), to->tracts, 2,
                                   &to->totals);
@@ -151,7 +153,8 @@ static bool same_figures(const round_answers *a, const round_answers *b) {
            memcmp(&a->totals, &b->totals, sizeof a->totals) == 0 &&
            memcmp(a->each, b->each, sizeof a->each) == 0 &&
            memcmp(a->overlaps, b->overlaps, sizeof a->overlaps) == 0 &&
-           same_answer(a->many[0], b->many[0]) && same_answer(a->many[1], b->many[1]);
+           same_answer(a->many[0], b->many[0]) && same_answer(a->many[1], b->many[1]) &&
+           memcmp(a->full, b->full, sizeof a->full) == 0;
 }
 
 static bool same_round(const round_answers *a, const round_answers *b) {

@@ -11,6 +11,7 @@
 #include "given.h"
 #include "land.h"
 #include "lists.h"
+#include "many.h"
 #include "threads.h"
 
 _Static_assert(sizeof(township_plat) == 340, "a plat has 340 bytes");
@@ -556,6 +557,7 @@ static void refuses_plat(const township_plat *plat) {
     check_no_text(explain_land, plat, land, no_plat);
     check_no_text(explain_list, plat, list, no_plat);
     refuses_plat_of_lists(plat);
+    refuses_plat_in_full(plat);
     drop(land);
     drop(list);
 }
@@ -650,6 +652,7 @@ int main(int count, char **words) {
     has_overlaps(&plat);
     answers_many(&plat);
     answers_ranges(&plat);
+    answers_in_full(&plat);
     has_version(version);
     refuses_descriptions(&plat);
     refuses_lists(&plat);

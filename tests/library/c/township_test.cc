@@ -8,6 +8,7 @@
 
 static_assert(sizeof(township_plat) == 340, "a plat has 340 bytes");
 static_assert(sizeof(township_answer) == 48, "an answer has 48 bytes");
+static_assert(sizeof(township_full_answer) == 400, "a full answer has 3 answers of 48 bytes, and a text of 256");
 static_assert(sizeof(township_fraction) == 24, "a fraction has 24 bytes");
 static_assert(sizeof(township_plat_figures) == 2312, "the figures have 7 * 36 + 36 + 1 numbers");
 static_assert(sizeof(township_land) == 4612, "land has 36 * 32 rows of 4 bytes, and a designation");

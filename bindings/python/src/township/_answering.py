@@ -11,6 +11,7 @@ from ._account import Account, code_of
 from ._differences import Difference, differences_of
 from ._explanation import explained_by
 from ._figures import acres_of_hundredths, fraction_of
+from ._full import FullAnswers, texts_or_refusals
 from ._land import Land
 from ._lots import Lots
 from ._many import Answers, answers_of
@@ -173,6 +174,26 @@ write a comma after NE1/4 (320.00 acres)
         if isinstance(descriptions, (str, bytes)):
             raise TypeError("this takes many descriptions; for one there is Plat.acres")
         return answers_of(byref(self._parts), list(descriptions), code_of(account), self._exception_of)
+
+    def normal_many(self, descriptions: Sequence[Text]) -> List[Union[str, Refused]]:
+        """Return the canonical descriptions of many descriptions, or their refusals, by one call of the library.
+
+        This is several times as fast as `normal` for each, and takes 400 bytes of memory for each description.
+
+        >>> texts = plat.normal_many(["sec. 14, SE1/4, NE1/4, NW1/4.", "sec. 5, lot 5."])
+        >>> print(texts[0], end="")
+        T. 2 N., R. 3 W.,
+        sec. 14, N1/2, SE1/4.
+        >>> texts[1].number
+        64
+        """
+        if isinstance(descriptions, (str, bytes)):
+            raise TypeError("this takes many descriptions; for one there is Plat.normal")
+        return texts_or_refusals(self._full_answers(list(descriptions), "exact"))
+
+    def _full_answers(self, descriptions: Sequence[Text], account: Account) -> FullAnswers:
+        """Return everything that the library answers about many descriptions."""
+        return FullAnswers(byref(self._parts), descriptions, code_of(account), self._exception_of)
 
     def _each_acres(self, descriptions: Iterable[Text], code: int) -> Iterator[Union[Decimal, Refused]]:
         """Yield the answers of `acres_of`. Whatever does not depend on the description is computed once."""

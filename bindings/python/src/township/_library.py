@@ -29,6 +29,9 @@ NOTES_MOST = 65_536
 DESCRIPTION_MOST = 65_536
 LOTS_TEXT_MOST = 65_536
 
+#: The room for the canonical text of each of many descriptions, in bytes.
+TEXT_ROOM = 256
+
 # Verdicts.
 ACCEPTED = 0
 REFUSED = 1
@@ -117,6 +120,17 @@ class Answer(ctypes.Structure):
         ("reserved", c_uint32),
         ("hundredths", c_uint64),
         ("length", c_uint64),
+    ]
+
+
+class FullAnswer(ctypes.Structure):
+    """`township_full_answer`: 400 bytes."""
+
+    _fields_ = [
+        ("acres", Answer),
+        ("normal", Answer),
+        ("note", Answer),
+        ("text", c_uint8 * TEXT_ROOM),
     ]
 
 
@@ -285,6 +299,7 @@ _BYTES = (c_char_p, c_size_t)
 _ROOM = (POINTER(c_char), c_size_t)
 _OFFSETS = (POINTER(c_size_t), c_size_t)
 _ANSWERS = (POINTER(Answer), c_size_t)
+_FULL_ANSWERS = (POINTER(FullAnswer), c_size_t)
 _TRACTS = (POINTER(Tract), c_size_t)
 _READINGS = (POINTER(Reading), c_size_t)
 _CHANGES = (POINTER(Change), c_size_t)
@@ -320,6 +335,7 @@ report_each = _call("township_report_each", _PLAT, *_BYTES, *_TRACT_ANSWERS)
 overlaps = _call("township_overlaps", _PLAT, *_BYTES, *_OVERLAPS)
 figures = _call("township_figures", _PLAT, POINTER(Figures))
 acres_many = _call("township_acres_many", _PLAT, *_BYTES, *_OFFSETS, c_uint32, *_ANSWERS)
+answer_many = _call("township_answer_many", _PLAT, *_BYTES, *_OFFSETS, c_uint32, *_FULL_ANSWERS)
 explain_notes = _call("township_explain_notes", *_BYTES, *_BYTES, *_ROOM)
 explain_description = _call("township_explain_description", _PLAT, *_BYTES, *_BYTES, *_ROOM)
 explain_list = _call("township_explain_list", _PLAT, *_BYTES, *_BYTES, *_ROOM)

@@ -82,7 +82,7 @@ class Answers(Sequence[Union[Decimal, Refused]]):
 
 def answers_of(parts: object, descriptions: Sequence[Text], code: int, refuse: Refuse) -> Answers:
     """Return the answers to many descriptions on a plat, by the account with this code."""
-    given, offsets = _in_a_row(descriptions)
+    given, offsets = in_a_row(descriptions)
     count = len(descriptions)
     words = array(_WORD, bytes(8 * _WORDS * count))
     answers = _answers_in(words)
@@ -98,7 +98,7 @@ def _answers_in(words: "array[int]") -> "ctypes.Array[_library.Answer]":
     return (_library.Answer * (len(words) // _WORDS)).from_buffer(words)
 
 
-def _in_a_row(descriptions: Sequence[Text]) -> Tuple[bytes, "array[int]"]:
+def in_a_row(descriptions: Sequence[Text]) -> Tuple[bytes, "array[int]"]:
     """Return the bytes of all descriptions in a row, and the offsets between them."""
     try:
         text = "".join(descriptions)  # type: ignore[arg-type]

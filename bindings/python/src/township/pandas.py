@@ -26,7 +26,6 @@ from ._account import Account, code_of
 from ._many import Answers
 from ._plat import Plat
 from ._refused import Refused
-from ._text import Text
 
 #: One plat for the whole column, or a series that gives the plat of each row.
 Plats = Union[Plat, "pandas.Series[Any]"]
@@ -85,17 +84,25 @@ class Descriptions:
         T. 2 N., R. 3 W.,
         sec. 5, lots 1, 2, S1/2NE1/4.
         """
-        texts = [_normal(one, description) for one, description in self._rows(plat)]
+        texts: List[Optional[str]] = [None] * len(self._column)
+        for one, rows, descriptions in self._present_rows(plat):
+            for row, text in zip(rows, one.normal_many(descriptions)):
+                texts[row] = text if isinstance(text, str) else None
         return pandas.Series(texts, self._column.index, dtype="string", name="normal")
 
     def _answers(self, plat: Plats, account: Account) -> Iterator[Tuple[List[int], Answers]]:
         """Yield the answers on each plat, and their rows, counted from 0. Missing descriptions have none."""
         code_of(account)
+        for one, rows, descriptions in self._present_rows(plat):
+            yield rows, one.acres_many(descriptions, account)
+
+    def _present_rows(self, plat: Plats) -> Iterator[Tuple[Plat, List[int], List[Any]]]:
+        """Yield each plat, the rows that are on it, and their descriptions. Missing descriptions are left out."""
         descriptions = self._column.tolist()
         missing = self._column.isna().tolist()
         for one, rows in self._rows_on(plat):
             present = [row for row in rows if not missing[row]]
-            yield present, one.acres_many([descriptions[row] for row in present], account)
+            yield one, present, [descriptions[row] for row in present]
 
     def _rows_on(self, plat: Plats) -> Iterable[Tuple[Plat, Sequence[int]]]:
         """Return each plat and its rows."""
@@ -106,10 +113,6 @@ class Descriptions:
             if one is not None:
                 rows.setdefault(one, []).append(row)
         return rows.items()
-
-    def _rows(self, plat: Plats) -> "Iterator[Tuple[Optional[Plat], Optional[Text]]]":
-        """Yield the plat and the description of each row, `None` where one is missing."""
-        return zip(self._plats(plat), map(_present, self._column))
 
     def _plats(self, plat: Plats) -> List[Optional[Plat]]:
         """Return the plat of each row."""
@@ -138,13 +141,3 @@ def _present(value: Any) -> Any:
     if value is None or isinstance(value, (str, bytes, Plat)):
         return value
     return None if pandas.isna(value) is True else value
-
-
-def _normal(plat: Optional[Plat], description: Optional[Text]) -> Optional[str]:
-    """Return a canonical text, or `None` if there is none."""
-    if plat is None or description is None:
-        return None
-    try:
-        return plat.normal(description)
-    except Refused:
-        return None

@@ -1,6 +1,6 @@
 //! The library's structs.
 
-use super::{EAST, LOTS, LOTS_MOST, NAME_ROOM, NORTH, PLACES_ACROSS, SECTIONS};
+use super::{EAST, LOTS, LOTS_MOST, NAME_ROOM, NORTH, PLACES_ACROSS, SECTIONS, TEXT_ROOM};
 use crate::plat::LINES;
 use std::mem::{offset_of, size_of};
 
@@ -46,6 +46,29 @@ pub(crate) struct Answer {
     pub(crate) hundredths: u64,
     /// The length of the text in bytes, whether it was written or not.
     pub(crate) length: u64,
+}
+
+/// `township_full_answer`: everything that is answered about a description.
+#[repr(C)]
+#[derive(Clone, Copy, Debug, PartialEq, Eq)]
+pub(crate) struct FullAnswer {
+    pub(crate) acres: Answer,
+    pub(crate) normal: Answer,
+    pub(crate) note: Answer,
+    /// The canonical text. Bytes after it are as they were.
+    pub(crate) text: [u8; TEXT_ROOM],
+}
+
+impl FullAnswer {
+    /// No answer, for a call to overwrite.
+    pub(crate) fn blank() -> FullAnswer {
+        FullAnswer {
+            acres: Answer::default(),
+            normal: Answer::default(),
+            note: Answer::default(),
+            text: [0; TEXT_ROOM],
+        }
+    }
 }
 
 /// `township_fraction`: square thousandths of a chain, as a low and a high half, over a divisor.
@@ -276,6 +299,7 @@ pub(crate) struct Suggestion {
 // The library is compiled for these layouts.
 const _: () = assert!(size_of::<Parts>() == 340 && offset_of!(Parts, number) == 336);
 const _: () = assert!(size_of::<Answer>() == 48 && offset_of!(Answer, hundredths) == 32);
+const _: () = assert!(size_of::<FullAnswer>() == 400 && offset_of!(FullAnswer, text) == 144);
 const _: () = assert!(size_of::<Fraction>() == 24 && offset_of!(Fraction, over) == 16);
 const _: () = assert!(size_of::<Figures>() == 2312 && offset_of!(Figures, sections) == 2016);
 const _: () = assert!(size_of::<Tract>() == 80 && offset_of!(Tract, name) == 12);

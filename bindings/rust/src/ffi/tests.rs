@@ -63,6 +63,7 @@ fn numbers_are_those_of_the_header() {
         ("LOTS", LOTS),
         ("TRACTS_MOST", TRACTS_MOST),
         ("NAME_ROOM", NAME_ROOM),
+        ("TEXT_ROOM", TEXT_ROOM),
         ("READINGS_MOST", READINGS_MOST),
     ] {
         let line = format!("#define TOWNSHIP_{name} {number}\n");
@@ -92,6 +93,15 @@ fn parts_of_no_plat_are_found_out_by_each_call() {
     assert_eq!(overlaps(&none, list, &mut []), no_plat);
     assert_eq!(figures(&none), (no_plat, Figures::BLANK));
     assert_eq!(acres_many(&none, b"", &[0], EXACT, &mut []), no_plat);
+    let mut full = [FullAnswer::blank()];
+    answer_many(&none, b"sec. 14.", &[0, 8], EXACT, &mut full);
+    let wanted = FullAnswer {
+        acres: no_plat,
+        normal: no_plat,
+        note: no_plat,
+        ..FullAnswer::blank()
+    };
+    assert_eq!(full, [wanted]);
     assert_eq!(
         explain_description(&none, b"sec. 37.", "land", &mut room),
         no_plat

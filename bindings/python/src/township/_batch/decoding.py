@@ -18,6 +18,9 @@ ENCODINGS = {"utf-8": "utf-8", "windows-1252": "cp1252"}
 #: The number of bytes that tell the encoding.
 _HEAD = 4
 
+#: The most bytes that are read at a time.
+_BLOCK = 1 << 16
+
 #: What old workbooks (.xls) begin with, and new ones that have a password.
 OLD_WORKBOOK = b"\xd0\xcf\x11\xe0"
 
@@ -27,11 +30,10 @@ _OTHER_FORMATS = (OLD_WORKBOOK, b"PK\x03\x04", b"%PDF")
 _MARKS = (codecs.BOM_UTF8, codecs.BOM_UTF16_LE, codecs.BOM_UTF16_BE)
 
 
-class Counted(io.RawIOBase):
+class Counted:
     """A file whose first bytes can be seen before they are read, and that counts what has been read."""
 
     def __init__(self, file: io.FileIO) -> None:
-        super().__init__()
         self._file = file
         #: The number of bytes read so far.
         self.position = 0
@@ -47,22 +49,15 @@ class Counted(io.RawIOBase):
             head += more
         return head
 
-    def readable(self) -> bool:
-        return True
-
-    def readinto(self, buffer: "memoryview") -> int:  # type: ignore[override]
-        if self._ahead:
-            count = min(len(self._ahead), len(buffer))
-            buffer[:count] = self._ahead[:count]
-            self._ahead = self._ahead[count:]
-        else:
-            count = self._file.readinto(buffer) or 0
-        self.position += count
-        return count
+    def read(self) -> bytes:
+        """Return the next bytes, as many as have arrived, or none at the end."""
+        read = self._ahead or self._file.read(_BLOCK) or b""
+        self._ahead = b""
+        self.position += len(read)
+        return read
 
     def close(self) -> None:
         self._file.close()
-        super().close()
 
 
 def is_another_format(file: Counted) -> bool:
@@ -75,10 +70,24 @@ def mark_of(file: Counted) -> str:
     return MARK if file.head.startswith(_MARKS) else ""
 
 
-def decoded(file: Counted, encoding: str) -> io.TextIOWrapper:
-    """Return a file as text, whose line ends are kept."""
-    name, errors = _encoding_of(file.head, encoding)
-    return io.TextIOWrapper(io.BufferedReader(file, 1 << 16), encoding=name, errors=errors, newline="")
+class Decoded:
+    """A file as text, whose line ends are kept."""
+
+    def __init__(self, file: Counted, encoding: str) -> None:
+        name, errors = _encoding_of(file.head, encoding)
+        self._decoder = codecs.getincrementaldecoder(name)(errors)
+        self._file = file
+        self._ended = False
+
+    def read(self) -> str:
+        """Return the next characters, as many as have arrived, or none at the end."""
+        while not self._ended:
+            read = self._file.read()
+            self._ended = not read
+            text = self._decoder.decode(read, self._ended)
+            if text:
+                return text
+        return ""
 
 
 def _encoding_of(head: bytes, encoding: str) -> Tuple[str, str]:

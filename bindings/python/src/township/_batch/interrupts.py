@@ -1,17 +1,17 @@
-"""Ctrl-C, which ends a batch between two records."""
+"""Ctrl-C, which ends a batch between two records, or between two chunks of them."""
 from __future__ import annotations
 
 import signal
 from types import FrameType
-from typing import Any, Iterator, Optional
+from typing import Any, Iterator, Optional, TypeVar
 
-from .records import Record
+T = TypeVar("T")
 
 
 class Interrupts:
-    """Delays an interrupt until the record at hand is written, so that the output ends with a whole record.
+    """Delays an interrupt until the records at hand are written, so that the output ends with a whole record.
 
-    While the next record is awaited, which can take long, an interrupt is immediate; so is a second one.
+    While the next ones are awaited, which can take long, an interrupt is immediate; so is a second one.
     """
 
     def __init__(self) -> None:
@@ -31,14 +31,19 @@ class Interrupts:
         if self._awaiting or asked_before:
             raise KeyboardInterrupt
 
-    def between(self, records: Iterator[Record]) -> Iterator[Record]:
-        """Yield records, and raise `KeyboardInterrupt` between two of them if that was asked for."""
+    def next_of(self, items: Iterator[T]) -> Optional[T]:
+        """Return the next item, or `None` at the end. Raise `KeyboardInterrupt` instead if that was asked for."""
+        self._awaiting = True
+        if self._asked:
+            raise KeyboardInterrupt
+        item = next(items, None)
+        self._awaiting = False
+        return item
+
+    def between(self, items: Iterator[T]) -> Iterator[T]:
+        """Yield items, and raise `KeyboardInterrupt` between two of them if that was asked for."""
         while True:
-            self._awaiting = True
-            if self._asked:
-                raise KeyboardInterrupt
-            record = next(records, None)
-            self._awaiting = False
-            if record is None:
+            item = self.next_of(items)
+            if item is None:
                 return
-            yield record
+            yield item

@@ -9,7 +9,6 @@ from .._spelling import NotTownship, township_spelled
 from .._text import shown
 from .cells import text_of
 from .folder import NO_MERIDIAN, Folder, Notes, Townships, meridian_key
-from .records import Record
 from .stopped import Stopped
 
 #: A plat, or the reason that there is none.
@@ -25,12 +24,21 @@ class Plats(Protocol):
     #: The first principal meridian that a record names, where all must be on the same one; else nothing.
     first_meridian: str
 
-    def find_first_meridian(self, records: Sequence[Record]) -> None:
-        """Look for the first meridian in records whose plats are not asked for here."""
+    def awaits_first_meridian(self) -> bool:
+        """Return whether all records must be on the first meridian, and none has named one."""
         ...
 
-    def plat_of(self, fields: Sequence[Any]) -> Found:
-        """Return the plat of a record, or the reason that there is none."""
+    def begin(self, first_meridian: str) -> None:
+        """Go on with records before which this is the first meridian."""
+        ...
+
+    @property
+    def columns(self) -> Sequence[int]:
+        """The indexes of the columns that say on which plat a record is."""
+        ...
+
+    def plat_of(self, *fields: Any) -> Found:
+        """Return the plat of a record with these fields in the columns, or the reason that there is none."""
         ...
 
 
@@ -41,10 +49,19 @@ class OnePlat:
         self._plat = plat
         self.first_meridian = ""
 
-    def find_first_meridian(self, records: Sequence[Record]) -> None:
+    def awaits_first_meridian(self) -> bool:
+        """Return `False`: meridians do not matter."""
+        return False
+
+    def begin(self, first_meridian: str) -> None:
         """Do nothing: meridians do not matter."""
 
-    def plat_of(self, fields: Sequence[Any]) -> Found:
+    @property
+    def columns(self) -> Sequence[int]:
+        """No columns."""
+        return ()
+
+    def plat_of(self, *fields: Any) -> Found:
         """Return the plat."""
         return self._plat
 
@@ -77,22 +94,25 @@ class FolderPlats:
         self.first_meridian = ""
         self._remembered = functools.lru_cache(maxsize=_SPELLINGS)(self._find)
 
-    def find_first_meridian(self, records: Sequence[Record]) -> None:
-        """Look for the first meridian in records whose plats are not asked for here."""
-        if self._by_meridian or self._key.meridian is None:
-            return
-        for record in records:
-            if self.first_meridian:
-                return
-            if not record.fault:
-                self.plat_of(record.fields)
+    def awaits_first_meridian(self) -> bool:
+        """Return whether all records must be on the first meridian, and none has named one."""
+        return not (self._by_meridian or self._key.meridian is None or self.first_meridian)
 
-    def plat_of(self, fields: Sequence[Any]) -> Found:
-        """Return the plat of a record, or the reason that there is none."""
-        township = text_of(fields[self._key.township]).strip()
-        if self._key.meridian is None:
-            return self._remembered(township, "")
-        return self._remembered(township, text_of(fields[self._key.meridian]).strip())
+    def begin(self, first_meridian: str) -> None:
+        """Go on with records before which this is the first meridian."""
+        if first_meridian != self.first_meridian:
+            self.first_meridian = first_meridian
+            self._remembered.cache_clear()
+
+    @property
+    def columns(self) -> Sequence[int]:
+        """The indexes of the columns that say on which plat a record is."""
+        return [index for index in self._key if index is not None]
+
+    def plat_of(self, *fields: Any) -> Found:
+        """Return the plat of a record with these fields in the columns, or the reason that there is none."""
+        township, meridian = (*fields, "")[:2]
+        return self._remembered(text_of(township).strip(), text_of(meridian).strip())
 
     def _find(self, spelling: str, meridian: str) -> Found:
         """Return the plat of the township that is spelled so."""

@@ -3,9 +3,7 @@ from __future__ import annotations
 
 import sys
 import time
-from typing import Any, Callable, Iterator, Optional, Protocol
-
-from .records import Record
+from typing import Any, Callable, Optional, Protocol
 
 #: The time between two updates, in seconds.
 _PAUSE = 0.1
@@ -76,11 +74,22 @@ def bar_of(total: Optional[int]) -> Bar:
         return _NoBar()
 
 
-def watched(records: Iterator[Record], bar: Bar, position: Optional[Callable[[], int]]) -> Iterator[Record]:
-    """Yield records, showing the progress: the position in the list, or else the number of records."""
-    shown_at = time.monotonic()
-    for count, record in enumerate(records):
-        yield record
-        if count & 63 == 0 and time.monotonic() - shown_at >= _PAUSE:
-            bar.show(position() if position else count)
-            shown_at = time.monotonic()
+class Progress:
+    """Shows a progress bar from time to time."""
+
+    def __init__(self, bar: Bar, done: Callable[[], int]) -> None:
+        """`done` returns how much is done."""
+        self._bar = bar
+        self._done = done
+        self._shown_at = time.monotonic()
+
+    def show(self) -> None:
+        """Show how much is done, unless that was shown just now."""
+        now = time.monotonic()
+        if now - self._shown_at >= _PAUSE:
+            self._bar.show(self._done())
+            self._shown_at = now
+
+    def close(self) -> None:
+        """End the bar."""
+        self._bar.close()

@@ -2,14 +2,11 @@
 from __future__ import annotations
 
 import csv
-from typing import Any, Iterator, List, NamedTuple
+from typing import Any, Iterator, List, NamedTuple, Optional
 
-from .separators import Headed
-
-#: A field longer than this has lost its closing quotation mark. The longest description that is accepted has
-#: 65,536 bytes.
-FIELD_MOST = 1 << 20
-
+from .chunks import Chunk, Chunks
+from .lines import lines_in
+from .shape import FIELD_MOST, Shape
 
 class Record(NamedTuple):
     """A record, with as many fields as the heading."""
@@ -21,6 +18,15 @@ class Record(NamedTuple):
     fault: str = ""
 
 
+class Unfinished(Exception):
+    """The last record of a chunk does not end in it."""
+
+    def __init__(self, line: int) -> None:
+        super().__init__(line)
+        #: The line on which the record begins.
+        self.line = line
+
+
 class _Lines:
     """Lines that remember those of the current record, and can give some of them again."""
 
@@ -28,12 +34,17 @@ class _Lines:
         self._lines = lines
         self._again: List[str] = []
         self.taken: List[str] = []
+        #: Whether a line was asked for after the last one.
+        self.ended = False
 
     def __iter__(self) -> "_Lines":
         return self
 
     def __next__(self) -> str:
-        line = self._again.pop() if self._again else next(self._lines)
+        line = self._again.pop() if self._again else next(self._lines, "")
+        if not line:
+            self.ended = True
+            raise StopIteration
         self.taken.append(line)
         return line
 
@@ -41,45 +52,80 @@ class _Lines:
         """Give all lines of the current record again but the first, which is returned."""
         first, *others = self.taken
         self._again.extend(reversed(others))
+        self.ended = False
         return first
 
 
-def records_of(headed: Headed, column: int) -> Iterator[Record]:
-    """Yield the records after the heading. Records without any text are skipped.
+def records_of(chunk: Chunk, shape: Shape) -> Iterator[Record]:
+    """Yield the records of a chunk. Records without any text are skipped. Raise `Unfinished` if the last one goes on.
 
     If the quotation marks of a record are not well formed, its first line alone is a record with a fault. The
-    text of the line is then in the column with this index, and the next record begins on the next line.
+    text of the line is then in the column of descriptions, and the next record begins on the next line.
     """
     csv.field_size_limit(FIELD_MOST)
-    width = len(headed.heading)
-    lines = _Lines(headed.lines)
-    line = headed.line + 1
+    lines = _Lines(lines_in(chunk.text))
+    line = chunk.line
     while True:
         lines.taken.clear()
-        reader = csv.reader(lines, delimiter=headed.separator, strict=True)
+        reader = csv.reader(lines, delimiter=shape.separator, strict=True)
         try:
             for row in reader:
                 if not any(row):
                     pass
-                elif len(row) == width:
+                elif len(row) == shape.width:
                     yield Record(row, line)
                 else:
-                    yield _uneven_record(row, lines.taken[-1], line, width, column)
+                    yield _uneven_record(row, lines.taken[-1], line, shape)
                 line += len(lines.taken)
                 lines.taken.clear()
             return
         except csv.Error:
-            fields = [""] * width
-            fields[column] = lines.give_again().rstrip("\r\n")
+            if lines.ended and not chunk.is_last:
+                raise Unfinished(line) from None
+            fields = [""] * shape.width
+            fields[shape.column] = lines.give_again().rstrip("\r\n")
             yield Record(fields, line, f"the quotation marks of line {line} are not well formed")
             line += 1
 
 
-def _uneven_record(row: List[str], last_line: str, line: int, width: int, column: int) -> Record:
-    """Return the record of a row that has not as many fields as the heading, which is this wide.
+class Records:
+    """The records of a list, one at a time."""
 
-    The description is in the column with this index, and `last_line` is the last line of the row.
-    """
+    def __init__(self, chunks: Chunks, shape: Shape) -> None:
+        self._chunks = chunks
+        self._shape = shape
+        self._chunk = Chunk("", 0, False)
+        self._records: Iterator[Record] = iter(())
+
+    def __iter__(self) -> "Records":
+        return self
+
+    def __next__(self) -> Record:
+        record = self._next_of_chunk()
+        while record is None:
+            self._chunk = next(self._chunks)
+            self._records = records_of(self._chunk, self._shape)
+            record = self._next_of_chunk()
+        return record
+
+    def give_back(self) -> None:
+        """Give the records that were not taken back to the chunks."""
+        record = self._next_of_chunk()
+        if record is not None:
+            self._chunks.again(self._chunk, record.line)
+            self._records = iter(())
+
+    def _next_of_chunk(self) -> Optional[Record]:
+        try:
+            return next(self._records, None)
+        except Unfinished as unfinished:
+            self._chunks.again(self._chunk, unfinished.line)
+            return None
+
+
+def _uneven_record(row: List[str], last_line: str, line: int, shape: Shape) -> Record:
+    """Return the record of a row that has not as many fields as the heading. `last_line` is its last line."""
+    width, column, _ = shape
     fields = (row + [""] * width)[:width]
     # In some rows, Excel leaves out the fields at the end that are empty.
     if len(row) < width and _has_whole(row, column, last_line):

@@ -9,7 +9,8 @@ from typing import Iterator, List, Sequence
 from .._text import shown
 from .answers import Answers
 from .cells import text_of
-from .records import FIELD_MOST, Record
+from .records import Record
+from .shape import FIELD_MOST
 from .stopped import Stopped, reading, writing
 
 _MARK = codecs.BOM_UTF8

@@ -4,18 +4,21 @@ from __future__ import annotations
 import os
 import sys
 from contextlib import nullcontext
-from typing import TYPE_CHECKING, ContextManager, List, Optional, Sequence
+from typing import TYPE_CHECKING, ContextManager, Iterator, List, Optional, Sequence
 
 from .._text import shown
+from .answered import Piece, answers_to, pieces_of
 from .answers import Answers
 from .columns import added_to, column_in, index_in
 from .folder import Folder, plat_in
 from .interrupts import Interrupts
 from .options import Options
 from .plats import FolderPlats, Key, OnePlat, Plats
-from .progress import bar_of, watched
+from .progress import Progress, bar_of
+from .records import Records
 from .resuming import Earlier
-from .sinks import CsvSink, sink_for
+from .shape import Shape
+from .sinks import CsvSink, Sink, sink_for
 from .source import Source, source_of
 from .stopped import Status, Stopped
 
@@ -31,7 +34,7 @@ def run_batch(options: Options) -> Status:
     notes = _Notes(options)
     _check_output(options.output, [options.list, *notes.files])
     with source_of(options) as source:
-        answers = Answers(notes.plats_for(source, options), source.column, options.account, options.suggest)
+        answers = Answers(notes.plats_for(source, options), source.shape.column, options.account, options.suggest)
         try:
             with Interrupts() as interrupts:
                 _answer(source, answers, options, interrupts)
@@ -90,38 +93,65 @@ def _check_output(output: Optional[str], inputs: Sequence[str]) -> None:
 def _answer(source: Source, answers: Answers, options: Options, interrupts: Interrupts) -> None:
     """Write the list with its answers."""
     heading = [*source.heading, *added_to(source.heading, options.prefix, source.place, options.suggest)]
-    records = interrupts.between(source.records)
-    begun = False
-    if options.resume and options.output is not None:
-        earlier = Earlier(options.output, heading, source.separator)
-        earlier.skip(records, answers, len(source.heading))
-        begun = earlier.begun
+    begun = options.resume and _skip_earlier(source, heading, answers, options, interrupts)
     # They are forked before the output is opened, so that they have no part of it to write.
-    with _workers(options.jobs, answers, source.separator) as workers:
-        sink = sink_for(options.output, source.separator, source.mark, append=begun)
-        bar = bar_of(source.size)
+    with _workers(options.jobs, answers, source.shape) as workers:
+        sink = sink_for(options.output, source.shape.separator, source.mark, append=begun)
+        progress = Progress(bar_of(source.size), source.position if source.size else lambda: answers.counts.all)
         try:
             if not begun:
                 sink.write(heading)
-            records = watched(records, bar, source.position if source.size else None)
-            if workers is not None and isinstance(sink, CsvSink):
-                workers.write_answers(records, answers, sink)
-            else:
-                for record in records:
-                    sink.write(record.fields + answers.added_to(record))
+            for _ in _written(source, answers, sink, workers, interrupts):
+                progress.show()
         finally:
-            bar.close()
+            progress.close()
             sink.close()
 
 
-def _workers(jobs: int, answers: Answers, separator: str) -> ContextManager[Optional[Workers]]:
+def _skip_earlier(
+    source: Source, heading: List[str], answers: Answers, options: Options, interrupts: Interrupts
+) -> bool:
+    """Skip the records that an earlier output contains. Return whether it has its heading."""
+    if options.output is None:
+        return False
+    earlier = Earlier(options.output, heading, source.shape.separator)
+    earlier.skip(interrupts.between(source.records), answers, len(source.heading))
+    if isinstance(source.records, Records):
+        source.records.give_back()
+    return earlier.begun
+
+
+def _written(
+    source: Source, answers: Answers, sink: Sink, workers: Optional[Workers], interrupts: Interrupts
+) -> Iterator[None]:
+    """Write the records with their answers, and yield after each step."""
+    if not isinstance(sink, CsvSink):
+        for record in interrupts.between(source.records):
+            sink.write(record.fields + answers.added_to(record))
+            yield
+        return
+    pieces: Iterator[Piece] = source.chunks or pieces_of(source.records, source.shape)
+
+    def take() -> Optional[Piece]:
+        return interrupts.next_of(pieces)
+
+    if workers is None:
+        texts = answers_to(take, source.chunks, answers, source.shape)
+    else:
+        texts = workers.answers_to(take, source.chunks)
+    for text in texts:
+        sink.write_text(text)
+        yield
+
+
+def _workers(jobs: int, answers: Answers, shape: Shape) -> ContextManager[Optional[Workers]]:
     """Return the processes that answer records in place of this one, if there are any."""
     if jobs == 1:
         return nullcontext()
     # Importing what starts processes takes time.
     from .workers import Workers
 
-    return Workers(jobs, answers, separator)
+    return Workers(jobs, answers, shape)
 
 
 def _remarks(answers: Answers, options: Options, interrupted: bool) -> List[str]:
@@ -134,11 +164,10 @@ def _remarks(answers: Answers, options: Options, interrupted: bool) -> List[str]
             f"township: {counts.undecoded} of the descriptions {verb} not UTF-8; if the list is in "
             "Windows-1252, add --encoding windows-1252"
         )
-    count = counts.accepted + counts.refused
     if interrupted:
-        remarks.append(f"township: interrupted after {count} records")
+        remarks.append(f"township: interrupted after {counts.all} records")
     elif sys.stderr.isatty():
-        remarks.append(f"township: {count} records: {counts.accepted} accepted, {counts.refused} not")
+        remarks.append(f"township: {counts.all} records: {counts.accepted} accepted, {counts.refused} not")
     return remarks
 
 

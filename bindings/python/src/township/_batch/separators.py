@@ -11,6 +11,7 @@ import re
 from typing import Iterable, Iterator, List, NamedTuple
 
 from .columns import index_in
+from .lines import Lines
 
 _SEPARATORS = (",", ";", "\t")
 _SEP_LINE = re.compile(r'"?sep=([^"\r\n])"?[\r\n]*', re.IGNORECASE)
@@ -21,28 +22,29 @@ class Headed(NamedTuple):
 
     heading: List[str]
     separator: str
-    #: The lines after the heading.
-    lines: Iterator[str]
+    #: What has been read after the heading.
+    unread: str
     #: The number of lines up to the end of the heading.
     line: int
 
 
-def headed(lines: Iterator[str], column: str) -> Headed:
+def headed(lines: Lines, column: str) -> Headed:
     """Read the heading of a list, in which a column with this name is wanted."""
     before = 0
     separators: Iterable[str] = _SEPARATORS
+    rest: Iterator[str] = lines
     for first in lines:
         said = _SEP_LINE.fullmatch(first)
         if said is None:
-            lines = itertools.chain([first], lines)
+            rest = itertools.chain([first], lines)
         else:
             separators, before = said.group(1), 1
         break
     read: List[str] = []
-    tried = [_heading_by(separator, read, lines) for separator in separators]
+    tried = [_heading_by(separator, read, rest) for separator in separators]
     best = max(tried, key=lambda each: (index_in(each.heading, column) is not None, len(each.heading)))
-    unread = itertools.chain(read[best.line :], lines)
-    return best._replace(lines=unread, line=best.line + before)
+    unread = "".join(read[best.line :]) + lines.unread
+    return best._replace(unread=unread, line=best.line + before)
 
 
 def _heading_by(separator: str, read: List[str], lines: Iterator[str]) -> Headed:
@@ -57,7 +59,7 @@ def _heading_by(separator: str, read: List[str], lines: Iterator[str]) -> Headed
     except csv.Error:
         # This is not the separator: with it, a quoted field does not end at one.
         pass
-    return Headed(heading, separator, iter(()), reader.line_num)
+    return Headed(heading, separator, "", reader.line_num)
 
 
 def _read_again(read: List[str], lines: Iterator[str]) -> Iterator[str]:

@@ -1,15 +1,12 @@
 """Where the answers go: standard output, or a file."""
 from __future__ import annotations
 
-import csv
-import io
-from typing import Any, Iterable, Optional, Protocol, Sequence, TextIO
+from typing import Any, Optional, Protocol, Sequence, TextIO
 
 from .stopped import writing
 from .workbook import is_workbook
 from .workbook_sink import WorkbookSink
-
-_CRLF = "\r\n"
+from .written import writer_to
 
 #: The file descriptor of standard output.
 _OUTPUT = 1
@@ -54,7 +51,7 @@ class CsvSink:
             )
             if not append:
                 self._file.write(mark)
-        self._write = _writer_to(self._file, separator).writerow
+        self._write = writer_to(self._file, separator).writerow
 
     def write(self, fields: Sequence[Any]) -> None:
         """Write a record."""
@@ -73,28 +70,3 @@ class CsvSink:
         """Write everything that has not been written yet."""
         with writing(self._name):
             self._file.close()
-
-
-def csv_text(rows: Iterable[Sequence[Any]], separator: str) -> str:
-    """Return records as a CSV file has them."""
-    text = io.StringIO(newline="")
-    _writer_to(text, separator).writerows(rows)
-    return text.getvalue()
-
-
-def _writer_to(file: TextIO, separator: str) -> Any:
-    return csv.writer(_LineFeeds(file), delimiter=separator, lineterminator=_CRLF)
-
-
-class _LineFeeds:
-    """Ends each record with a line feed.
-
-    The `csv` module itself ends records with CRLF, because it quotes a field that contains a carriage return
-    only if the record terminator contains one.
-    """
-
-    def __init__(self, sink: TextIO) -> None:
-        self._write = sink.write
-
-    def write(self, record: str) -> int:
-        return self._write(record[: -len(_CRLF)] + "\n")

@@ -3,16 +3,19 @@ from __future__ import annotations
 
 import io
 import os
-from contextlib import contextmanager
+from contextlib import closing, contextmanager
 from typing import Callable, Iterator, List, NamedTuple, Optional
 
 from .._text import shown
 from .cells import text_of
+from .chunks import Chunks
 from .columns import column_in
-from .decoding import Counted, decoded, is_another_format, mark_of
+from .decoding import Counted, Decoded, is_another_format, mark_of
+from .lines import Lines
 from .options import STANDARD, Options
-from .records import Record, records_of
+from .records import Record, Records
 from .separators import headed
+from .shape import Shape
 from .stopped import Stopped, reading
 from .workbook import HeadedRows, is_workbook, workbook_rows
 
@@ -24,13 +27,13 @@ class Source(NamedTuple):
     """A list whose heading has been read."""
 
     heading: List[str]
-    #: The index of the column of descriptions.
-    column: int
-    #: The character between fields, which the answers have as well.
-    separator: str
+    #: What the records look like. The answers have the same separator.
+    shape: Shape
     #: The byte order mark at the beginning, which a file of answers has as well, or nothing.
     mark: str
     records: Iterator[Record]
+    #: The chunks that contain the records. A workbook has none.
+    chunks: Optional[Chunks]
     #: The file and the line of the heading, for messages.
     place: str
     #: The number of bytes of the list, if it is known, and a function that returns how many of them are read.
@@ -55,18 +58,22 @@ def source_of(options: Options) -> Iterator[Source]:
             f"township: {shown(name)}: this is not CSV; save the list as CSV, or as a workbook whose name "
             "ends in .xlsx"
         )
-    with decoded(counted, options.encoding) as text:
-        with reading(name):
-            found = headed(iter(text), options.column)
+    with closing(counted):
+        read = _reader_of(name, Decoded(counted, options.encoding))
+        found = headed(Lines(read), options.column)
         place = f"{shown(name)}:{max(found.line, 1)}"
-        column = column_in(found.heading, options.column, "--column", place)
-        records = _reading_records(name, records_of(found, column))
+        shape = Shape(
+            width=len(found.heading),
+            column=column_in(found.heading, options.column, "--column", place),
+            separator=found.separator,
+        )
+        chunks = Chunks(read, found.unread, found.line + 1)
         yield Source(
             heading=found.heading,
-            column=column,
-            separator=found.separator,
+            shape=shape,
             mark=mark_of(counted),
-            records=records,
+            records=Records(chunks, shape),
+            chunks=chunks,
             place=place,
             size=size,
             position=lambda: counted.position,
@@ -85,11 +92,15 @@ def _workbook(options: Options, rows: HeadedRows) -> Source:
     heading, place, records = rows
     if options.output is None or not is_workbook(options.output):
         records = (record._replace(fields=list(map(text_of, record.fields))) for record in records)
-    column = column_in(heading, options.column, "--column", place)
-    return Source(heading, column, ",", "", records, place, size=None, position=lambda: 0)
+    shape = Shape(len(heading), column_in(heading, options.column, "--column", place), ",")
+    return Source(heading, shape, "", records, None, place, size=None, position=lambda: 0)
 
 
-def _reading_records(name: str, records: Iterator[Record]) -> Iterator[Record]:
-    """Yield the records of a file, reporting any failure to read it."""
-    with reading(name):
-        yield from records
+def _reader_of(name: str, text: Decoded) -> Callable[[], str]:
+    """Return a function that reads more of a file, reporting any failure to read it."""
+
+    def read() -> str:
+        with reading(name):
+            return text.read()
+
+    return read

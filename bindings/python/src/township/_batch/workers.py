@@ -1,71 +1,59 @@
-"""Answers the records of a list in several processes, in their order."""
+"""Answers the pieces of a list in several processes, in their order."""
 from __future__ import annotations
 
-import itertools
 import multiprocessing
 import signal
 from collections import deque
 from multiprocessing.connection import Connection
-from typing import Any, Deque, Dict, Iterator, List, NamedTuple, Optional, Sequence, Tuple, Union
+from typing import Callable, Deque, Iterator, List, NamedTuple, Optional, Sequence, Union
 
+from .answered import Answered, Piece, answered, rows_in
 from .answers import Answers, Counts
-from .plats import Plats
-from .records import Record
-from .sinks import CsvSink, csv_text
+from .chunks import Chunk, Chunks
+from .shape import Shape
 from .stopped import Stopped
 
-#: The number of records that a process is given at a time.
-_CHUNK = 1000
+#: The number of characters that a process is given at a time.
+_CHUNK = 1 << 16
 
 
-class Chunk(NamedTuple):
-    """Records that one process answers. Sending their parts takes much less time than sending the records."""
+class Given(NamedTuple):
+    """What a process is given."""
 
-    #: The fields of each record.
-    rows: List[List[Any]]
-    #: The lines and faults of the records that have a fault, by their index.
-    faults: Dict[int, Tuple[int, str]]
-    #: The first principal meridian that is named before these records, or nothing.
+    piece: Piece
+    #: The first principal meridian that is named before it, or nothing.
     first_meridian: str
 
-    def records(self) -> List[Record]:
-        """Return the records. The line of a record without a fault is not needed, and is 0."""
-        records = list(map(Record, self.rows, itertools.repeat(0)))
-        for index, (line, fault) in self.faults.items():
-            records[index] = Record(self.rows[index], line, fault)
-        return records
 
+class Made(NamedTuple):
+    """What a process returns."""
 
-class Answered(NamedTuple):
-    """The answers to a chunk."""
-
-    #: The records with their answers, as CSV.
-    text: str
+    answered: Answered
     counts: Counts
+    #: The first principal meridian that is named before the end of the piece, or nothing.
+    first_meridian: str
 
 
-def chunks_of(records: Iterator[Record], plats: Plats) -> Iterator[Chunk]:
-    """Yield the records in chunks."""
-    while True:
-        listed = list(itertools.islice(records, _CHUNK))
-        if not listed:
-            return
-        faults = {index: (each.line, each.fault) for index, each in enumerate(listed) if each.fault}
-        yield Chunk([each.fields for each in listed], faults, plats.first_meridian)
-        plats.find_first_meridian(listed)
+class _Busy(NamedTuple):
+    """A process that answers a piece."""
+
+    connection: Connection
+    piece: Piece
 
 
 class Workers:
     """Processes that are forked from this one, so that they have its plats, and end when it does."""
 
-    def __init__(self, count: int, answers: Answers, separator: str) -> None:
+    def __init__(self, count: int, answers: Answers, shape: Shape) -> None:
         context = multiprocessing.get_context("fork")
+        self._answers = answers
+        self._shape = shape
         self._here: List[Connection] = []
         self._processes = []
         for _ in range(count):
             here, there = context.Pipe()
             self._here.append(here)
-            given = (there, list(self._here), answers, separator)
+            given = (there, list(self._here), answers, shape)
             process = context.Process(target=_work, args=given, daemon=True)
             try:
                 process.start()
@@ -73,6 +61,9 @@ class Workers:
                 raise Stopped(f"township: cannot start a process: {error.strerror}") from error
             there.close()
             self._processes.append(process)
+        #: The processes that answer pieces, in the order of the list, and those that do not.
+        self._busy: Deque[_Busy] = deque()
+        self._free = deque(self._here)
 
     def __enter__(self) -> "Workers":
         return self
@@ -83,64 +74,84 @@ class Workers:
         for process in self._processes:
             process.join()
 
-    def write_answers(self, records: Iterator[Record], answers: Answers, sink: CsvSink) -> None:
-        """Write records with their answers, and count them."""
-        for answered in self.answers_to(chunks_of(records, answers.plats)):
-            sink.write_text(answered.text)
-            answers.counts.add(answered.counts)
+    def answers_to(self, take: Callable[[], Optional[Piece]], chunks: Optional[Chunks]) -> Iterator[str]:
+        """Yield the answers to all pieces that `take` returns, as many at a time as there are processes.
 
-    def answers_to(self, chunks: Iterator[Chunk]) -> Iterator[Answered]:
-        """Yield the answers to chunks, as many at a time as there are processes.
-
-        If there is no next chunk because of an interrupt or a failure, that is raised after the answers to
-        the chunks before it.
+        If they are chunks, `chunks` is where they come from. If there is no next piece because of an interrupt or a
+        failure, that is raised after the answers to the pieces before it.
         """
-        free = deque(self._here)
-        busy: Deque[Connection] = deque()
+        if chunks is not None:
+            chunks.size, chunks.is_full = _CHUNK, True
         ended: Optional[BaseException] = None
         while True:
+            piece = None
             try:
-                chunk = next(chunks, None)
+                piece = take() if ended is None else None
             except (KeyboardInterrupt, Stopped) as error:
-                chunk, ended = None, error
-            if chunk is None:
+                ended = error
+            if piece is not None and self._free:
+                self._send(self._free.popleft(), piece)
+            elif self._busy:
+                # The process that has worked for the longest time is given the next piece at once.
+                yield self._received_and_sent(piece, chunks)
+            else:
                 break
-            # The process that has worked for the longest time is given the next chunk at once.
-            answered = None if free else _received(busy[0])
-            connection = free.popleft() if free else busy.popleft()
-            _send(connection, chunk)
-            busy.append(connection)
-            if answered is not None:
-                yield answered
-        for connection in busy:
-            yield _received(connection)
         if ended is not None:
             raise ended
+
+    def _received_and_sent(self, piece: Optional[Piece], chunks: Optional[Chunks]) -> str:
+        """Return the answers to the first piece that is not answered, and give the next one to its process."""
+        connection, asked = self._busy.popleft()
+        made = _received(connection)
+        self._answers.counts.add(made.counts)
+        if made.answered.unfinished is not None and chunks is not None and isinstance(asked, Chunk):
+            self._free.append(connection)
+            later = [*self._given_up(), *([piece] if isinstance(piece, Chunk) else [])]
+            chunks.again(asked, made.answered.unfinished, later)
+            self._answers.plats.begin(made.first_meridian)
+        elif piece is not None:
+            self._send(connection, piece)
+        else:
+            self._free.append(connection)
+        return made.answered.text
+
+    def _given_up(self) -> Iterator[Chunk]:
+        """Yield the chunks that are not answered yet, without awaiting more than the end of the work on them."""
+        while self._busy:
+            connection, piece = self._busy.popleft()
+            _received(connection)
+            self._free.append(connection)
+            if isinstance(piece, Chunk):
+                yield piece
+
+    def _send(self, connection: Connection, piece: Piece) -> None:
+        """Give a piece to a process."""
+        plats = self._answers.plats
+        try:
+            connection.send(Given(piece, plats.first_meridian))
+        except OSError as error:
+            raise Stopped(_ENDED) from error
+        self._busy.append(_Busy(connection, piece))
+        if plats.awaits_first_meridian():
+            self._answers.find_first_meridian(rows_in(piece, self._answers, self._shape))
 
 
 _ENDED = "township: a process that answers a part of the list was ended; perhaps memory ran out"
 
 
-def _send(connection: Connection, chunk: Chunk) -> None:
+def _received(connection: Connection) -> Made:
+    """Return what a process returns, or raise its exception."""
     try:
-        connection.send(chunk)
-    except OSError as error:
-        raise Stopped(_ENDED) from error
-
-
-def _received(connection: Connection) -> Answered:
-    """Return the answers of a process, or raise its exception."""
-    try:
-        answered: Union[Answered, MemoryError] = connection.recv()
+        made: Union[Made, MemoryError] = connection.recv()
     except (EOFError, OSError) as error:
         raise Stopped(_ENDED) from error
-    if isinstance(answered, MemoryError):
-        raise answered
-    return answered
+    if isinstance(made, MemoryError):
+        raise made
+    return made
 
 
-def _work(connection: Connection, ends: Sequence[Connection], answers: Answers, separator: str) -> None:
-    """Answer chunks in a process of its own, until there are no more.
+def _work(connection: Connection, ends: Sequence[Connection], answers: Answers, shape: Shape) -> None:
+    """Answer pieces in a process of its own, until there are no more.
 
     `ends` are the other process's ends of the connections, which were inherited.
     """
@@ -150,19 +161,19 @@ def _work(connection: Connection, ends: Sequence[Connection], answers: Answers, 
         end.close()
     try:
         while True:
-            chunk: Chunk = connection.recv()
+            given: Given = connection.recv()
             try:
-                connection.send(_answered(chunk, answers, separator))
+                connection.send(_made_of(given, answers, shape))
             except MemoryError as error:
                 connection.send(error)
     except (EOFError, OSError):
-        # There are no more chunks, or the first process has ended.
+        # There are no more pieces, or the first process has ended.
         return
 
 
-def _answered(chunk: Chunk, answers: Answers, separator: str) -> Answered:
-    """Return the answers to a chunk."""
-    answers.plats.first_meridian = chunk.first_meridian
+def _made_of(given: Given, answers: Answers, shape: Shape) -> Made:
+    """Return the answers to a piece."""
+    answers.plats.begin(given.first_meridian)
     answers.counts = Counts()
-    rows = (record.fields + answers.added_to(record) for record in chunk.records())
-    return Answered(csv_text(rows, separator), answers.counts)
+    made = answered(given.piece, answers, shape)
+    return Made(made, answers.counts, answers.plats.first_meridian)
