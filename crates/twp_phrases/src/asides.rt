@@ -1,6 +1,6 @@
 //! What is left out: the meridian, acreage, labels, and land that is repeated in parentheses.
 
-use crate::draft::{Claim, Claimed, Draft, Form, Names, Phrase, PlacedStep};
+use crate::draft::{Claim, Claimed, Draft, Form, Names, Phrase, PlacedStep, Span};
 use std::alloc::AllocError;
 use twp_grammar::Kind;
 use twp_pieces::{Position, plus};
@@ -82,7 +82,7 @@ impl<'a> Draft<'a> {
         let (what, close) = if matches!(self.pieces.kind(first), Kind::All) {
             (Claimed::WholeSection, plus(first, 1))
         } else {
-            let Some(part) = self.part(first)? else {
+            let Some(part) = self.part_in_pieces(first)? else {
                 return Ok(None);
             };
             let is_same = before.names == Names::Part
@@ -110,6 +110,24 @@ impl<'a> Draft<'a> {
             self.claims.push(Claim { place: index, what })?;
         }
         Ok(Some(self.phrase(Names::Nothing(Rule::Repeated), index, end, from)))
+    }
+
+    /// The aliquot part at an index, of which white space may be between two steps, as in `(N 1/2 NE 1/4)`.
+    fn part_in_pieces(&mut self, index: usize) -> Result<Option<Phrase>, AllocError> {
+        let Some(first) = self.part(index)? else {
+            return Ok(None);
+        };
+        match self.part(first.end)? {
+            Some(second) => Ok(Some(Phrase {
+                end: second.end,
+                steps: Span {
+                    first: first.steps.first,
+                    end: second.steps.end,
+                },
+                ..first
+            })),
+            None => Ok(Some(first)),
+        }
     }
 
     /// Whether a part is the last step of another, which has an `of`, as in `the West half of the Southwest quarter (SW¼)`.

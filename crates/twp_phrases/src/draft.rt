@@ -123,6 +123,8 @@ pub struct Draft<'a> {
     pub is_unsure: bool,
     /// Whether a parenthesis before land is open.
     pub has_open: bool,
+    /// The last section that was found.
+    pub last_section: Option<Phrase>,
 }
 
 /// There is room from the start for this many phrases, changes, steps, and numbers: most texts have fewer.
@@ -162,6 +164,7 @@ impl<'a> Draft<'a> {
             names_land: false,
             is_unsure: false,
             has_open: false,
+            last_section: None,
         })
     }
 

@@ -81,16 +81,9 @@ impl<'a> Draft<'a> {
         if self.section_number(end).is_some() {
             return None;
         }
-        for before in self.phrases.iter().rev() {
-            if before.names == Names::Sections {
-                let again = self.phrase(Names::Sections, index, end, self.extent());
-                return Some(Phrase {
-                    numbers: before.numbers,
-                    ..again
-                });
-            }
-        }
-        None
+        let numbers = self.last_section?.numbers;
+        let again = self.phrase(Names::Sections, index, end, self.extent());
+        Some(Phrase { numbers, ..again })
     }
 
     /// The section at an index whose word begins with such a digit.

@@ -26,6 +26,9 @@ impl<'a> Draft<'a> {
                     index = phrase.end;
                     self.names_land = self.names_land
                         || !matches!(phrase.names, Names::Nothing(_) | Names::Heading);
+                    if phrase.names == Names::Sections {
+                        self.last_section = Some(phrase);
+                    }
                     self.phrases.push(phrase)?;
                 }
                 None if self.joins_phrases(here) && here < plus(index, JOINING_MOST) => {
@@ -427,6 +430,18 @@ impl<'a> Draft<'a> {
             return Ok(!is_alone);
         }
         if self.pieces.is_before_dash_and_land(next) && is_apart {
+            return Ok(true);
+        }
+        let is_list = match self.last_section {
+            Some(section) => matches!(self.pieces.kind(section.first), Kind::Number(_)),
+            None => false,
+        };
+        if is_list
+            && self.pieces.is(before, b";")
+            && matches!(last, Some(Names::Part | Names::All))
+            && self.pieces.begins_land(next)
+            && !self.pieces.is_joined(next)
+        {
             return Ok(true);
         }
         let follows_comma = self.pieces.is(before, b",") && index > 0;

@@ -133,8 +133,7 @@ impl<'a> Pieces<'a> {
             && self.is(end.saturating_sub(2), b".")
             && self.bytes(end.saturating_sub(1)).len() == 2;
         let is_cell = self.has_break_before(index) && self.number(index).unwrap_or(0) > SECTIONS;
-        let is_last = end == self.len()
-            || (has_decimals && self.begins_cell(index) && self.begins_cell(end));
+        let is_last = end == self.len() || (self.begins_cell(index) && self.begins_cell(end));
         if is_last && index > 0 && (has_decimals || is_cell) {
             Some(end)
         } else {

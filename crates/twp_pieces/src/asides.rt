@@ -246,8 +246,7 @@ impl<'a> Pieces<'a> {
     /// Whether a county's name is at an index, and after a comma the state.
     fn is_county_and_state(&self, index: usize) -> bool {
         let word = self.lower(index);
-        index > 0
-            && word.len() >= 3
+        word.len() >= 3
             && self.is(plus(index, 1), b",")
             && is_state(self.lower(plus(index, 2)))
             && !self.may_be_land(index)

@@ -11,13 +11,13 @@ const PIECES_MOST: usize = 32;
 impl<'a> Pieces<'a> {
     /// Where words for an interest end, with words for what it is in.
     pub(crate) fn end_of_interest(&self, index: usize) -> Option<usize> {
-        let first = if self.is(index, b"an") {
+        let first = if self.is(index, b"an") || self.is(index, b"a") {
             plus(index, 1)
         } else {
             index
         };
         let is_undivided = self.is(first, b"undivided") || self.is(first, b"und");
-        if !is_undivided && !(self.begins_line(index) && self.begins_share(index)) {
+        if !is_undivided && !(self.begins_line(index) && self.begins_share(first)) {
             return None;
         }
         let mut end: Option<usize> = None;
@@ -59,6 +59,7 @@ impl<'a> Pieces<'a> {
     fn begins_share(&self, index: usize) -> bool {
         let next = plus(index, 1);
         matches!(self.kind(index), Kind::Half | Kind::Quarter)
+            || (self.is(index, b"one") || self.is(index, b"two") || self.is(index, b"three"))
             || (self.number(index).is_some()
                 && (self.is(next, b"/") || self.is(next, b"%") || self.is(next, b".")))
             || (self.is(index, b"all") && self.is(next, b"of") && self.is_owner(plus(index, 2)))

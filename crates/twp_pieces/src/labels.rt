@@ -4,7 +4,7 @@ use crate::pieces::{Pieces, plus};
 use twp_grammar::Kind;
 use twp_words::{
     begins_line_label, is_acres, is_beyond_label, is_column, is_instrument, is_of_covering,
-    is_of_label, is_same,
+    is_of_label, is_same, names_property,
 };
 
 /// The most pieces of a label.
@@ -13,17 +13,10 @@ const PIECES_MOST: usize = 24;
 /// The most pieces of a cell that isn't land.
 const CELL_MOST: usize = 5;
 
-/// The words of a label: the index after them, and whether one of them is known as a word of labels.
-#[derive(Clone, Copy)]
-struct Label {
-    end: usize,
-    is_known: bool,
-}
-
 /// Where a label is.
 #[derive(Clone, Copy, PartialEq, Eq)]
 pub enum Position {
-    /// Before any land: it may have words that aren't known.
+    /// Before any land: it may have more words.
     BeforeLand,
     /// After some land.
     AfterLand,
@@ -58,28 +51,15 @@ impl<'a> Pieces<'a> {
         if let Some(end) = self.end_of_office(index) {
             return Some(end);
         }
-        if let Some(end) = self.end_of_words(index, position) {
-            return Some(end);
-        }
-        self.end_of_serial(index)
-    }
-
-    /// Where a label of words ends: at a colon, or after words for an instrument, a lease, or a serial number also at another
-    /// mark, or with the line. Before land, and after a colon or a tab, it may have any words. None if it may name land.
-    fn end_of_words(&self, index: usize, position: Position) -> Option<usize> {
-        let is_first = position == Position::BeforeLand
-            && (self.begins_line(index) || self.is(index.saturating_sub(1), b":"));
-        if is_first {
+        if position == Position::BeforeLand {
             if let Some(end) = self.end_of_cell(index) {
                 return Some(end);
             }
         }
-        let label = self.words_of_label(index)?;
-        if is_first || label.is_known {
-            Some(label.end)
-        } else {
-            None
+        if let Some(end) = self.end_of_words(index, position) {
+            return Some(end);
         }
+        self.end_of_serial(index)
     }
 
     /// Where the name of the column for aliquot parts at an index ends, as `ALIQ`, or `Type: ALIQ Subdiv:`.
@@ -137,8 +117,9 @@ impl<'a> Pieces<'a> {
         None
     }
 
-    /// The words of a label at an index.
-    fn words_of_label(&self, index: usize) -> Option<Label> {
+    /// Where a label ends that has a known word: at a colon, or after words for an instrument, a lease, or a serial number
+    /// also at another mark, or with the line. None if it may name land.
+    fn end_of_words(&self, index: usize, position: Position) -> Option<usize> {
         let first = self.after_size(index);
         if !matches!(self.kind(first), Kind::Other) || self.names_resurvey(first) {
             return None;
@@ -150,15 +131,21 @@ impl<'a> Pieces<'a> {
             if place >= self.len() || (is_line_end && !begins) {
                 return None;
             }
-            if is_line_end || (place > first && is_known && self.ends_known_label(place)) {
-                return Some(Label {
-                    end: place,
-                    is_known,
-                });
+            if is_line_end || (place > first && is_known && self.ends_known_label(first, place)) {
+                return Some(place);
             }
-            is_known = is_known || is_of_label(self.lower(place));
-            if let Some(end) = self.end_of_label_at(first, place, is_known) {
-                return Some(Label { end, is_known });
+            let word = self.lower(place);
+            is_known = is_known
+                || is_of_label(word)
+                || (position == Position::BeforeLand && names_property(word));
+            if is_known {
+                let end = self.end_of_label_at(first, place);
+                if end.is_some() {
+                    return end;
+                }
+            }
+            if self.is_school_section(first, place) {
+                return Some(plus(place, 2));
             }
             if self.ends_no_label(place) {
                 return None;
@@ -167,22 +154,28 @@ impl<'a> Pieces<'a> {
         None
     }
 
-    /// Where a label ends with the word or the mark at a place.
-    fn end_of_label_at(&self, first: usize, place: usize, is_known: bool) -> Option<usize> {
+    /// Whether the word after `School` at an index and a colon end a label.
+    fn is_school_section(&self, first: usize, index: usize) -> bool {
+        self.is(first, b"school") && self.is(index, b"section") && self.is(plus(index, 1), b":")
+    }
+
+    /// Where a label with a known word ends with the word or the mark at a place.
+    fn end_of_label_at(&self, first: usize, place: usize) -> Option<usize> {
         let word = self.lower(place);
         let next = plus(place, 1);
-        let is_end = (is_same(word, b":") && place > first && self.may_end_label(place, is_known))
+        let is_end = (is_same(word, b":") && place > first)
             || (is_same(word, b";")
                 && (is_instrument(self.lower(first))
                     || self.is_property_word(place.saturating_sub(1))))
-            || (is_known && is_of_covering(word))
+            || is_of_covering(word)
             || (place > first && self.is_property_word(place) && self.is(next, b","));
         if is_end {
             return Some(next);
         }
-        let is_two = (is_known && is_same(word, b",") && self.is(next, b"or"))
-            || (is_same(word, b"section") && self.is(first, b"school") && self.is(next, b":"));
-        if is_two { Some(plus(next, 1)) } else { None }
+        if is_same(word, b",") && self.is(next, b"or") {
+            return Some(plus(next, 1));
+        }
+        None
     }
 
     /// Whether the piece at an index is in no label: a mark that ends one, or what may be of land, or limit it.
@@ -225,13 +218,14 @@ impl<'a> Pieces<'a> {
 
     /// Whether a label that begins with a word for one ends before an index: before a dash, a comma, or the next cell,
     /// after which a section or land follows.
-    fn ends_known_label(&self, index: usize) -> bool {
+    fn ends_known_label(&self, first: usize, index: usize) -> bool {
         let next = plus(index, 1);
         if self.has_break_before(index) && self.begins_place(index) {
             return true;
         }
+        let is_tract = self.is(first, b"tract") || self.is(first, b"parcel");
         let is_mark = (self.is_dash(index) && !self.is_joined(index) && !self.is_joined(next))
-            || self.is(index, b",");
+            || (self.is(index, b",") && !is_tract);
         is_mark && self.begins_place(next)
     }
 
@@ -257,19 +251,6 @@ impl<'a> Pieces<'a> {
             || is_same(word, b"range")
             || is_same(word, b"rng")
             || is_same(word, b"rge")
-    }
-
-    /// Whether a label may end at a colon: with a number only if that is part of a name, or a section follows.
-    fn may_end_label(&self, index: usize, has_word: bool) -> bool {
-        let last = index.saturating_sub(1);
-        if !matches!(self.kind(last), Kind::Number(_) | Kind::BadNumber) {
-            return true;
-        }
-        let next = plus(index, 1);
-        has_word
-            || self.is_dash(last.saturating_sub(1))
-            || matches!(self.kind(next), Kind::Sec)
-            || self.is_township_word(next)
     }
 
     /// Where the serial number of a case at an index ends, as `IDI-38114`, or `ID-031-2023-0012`.

@@ -91,7 +91,9 @@ impl<'a> Pieces<'a> {
             };
         }
         if is_same(word, b"from") || is_same(word, b"down") {
-            let is_known = self.is(next, b"the") || self.is(next, b"to");
+            let is_known = self.is(next, b"the")
+                || self.is(next, b"to")
+                || self.is(next, b"surface");
             return if is_known {
                 Some(Trailer::DepthsAlone)
             } else {
@@ -150,8 +152,7 @@ impl<'a> Pieces<'a> {
             || is_same(first, b"book")
             || is_same(first, b"inst")
             || is_same(first, b"rec")
-            || is_same(first, b"lease")
-            || is_same(first, b"doc");
+            || begins_terms(first);
         if !self.is(index, b"(") || !is_known {
             return None;
         }

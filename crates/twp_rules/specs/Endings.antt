@@ -102,12 +102,12 @@ more_trailers = codes "from the" ∷ codes "below" ∷ codes "above" ∷ codes "
 -- or with an estate, or who holds it
 abbrev pub estates : List (List ℕ)
 estates = codes "mineral" ∷ codes "oil" ∷ codes "only" ∷ codes "fed" ∷ codes "fee" ∷ codes "blm"
-    ∷ codes "usa" ∷ codes "private" ∷ []
+    ∷ codes "usa" ∷ codes "private" ∷ codes "from surface" ∷ []
 
 -- or a remark in parentheses
 abbrev pub remarks : List (List ℕ)
 remarks = codes "(see" ∷ codes "(bk" ∷ codes "(book" ∷ codes "(inst" ∷ codes "(rec" ∷ codes "(lease"
-    ∷ codes "(doc" ∷ []
+    ∷ codes "(doc" ∷ codes "(hbp" ∷ codes "(fed" ∷ codes "(fee" ∷ codes "(blm" ∷ codes "(open" ∷ []
 
 -- what a label begins with
 abbrev pub label_fronts : List (List ℕ)

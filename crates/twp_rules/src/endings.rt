@@ -311,6 +311,7 @@ pub(crate) fn has_estates(seen: &[u8]) -> bool
         || begins_with(seen, b"blm")
         || begins_with(seen, b"usa")
         || begins_with(seen, b"private")
+        || begins_with(seen, b"from surface")
 }
 
 /// The texts `remarks` of the specification.
@@ -324,6 +325,11 @@ pub(crate) fn has_remarks(seen: &[u8]) -> bool
         || begins_with(seen, b"(rec")
         || begins_with(seen, b"(lease")
         || begins_with(seen, b"(doc")
+        || begins_with(seen, b"(hbp")
+        || begins_with(seen, b"(fed")
+        || begins_with(seen, b"(fee")
+        || begins_with(seen, b"(blm")
+        || begins_with(seen, b"(open")
 }
 
 /// The texts `section_again` of the specification.

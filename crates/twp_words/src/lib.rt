@@ -11,7 +11,7 @@ mod terms;
 pub use figures::{is_acreage_lead, is_acres, is_area_word, is_of_count};
 pub use labels::{
     begins_line_label, is_beyond_label, is_column, is_instrument, is_of_covering, is_of_label,
-    is_of_property,
+    is_of_property, names_property,
 };
 pub use meridians::{are_meridian_letters, is_meridian, is_state};
 pub use same::{are_corners, is_same};
