@@ -63,17 +63,17 @@ abbrev pub is_one_of : List ℕ → List (List ℕ) → Bool
 is_one_of seen [] = false
 is_one_of seen (text ∷ texts) = same_bytes (str_to_ascii_lowercase seen) text || is_one_of seen texts
 
+-- a text without the white space before it
+abbrev pub without_white : List ℕ → List ℕ
+without_white [] = []
+without_white (byte ∷ bytes) = if is_white byte then without_white bytes else byte ∷ bytes
+
 -- it is one of these, and one of those
 abbrev pub is_spelled : List ℕ → List (List ℕ) → List (List ℕ) → Bool
 is_spelled seen [] ends = false
 is_spelled seen (front ∷ fronts) ends =
     begins_with seen front && is_one_of (without_white (drop (length front) seen)) ends
     || is_spelled seen fronts ends
-
--- a text without the white space before it
-abbrev pub without_white : List ℕ → List ℕ
-without_white [] = []
-without_white (byte ∷ bytes) = if is_white byte then without_white bytes else byte ∷ bytes
 
 -- a half or a quarter, with the spellings of its letters
 abbrev pub is_half : List ℕ → List ℕ → List (List ℕ) → List ℕ → Bool
