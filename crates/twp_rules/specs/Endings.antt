@@ -47,10 +47,13 @@ abbrev pub meridian_ends : List (List ℕ)
 meridian_ends = codes "meridian" ∷ codes "mer" ∷ codes "mer." ∷ codes "m" ∷ codes "m." ∷ codes "county"
     ∷ codes "co" ∷ codes "co." ∷ codes "|" ∷ []
 
--- what a meridian, a county, or a state begins with, if not with its name, after white space
+-- what a county or a state begins with, if not with its name, after white space
 abbrev pub meridian_fronts : List (List ℕ)
-meridian_fronts = codes "county of" ∷ codes "state of" ∷ codes "in the county of" ∷ codes "meridian:"
-    ∷ codes "mer:" ∷ codes "county:" ∷ codes "state:" ∷ codes "st:" ∷ []
+meridian_fronts = codes "county of" ∷ codes "state of" ∷ codes "in the county of" ∷ []
+
+-- or the word for it, and a colon
+abbrev pub meridian_labels : List (List ℕ)
+meridian_labels = codes "meridian:" ∷ codes "mer:" ∷ codes "county:" ∷ codes "state:" ∷ codes "st:" ∷ []
 
 -- the names of states that have public land
 abbrev pub states : List (List ℕ)
@@ -78,8 +81,12 @@ acreage_fronts = codes "acres" ∷ codes "acreage" ∷ codes "ac" ∷ codes "gro
 
 -- what a label ends with
 abbrev pub label_ends : List (List ℕ)
-label_ends = codes ":" ∷ codes ";" ∷ codes "aliq" ∷ codes "aliquot" ∷ codes "aliquots" ∷ codes "subdivision"
-    ∷ codes "subdiv" ∷ codes "legal" ∷ codes "desc" ∷ codes "description" ∷ []
+label_ends = codes ":" ∷ codes ";" ∷ codes "aliq" ∷ codes "aliquot" ∷ codes "aliquots" ∷ []
+
+-- or with the name of a column
+abbrev pub column_ends : List (List ℕ)
+column_ends =
+    codes "subdivision" ∷ codes "subdiv" ∷ codes "legal" ∷ codes "desc" ∷ codes "description" ∷ []
 
 -- or with what it is of
 abbrev pub label_words : List (List ℕ)
@@ -124,8 +131,12 @@ interest_fronts =
 -- what an interest in land ends with
 abbrev pub interest_ends : List (List ℕ)
 interest_ends = codes "interest in" ∷ codes "int in" ∷ codes "int. in" ∷ codes "and to" ∷ codes "and under"
-    ∷ codes "minerals in" ∷ codes "royalty in" ∷ codes "minerals under" ∷ codes "interest" ∷ codes "int"
-    ∷ codes "int." ∷ []
+    ∷ []
+
+-- or with the minerals that it is in
+abbrev pub mineral_ends : List (List ℕ)
+mineral_ends = codes "minerals in" ∷ codes "royalty in" ∷ codes "minerals under" ∷ codes "interest"
+    ∷ codes "int" ∷ codes "int." ∷ []
 
 -- the names of columns
 abbrev pub column_names : List (List ℕ)

@@ -25,7 +25,8 @@ use Rattle.twp_rules.specs.Endings.{section_ends, section_again, meridian_ends, 
 use Rattle.twp_rules.specs.Endings.{more_states, state_letters, acreage_ends, acreage_fronts, label_ends}
 use Rattle.twp_rules.specs.Endings.{label_words, trailers, more_trailers, label_fronts, interest_fronts}
 use Rattle.twp_rules.specs.Endings.{interest_ends, column_names, instrument_fronts, well_ends}
-use Rattle.twp_rules.specs.Endings.{parenthesis_ends, estates, remarks}
+use Rattle.twp_rules.specs.Endings.{parenthesis_ends, estates, remarks, meridian_labels, column_ends}
+use Rattle.twp_rules.specs.Endings.{mineral_ends}
 
 -- this is written for that, in letters of either case
 abbrev pub is_entry : List ℕ → List ℕ → Entry → Bool
@@ -178,8 +179,9 @@ begins_label seen =
 -- what isn't land ends with
 abbrev pub ends_label : List ℕ → Bool
 ends_label seen =
-    ends_with_one seen label_ends || ends_with_one seen label_words || ends_with_one seen interest_ends
-    || ends_with_one seen well_ends || ends_with_number seen
+    ends_with_one seen label_ends || ends_with_one seen column_ends || ends_with_one seen label_words
+    || ends_with_one seen interest_ends || ends_with_one seen mineral_ends || ends_with_one seen well_ends
+    || ends_with_number seen
 
 -- a text is alone in a cell of a table: a tab is after it, and a tab, a line feed, or nothing before it
 abbrev pub is_cell : List ℕ → ℕ → ℕ → Bool
@@ -196,6 +198,7 @@ may_be_left_out MovedHeading seen = ends_with_one seen heading_ends
 may_be_left_out Meridian seen =
     ends_with_one seen meridian_ends || is_place_name seen
     || begins_with_one (without_white seen) meridian_fronts
+    || begins_with_one (without_white seen) meridian_labels
 may_be_left_out Acreage seen =
     ends_with_one seen acreage_ends || is_figure seen || begins_with_one (without_white seen) acreage_fronts
 may_be_left_out Label seen = ends_label seen || begins_label seen || are_columns seen

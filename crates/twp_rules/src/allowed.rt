@@ -105,6 +105,7 @@ fn may_be_left_out(rule: Rule, seen: &[u8]) -> bool
             has_meridian_ends(seen)
                 || is_place_name(seen)
                 || has_meridian_fronts(without_white(seen))
+                || has_meridian_labels(without_white(seen))
         }
         Rule::Acreage => {
             has_acreage_ends(seen) || is_figure(seen) || has_acreage_fronts(without_white(seen))
@@ -132,8 +133,10 @@ fn ends_label(seen: &[u8]) -> bool
     ensures { result ≡ ends_label seen.now }
 {
     has_label_ends(seen)
+        || has_column_ends(seen)
         || has_label_words(seen)
         || has_interest_ends(seen)
+        || has_mineral_ends(seen)
         || has_well_ends(seen)
         || ends_with_number(seen)
 }

@@ -3,7 +3,7 @@ ghost use Rattle.std.specs.Prelude.{◌≡◌};
 ghost use Rattle.std.specs.Str.{str_to_ascii_lowercase};
 ghost use Rattle.twp_rules.specs.Rules.{begins_with, begins_with_one, ends_with, ends_with_one};
 ghost use Rattle.twp_rules.specs.Endings.{acreage_ends, acreage_fronts, column_names, corners, digits};
-ghost use Rattle.twp_rules.specs.Endings.{estates};
+ghost use Rattle.twp_rules.specs.Endings.{column_ends, estates, meridian_labels, mineral_ends};
 ghost use Rattle.twp_rules.specs.Endings.{heading_ends, instrument_fronts, interest_ends, interest_fronts};
 ghost use Rattle.twp_rules.specs.Endings.{label_ends, label_fronts, label_words, meridian_ends};
 ghost use Rattle.twp_rules.specs.Endings.{meridian_fronts, more_states, more_trailers, parenthesis_ends};
@@ -158,7 +158,13 @@ pub(crate) fn has_interest_ends(seen: &[u8]) -> bool
         || ends_with(seen, b"int. in")
         || ends_with(seen, b"and to")
         || ends_with(seen, b"and under")
-        || ends_with(seen, b"minerals in")
+}
+
+/// The texts `mineral_ends` of the specification.
+pub(crate) fn has_mineral_ends(seen: &[u8]) -> bool
+    ensures { result ≡ ends_with_one seen.now mineral_ends }
+{
+    ends_with(seen, b"minerals in")
         || ends_with(seen, b"royalty in")
         || ends_with(seen, b"minerals under")
         || ends_with(seen, b"interest")
@@ -186,7 +192,13 @@ pub(crate) fn has_label_ends(seen: &[u8]) -> bool
         || ends_with(seen, b"aliq")
         || ends_with(seen, b"aliquot")
         || ends_with(seen, b"aliquots")
-        || ends_with(seen, b"subdivision")
+}
+
+/// The texts `column_ends` of the specification.
+pub(crate) fn has_column_ends(seen: &[u8]) -> bool
+    ensures { result ≡ ends_with_one seen.now column_ends }
+{
+    ends_with(seen, b"subdivision")
         || ends_with(seen, b"subdiv")
         || ends_with(seen, b"legal")
         || ends_with(seen, b"desc")
@@ -254,7 +266,13 @@ pub(crate) fn has_meridian_fronts(seen: &[u8]) -> bool
     begins_with(seen, b"county of")
         || begins_with(seen, b"state of")
         || begins_with(seen, b"in the county of")
-        || begins_with(seen, b"meridian:")
+}
+
+/// The texts `meridian_labels` of the specification.
+pub(crate) fn has_meridian_labels(seen: &[u8]) -> bool
+    ensures { result ≡ begins_with_one seen.now meridian_labels }
+{
+    begins_with(seen, b"meridian:")
         || begins_with(seen, b"mer:")
         || begins_with(seen, b"county:")
         || begins_with(seen, b"state:")
