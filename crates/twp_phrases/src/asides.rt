@@ -1,9 +1,9 @@
 //! What is left out: the meridian, acreage, labels, and land that is repeated in parentheses.
 
-use crate::draft::{Claim, Claimed, Draft, Names, Phrase, PlacedStep};
+use crate::draft::{Claim, Claimed, Draft, Form, Names, Phrase, PlacedStep, Span};
 use std::alloc::AllocError;
 use twp_grammar::Kind;
-use twp_pieces::plus;
+use twp_pieces::{Position, plus};
 use twp_rules::Rule;
 
 impl<'a> Draft<'a> {
@@ -19,13 +19,21 @@ impl<'a> Draft<'a> {
         Ok(None)
     }
 
-    /// What is left out at an index, if it isn't in parentheses: its rule, and where it ends.
+    /// What is left out at an index, if it doesn't repeat land: its rule, and where it ends.
     fn end_of_aside(&self, index: usize) -> Option<(Rule, usize)> {
+        if let Some(end) = self.pieces.end_of_column_label(index) {
+            return Some((Rule::Label, end));
+        }
         if let Some(end) = self.end_of_figure(index) {
             return Some((Rule::Acreage, end));
         }
         if let Some(end) = self.pieces.end_of_acreage(index) {
             return Some((Rule::Acreage, end));
+        }
+        if self.pieces.begins_line(index) && self.pieces.is_dash(plus(index, 1)) {
+            if let Some(end) = self.pieces.end_of_serial(index) {
+                return Some((Rule::Label, end));
+            }
         }
         if let Some(end) = self.pieces.end_of_meridian(index) {
             return Some((Rule::Meridian, end));
@@ -42,18 +50,22 @@ impl<'a> Draft<'a> {
         if is_number && !self.pieces.begins_line(index) {
             return None;
         }
-        let end = self.pieces.end_of_label(index)?;
+        let position = if self.names_land {
+            Position::AfterLand
+        } else {
+            Position::BeforeLand
+        };
+        let end = self.pieces.end_of_label(index, position)?;
         Some((Rule::Label, end))
     }
 
     /// Where a number in parentheses at an index ends, which is the acreage of the part before it.
     fn end_of_figure(&self, index: usize) -> Option<usize> {
-        let close = plus(index, 2);
-        let is_figure = self.pieces.is(index, b"(")
-            && self.last_names() == Some(Names::Part)
-            && self.pieces.number(plus(index, 1)).is_some()
-            && self.pieces.is(close, b")");
-        if is_figure {
+        if !self.pieces.is(index, b"(") || self.last_names() != Some(Names::Part) {
+            return None;
+        }
+        let close = self.pieces.end_of_decimal(plus(index, 1))?;
+        if self.pieces.is(close, b")") {
             Some(plus(close, 1))
         } else {
             None
@@ -70,10 +82,11 @@ impl<'a> Draft<'a> {
         let (what, close) = if matches!(self.pieces.kind(first), Kind::All) {
             (Claimed::WholeSection, plus(first, 1))
         } else {
-            let Some(part) = self.part(first)? else {
+            let Some(part) = self.part_in_pieces(first)? else {
                 return Ok(None);
             };
-            let is_same = before.names == Names::Part && self.have_same_steps(before, part);
+            let is_same = before.names == Names::Part
+                && (self.have_same_steps(before, part) || self.is_last_step(before, part));
             let what = if is_same {
                 Claimed::Same
             } else {
@@ -81,6 +94,12 @@ impl<'a> Draft<'a> {
             };
             (what, part.end)
         };
+        let acreage = if self.pieces.is(close, b",") {
+            self.pieces.end_of_acreage(plus(close, 1))
+        } else {
+            None
+        };
+        let close = acreage.unwrap_or(close);
         let is_land = matches!(before.names, Names::Part | Names::Lots);
         if !is_land || !self.pieces.is(close, b")") {
             return Ok(None);
@@ -91,6 +110,32 @@ impl<'a> Draft<'a> {
             self.claims.push(Claim { place: index, what })?;
         }
         Ok(Some(self.phrase(Names::Nothing(Rule::Repeated), index, end, from)))
+    }
+
+    /// The aliquot part at an index, of which white space may be between two steps, as in `(N 1/2 NE 1/4)`.
+    fn part_in_pieces(&mut self, index: usize) -> Result<Option<Phrase>, AllocError> {
+        let Some(first) = self.part(index)? else {
+            return Ok(None);
+        };
+        match self.part(first.end)? {
+            Some(second) => Ok(Some(Phrase {
+                end: second.end,
+                steps: Span {
+                    first: first.steps.first,
+                    end: second.steps.end,
+                },
+                ..first
+            })),
+            None => Ok(Some(first)),
+        }
+    }
+
+    /// Whether a part is the last step of another, which has an `of`, as in `the West half of the Southwest quarter (SW¼)`.
+    fn is_last_step(&self, whole: Phrase, part: Phrase) -> bool {
+        match (self.steps_of(whole), self.steps_of(part)) {
+            ([.., last], [step]) => whole.form == Form::WithOf && last.written == step.written,
+            _ => false,
+        }
     }
 
     /// Whether two aliquot parts have the same steps.

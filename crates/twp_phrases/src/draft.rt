@@ -121,6 +121,10 @@ pub struct Draft<'a> {
     pub names_land: bool,
     /// Whether something was found that makes the text unsure, or that isn't land.
     pub is_unsure: bool,
+    /// Whether a parenthesis before land is open.
+    pub has_open: bool,
+    /// The last section that was found.
+    pub last_section: Option<Phrase>,
 }
 
 /// There is room from the start for this many phrases, changes, steps, and numbers: most texts have fewer.
@@ -159,6 +163,8 @@ impl<'a> Draft<'a> {
             claims: Vec::new(alloc),
             names_land: false,
             is_unsure: false,
+            has_open: false,
+            last_section: None,
         })
     }
 

@@ -29,20 +29,30 @@ impl<'a> Draft<'a> {
     /// The section or sections at an index, after the word for them.
     pub fn sections(&mut self, index: usize) -> Result<Option<Phrase>, AllocError> {
         let from = self.extent();
-        let word = if self.pieces.is(index, b"fractional") || self.pieces.is(index, b"said") {
+        let is_said = self.pieces.is(index, b"said") || self.pieces.is(index, b"same");
+        let word = if self.pieces.is(index, b"fractional") || is_said {
             plus(index, 1)
         } else {
             index
         };
+        if self.pieces.is_damaged_section_word(word) {
+            return self.damaged_section(word);
+        }
         let is_known = matches!(self.pieces.kind(word), Kind::Sec);
         if !is_known
             && !(self.pieces.is(word, b"sect")
                 || self.pieces.is(word, b"sects")
                 || self.pieces.is(word, b"scc")
                 || self.pieces.is(word, b"sce")
+                || self.pieces.is(word, b"seo")
                 || self.pieces.is(word, b"\xC2\xA7"))
         {
             return Ok(None);
+        }
+        if is_said {
+            if let Some(phrase) = self.section_again(index, word) {
+                return Ok(Some(phrase));
+            }
         }
         if word > index {
             self.leave_out(index, word, Rule::Word)?;
@@ -60,10 +70,45 @@ impl<'a> Draft<'a> {
         Ok(Some(Phrase { form, ..phrase }))
     }
 
+    /// The section that was named before, if words for it at an index have no number.
+    fn section_again(&self, index: usize, word: usize) -> Option<Phrase> {
+        let next = plus(word, 1);
+        let end = if self.pieces.is(next, b".") && self.pieces.is_joined(next) {
+            plus(next, 1)
+        } else {
+            next
+        };
+        if self.section_number(end).is_some() {
+            return None;
+        }
+        let numbers = self.last_section?.numbers;
+        let again = self.phrase(Names::Sections, index, end, self.extent());
+        Some(Phrase { numbers, ..again })
+    }
+
+    /// The section at an index whose word begins with such a digit.
+    fn damaged_section(&mut self, index: usize) -> Result<Option<Phrase>, AllocError> {
+        let from = self.extent();
+        self.replace(index, b"S", Rule::Damage)?;
+        let next = self.after_section_word(plus(index, 1))?;
+        let Some(number) = self.section_number(next) else {
+            return Ok(None);
+        };
+        self.write_numeral(number)?;
+        Ok(Some(self.phrase(Names::Sections, index, number.end, from)))
+    }
+
     /// The index after the marks that follow the word for sections at an index: a period, a second one, or a comma in its
     /// place.
     fn after_section_word(&mut self, word: usize) -> Result<usize, AllocError> {
         let next = plus(word, 1);
+        if matches!(self.pieces.kind(next), Kind::Colon) {
+            self.leave_out(next, plus(next, 1), Rule::Mark)?;
+            return Ok(plus(next, 1));
+        }
+        if self.pieces.is(next, b".") && self.pieces.number(plus(next, 1)).is_some() {
+            return Ok(plus(next, 1));
+        }
         if !self.pieces.is_joined(next) {
             return Ok(next);
         }
@@ -115,6 +160,7 @@ impl<'a> Draft<'a> {
         } else if self.pieces.is(word, b"sect")
             || self.pieces.is(word, b"scc")
             || self.pieces.is(word, b"sce")
+            || self.pieces.is(word, b"seo")
             || self.pieces.is(word, b"\xC2\xA7")
         {
             self.replace(word, b"sec", Rule::SectionWord)?;
@@ -163,7 +209,7 @@ impl<'a> Draft<'a> {
             self.write_numeral(more)?;
             last = more;
             end = self.after_acreage(more.end, names)?;
-            end = self.after_inclusive(end, join);
+            end = self.after_inclusive(end, join)?;
         }
         Ok(end)
     }
@@ -234,13 +280,31 @@ impl<'a> Draft<'a> {
     }
 
     /// The index after `inclusive`, if it follows a range.
-    fn after_inclusive(&self, index: usize, join: Join) -> usize {
-        let next = plus(index, 1);
-        match self.pieces.kind(index) {
-            Kind::Inclusive if join == Join::To => next,
-            Kind::Comma if join == Join::To && self.pieces.is(next, b"inclusive") => plus(next, 1),
-            _ => index,
+    fn after_inclusive(&mut self, index: usize, join: Join) -> Result<usize, AllocError> {
+        if !matches!(join, Join::To | Join::Dash) {
+            return Ok(index);
         }
+        let word = if matches!(self.pieces.kind(index), Kind::Comma) {
+            plus(index, 1)
+        } else {
+            index
+        };
+        if matches!(self.pieces.kind(word), Kind::Inclusive) {
+            return Ok(plus(word, 1));
+        }
+        if !self.pieces.is(word, b"incl") {
+            return Ok(index);
+        }
+        if word > index {
+            self.leave_out(index, word, Rule::Mark)?;
+        }
+        self.leave_out(word, plus(word, 1), Rule::Word)?;
+        let mark = plus(word, 1);
+        if self.pieces.is(mark, b".") && self.pieces.is_joined(mark) {
+            self.leave_out(mark, plus(mark, 1), Rule::Mark)?;
+            return Ok(plus(mark, 1));
+        }
+        Ok(mark)
     }
 
     /// The index after the acreage of a lot in parentheses, which is left out.
@@ -294,20 +358,32 @@ impl<'a> Draft<'a> {
         if !matches!(self.pieces.kind(word), Kind::Lot)
             && !(self.pieces.is(word, b"l")
                 || self.pieces.is(word, b"lt")
+                || self.pieces.is(word, b"gl")
                 || self.pieces.is(word, b"lts"))
         {
             return Ok(None);
         }
         self.leave_out_each(index, word, Rule::LotWord)?;
         let mut next = plus(word, 1);
-        if self.pieces.is(word, b"l") || self.pieces.is(word, b"lt") {
+        if self.pieces.is(word, b"l")
+            || self.pieces.is(word, b"lt")
+            || self.pieces.is(word, b"gl")
+        {
             self.replace(word, b"lot ", Rule::LotWord)?;
         } else if self.pieces.is(word, b"lts") {
             self.replace(word, b"lots ", Rule::LotWord)?;
         }
-        if self.pieces.is(next, b"numbered") || self.pieces.is(next, b".") {
-            self.replace(next, b"", Rule::LotWord)?;
-            next = plus(next, 1);
+        for place in next..plus(next, 3) {
+            if place == next
+                && (self.pieces.is(place, b"numbered")
+                    || self.pieces.is(place, b".")
+                    || self.pieces.is(place, b"no")
+                    || self.pieces.is(place, b"nos")
+                    || self.pieces.is(place, b"#"))
+            {
+                self.replace(place, b"", Rule::LotWord)?;
+                next = plus(place, 1);
+            }
         }
         Ok(Some(next))
     }
@@ -321,8 +397,16 @@ impl<'a> Draft<'a> {
                 next = plus(next, 1);
             }
         }
+        if matches!(self.pieces.kind(next), Kind::Lot) {
+            return next;
+        }
         if self.pieces.is(next, b"government") || self.pieces.is(next, b"govt") {
-            return plus(next, 1);
+            let mark = plus(next, 1);
+            return if self.pieces.is(mark, b".") {
+                plus(mark, 1)
+            } else {
+                mark
+            };
         }
         if self.pieces.is(next, b"gov") {
             let mark = plus(next, 1);

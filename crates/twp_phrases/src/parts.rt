@@ -52,6 +52,14 @@ impl Size {
         }
     }
 
+    /// Whether a word in lowercase is its name, and no abbreviation.
+    fn is_whole_word(self, word: &[u8]) -> bool {
+        match self {
+            Size::Half => is_same(word, b"half"),
+            Size::Quarter => is_same(word, b"quarter") || is_same(word, b"qtr"),
+        }
+    }
+
     /// Whether a piece is the lowered digit of its fraction.
     fn is_lowered(self, piece: &[u8]) -> bool {
         match self {
@@ -153,8 +161,11 @@ impl<'a> Draft<'a> {
                 end = after;
                 continue;
             }
+            let extent = self.extent();
+            let same = self.after_same_step(end)?;
             let steps = self.steps.len();
-            let Some(after) = self.step_after_of(end)? else {
+            let Some(after) = self.step_after_of(same)? else {
+                self.shrink(extent);
                 break;
             };
             if let Some(step) = self.steps.get_mut(steps) {
@@ -167,10 +178,48 @@ impl<'a> Draft<'a> {
         Ok(Some(Phrase { form, ..phrase }))
     }
 
+    /// The index after the step before an index in parentheses, if `of` follows them, as in `the West half (W½) of`. They
+    /// are left out.
+    fn after_same_step(&mut self, index: usize) -> Result<usize, AllocError> {
+        if !self.pieces.is(index, b"(") {
+            return Ok(index);
+        }
+        let before = self.steps.last().copied();
+        let extent = self.extent();
+        let close = self.step(plus(index, 1))?;
+        let same = self.steps.last().copied();
+        let count = self.extent().steps_after(extent);
+        self.shrink(extent);
+        let (Some(close), Some(before), Some(same)) = (close, before, same) else {
+            return Ok(index);
+        };
+        let end = plus(close, 1);
+        if count != 1
+            || before.written != same.written
+            || !self.pieces.is(close, b")")
+            || !self.pieces.is(end, b"of")
+        {
+            return Ok(index);
+        }
+        self.leave_out(index, end, Rule::Repeated)?;
+        Ok(end)
+    }
+
     /// The step at an index that is joined to the one before it, also by a backslash.
     fn step_joined(&mut self, index: usize) -> Result<Option<usize>, AllocError> {
         if !self.pieces.is_joined(index) {
             return Ok(None);
+        }
+        if self.pieces.is_hyphen_at_line_end(index) {
+            let next = plus(index, 1);
+            let extent = self.extent();
+            let from = self.pieces.start(index);
+            self.leave_out_bytes(from, self.pieces.start(next))?;
+            let end = self.step(next)?;
+            if end.is_none() {
+                self.shrink(extent);
+            }
+            return Ok(end);
         }
         if self.pieces.is(index, b"\\") {
             self.leave_out(index, plus(index, 1), Rule::Mark)?;
@@ -204,7 +253,7 @@ impl<'a> Draft<'a> {
         match self.pieces.kind(index) {
             Kind::NorthSouth(_) | Kind::EastWest(_) => self.half(index),
             Kind::Corner(_) => self.corners(index),
-            Kind::Number(5) if self.pieces.has_digits(index, 1) => self.damaged_corner(index),
+            Kind::Number(5 | 8) if self.pieces.has_digits(index, 1) => self.damaged_corner(index),
             Kind::Other if are_corners(self.pieces.lower(index)) => self.corners(index),
             Kind::Other => self.step_in_words(index),
             _ => Ok(None),
@@ -344,6 +393,9 @@ impl<'a> Draft<'a> {
         if is_joined && pieces.is(index, b"/") && self.is_digit(next, size) {
             return Some(plus(next, 1));
         }
+        if size.is_whole_word(pieces.lower(index)) {
+            return Some(next);
+        }
         if is_joined && self.is_digit(index, size) && !self.goes_on(next) {
             return Some(next);
         }
@@ -362,7 +414,8 @@ impl<'a> Draft<'a> {
                 || pieces.is(index, b"\xC2\xB9"))
         {
             let is_lower = size.is_lowered(pieces.lower(digit)) && pieces.is_joined(digit);
-            if self.is_digit(digit, size) || is_lower {
+            let is_z = size == Size::Half && pieces.is(digit, b"z") && pieces.is_joined(digit);
+            if self.is_digit(digit, size) || is_lower || (is_z && pieces.is(index, b"1")) {
                 return Some(plus(digit, 1));
             }
         }
@@ -418,7 +471,11 @@ impl<'a> Draft<'a> {
     /// The corner at an index whose letters are apart, or the side, with periods after them, and the fraction.
     fn dotted(&mut self, index: usize) -> Result<Option<usize>, AllocError> {
         let pieces = &self.pieces;
-        let second = self.after_stop(plus(index, 1));
+        let second = if self.pieces.is_hyphen_at_line_end(plus(index, 1)) {
+            plus(index, 2)
+        } else {
+            self.after_stop(plus(index, 1))
+        };
         let extent = self.extent();
         let begin = pieces.start(index);
         if !matches!(pieces.kind(index), Kind::NorthSouth(_))
@@ -523,9 +580,15 @@ impl<'a> Draft<'a> {
         let next = plus(index, 1);
         let is_two = letters.len() == 1
             && (self.pieces.is(index, b"north") || self.pieces.is(index, b"south"))
-            && (self.pieces.is(next, b"east") || self.pieces.is(next, b"west"));
+            && (self.pieces.is_second_word(next)
+                || (self.pieces.is(next, b"-") && self.pieces.is_second_word(plus(next, 1))));
+        let second = if self.pieces.is(next, b"-") {
+            plus(next, 1)
+        } else {
+            next
+        };
         let (after, letters) = if is_two {
-            (plus(index, 2), self.corner_in_words(index))
+            (plus(second, 1), self.corner_in_words(index, second))
         } else {
             (next, letters)
         };
@@ -538,7 +601,14 @@ impl<'a> Draft<'a> {
         let end = self.pieces.end_before(after);
         let extent = self.extent();
         let written = written_step(letters);
-        self.write(start, end, letters, Rule::Direction)?;
+        if is_two {
+            self.write_direction(index)?;
+            let first_end = self.pieces.end(index);
+            self.leave_out_bytes(first_end, self.pieces.start(second))?;
+            self.write_direction(second)?;
+        } else {
+            self.write(start, end, letters, Rule::Direction)?;
+        }
         if let Some(stop) = self.fraction(after, size)? {
             self.push_step(start, stop, written)?;
             return Ok(Some(stop));
@@ -560,11 +630,17 @@ impl<'a> Draft<'a> {
         Ok(Some(plus(word, 1)))
     }
 
-    /// The letters of the corner that two words at an index name.
-    fn corner_in_words(&self, index: usize) -> &'static [u8] {
+    /// Writes the letter of the word for a side at an index.
+    fn write_direction(&mut self, index: usize) -> Result<(), AllocError> {
+        let letters = letters_of(self.pieces.lower(index)).unwrap_or(b"");
+        self.replace(index, letters, Rule::Direction)
+    }
+
+    /// The letters of the corner that two words name.
+    fn corner_in_words(&self, index: usize, second: usize) -> &'static [u8] {
         match (
             self.pieces.is(index, b"north"),
-            self.pieces.is(plus(index, 1), b"east"),
+            self.pieces.is(second, b"east"),
         ) {
             (true, true) => b"NE",
             (true, false) => b"NW",

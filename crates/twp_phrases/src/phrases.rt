@@ -26,9 +26,15 @@ impl<'a> Draft<'a> {
                     index = phrase.end;
                     self.names_land = self.names_land
                         || !matches!(phrase.names, Names::Nothing(_) | Names::Heading);
+                    if phrase.names == Names::Sections {
+                        self.last_section = Some(phrase);
+                    }
                     self.phrases.push(phrase)?;
                 }
-                None if self.joins_phrases(here) && here < plus(index, JOINING_MOST) => {}
+                None if self.joins_phrases(here) && here < plus(index, JOINING_MOST) => {
+                    self.has_open = self.pieces.is(here, b"(")
+                        || (self.has_open && !self.pieces.is(here, b")"));
+                }
                 None => self.doubt(),
             }
         }
@@ -52,7 +58,34 @@ impl<'a> Draft<'a> {
                 || self.pieces.is(index, b"\xE2\x80\x9C")
                 || self.pieces.is(index, b"\xE2\x80\x9D")
                 || self.pieces.is(index, b"thereof")
-                || self.pieces.is(index, b"\\"))
+                || self.pieces.is(index, b"\\")
+                || self.pieces.is(index, b"|")
+                || self.pieces.is(index, b"\xE2\x80\xA2")
+                || self.pieces.is(index, b"+")
+                || self.pieces.is(index, b"/")
+                || self.pieces.is(index, b"also")
+                || (self.pieces.is(index, b")") && self.has_open))
+            || self.opens_land(index)
+            || self.pieces.joins_together(index)
+    }
+
+    /// Whether parentheses around land are opened at an index: after its section, before its section, or around an
+    /// exception.
+    fn opens_land(&self, index: usize) -> bool {
+        let next = plus(index, 1);
+        if !self.pieces.is(index, b"(") || self.has_open {
+            return false;
+        }
+        match self.last_names() {
+            Some(Names::Sections) => self.pieces.begins_land(next)
+                || self.after_except(next).is_some(),
+            Some(Names::Part | Names::All) => {
+                self.after_except(next).is_some()
+                    || matches!(self.pieces.kind(next), Kind::Sec)
+                    || (self.pieces.number(next).is_some() && self.pieces.is_dash(plus(next, 1)))
+            }
+            _ => false,
+        }
     }
 
     /// The phrase at an index: of a piece that begins only one kind of phrase, that one, before the others are looked for.
@@ -62,7 +95,7 @@ impl<'a> Draft<'a> {
             Kind::Comma | Kind::Semicolon | Kind::Stop | Kind::Colon | Kind::And | Kind::To => {
                 return Ok(None);
             }
-            Kind::Half | Kind::Quarter => return Ok(None),
+            Kind::Half | Kind::Quarter if index > 0 => return Ok(None),
             Kind::BadByte if !(self.pieces.is(index, b"(") || self.pieces.is(index, b"\xC2\xA7")) =>
                 return Ok(None),
             Kind::Sec => self.sections(index)?,
@@ -72,6 +105,8 @@ impl<'a> Draft<'a> {
             Kind::NorthSouth(_) | Kind::EastWest(_) if !self.pieces.is(plus(index, 1), b".") => {
                 self.half_or_section(index)?
             }
+            Kind::Other if self.pieces.begins_step(index) => self.sure_part(index)?,
+            Kind::The if self.pieces.begins_land(plus(index, 1)) => self.sure_part(index)?,
             _ => None,
         };
         if found.is_some() {
@@ -155,6 +190,12 @@ impl<'a> Draft<'a> {
             self.leave_out(plus(next, 1), plus(next, 2), Rule::Word)?;
             return Ok(Some(self.phrase(Names::All, index, plus(next, 2), from)));
         }
+        if (self.pieces.is(next, b"whole") || self.pieces.is(next, b"entirety"))
+            && self.pieces.is(plus(next, 1), b"of")
+        {
+            self.replace(next, b"all", Rule::Word)?;
+            return Ok(Some(self.phrase(Names::All, index, plus(next, 1), from)));
+        }
         if !matches!(self.pieces.kind(next), Kind::All) {
             return Ok(None);
         }
@@ -200,7 +241,11 @@ impl<'a> Draft<'a> {
             self.write(start, stop, b" except ", Rule::Exception)?;
         } else {
             self.replace(index, b" except ", Rule::Exception)?;
-            self.leave_out_each(plus(index, 1), end, Rule::Word)?;
+            for place in plus(index, 1)..end {
+                let is_mark = self.pieces.is(place, b".");
+                let rule = if is_mark { Rule::Mark } else { Rule::Word };
+                self.leave_out(place, plus(place, 1), rule)?;
+            }
         }
         Ok(Some(self.phrase(Names::Except, index, end, from)))
     }
@@ -225,11 +270,22 @@ impl<'a> Draft<'a> {
             || pieces.is(index, b"excluding")
             || pieces.is(index, b"exc")
             || pieces.is(index, b"exclusive")
+            || pieces.is(index, b"minus")
         {
             let is_word = pieces.is(second, b"for")
                 || pieces.is(second, b"therefrom")
-                || pieces.is(second, b"of");
+                || pieces.is(second, b"of")
+                || (pieces.is(index, b"exc") && pieces.is(second, b"."));
             return Some(if is_word { third } else { second });
+        }
+        if pieces.is(index, b"but") && pieces.is(second, b"not") {
+            return Some(third);
+        }
+        if pieces.is(index, b"with")
+            && pieces.is(second, b"the")
+            && pieces.is(third, b"exception")
+        {
+            return Some(plus(third, 2));
         }
         None
     }
@@ -251,7 +307,8 @@ impl<'a> Draft<'a> {
         }
         if self.pieces.is(part.end, b"corner")
             || self.pieces.is(part.end, b"cor")
-            || self.pieces.is(part.end, b"/")
+            || (self.pieces.is(part.end, b"/")
+                && (self.pieces.is_joined(part.end) || self.pieces.is_joined(plus(part.end, 1))))
         {
             self.doubt();
         }
@@ -276,16 +333,21 @@ impl<'a> Draft<'a> {
         let next = plus(index, 2);
         if !self.pieces.is(index, b"s")
             || !self.pieces.is_joined(digits)
-            || self.pieces.is_joined(next)
+            || (self.pieces.is_joined(next) && !self.pieces.is_after_tag(next))
         {
             return Ok(None);
         }
         let Some(number) = self.section_number(digits) else {
             return Ok(None);
         };
-        let is_after = self.last_names() == Some(Names::Heading) && self.pieces.is(next, b":");
-        let is_tag = self.pieces.is(next, b"t") && self.has_heading(next)?;
-        if !is_after && !is_tag {
+        let is_after = self.last_names() == Some(Names::Heading)
+            && (self.pieces.is(next, b":") || self.pieces.has_digits(digits, 2));
+        let place = if self.pieces.is_dash(next) || self.pieces.is(next, b",") {
+            plus(next, 1)
+        } else {
+            next
+        };
+        if !is_after && !self.has_heading(place)? {
             return Ok(None);
         }
         self.replace(index, b"sec. ", Rule::SectionWord)?;
@@ -320,16 +382,23 @@ impl<'a> Draft<'a> {
         Ok(Some(Phrase { form, ..phrase }))
     }
 
-    /// Whether a dash with white space on both sides is at an index, and land after it.
-    fn is_before_dash_and_land(&self, index: usize) -> bool {
-        let land = plus(index, 1);
-        self.pieces.is_dash(index)
-            && !self.pieces.is_joined(index)
-            && !self.pieces.is_joined(land)
-            && matches!(
-                self.pieces.kind(land),
-                Kind::NorthSouth(_) | Kind::EastWest(_) | Kind::Corner(_) | Kind::All | Kind::Lot
-            )
+    /// Whether the number at an index is after a township, or after a section with its land in parentheses.
+    fn is_after_land_of_section(&self, index: usize) -> bool {
+        let mut before = index.saturating_sub(1);
+        for _ in 0..2 {
+            if self.pieces.is(before, b",")
+                || self.pieces.is(before, b";")
+                || self.pieces.is(before, b"&")
+                || self.pieces.is(before, b"and")
+            {
+                before = before.saturating_sub(1);
+            }
+        }
+        match self.last_names() {
+            Some(Names::Heading) => true,
+            Some(Names::Part | Names::All | Names::Lots) => self.pieces.is(before, b")"),
+            _ => false,
+        }
     }
 
     /// Whether the number at an index is that of a section: before a location or a colon, after a township and range,
@@ -341,7 +410,15 @@ impl<'a> Draft<'a> {
         if self.pieces.is_dash(next) && self.has_heading(plus(next, 1))? {
             return Ok(true);
         }
-        if self.is_before_dash_and_land(next) && self.pieces.begins_line(index) {
+        if self.pieces.is_before_dash_and_land(next) && self.pieces.begins_line(index) {
+            return Ok(true);
+        }
+        if self.pieces.is(next, b"(") && self.pieces.begins_land(plus(next, 1)) {
+            return Ok(self.is_after_land_of_section(index));
+        }
+        let is_cell = self.pieces.is(next, b",") || self.pieces.is(next, b"|");
+        let place = if is_cell { plus(next, 1) } else { next };
+        if self.pieces.begins_cell(index) && self.has_heading(place)? {
             return Ok(true);
         }
         let is_first = last.is_none() || matches!(last, Some(Names::Heading | Names::Nothing(_)));
@@ -352,11 +429,29 @@ impl<'a> Draft<'a> {
         if self.pieces.is(next, b":") && (is_first || is_apart) {
             return Ok(!is_alone);
         }
-        if self.is_before_dash_and_land(next) && is_apart {
+        if self.pieces.is_before_dash_and_land(next) && is_apart {
+            return Ok(true);
+        }
+        let is_list = match self.last_section {
+            Some(section) => matches!(self.pieces.kind(section.first), Kind::Number(_)),
+            None => false,
+        };
+        if is_list
+            && self.pieces.is(before, b";")
+            && matches!(last, Some(Names::Part | Names::All))
+            && self.pieces.begins_land(next)
+            && !self.pieces.is_joined(next)
+        {
             return Ok(true);
         }
         let follows_comma = self.pieces.is(before, b",") && index > 0;
         if last == Some(Names::Heading) && !follows_comma {
+            return Ok(true);
+        }
+        if last == Some(Names::Heading)
+            && self.pieces.is(next, b",")
+            && self.pieces.begins_land(plus(next, 1))
+        {
             return Ok(true);
         }
         if self.pieces.begins_line(index)

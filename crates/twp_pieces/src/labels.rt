@@ -1,116 +1,280 @@
-//! Labels before land, and what follows it: `TRACT 2:`, `WD 4/11/1947 Bk 31 Pg 212;`, `Moore 14-1H,`, `An undivided
-//! one-half interest in`, `limited to the Lance formation`.
+//! Labels before land: `TRACT 2:`, `WD 4/11/1947 Bk 31 Pg 212;`, `Moore 14-1H,`, `Serial No. IDI-38114`.
 
 use crate::pieces::{Pieces, plus};
-use crate::words::{
-    begins_line_label, begins_trailer, is_column, is_instrument, is_little, is_of_interest,
-    is_of_label, is_of_property,
-};
 use twp_grammar::Kind;
+use twp_words::{
+    begins_line_label, is_acres, is_beyond_label, is_column, is_instrument, is_of_covering,
+    is_of_label, is_same, names_property,
+};
 
 /// The most pieces of a label.
-const PIECES_MOST: usize = 16;
+const PIECES_MOST: usize = 24;
+
+/// The most pieces of a cell that isn't land.
+const CELL_MOST: usize = 5;
+
+/// Where a label is.
+#[derive(Clone, Copy, PartialEq, Eq)]
+pub enum Position {
+    /// Before any land: it may have more words.
+    BeforeLand,
+    /// After some land.
+    AfterLand,
+}
 
 impl<'a> Pieces<'a> {
     /// Where the label at an index ends.
-    pub fn end_of_label(&self, index: usize) -> Option<usize> {
-        if self.is(index, b"aliq") || self.is(index, b"aliquot") || self.is(index, b"subdivision") {
-            let next = plus(index, 1);
-            return Some(if self.is(next, b":") {
-                plus(next, 1)
-            } else {
-                next
-            });
-        }
-        let second = plus(index, 1);
-        let is_unit = matches!(self.kind(index), Kind::Other) && self.is(second, b"unit");
-        if is_unit && self.is(plus(index, 2), b":") {
-            return Some(plus(index, 3));
-        }
+    pub fn end_of_label(&self, index: usize, position: Position) -> Option<usize> {
         if let Some(end) = self.end_of_interest(index) {
             return Some(end);
         }
-        if !self.begins_line(index)
-            && !(self.is(index.saturating_sub(1), b".") || self.is(index.saturating_sub(1), b";"))
-        {
+        let before = index.saturating_sub(1);
+        let is_after_mark = self.is(before, b".") || self.is(before, b";") || self.is(before, b":");
+        if !self.begins_line(index) && !is_after_mark {
             return None;
         }
-        if let Some(end) = self.end_of_words(index) {
+        if let Some(end) = self.end_of_property(index) {
             return Some(end);
         }
-        if let Some(end) = self.end_of_line_label(index) {
+        if !matches!(
+            self.kind(index),
+            Kind::Other | Kind::Sec | Kind::T | Kind::Number(_)
+        ) {
+            return None;
+        }
+        if let Some(end) = self.end_of_columns(index) {
             return Some(end);
         }
         if let Some(end) = self.end_of_well(index) {
             return Some(end);
         }
-        if let Some(end) = self.end_of_columns(index) {
-            return Some(end);
-        }
         if let Some(end) = self.end_of_office(index) {
             return Some(end);
         }
-        self.end_of_property(index)
+        if position == Position::BeforeLand {
+            if let Some(end) = self.end_of_cell(index) {
+                return Some(end);
+            }
+        }
+        if let Some(end) = self.end_of_words(index, position) {
+            return Some(end);
+        }
+        self.end_of_serial(index)
     }
 
-    /// Where a label of known words ends: at a colon, or after words for an instrument also at a semicolon.
-    fn end_of_words(&self, index: usize) -> Option<usize> {
-        let mut has_word = false;
-        let mut has_instrument = false;
-        for place in index..plus(index, PIECES_MOST) {
-            let ends = self.is(place, b":") || (has_instrument && self.is(place, b";"));
-            if ends && (has_word || has_instrument) {
-                return Some(plus(place, 1));
+    /// Where the name of the column for aliquot parts at an index ends, as `ALIQ`, or `Type: ALIQ Subdiv:`.
+    pub fn end_of_column_label(&self, index: usize) -> Option<usize> {
+        let mut end: Option<usize> = None;
+        let mut next = index;
+        for place in index..plus(index, 6) {
+            if place < next {
+                continue;
             }
-            if self.is(place, b"unit") && place > index && self.is(plus(place, 1), b",") {
-                return Some(plus(place, 1));
+            let word = self.lower(place);
+            let after = plus(place, 1);
+            let is_name = is_same(word, b"aliq")
+                || is_same(word, b"aliquot")
+                || is_same(word, b"aliquots")
+                || is_same(word, b"subdivision")
+                || is_same(word, b"subdiv")
+                || (is_same(word, b"legal") && index > 0);
+            let is_before_colon = (is_same(word, b"type")
+                || is_same(word, b"legal")
+                || is_same(word, b"desc")
+                || is_same(word, b"description"))
+                && self.is(after, b":");
+            if !is_name && !is_before_colon {
+                break;
             }
-            let is_number = matches!(self.kind(place), Kind::Number(_) | Kind::BadNumber);
-            if self.is(place, b"section")
-                && self.is(index, b"school")
-                && self.is(plus(place, 1), b":")
+            next = if self.is(after, b":") {
+                plus(after, 1)
+            } else {
+                after
+            };
+            if is_same(word, b"type") && self.is(next, b"a") {
+                next = plus(next, 1);
+            }
+            end = Some(next);
+        }
+        end
+    }
+
+    /// Where a cell of words ends that aren't land, before a tab.
+    fn end_of_cell(&self, index: usize) -> Option<usize> {
+        for place in index..plus(index, CELL_MOST) {
+            if place > index && self.has_tab_before(place) {
+                return Some(place);
+            }
+            let is_word = matches!(self.kind(place), Kind::Other | Kind::Comma)
+                && self.bytes(place).len() != 2;
+            if !is_word
+                || (place > index && self.has_line_feed_before(place))
+                || self.ends_no_label(place)
             {
-                return Some(plus(place, 2));
-            }
-            has_word = has_word || is_of_label(self.lower(place));
-            has_instrument = has_instrument || is_instrument(self.lower(place));
-            let is_known = is_number
-                || is_of_label(self.lower(place))
-                || is_instrument(self.lower(place));
-            if !is_known && !is_little(self.lower(place)) {
                 return None;
-            }
-            if is_instrument(self.lower(index))
-                && (self.is(plus(place, 1), b"und") || self.is(plus(place, 1), b"undivided"))
-            {
-                return Some(plus(place, 1));
             }
         }
         None
     }
 
-    /// Where a label ends that has a line or a cell of its own.
-    fn end_of_line_label(&self, index: usize) -> Option<usize> {
-        if !begins_line_label(self.lower(index)) {
+    /// Where a label ends that has a known word: at a colon, or after words for an instrument, a lease, or a serial number
+    /// also at another mark, or with the line. None if it may name land.
+    fn end_of_words(&self, index: usize, position: Position) -> Option<usize> {
+        let first = self.after_size(index);
+        if !matches!(self.kind(first), Kind::Other) || self.names_resurvey(first) {
             return None;
         }
-        for place in plus(index, 1)..plus(index, PIECES_MOST) {
-            if place >= self.len() {
+        let begins = begins_line_label(self.lower(first)) || is_instrument(self.lower(first));
+        let mut is_known = begins || first > index;
+        for place in first..plus(first, PIECES_MOST) {
+            let is_line_end = place > first && self.has_line_feed_before(place);
+            if place >= self.len() || (is_line_end && !begins) {
                 return None;
             }
-            if self.has_break_before(place) {
-                return if place > plus(index, 1) {
-                    Some(place)
-                } else {
-                    None
-                };
+            if is_line_end || (place > first && is_known && self.ends_known_label(first, place)) {
+                return Some(place);
             }
-            let is_number = matches!(self.kind(place), Kind::Number(_) | Kind::BadNumber);
-            if !is_number && !is_little(self.lower(place)) {
+            let word = self.lower(place);
+            is_known = is_known
+                || is_of_label(word)
+                || (position == Position::BeforeLand && names_property(word));
+            if is_known {
+                let end = self.end_of_label_at(first, place);
+                if end.is_some() {
+                    return end;
+                }
+            }
+            if self.is_school_section(first, place) {
+                return Some(plus(place, 2));
+            }
+            if self.ends_no_label(place) {
                 return None;
             }
         }
         None
+    }
+
+    /// Whether the word after `School` at an index and a colon end a label.
+    fn is_school_section(&self, first: usize, index: usize) -> bool {
+        self.is(first, b"school") && self.is(index, b"section") && self.is(plus(index, 1), b":")
+    }
+
+    /// Where a label with a known word ends with the word or the mark at a place.
+    fn end_of_label_at(&self, first: usize, place: usize) -> Option<usize> {
+        let word = self.lower(place);
+        let next = plus(place, 1);
+        let is_end = (is_same(word, b":") && place > first)
+            || (is_same(word, b";")
+                && (is_instrument(self.lower(first))
+                    || self.is_property_word(place.saturating_sub(1))))
+            || is_of_covering(word)
+            || (place > first && self.is_property_word(place) && self.is(next, b","));
+        if is_end {
+            return Some(next);
+        }
+        if is_same(word, b",") && self.is(next, b"or") {
+            return Some(plus(next, 1));
+        }
+        None
+    }
+
+    /// Whether the piece at an index is in no label: a mark that ends one, or what may be of land, or limit it.
+    fn ends_no_label(&self, index: usize) -> bool {
+        matches!(self.kind(index), Kind::Colon | Kind::Semicolon)
+            || self.may_be_land(index)
+            || is_beyond_label(self.lower(index))
+            || self.is_township_word(index)
+    }
+
+    /// Whether the word at an index is one for a property, with which its name ends.
+    fn is_property_word(&self, index: usize) -> bool {
+        let word = self.lower(index);
+        is_same(word, b"unit") || is_same(word, b"lease") || is_same(word, b"well")
+    }
+
+    /// The index after the size of a unit, as `640 ac.` or `1280-acre`, if that is at an index.
+    fn after_size(&self, index: usize) -> usize {
+        let next = plus(index, 1);
+        let unit = if self.is_dash(next) {
+            plus(next, 1)
+        } else {
+            next
+        };
+        if self.number(index).is_none() || !is_acres(self.lower(unit)) {
+            return index;
+        }
+        let end = plus(unit, 1);
+        if self.is(end, b".") {
+            plus(end, 1)
+        } else {
+            end
+        }
+    }
+
+    /// Whether a tract of a resurvey is named at an index: its number is above those of sections.
+    fn names_resurvey(&self, index: usize) -> bool {
+        self.is(index, b"tract") && self.number(plus(index, 1)).unwrap_or(0) > 36
+    }
+
+    /// Whether a label that begins with a word for one ends before an index: before a dash, a comma, or the next cell,
+    /// after which a section or land follows.
+    fn ends_known_label(&self, first: usize, index: usize) -> bool {
+        let next = plus(index, 1);
+        if self.has_break_before(index) && self.begins_place(index) {
+            return true;
+        }
+        let is_tract = self.is(first, b"tract") || self.is(first, b"parcel");
+        let is_mark = (self.is_dash(index) && !self.is_joined(index) && !self.is_joined(next))
+            || (self.is(index, b",") && !is_tract);
+        is_mark && self.begins_place(next)
+    }
+
+    /// Whether a section, a township, or land begins at an index.
+    fn begins_place(&self, index: usize) -> bool {
+        let word = self.lower(index);
+        self.may_be_land(index)
+            || self.is_township_word(index)
+            || matches!(self.kind(index), Kind::All)
+            || is_same(word, b"und")
+            || is_same(word, b"undivided")
+            || (self.number(index).is_some()
+                && (self.is_dash(plus(index, 1)) || self.is_north_south(plus(index, 1)))
+                && self.is_joined(plus(index, 1)))
+    }
+
+    /// Whether the word for a township or a range is at an index.
+    fn is_township_word(&self, index: usize) -> bool {
+        let word = self.lower(index);
+        (matches!(self.kind(index), Kind::T | Kind::R) && self.number(plus(index, 1)).is_some())
+            || is_same(word, b"township")
+            || is_same(word, b"twp")
+            || is_same(word, b"range")
+            || is_same(word, b"rng")
+            || is_same(word, b"rge")
+    }
+
+    /// Where the serial number of a case at an index ends, as `IDI-38114`, or `ID-031-2023-0012`.
+    pub fn end_of_serial(&self, index: usize) -> Option<usize> {
+        let is_letters = matches!(self.kind(index), Kind::Other)
+            && self.bytes(index).len() >= 2
+            && self.bytes(index).len() <= 8;
+        if !is_letters {
+            return None;
+        }
+        let mut has_long = false;
+        let mut end = index;
+        for place in plus(index, 1)..plus(index, 8) {
+            let is_number = matches!(self.kind(place), Kind::Number(_) | Kind::BadNumber);
+            let is_dash = self.is_dash(place) && self.is_joined(place);
+            let follows = self.is_joined(place) || place == plus(index, 1);
+            if !follows || !(is_number || is_dash) {
+                break;
+            }
+            let least: usize = if self.is_joined(place) { 4 } else { 5 };
+            has_long = is_number && (self.bytes(place).len() >= least || has_long);
+            end = plus(place, 1);
+        }
+        if has_long { Some(end) } else { None }
     }
 
     /// Where the name of a well ends, as `Moore 14-1H`, before a mark.
@@ -129,167 +293,75 @@ impl<'a> Pieces<'a> {
         let is_well = next > index
             && self.number(next).is_some()
             && self.is(plus(next, 1), b"-")
-            && self.number(plus(next, 2)).is_some()
+            && self.number(plus(next, 2)).is_some();
+        if is_well && self.is(plus(next, 3), b":") {
+            return Some(plus(next, 4));
+        }
+        let is_horizontal = is_well
             && self.is(plus(next, 3), b"h")
             && self.is_joined(plus(next, 3))
             && (self.is(plus(next, 4), b",")
                 || self.is(plus(next, 4), b":")
                 || self.is(plus(next, 4), b";")
-                || self.is(plus(next, 4), b"-"));
-        if is_well { Some(plus(next, 4)) } else { None }
+                || self.is(plus(next, 4), b"-")
+                || self.begins_place(plus(next, 4)));
+        if is_horizontal {
+            Some(plus(next, 4))
+        } else {
+            None
+        }
     }
 
     /// Where a line ends that names columns.
     fn end_of_columns(&self, index: usize) -> Option<usize> {
+        let mut count: usize = 0;
         for place in index..plus(index, PIECES_MOST) {
-            if place > plus(index, 1) && self.has_line_feed_before(place) {
-                return Some(place);
+            if place > index && self.has_line_feed_before(place) {
+                return if count > 1 { Some(place) } else { None };
             }
-            let is_cell = place == index || self.has_break_before(place);
-            if !is_cell || !is_column(self.lower(place)) {
+            let word = self.lower(place);
+            if is_column(word) {
+                count = plus(count, 1);
+            } else if !(is_same(word, b",")
+                || is_same(word, b"|")
+                || is_same(word, b"/")
+                || is_acres(word))
+            {
                 return None;
             }
         }
         None
     }
 
-    /// Where a line ends that names a field office.
+    /// Where a line ends that names a field office, also with a county and an agency after it.
     fn end_of_office(&self, index: usize) -> Option<usize> {
-        for place in index..plus(index, 5) {
-            let next = plus(place, 1);
-            if place > index && self.is(place, b"fo") {
-                return if next >= self.len() || self.has_break_before(next) {
-                    Some(next)
+        let mut has_office = false;
+        for place in index..plus(index, PIECES_MOST) {
+            if place > index && (place >= self.len() || self.has_break_before(place)) {
+                let last = self.lower(place.saturating_sub(1));
+                let is_agency = is_same(last, b"mgmt")
+                    || is_same(last, b"management")
+                    || is_same(last, b"blm")
+                    || is_same(last, b"office")
+                    || is_same(last, b"fo")
+                    || is_same(last, b"do");
+                return if has_office && is_agency {
+                    Some(place)
                 } else {
                     None
                 };
             }
-            if self.is(place, b"field") && self.is(next, b"office") && place > index {
-                return Some(plus(next, 1));
-            }
-            if !matches!(self.kind(place), Kind::Other) {
+            let is_word = matches!(self.kind(place), Kind::Other | Kind::Of);
+            if !is_word || self.may_be_land(place) || is_beyond_label(self.lower(place)) {
                 return None;
             }
+            has_office = has_office
+                || (place > index
+                    && (self.is(place, b"fo")
+                        || self.is(place, b"do")
+                        || self.is(place, b"office")));
         }
         None
-    }
-
-    /// Where words for an undivided interest end: after `interest in`, and words for what it is in.
-    fn end_of_interest(&self, index: usize) -> Option<usize> {
-        let first = if self.is(index, b"an") {
-            plus(index, 1)
-        } else {
-            index
-        };
-        if !(self.is(first, b"undivided") || self.is(first, b"und")) {
-            return None;
-        }
-        let mut end: Option<usize> = None;
-        for place in plus(first, 1)..plus(first, PIECES_MOST) {
-            let is_number = matches!(
-                self.kind(place),
-                Kind::Number(_) | Kind::Half | Kind::Quarter
-            );
-            if !is_number && !is_of_interest(self.lower(place)) {
-                break;
-            }
-            if self.is(place, b"interest") || self.is(place, b"int") {
-                end = Some(self.after_interest(plus(place, 1)));
-            }
-        }
-        end
-    }
-
-    /// The index after words for what an interest is in.
-    fn after_interest(&self, index: usize) -> usize {
-        let mut next = index;
-        for place in index..plus(index, PIECES_MOST) {
-            let is_word = (self.is(place, b"in")
-                || self.is(place, b"and")
-                || self.is(place, b"to")
-                || self.is(place, b"of")
-                || self.is(place, b"mineral")
-                || self.is(place, b"minerals")
-                || self.is(place, b"rights")
-                || self.is(place, b"oil")
-                || self.is(place, b"gas")
-                || self.is(place, b"under"))
-                || (self.is(place, b".") && self.is_joined(place))
-                || (self.is(place, b"the")
-                    && (self.is(plus(place, 1), b"mineral")
-                        || self.is(plus(place, 1), b"minerals")
-                        || self.is(plus(place, 1), b"oil")));
-            if !is_word || next != place {
-                break;
-            }
-            next = plus(place, 1);
-        }
-        next
-    }
-
-    /// Where `all that certain real property being`, or words like it, end.
-    fn end_of_property(&self, index: usize) -> Option<usize> {
-        if !(self.is(index, b"all") || self.is(index, b"the") || self.is(index, b"that")) {
-            return None;
-        }
-        let mut has_property = false;
-        for place in index..plus(index, PIECES_MOST) {
-            let next = plus(place, 1);
-            let ends = (self.is(place, b"being") || self.is(place, b":"))
-                || (self.is(place, b"follows") && !(self.is(next, b":") || self.is(next, b",")));
-            if ends && has_property {
-                return Some(next);
-            }
-            has_property = has_property
-                || (self.is(place, b"property")
-                    || self.is(place, b"land")
-                    || self.is(place, b"lands")
-                    || self.is(place, b"premises"));
-            if !is_of_property(self.lower(place)) {
-                return None;
-            }
-        }
-        None
-    }
-
-    /// Where what is said after land ends: at the end of the text, if it has no land.
-    pub fn end_of_trailer(&self, index: usize) -> Option<usize> {
-        if !begins_trailer(self.lower(index))
-            || (self.is(index, b"as")
-                && !(self.is(plus(index, 1), b"to") || self.is(plus(index, 1), b"shown")))
-        {
-            return None;
-        }
-        for place in index..plus(index, PIECES_MOST) {
-            if place >= self.len() {
-                return Some(place);
-            }
-            if self.may_be_land(place) {
-                return None;
-            }
-        }
-        None
-    }
-
-    /// Whether the piece at an index may be of land.
-    fn may_be_land(&self, index: usize) -> bool {
-        match self.kind(index) {
-            Kind::Sec | Kind::Lot | Kind::Half | Kind::Quarter | Kind::Corner(_) => true,
-            Kind::NorthSouth(_) | Kind::EastWest(_) => true,
-            _ => (self.is(index, b"north")
-                || self.is(index, b"south")
-                || self.is(index, b"east")
-                || self.is(index, b"west")
-                || self.is(index, b"northeast")
-                || self.is(index, b"northwest")
-                || self.is(index, b"southeast")
-                || self.is(index, b"southwest")
-                || self.is(index, b"only")
-                || self.is(index, b"all")
-                || self.is(index, b"except")
-                || self.is(index, b"less")
-                || self.is(index, b"excepting")),
-        }
     }
 }
 

@@ -2,13 +2,13 @@
 ghost use Rattle.std.specs.Prelude.{◌≡◌, ◌≤◌, ◌||◌, length, slice_index, slice_range, take};
 ghost use Rattle.twp_rules.specs.Rules.{allows, byte_before, is_whole_word, may_be_left_out};
 ghost use Rattle.twp_rules.specs.Rules.{is_place_name, is_copied, is_number, is_numeral, are_digits};
-ghost use Rattle.twp_rules.specs.Rules.{is_among, is_figure};
+ghost use Rattle.twp_rules.specs.Rules.{begins_label, ends_label, is_among, is_cell, without_white};
 ghost use Rattle.twp_rules.specs.Tables.{halves, worn_halves, quarters, worn_quarters, little_words};
-ghost use Rattle.twp_rules.specs.Tables.{more_little_words};
+ghost use Rattle.twp_rules.specs.Tables.{marks, more_marks, more_little_words, joining_words};
 
 use crate::change::Change;
 use crate::endings::*;
-use crate::figures::is_figure;
+use crate::figures::{are_columns, ends_with_number, has_no_digit, is_figure, without_white};
 use crate::rule::Rule;
 use crate::same::are_same;
 use crate::steps::is_copied_step;
@@ -56,7 +56,9 @@ fn allows(rule: Rule, text: &[u8], start: usize, end: usize, seen: &[u8], writte
         Rule::Zeros => is_in_zeros(seen, written) && byte_at(text, end).is_ascii_digit(),
         Rule::FractionDigit => is_in_fraction_digits(seen, written)
             && byte_before(text, start).is_ascii_digit(),
-        Rule::Heading => is_in_headings(seen, written) || is_in_heading_words(seen, written),
+        Rule::Heading => is_in_headings(seen, written)
+            || is_in_heading_words(seen, written)
+            || is_in_heading_marks(seen, written),
         Rule::SectionWord => {
             is_in_section_words(seen, written)
                 && (are_same(seen, b"") || are_same(seen, b",") || is_whole_word(text, start, end))
@@ -70,10 +72,23 @@ fn allows(rule: Rule, text: &[u8], start: usize, end: usize, seen: &[u8], writte
         Rule::Comma => is_in_commas(seen, written),
         Rule::Semicolon => is_in_semicolons(seen, written),
         Rule::OnePart => is_in_joints(seen, written),
-        Rule::Mark => is_in_marks(seen, written),
+        Rule::Mark => is_mark(seen, written),
         Rule::Word => is_little_word(seen, written) && is_whole_word(text, start, end),
+        Rule::Label => {
+            are_same(written, b"")
+                && (may_be_left_out(rule, seen)
+                    || (has_no_digit(seen) && is_cell(text, start, end)))
+        }
         _ => are_same(written, b"") && may_be_left_out(rule, seen),
     }
+}
+
+/// Whether a text is alone in a cell of a table, before a tab.
+fn is_cell(text: &[u8], start: usize, end: usize) -> bool
+    ensures { result ≡ is_cell text.now start end }
+{
+    (start == 0 || byte_before(text, start) == b'\t' || byte_before(text, start) == b'\n')
+        && byte_at(text, end) == b'\t'
 }
 
 /// Whether a rule allows to leave out a text.
@@ -82,23 +97,48 @@ fn may_be_left_out(rule: Rule, seen: &[u8]) -> bool
 {
     match rule {
         Rule::Repeated => has_parenthesis_ends(seen),
-        Rule::MovedSection => has_digits(seen) || has_section_ends(seen),
+        Rule::MovedSection => {
+            has_digits(seen) || has_section_ends(seen) || has_section_again(seen)
+        }
         Rule::MovedHeading => has_heading_ends(seen),
         Rule::Meridian => {
-            has_meridian_ends(seen) || is_place_name(seen) || has_meridian_fronts(seen)
+            has_meridian_ends(seen)
+                || is_place_name(seen)
+                || has_meridian_fronts(without_white(seen))
+                || has_meridian_labels(without_white(seen))
         }
-        Rule::Acreage => has_acreage_ends(seen) || is_figure(seen),
-        Rule::Label => {
-            has_label_ends(seen)
-                || has_label_words(seen)
-                || has_well_ends(seen)
-                || has_trailers(seen)
-                || has_label_fronts(seen)
-                || has_interest_fronts(seen)
-                || has_column_fronts(seen)
+        Rule::Acreage => {
+            has_acreage_ends(seen) || is_figure(seen) || has_acreage_fronts(without_white(seen))
         }
+        Rule::Label => ends_label(seen) || begins_label(seen) || are_columns(seen),
         _ => false,
     }
+}
+
+/// Whether a text begins with what isn't land.
+fn begins_label(seen: &[u8]) -> bool
+    ensures { result ≡ begins_label seen.now }
+{
+    has_trailers(seen)
+        || has_more_trailers(seen)
+        || has_label_fronts(seen)
+        || has_interest_fronts(seen)
+        || has_instrument_fronts(seen)
+        || has_estates(seen)
+        || has_remarks(seen)
+}
+
+/// Whether a text ends with what isn't land.
+fn ends_label(seen: &[u8]) -> bool
+    ensures { result ≡ ends_label seen.now }
+{
+    has_label_ends(seen)
+        || has_column_ends(seen)
+        || has_label_words(seen)
+        || has_interest_ends(seen)
+        || has_mineral_ends(seen)
+        || has_well_ends(seen)
+        || ends_with_number(seen)
 }
 
 /// Whether a text ends with a state, the letters for one, or a digit.
@@ -110,23 +150,37 @@ fn is_place_name(seen: &[u8]) -> bool
 
 /// Whether a text is a half without a description's fraction, or what scanning leaves of it.
 fn is_half_mark(seen: &[u8], written: &[u8]) -> bool
-    ensures { result ≡ (is_among seen.now written.now halves || is_among seen.now written.now worn_halves) }
+    ensures { result ≡ (is_among (without_white seen.now) written.now halves
+        || is_among (without_white seen.now) written.now worn_halves) }
 {
-    is_in_halves(seen, written) || is_in_worn_halves(seen, written)
+    let mark = without_white(seen);
+    is_in_halves(mark, written) || is_in_worn_halves(mark, written)
 }
 
 /// The same for a quarter.
 fn is_quarter_mark(seen: &[u8], written: &[u8]) -> bool
-    ensures { result ≡ (is_among seen.now written.now quarters || is_among seen.now written.now worn_quarters) }
+    ensures { result ≡ (is_among (without_white seen.now) written.now quarters
+        || is_among (without_white seen.now) written.now worn_quarters) }
 {
-    is_in_quarters(seen, written) || is_in_worn_quarters(seen, written)
+    let mark = without_white(seen);
+    is_in_quarters(mark, written) || is_in_worn_quarters(mark, written)
+}
+
+/// Whether a text is a mark that means nothing.
+fn is_mark(seen: &[u8], written: &[u8]) -> bool
+    ensures { result ≡ (is_among seen.now written.now marks || is_among seen.now written.now more_marks) }
+{
+    is_in_marks(seen, written) || is_in_more_marks(seen, written)
 }
 
 /// Whether a text is a word that means nothing.
 fn is_little_word(seen: &[u8], written: &[u8]) -> bool
-    ensures { result ≡ (is_among seen.now written.now little_words || is_among seen.now written.now more_little_words) }
+    ensures { result ≡ (is_among seen.now written.now little_words || is_among seen.now written.now more_little_words
+        || is_among seen.now written.now joining_words) }
 {
-    is_in_little_words(seen, written) || is_in_more_little_words(seen, written)
+    is_in_little_words(seen, written)
+        || is_in_more_little_words(seen, written)
+        || is_in_joining_words(seen, written)
 }
 
 /// The text before a place.

@@ -2,10 +2,13 @@
 ghost use Rattle.std.specs.Prelude.{◌≡◌};
 ghost use Rattle.std.specs.Str.{str_to_ascii_lowercase};
 ghost use Rattle.twp_rules.specs.Rules.{begins_with, begins_with_one, ends_with, ends_with_one};
-ghost use Rattle.twp_rules.specs.Endings.{acreage_ends, column_fronts, corners, digits, heading_ends};
-ghost use Rattle.twp_rules.specs.Endings.{interest_fronts, label_ends, label_fronts, label_words, meridian_ends};
-ghost use Rattle.twp_rules.specs.Endings.{meridian_fronts, more_states, parenthesis_ends, section_ends, sides};
-ghost use Rattle.twp_rules.specs.Endings.{state_letters, states, trailers, well_ends};
+ghost use Rattle.twp_rules.specs.Endings.{acreage_ends, acreage_fronts, column_names, corners, digits};
+ghost use Rattle.twp_rules.specs.Endings.{column_ends, estates, meridian_labels, mineral_ends};
+ghost use Rattle.twp_rules.specs.Endings.{heading_ends, instrument_fronts, interest_ends, interest_fronts};
+ghost use Rattle.twp_rules.specs.Endings.{label_ends, label_fronts, label_words, meridian_ends};
+ghost use Rattle.twp_rules.specs.Endings.{meridian_fronts, more_states, more_trailers, parenthesis_ends};
+ghost use Rattle.twp_rules.specs.Endings.{remarks, section_again, section_ends, sides, state_letters, states};
+ghost use Rattle.twp_rules.specs.Endings.{trailers, well_ends};
 
 use crate::same::is_text;
 
@@ -49,24 +52,37 @@ pub(crate) fn has_acreage_ends(seen: &[u8]) -> bool
         || ends_with(seen, b"total")
         || ends_with(seen, b"net")
         || ends_with(seen, b"gross")
+        || ends_with(seen, b"/-")
 }
 
-/// The texts `column_fronts` of the specification.
-pub(crate) fn has_column_fronts(seen: &[u8]) -> bool
-    ensures { result ≡ begins_with_one seen.now column_fronts }
+/// The texts `acreage_fronts` of the specification.
+pub(crate) fn has_acreage_fronts(seen: &[u8]) -> bool
+    ensures { result ≡ begins_with_one seen.now acreage_fronts }
 {
-    begins_with(seen, b"sec\t")
-        || begins_with(seen, b"section\t")
-        || begins_with(seen, b"twp\t")
-        || begins_with(seen, b"township\t")
-        || begins_with(seen, b"t\t")
-        || begins_with(seen, b"tract\t")
-        || begins_with(seen, b"legal\t")
-        || begins_with(seen, b"wd")
-        || begins_with(seen, b"qcd")
-        || begins_with(seen, b"ogl")
-        || begins_with(seen, b"md")
-        || begins_with(seen, b"deed")
+    begins_with(seen, b"acres")
+        || begins_with(seen, b"acreage")
+        || begins_with(seen, b"ac")
+        || begins_with(seen, b"gross")
+        || begins_with(seen, b"net")
+        || begins_with(seen, b"total")
+        || begins_with(seen, b"containing")
+        || begins_with(seen, b"the area")
+}
+
+/// The texts `column_names` of the specification.
+pub(crate) fn has_column_names(seen: &[u8]) -> bool
+    ensures { result ≡ begins_with_one seen.now column_names }
+{
+    begins_with(seen, b"sec")
+        || begins_with(seen, b"section")
+        || begins_with(seen, b"twp")
+        || begins_with(seen, b"township")
+        || begins_with(seen, b"t")
+        || begins_with(seen, b"tract")
+        || begins_with(seen, b"legal")
+        || begins_with(seen, b"mer")
+        || begins_with(seen, b"st")
+        || begins_with(seen, b"county")
 }
 
 /// The texts `corners` of the specification.
@@ -77,14 +93,10 @@ pub(crate) fn has_corners(seen: &[u8]) -> bool
         || ends_with(seen, b"nw")
         || ends_with(seen, b"se")
         || ends_with(seen, b"sw")
-        || ends_with(seen, b"northeast")
-        || ends_with(seen, b"northwest")
-        || ends_with(seen, b"southeast")
-        || ends_with(seen, b"southwest")
-        || ends_with(seen, b"north east")
-        || ends_with(seen, b"north west")
-        || ends_with(seen, b"south east")
-        || ends_with(seen, b"south west")
+        || ends_with(seen, b"e.")
+        || ends_with(seen, b"w.")
+        || ends_with(seen, b"east")
+        || ends_with(seen, b"west")
 }
 
 /// The texts `digits` of the specification.
@@ -113,6 +125,51 @@ pub(crate) fn has_heading_ends(seen: &[u8]) -> bool
         || ends_with(seen, b"w.")
         || ends_with(seen, b"east")
         || ends_with(seen, b"west")
+        || ends_with(seen, b"e)")
+        || ends_with(seen, b"w)")
+        || ends_with(seen, b"township")
+        || ends_with(seen, b"range")
+}
+
+/// The texts `instrument_fronts` of the specification.
+pub(crate) fn has_instrument_fronts(seen: &[u8]) -> bool
+    ensures { result ≡ begins_with_one seen.now instrument_fronts }
+{
+    begins_with(seen, b"wd")
+        || begins_with(seen, b"qcd")
+        || begins_with(seen, b"ogl")
+        || begins_with(seen, b"md")
+        || begins_with(seen, b"deed")
+        || begins_with(seen, b"bk")
+        || begins_with(seen, b"book")
+        || begins_with(seen, b"inst")
+        || begins_with(seen, b"vol")
+        || begins_with(seen, b"pg")
+        || begins_with(seen, b"page")
+        || begins_with(seen, b"doc")
+}
+
+/// The texts `interest_ends` of the specification.
+pub(crate) fn has_interest_ends(seen: &[u8]) -> bool
+    ensures { result ≡ ends_with_one seen.now interest_ends }
+{
+    ends_with(seen, b"interest in")
+        || ends_with(seen, b"int in")
+        || ends_with(seen, b"int. in")
+        || ends_with(seen, b"and to")
+        || ends_with(seen, b"and under")
+}
+
+/// The texts `mineral_ends` of the specification.
+pub(crate) fn has_mineral_ends(seen: &[u8]) -> bool
+    ensures { result ≡ ends_with_one seen.now mineral_ends }
+{
+    ends_with(seen, b"minerals in")
+        || ends_with(seen, b"royalty in")
+        || ends_with(seen, b"minerals under")
+        || ends_with(seen, b"interest")
+        || ends_with(seen, b"int")
+        || ends_with(seen, b"int.")
 }
 
 /// The texts `interest_fronts` of the specification.
@@ -134,7 +191,18 @@ pub(crate) fn has_label_ends(seen: &[u8]) -> bool
         || ends_with(seen, b";")
         || ends_with(seen, b"aliq")
         || ends_with(seen, b"aliquot")
-        || ends_with(seen, b"subdivision")
+        || ends_with(seen, b"aliquots")
+}
+
+/// The texts `column_ends` of the specification.
+pub(crate) fn has_column_ends(seen: &[u8]) -> bool
+    ensures { result ≡ ends_with_one seen.now column_ends }
+{
+    ends_with(seen, b"subdivision")
+        || ends_with(seen, b"subdiv")
+        || ends_with(seen, b"legal")
+        || ends_with(seen, b"desc")
+        || ends_with(seen, b"description")
 }
 
 /// The texts `label_fronts` of the specification.
@@ -147,13 +215,33 @@ pub(crate) fn has_label_fronts(seen: &[u8]) -> bool
         || begins_with(seen, b"serial")
         || begins_with(seen, b"exhibit")
         || begins_with(seen, b"item")
+        || begins_with(seen, b"case")
+        || begins_with(seen, b"file")
+        || begins_with(seen, b"permit")
+        || begins_with(seen, b"contract")
+        || begins_with(seen, b"farm")
+        || begins_with(seen, b"well")
+        || begins_with(seen, b"owner")
 }
 
 /// The texts `label_words` of the specification.
 pub(crate) fn has_label_words(seen: &[u8]) -> bool
     ensures { result ≡ ends_with_one seen.now label_words }
 {
-    ends_with(seen, b"unit") || ends_with(seen, b" fo") || ends_with(seen, b"office")
+    ends_with(seen, b"unit")
+        || ends_with(seen, b" fo")
+        || ends_with(seen, b" do")
+        || ends_with(seen, b"office")
+        || ends_with(seen, b" lease")
+        || ends_with(seen, b" well")
+        || ends_with(seen, b"mgmt")
+        || ends_with(seen, b"management")
+        || ends_with(seen, b"blm")
+        || ends_with(seen, b" ri")
+        || ends_with(seen, b" wi")
+        || ends_with(seen, b" nri")
+        || ends_with(seen, b"orri")
+        || ends_with(seen, b"royalty")
 }
 
 /// The texts `meridian_ends` of the specification.
@@ -166,13 +254,29 @@ pub(crate) fn has_meridian_ends(seen: &[u8]) -> bool
         || ends_with(seen, b"m")
         || ends_with(seen, b"m.")
         || ends_with(seen, b"county")
+        || ends_with(seen, b"co")
+        || ends_with(seen, b"co.")
+        || ends_with(seen, b"|")
 }
 
 /// The texts `meridian_fronts` of the specification.
 pub(crate) fn has_meridian_fronts(seen: &[u8]) -> bool
     ensures { result ≡ begins_with_one seen.now meridian_fronts }
 {
-    begins_with(seen, b"county of") || begins_with(seen, b"state of")
+    begins_with(seen, b"county of")
+        || begins_with(seen, b"state of")
+        || begins_with(seen, b"in the county of")
+}
+
+/// The texts `meridian_labels` of the specification.
+pub(crate) fn has_meridian_labels(seen: &[u8]) -> bool
+    ensures { result ≡ begins_with_one seen.now meridian_labels }
+{
+    begins_with(seen, b"meridian:")
+        || begins_with(seen, b"mer:")
+        || begins_with(seen, b"county:")
+        || begins_with(seen, b"state:")
+        || begins_with(seen, b"st:")
 }
 
 /// The texts `more_states` of the specification.
@@ -186,11 +290,71 @@ pub(crate) fn has_more_states(seen: &[u8]) -> bool
         || ends_with(seen, b"michigan")
 }
 
+/// The texts `more_trailers` of the specification.
+pub(crate) fn has_more_trailers(seen: &[u8]) -> bool
+    ensures { result ≡ begins_with_one seen.now more_trailers }
+{
+    begins_with(seen, b"from the")
+        || begins_with(seen, b"below")
+        || begins_with(seen, b"above")
+        || begins_with(seen, b"down to")
+        || begins_with(seen, b"all depths")
+        || begins_with(seen, b"depths")
+        || begins_with(seen, b"surface")
+        || begins_with(seen, b"hbp")
+        || begins_with(seen, b"exp")
+        || begins_with(seen, b"rental")
+        || begins_with(seen, b"decimal")
+        || begins_with(seen, b"royalty")
+        || begins_with(seen, b"open")
+        || begins_with(seen, b"leased")
+}
+
 /// The texts `parenthesis_ends` of the specification.
 pub(crate) fn has_parenthesis_ends(seen: &[u8]) -> bool
     ensures { result ≡ ends_with_one seen.now parenthesis_ends }
 {
     ends_with(seen, b")")
+}
+
+/// The texts `estates` of the specification.
+pub(crate) fn has_estates(seen: &[u8]) -> bool
+    ensures { result ≡ begins_with_one seen.now estates }
+{
+    begins_with(seen, b"mineral")
+        || begins_with(seen, b"oil")
+        || begins_with(seen, b"only")
+        || begins_with(seen, b"fed")
+        || begins_with(seen, b"fee")
+        || begins_with(seen, b"blm")
+        || begins_with(seen, b"usa")
+        || begins_with(seen, b"private")
+        || begins_with(seen, b"from surface")
+}
+
+/// The texts `remarks` of the specification.
+pub(crate) fn has_remarks(seen: &[u8]) -> bool
+    ensures { result ≡ begins_with_one seen.now remarks }
+{
+    begins_with(seen, b"(see")
+        || begins_with(seen, b"(bk")
+        || begins_with(seen, b"(book")
+        || begins_with(seen, b"(inst")
+        || begins_with(seen, b"(rec")
+        || begins_with(seen, b"(lease")
+        || begins_with(seen, b"(doc")
+        || begins_with(seen, b"(hbp")
+        || begins_with(seen, b"(fed")
+        || begins_with(seen, b"(fee")
+        || begins_with(seen, b"(blm")
+        || begins_with(seen, b"(open")
+}
+
+/// The texts `section_again` of the specification.
+pub(crate) fn has_section_again(seen: &[u8]) -> bool
+    ensures { result ≡ ends_with_one seen.now section_again }
+{
+    ends_with(seen, b"section") || ends_with(seen, b"sec") || ends_with(seen, b"sec.")
 }
 
 /// The texts `section_ends` of the specification.
@@ -222,6 +386,10 @@ pub(crate) fn has_sides(seen: &[u8]) -> bool
         || ends_with(seen, b"s")
         || ends_with(seen, b"e")
         || ends_with(seen, b"w")
+        || ends_with(seen, b"n.")
+        || ends_with(seen, b"s.")
+        || ends_with(seen, b"e.")
+        || ends_with(seen, b"w.")
         || ends_with(seen, b"north")
         || ends_with(seen, b"south")
         || ends_with(seen, b"east")
@@ -281,6 +449,8 @@ pub(crate) fn has_trailers(seen: &[u8]) -> bool
         || begins_with(seen, b"wi")
         || begins_with(seen, b"ri")
         || begins_with(seen, b"orri")
+        || begins_with(seen, b"together with")
+        || begins_with(seen, b"reserving")
 }
 
 /// The texts `well_ends` of the specification.

@@ -207,8 +207,8 @@ impl<'a> Plan<'a> {
         }
     }
 
-    /// Leaves out several sections before a colon and aliquot parts, which are for each of them, and are written after
-    /// each.
+    /// Leaves out several sections before a colon, or the end of their cell, and aliquot parts, which are for each of them,
+    /// and are written after each.
     fn share_sections(&mut self, list: &mut Vec<Placed>) {
         let mut shared: Option<usize> = None;
         for index in 0..list.len() {
@@ -219,7 +219,8 @@ impl<'a> Plan<'a> {
                 Names::Sections => {
                     let is_shared = self.count_of(phrase) > 1
                         && !self.has_range(phrase)
-                        && matches!(self.draft.pieces.kind(phrase.end), Kind::Colon);
+                        && (matches!(self.draft.pieces.kind(phrase.end), Kind::Colon)
+                            || self.draft.pieces.has_tab_before(phrase.end));
                     shared = if is_shared { Some(index) } else { None };
                 }
                 Names::Nothing(_) | Names::Heading => {}
@@ -315,6 +316,8 @@ impl<'a> Plan<'a> {
         let mut lands: usize = 0;
         let mut count: usize = 1;
         let mut has_comma = false;
+        let mut are_apart = true;
+        let mut is_one = true;
         let mut unsure = false;
         let mut section: Option<Phrase> = None;
         let mut excepted: Option<usize> = None;
@@ -353,6 +356,7 @@ impl<'a> Plan<'a> {
                         }
                     }
                     is_ended = is_excepting;
+                    is_one = is_one && (section.is_none() || self.is_again(section, phrase));
                     section = Some(phrase);
                     first = None;
                     lands = 0;
@@ -379,13 +383,17 @@ impl<'a> Plan<'a> {
                 }
                 _ => {
                     placed.role = Role::Kept(count);
+                    if let (None, Some(before)) = (first, section) {
+                        are_apart = are_apart && self.has_semicolon(before.end, phrase.first);
+                    }
                     first = Some(first.unwrap_or(index));
                     last = phrase.end;
                     lands = lands.saturating_add(1);
                 }
             }
         }
-        if unsure || lands > 0 || (has_comma && count > 2) || (is_excepting && excepted.is_none()) {
+        let is_unsure_list = has_comma && count > 2 && !are_apart && !is_one;
+        if unsure || lands > 0 || is_unsure_list || (is_excepting && excepted.is_none()) {
             self.draft.doubt();
         }
     }

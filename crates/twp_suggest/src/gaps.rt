@@ -360,7 +360,8 @@ impl<'a> Plan<'a> {
     /// Whether a comma or a semicolon may be written instead of a piece.
     fn may_be_mark(&self, index: usize, is_comma: bool) -> bool {
         match self.draft.pieces.lower(index) {
-            b"," | b";" | b":" | b"." | b"&" | b"-" => true,
+            b"," | b";" | b":" | b"." | b"&" | b"-" | b"|" | b"+" => true,
+            b"/" => !is_comma,
             b"\xE2\x80\x93" | b"\xE2\x80\x94" => is_comma,
             _ => false,
         }

@@ -80,6 +80,7 @@ impl<'a> Plan<'a> {
             Joining::Stop => !(are_parts && left_out.is_empty()),
             Joining::Colon => true,
             Joining::And => are_parts && before.form != after.form,
+            Joining::Comma => are_parts && self.are_comma_cells(before, after),
             Joining::Other => self.is_unsure_list(before, after),
             _ => false,
         }
@@ -96,6 +97,25 @@ impl<'a> Plan<'a> {
                 self.draft.pieces.kind(after.end.saturating_sub(1)),
                 Kind::Corner(_)
             )
+    }
+
+    /// Whether two corners without a fraction are in cells of their own, with commas between the cells of their row, as in
+    /// `2N,3W,14,NE,SE`: the second may be a part of the first.
+    fn are_comma_cells(&self, before: Phrase, after: Phrase) -> bool {
+        let pieces = &self.draft.pieces;
+        let comma = before.first.saturating_sub(1);
+        let number = before.first.saturating_sub(2);
+        let mark = before.first.saturating_sub(3);
+        let is_cell = pieces.is_east_west(number)
+            || (pieces.number(number).is_some() && pieces.is(mark, b",") && pieces.is_joined(mark));
+        is_cell
+            && pieces.is(comma, b",")
+            && pieces.is_joined(comma)
+            && pieces.is_joined(before.first)
+            && pieces.is_joined(before.end)
+            && pieces.is_joined(after.first)
+            && matches!(pieces.kind(before.end.saturating_sub(1)), Kind::Corner(_))
+            && matches!(pieces.kind(after.end.saturating_sub(1)), Kind::Corner(_))
     }
 
     /// Whether other pieces than commas and semicolons between two lands may mean something else: only an ampersand

@@ -1,0 +1,82 @@
+//! What begins at a piece, and what joins two of them: land, words for a township that was named before, a hyphen at the
+//! end of a line.
+
+use crate::pieces::{Pieces, plus};
+use twp_grammar::Kind;
+
+impl<'a> Pieces<'a> {
+    /// Whether land may begin at an index.
+    pub fn begins_land(&self, index: usize) -> bool {
+        match self.kind(index) {
+            Kind::NorthSouth(_) | Kind::EastWest(_) | Kind::Corner(_) | Kind::All | Kind::Lot =>
+                true,
+            Kind::Other => self.begins_step(index),
+            _ => false,
+        }
+    }
+
+    /// Whether `together with` is at an index, and land after it.
+    pub fn joins_together(&self, index: usize) -> bool {
+        let first = if self.is(index, b"with") {
+            index.saturating_sub(1)
+        } else {
+            index
+        };
+        self.is(first, b"together")
+            && self.is(plus(first, 1), b"with")
+            && (self.begins_land(plus(first, 2)) || self.begins_land(plus(first, 3)))
+    }
+
+    /// Whether the piece at an index ends the section of a location.
+    pub fn is_after_tag(&self, index: usize) -> bool {
+        self.is_dash(index)
+            || self.is(index, b":")
+            || self.is(index, b",")
+            || self.is(index, b";")
+            || self.is(index, b".")
+    }
+
+    /// Whether a dash with white space on both sides is at an index, and land after it.
+    pub fn is_before_dash_and_land(&self, index: usize) -> bool {
+        let land = plus(index, 1);
+        self.is_dash(index)
+            && !self.is_joined(index)
+            && !self.is_joined(land)
+            && matches!(
+                self.kind(land),
+                Kind::NorthSouth(_) | Kind::EastWest(_) | Kind::Corner(_) | Kind::All | Kind::Lot
+            )
+    }
+
+    /// Whether a hyphen that divides a part is at an index, at the end of its line.
+    pub fn is_hyphen_at_line_end(&self, index: usize) -> bool {
+        self.is(index, b"-") && self.is_joined(index) && self.has_line_feed_before(plus(index, 1))
+    }
+
+    /// Whether the second word for a corner is at an index.
+    pub fn is_second_word(&self, index: usize) -> bool {
+        self.is(index, b"east") || self.is(index, b"west")
+    }
+
+    /// Whether the word for a section at an index begins with a digit that scanning made of its S.
+    pub fn is_damaged_section_word(&self, index: usize) -> bool {
+        let next = plus(index, 1);
+        (self.is(index, b"5") || self.is(index, b"8"))
+            && self.is_joined(next)
+            && (self.is(next, b"ec") || self.is(next, b"ection"))
+    }
+
+    /// The index after words for the township that was named before, as `said Township and Range`.
+    pub fn after_same_township(&self, index: usize) -> Option<usize> {
+        let next = plus(index, 1);
+        let after = plus(index, 2);
+        let is_again = self.is(index, b"said") || self.is(index, b"same");
+        if !is_again || !(self.is(next, b"township") || self.is(next, b"twp")) {
+            return None;
+        }
+        let range = plus(after, 1);
+        let has_range = (self.is(after, b"and") || self.is(after, b"&"))
+            && (self.is(range, b"range") || self.is(range, b"rge"));
+        Some(if has_range { plus(range, 1) } else { after })
+    }
+}

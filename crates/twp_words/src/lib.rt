@@ -1,0 +1,18 @@
+//! The words of what people write about land, in lowercase: those of labels, of terms, of acreage, and of meridians. Each
+//! list says what its words are in a text; none of them is land.
+#![tactic(auto)]
+
+mod figures;
+mod labels;
+mod meridians;
+mod same;
+mod terms;
+
+pub use figures::{is_acreage_lead, is_acres, is_area_word, is_of_count};
+pub use labels::{
+    begins_line_label, is_beyond_label, is_column, is_instrument, is_of_covering, is_of_label,
+    is_of_property, names_property,
+};
+pub use meridians::{are_meridian_letters, is_meridian, is_state};
+pub use same::{are_corners, is_same};
+pub use terms::{begins_terms, is_boundary, is_of_depth, is_of_interest, is_of_right, is_of_town};
