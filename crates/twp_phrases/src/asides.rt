@@ -13,7 +13,7 @@ impl<'a> Draft<'a> {
         if let Some((rule, end)) = self.end_of_aside(index) {
             return Ok(Some(self.phrase(Names::Nothing(rule), index, end, from)));
         }
-        if self.pieces.is(index, b"(") {
+        if self.pieces.is(index, b"(") || self.pieces.is(index, b"[") {
             return self.repeated(index);
         }
         Ok(None)
@@ -26,6 +26,14 @@ impl<'a> Draft<'a> {
         }
         if let Some(end) = self.end_of_figure(index) {
             return Some((Rule::Acreage, end));
+        }
+        if self.names_land {
+            if let Some(end) = self.pieces.end_of_dashed_acreage(index) {
+                return Some((Rule::Acreage, end));
+            }
+        }
+        if let Some(end) = self.pieces.end_of_file_number(index) {
+            return Some((Rule::Label, end));
         }
         if let Some(end) = self.pieces.end_of_acreage(index) {
             return Some((Rule::Acreage, end));
@@ -101,7 +109,12 @@ impl<'a> Draft<'a> {
         };
         let close = acreage.unwrap_or(close);
         let is_land = matches!(before.names, Names::Part | Names::Lots);
-        if !is_land || !self.pieces.is(close, b")") {
+        let mark: &'static [u8] = if self.pieces.is(index, b"[") {
+            b"]"
+        } else {
+            b")"
+        };
+        if !is_land || !self.pieces.is(close, mark) {
             return Ok(None);
         }
         let end = plus(close, 1);

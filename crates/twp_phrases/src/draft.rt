@@ -86,13 +86,15 @@ pub struct PlacedStep {
     pub is_after_of: bool,
 }
 
-/// What parentheses say that the land before them is.
+/// What is said of the land before a place, as in parentheses.
 #[derive(Clone, Copy, PartialEq, Eq)]
 pub enum Claimed {
     /// The same part.
     Same,
     /// All of its section.
     WholeSection,
+    /// Land that includes lots, as a fractional quarter does.
+    WithLots,
     /// A part with these steps.
     Part(Span),
 }

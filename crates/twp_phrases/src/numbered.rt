@@ -3,12 +3,13 @@
 use crate::draft::{Draft, Form, Names, Numeral, Phrase};
 use std::alloc::AllocError;
 use twp_grammar::Kind;
-use twp_pieces::plus;
+use twp_pieces::{is_worn_section, plus};
 use twp_rules::Rule;
 
 /// What joins a number to the one before it.
 #[derive(Clone, Copy, PartialEq, Eq)]
 enum Join {
+    Nothing,
     Comma,
     And,
     To,
@@ -30,8 +31,11 @@ impl<'a> Draft<'a> {
     pub fn sections(&mut self, index: usize) -> Result<Option<Phrase>, AllocError> {
         let from = self.extent();
         let is_said = self.pieces.is(index, b"said") || self.pieces.is(index, b"same");
+        let is_after_land = matches!(self.last_names(), Some(Names::Part | Names::Lots));
         let word = if self.pieces.is(index, b"fractional") || is_said {
             plus(index, 1)
+        } else if is_after_land {
+            self.pieces.after_all_in(index)
         } else {
             index
         };
@@ -39,7 +43,9 @@ impl<'a> Draft<'a> {
             return self.damaged_section(word);
         }
         let is_known = matches!(self.pieces.kind(word), Kind::Sec);
+        let is_worn = is_worn_section(self.pieces.lower(word));
         if !is_known
+            && !is_worn
             && !(self.pieces.is(word, b"sect")
                 || self.pieces.is(word, b"sects")
                 || self.pieces.is(word, b"scc")
@@ -55,7 +61,10 @@ impl<'a> Draft<'a> {
             }
         }
         if word > index {
-            self.leave_out(index, word, Rule::Word)?;
+            self.leave_out_each(index, word, Rule::Word)?;
+        }
+        if is_worn {
+            self.replace(word, b"sec", Rule::SectionWord)?;
         }
         let next = self.after_section_word(word)?;
         let Some(number) = self.section_number(next) else {
@@ -114,7 +123,8 @@ impl<'a> Draft<'a> {
         }
         if matches!(self.pieces.kind(next), Kind::Stop) {
             let second = plus(next, 1);
-            if self.pieces.is(second, b".") && self.pieces.is_joined(second) {
+            let is_mark = self.pieces.is(second, b".") || self.pieces.is(second, b":");
+            if is_mark && self.pieces.is_joined(second) {
                 self.leave_out(second, plus(second, 1), Rule::Mark)?;
                 return Ok(plus(second, 1));
             }
@@ -190,7 +200,15 @@ impl<'a> Draft<'a> {
         let mut last = number;
         let mut end = self.after_acreage(number.end, names)?;
         for _ in 0..self.pieces.len() {
-            let Some(Joined { join, end: next }) = self.join_at(end) else {
+            if names == Names::Lots && self.pieces.end_of_dashed_acreage(end).is_some() {
+                break;
+            }
+            let is_list = names == Names::Lots && is_plural;
+            let joined = match self.join_at(end) {
+                None if is_list => self.join_of_lots(end, last),
+                found => found,
+            };
+            let Some(Joined { join, end: next }) = joined else {
                 break;
             };
             let Some(more) = self.numeral(next) else {
@@ -249,6 +267,26 @@ impl<'a> Draft<'a> {
         }
     }
 
+    /// White space between the number of a lot and that of the next one, after a word in the plural, as in `LTS 4 5`. Other
+    /// lots may be the first and the last of several.
+    fn join_of_lots(&self, index: usize, last: Numeral) -> Option<Joined> {
+        let is_list = self.pieces.has_digits(index.saturating_sub(1), 1)
+            && self.pieces.has_digits(index, 1)
+            && self.pieces.number(index) == Some(last.value.saturating_add(1))
+            && !self.pieces.has_break_before(index)
+            && !self.pieces.is_joined(index)
+            && !self.pieces.is_dash(plus(index, 1))
+            && !self.pieces.is(plus(index, 1), b"/");
+        if is_list {
+            Some(Joined {
+                join: Join::Nothing,
+                end: index,
+            })
+        } else {
+            None
+        }
+    }
+
     /// Whether a number after a join is one more of the same, and not the number of another section.
     fn continues(&self, more: Numeral, join: Join, names: Names, is_plural: bool) -> bool {
         let after = more.end;
@@ -269,7 +307,10 @@ impl<'a> Draft<'a> {
 
     /// Writes what joins two numbers, where it isn't written so.
     fn write_join(&mut self, index: usize, next: usize, join: Join) -> Result<(), AllocError> {
-        if join == Join::Dash {
+        if join == Join::Nothing {
+            let place = self.pieces.end_before(index);
+            self.write(place, place, b",", Rule::Comma)?;
+        } else if join == Join::Dash {
             self.replace(index, b" thru ", Rule::Through)?;
         } else if self.pieces.is(index, b"&") {
             self.replace(index, b" and ", Rule::And)?;
@@ -344,7 +385,9 @@ impl<'a> Draft<'a> {
             return Ok(None);
         }
         self.write_numeral(number)?;
-        let end = self.numbers_after(number, Names::Lots, true)?;
+        let before = next.saturating_sub(1);
+        let is_plural = self.pieces.is(before, b"lots") || self.pieces.is(before, b"lts");
+        let end = self.numbers_after(number, Names::Lots, is_plural)?;
         Ok(Some(self.phrase(Names::Lots, index, end, from)))
     }
 

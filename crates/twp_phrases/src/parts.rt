@@ -3,7 +3,7 @@
 use crate::draft::{Draft, Form, Names, Phrase, PlacedStep};
 use std::alloc::AllocError;
 use twp_grammar::Kind;
-use twp_pieces::{is_same, plus};
+use twp_pieces::{is_same, letters_of, plus};
 use twp_rules::Rule;
 
 /// The most steps of a part: each halves a side of the section, which can be halved five times each way.
@@ -77,22 +77,6 @@ impl Size {
     }
 }
 
-/// The letters of a word for a direction, in lowercase.
-fn letters_of(word: &[u8]) -> Option<&'static [u8]> {
-    let letters: &'static [u8] = match word {
-        b"north" => b"N",
-        b"south" => b"S",
-        b"east" => b"E",
-        b"west" => b"W",
-        b"northeast" => b"NE",
-        b"northwest" => b"NW",
-        b"southeast" => b"SE",
-        b"southwest" => b"SW",
-        _ => return None,
-    };
-    Some(letters)
-}
-
 /// Whether letters in lowercase are those of corners, one after another.
 fn are_corners(letters: &[u8]) -> bool {
     if letters.is_empty() || letters.len() % 2 != 0 {
@@ -143,8 +127,9 @@ impl<'a> Draft<'a> {
     /// The aliquot part at an index: steps joined without white space, or by `of`.
     pub fn part(&mut self, index: usize) -> Result<Option<Phrase>, AllocError> {
         let from = self.extent();
-        let mut first = index;
-        if self.pieces.is(index, b"the") {
+        let mut first = self.pieces.after_fractional(index);
+        self.leave_out_each(index, first, Rule::Word)?;
+        if first == index && self.pieces.is(index, b"the") {
             self.leave_out(index, plus(index, 1), Rule::Word)?;
             first = plus(index, 1);
         }
@@ -393,6 +378,18 @@ impl<'a> Draft<'a> {
         if is_joined && pieces.is(index, b"/") && self.is_digit(next, size) {
             return Some(plus(next, 1));
         }
+        if pieces.is_spaced_slash(index)
+            && pieces.number(next) == Some(size.digit())
+            && pieces.has_digits(next, 1)
+        {
+            return Some(plus(next, 1));
+        }
+        if is_joined && pieces.is(index, b"^") && size == Size::Quarter {
+            return Some(next);
+        }
+        if self.is_hyphenated(index, size) {
+            return Some(plus(index, 3));
+        }
         if size.is_whole_word(pieces.lower(index)) {
             return Some(next);
         }
@@ -441,6 +438,21 @@ impl<'a> Draft<'a> {
             return Some(digit);
         }
         None
+    }
+
+    /// Whether a fraction with a hyphen is at an index, as in `E 1-2 of NE 1-4`: with an `of` before or after its letters,
+    /// since `NE 1-4` may be of four sections.
+    fn is_hyphenated(&self, index: usize, size: Size) -> bool {
+        let next = plus(index, 1);
+        let digit = plus(index, 2);
+        let is_of = self.pieces.is(plus(index, 3), b"of")
+            || self.pieces.is(index.saturating_sub(2), b"of")
+            || self.pieces.is(index.saturating_sub(3), b"of");
+        is_of
+            && self.pieces.is(index, b"1")
+            && self.pieces.is(next, b"-")
+            && self.pieces.is_joined(next)
+            && self.is_digit(digit, size)
     }
 
     /// Whether the piece at an index is the digit that people write for a half or a quarter, joined to what is before it.

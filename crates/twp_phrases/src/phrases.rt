@@ -1,6 +1,6 @@
 //! The phrases of a text, from left to right.
 
-use crate::draft::{Draft, Form, Names, Phrase};
+use crate::draft::{Claim, Claimed, Draft, Form, Names, Phrase};
 use std::alloc::AllocError;
 use twp_grammar::Kind;
 use twp_pieces::plus;
@@ -96,8 +96,7 @@ impl<'a> Draft<'a> {
                 return Ok(None);
             }
             Kind::Half | Kind::Quarter if index > 0 => return Ok(None),
-            Kind::BadByte if !(self.pieces.is(index, b"(") || self.pieces.is(index, b"\xC2\xA7")) =>
-                return Ok(None),
+            Kind::BadByte if !self.pieces.may_begin_phrase(index) => return Ok(None),
             Kind::Sec => self.sections(index)?,
             Kind::Lot => self.lots(index)?,
             Kind::T => self.heading(index)?,
@@ -131,6 +130,12 @@ impl<'a> Draft<'a> {
         let part = self.part(index)?;
         if let Some(phrase) = part {
             self.doubt_part(phrase);
+            if self.pieces.after_fractional(index) > index {
+                self.claims.push(Claim {
+                    place: phrase.end,
+                    what: Claimed::WithLots,
+                })?;
+            }
         }
         Ok(part)
     }
@@ -269,13 +274,15 @@ impl<'a> Draft<'a> {
             || pieces.is(index, b"less")
             || pieces.is(index, b"excluding")
             || pieces.is(index, b"exc")
+            || pieces.is(index, b"ex")
             || pieces.is(index, b"exclusive")
             || pieces.is(index, b"minus")
         {
             let is_word = pieces.is(second, b"for")
                 || pieces.is(second, b"therefrom")
                 || pieces.is(second, b"of")
-                || (pieces.is(index, b"exc") && pieces.is(second, b"."));
+                || ((pieces.is(index, b"exc") || pieces.is(index, b"ex"))
+                    && pieces.is(second, b"."));
             return Some(if is_word { third } else { second });
         }
         if pieces.is(index, b"but") && pieces.is(second, b"not") {
@@ -340,8 +347,14 @@ impl<'a> Draft<'a> {
         let Some(number) = self.section_number(digits) else {
             return Ok(None);
         };
-        let is_after = self.last_names() == Some(Names::Heading)
-            && (self.pieces.is(next, b":") || self.pieces.has_digits(digits, 2));
+        let is_list = match self.last_section {
+            Some(section) => self.pieces.is(section.first, b"s"),
+            None => false,
+        };
+        let is_after = (self.last_names() == Some(Names::Heading)
+            && (self.pieces.is(next, b":") || self.pieces.has_digits(digits, 2)))
+            || (is_list && self.pieces.is(next, b":"))
+            || self.pieces.is_section_before_land(index);
         let place = if self.pieces.is_dash(next) || self.pieces.is(next, b",") {
             plus(next, 1)
         } else {
@@ -364,8 +377,9 @@ impl<'a> Draft<'a> {
         if !matches!(self.pieces.kind(index), Kind::Number(_)) {
             return Ok(None);
         }
+        let before = index.saturating_sub(1);
         let is_list = self.last_names() == Some(Names::All)
-            && self.pieces.is(index.saturating_sub(1), b"of");
+            && (self.pieces.is(before, b"of") || matches!(self.pieces.kind(before), Kind::All));
         if !is_list && !self.is_bare_section(index)? {
             return Ok(None);
         }

@@ -32,11 +32,28 @@ impl<'a> Pieces<'a> {
         if self.is(next, b",") || self.is(next, b"/") || self.is(next, b";") {
             next = self.end_of_figure_and_unit(plus(next, 1))?;
         }
+        if self.is(next, b"spacing") {
+            next = plus(next, 1);
+        }
         if self.is(next, b")") {
             Some(plus(next, 1))
         } else {
             None
         }
+    }
+
+    /// Where acreage after a dash ends, with white space on both sides of the dash, as in `- 39.1 ac`.
+    pub fn end_of_dashed_acreage(&self, index: usize) -> Option<usize> {
+        let next = plus(index, 1);
+        let is_apart = self.is_dash(index) && !self.is_joined(index) && !self.is_joined(next);
+        if !is_apart || self.number(next).is_none() {
+            return None;
+        }
+        let end = self.end_of_acreage(next)?;
+        let is_last = end >= self.len()
+            || (self.is(end, b";") || self.is(end, b",") || self.is(end, b"."))
+            || self.begins_line(end);
+        if is_last { Some(end) } else { None }
     }
 
     /// Where acreage ends: words before it, a number, and its unit, before or after the number.
@@ -52,7 +69,7 @@ impl<'a> Pieces<'a> {
         if self.is_net_or_gross(next) && is_acres(self.lower(plus(next, 1))) {
             next = plus(next, 1);
         }
-        if is_acres(self.lower(next)) {
+        if is_acres(self.lower(next)) || (self.is(next, b"a") && self.is_joined(next)) {
             next = plus(next, 1);
         } else if !has_unit {
             return None;

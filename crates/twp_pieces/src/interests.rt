@@ -125,6 +125,8 @@ impl<'a> Pieces<'a> {
             let word = self.lower(place);
             let after = plus(place, 1);
             let ends = (is_same(word, b"being") || is_same(word, b":"))
+                || (is_same(word, b"are")
+                    && !(self.is(after, b"as") || self.is(after, b"described")))
                 || (is_same(word, b"follows") && !(self.is(after, b":") || self.is(after, b",")))
                 || (is_same(word, b"wit") && !(self.is(after, b":") || self.is(after, b",")));
             if ends && has_property {

@@ -27,6 +27,58 @@ impl<'a> Pieces<'a> {
             && (self.begins_land(plus(first, 2)) || self.begins_land(plus(first, 3)))
     }
 
+    /// Whether a mark at an index may begin a phrase: parentheses, brackets, a section sign, the number of a file, or a
+    /// dash before acreage.
+    pub fn may_begin_phrase(&self, index: usize) -> bool {
+        (self.is(index, b"(") || self.is(index, b"[") || self.is(index, b"\xC2\xA7"))
+            || self.is(index, b"#")
+            || self.is_dash(index)
+    }
+
+    /// The index after `all in` at an index, after a comma and before the word for a section.
+    pub fn after_all_in(&self, index: usize) -> usize {
+        let next = plus(index, 2);
+        let is_all = self.is(index.saturating_sub(1), b",")
+            && matches!(self.kind(index), Kind::All)
+            && self.is(plus(index, 1), b"in");
+        if is_all && matches!(self.kind(next), Kind::Sec) {
+            next
+        } else {
+            index
+        }
+    }
+
+    /// The index after `the fractional` at an index, before a corner or a side.
+    pub fn after_fractional(&self, index: usize) -> usize {
+        let word = if matches!(self.kind(index), Kind::The) {
+            plus(index, 1)
+        } else {
+            index
+        };
+        let next = plus(word, 1);
+        if self.is(word, b"fractional") && self.begins_land(next) {
+            next
+        } else {
+            index
+        }
+    }
+
+    /// Whether a side and two digits at an index are a section, since no half has two digits: land follows.
+    pub fn is_section_before_land(&self, index: usize) -> bool {
+        let next = plus(index, 2);
+        self.is(index, b"s")
+            && self.has_digits(plus(index, 1), 2)
+            && self.begins_land(next)
+            && !self.is_joined(next)
+    }
+
+    /// Whether a slash with a space on each side is at an index.
+    pub fn is_spaced_slash(&self, index: usize) -> bool {
+        self.is(index, b"/")
+            && self.start(index) == plus(self.end_before(index), 1)
+            && self.start(plus(index, 1)) == plus(self.end(index), 1)
+    }
+
     /// Whether the piece at an index ends the section of a location.
     pub fn is_after_tag(&self, index: usize) -> bool {
         self.is_dash(index)

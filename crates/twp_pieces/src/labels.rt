@@ -4,7 +4,7 @@ use crate::pieces::{Pieces, plus};
 use twp_grammar::Kind;
 use twp_words::{
     begins_line_label, is_acres, is_beyond_label, is_column, is_instrument, is_of_covering,
-    is_of_label, is_same, names_property,
+    is_of_estate, is_of_label, is_same, names_property,
 };
 
 /// The most pieces of a label.
@@ -46,6 +46,9 @@ impl<'a> Pieces<'a> {
             return Some(end);
         }
         if let Some(end) = self.end_of_well(index) {
+            return Some(end);
+        }
+        if let Some(end) = self.end_of_estate(index) {
             return Some(end);
         }
         if let Some(end) = self.end_of_office(index) {
@@ -230,7 +233,7 @@ impl<'a> Pieces<'a> {
     }
 
     /// Whether a section, a township, or land begins at an index.
-    fn begins_place(&self, index: usize) -> bool {
+    pub(crate) fn begins_place(&self, index: usize) -> bool {
         let word = self.lower(index);
         self.may_be_land(index)
             || self.is_township_word(index)
@@ -251,65 +254,6 @@ impl<'a> Pieces<'a> {
             || is_same(word, b"range")
             || is_same(word, b"rng")
             || is_same(word, b"rge")
-    }
-
-    /// Where the serial number of a case at an index ends, as `IDI-38114`, or `ID-031-2023-0012`.
-    pub fn end_of_serial(&self, index: usize) -> Option<usize> {
-        let is_letters = matches!(self.kind(index), Kind::Other)
-            && self.bytes(index).len() >= 2
-            && self.bytes(index).len() <= 8;
-        if !is_letters {
-            return None;
-        }
-        let mut has_long = false;
-        let mut end = index;
-        for place in plus(index, 1)..plus(index, 8) {
-            let is_number = matches!(self.kind(place), Kind::Number(_) | Kind::BadNumber);
-            let is_dash = self.is_dash(place) && self.is_joined(place);
-            let follows = self.is_joined(place) || place == plus(index, 1);
-            if !follows || !(is_number || is_dash) {
-                break;
-            }
-            let least: usize = if self.is_joined(place) { 4 } else { 5 };
-            has_long = is_number && (self.bytes(place).len() >= least || has_long);
-            end = plus(place, 1);
-        }
-        if has_long { Some(end) } else { None }
-    }
-
-    /// Where the name of a well ends, as `Moore 14-1H`, before a mark.
-    fn end_of_well(&self, index: usize) -> Option<usize> {
-        let mut next = index;
-        for place in index..plus(index, 4) {
-            if self.number(place).is_some() {
-                break;
-            }
-            let is_name = matches!(self.kind(place), Kind::Other) && self.bytes(place).len() > 1;
-            if !is_name {
-                return None;
-            }
-            next = plus(place, 1);
-        }
-        let is_well = next > index
-            && self.number(next).is_some()
-            && self.is(plus(next, 1), b"-")
-            && self.number(plus(next, 2)).is_some();
-        if is_well && self.is(plus(next, 3), b":") {
-            return Some(plus(next, 4));
-        }
-        let is_horizontal = is_well
-            && self.is(plus(next, 3), b"h")
-            && self.is_joined(plus(next, 3))
-            && (self.is(plus(next, 4), b",")
-                || self.is(plus(next, 4), b":")
-                || self.is(plus(next, 4), b";")
-                || self.is(plus(next, 4), b"-")
-                || self.begins_place(plus(next, 4)));
-        if is_horizontal {
-            Some(plus(next, 4))
-        } else {
-            None
-        }
     }
 
     /// Where a line ends that names columns.
@@ -366,6 +310,19 @@ impl<'a> Pieces<'a> {
 }
 
 impl<'a> Pieces<'a> {
+    /// Where words for an estate end, with a colon, as `USA minerals:`.
+    fn end_of_estate(&self, index: usize) -> Option<usize> {
+        for place in index..plus(index, 4) {
+            if self.is(place, b":") && plus(index, 1) < place {
+                return Some(plus(place, 1));
+            }
+            if !is_of_estate(self.lower(place)) {
+                return None;
+            }
+        }
+        None
+    }
+
     /// The index after words that say that the same land follows, as `being the` or `a/d/a`.
     pub fn after_being(&self, index: usize) -> usize {
         if self.is(index, b"a") && self.is(plus(index, 1), b"/") && self.is(plus(index, 3), b"/") {

@@ -9,9 +9,10 @@ mod interests;
 mod joints;
 mod labels;
 mod pieces;
+mod serials;
 mod trailers;
 
 pub use beyond::{Beyond, beyond_of};
 pub use labels::Position;
 pub use pieces::{Pieces, plus};
-pub use twp_words::is_same;
+pub use twp_words::{is_same, is_worn_section, letters_of, tens_of, value_of};

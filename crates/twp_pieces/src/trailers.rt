@@ -3,7 +3,8 @@
 use crate::pieces::{Pieces, plus};
 use twp_grammar::Kind;
 use twp_words::{
-    are_corners, begins_terms, is_boundary, is_of_depth, is_of_right, is_of_town, is_same,
+    are_corners, begins_terms, is_boundary, is_of_depth, is_of_estate, is_of_right, is_of_town,
+    is_same, is_worn_corner,
 };
 
 /// What is said after land.
@@ -56,6 +57,14 @@ impl<'a> Pieces<'a> {
             return None;
         }
         let word = self.lower(index);
+        if is_same(word, b"in") {
+            let is_district = self.is(next, b"the") && self.is(plus(next, 1), b"district");
+            return if is_district {
+                Some(Trailer::Rights)
+            } else {
+                None
+            };
+        }
         if is_same(word, b"subject") || is_same(word, b"reserving") || is_same(word, b"according") {
             return Some(Trailer::Rights);
         }
@@ -126,6 +135,11 @@ impl<'a> Pieces<'a> {
             let is_figure = matches!(self.kind(place), Kind::Number(_) | Kind::BadNumber);
             has_figure = has_figure || is_figure;
             let word = self.lower(place);
+            if has_figure && self.is(place, b"%") {
+                if let Some(end) = self.end_of_estate_words(plus(place, 1)) {
+                    return Some(end);
+                }
+            }
             if has_figure
                 && place > index
                 && (is_same(word, b"ri")
@@ -142,6 +156,23 @@ impl<'a> Pieces<'a> {
             }
         }
         None
+    }
+
+    /// Where the words for the owner of minerals at an index end, as `fed min`.
+    fn end_of_estate_words(&self, index: usize) -> Option<usize> {
+        let mut end: Option<usize> = None;
+        for place in index..plus(index, 4) {
+            if !is_of_estate(self.lower(place)) {
+                break;
+            }
+            let is_minerals = self.is(place, b"min")
+                || self.is(place, b"minerals")
+                || self.is(place, b"fee");
+            if is_minerals {
+                end = Some(plus(place, 1));
+            }
+        }
+        end
     }
 
     /// Where a remark in parentheses at an index ends, as `(see Comment 4)`.
@@ -213,6 +244,7 @@ impl<'a> Pieces<'a> {
             || is_same(word, b"southwest")
             || is_same(word, b"half")
             || is_same(word, b"quarter")
+            || is_worn_corner(word)
             || are_corners(word)
     }
 

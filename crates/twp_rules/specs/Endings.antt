@@ -10,7 +10,7 @@ sides = codes "n" ∷ codes "s" ∷ codes "e" ∷ codes "w" ∷ codes "n." ∷ c
 -- what the land is before of which QUARTER is written, or the last word of it
 abbrev pub corners : List (List ℕ)
 corners = codes "ne" ∷ codes "nw" ∷ codes "se" ∷ codes "sw" ∷ codes "e." ∷ codes "w." ∷ codes "east"
-    ∷ codes "west" ∷ []
+    ∷ codes "west" ∷ codes " e" ∷ codes " w" ∷ []
 
 -- what the range of a township ends with, and words for one that was named before
 abbrev pub heading_ends : List (List ℕ)
@@ -37,6 +37,11 @@ abbrev pub section_ends : List (List ℕ)
 section_ends = codes ")" ∷ codes "one" ∷ codes "two" ∷ codes "three" ∷ codes "four" ∷ codes "five"
     ∷ codes "six" ∷ codes "seven" ∷ codes "eight" ∷ codes "nine" ∷ codes "ten" ∷ codes "eleven"
     ∷ codes "twelve" ∷ codes "teen" ∷ codes "ty" ∷ []
+
+-- or with a digit that scanning made a letter of
+abbrev pub worn_section_ends : List (List ℕ)
+worn_section_ends = codes "1l" ∷ codes "1i" ∷ codes "1o" ∷ codes "2l" ∷ codes "2i" ∷ codes "2o" ∷ codes "3l"
+    ∷ codes "3i" ∷ codes "3o" ∷ []
 
 -- and the word for one that was named before
 abbrev pub section_again : List (List ℕ)
@@ -72,7 +77,13 @@ state_letters = codes "id" ∷ codes "wy" ∷ codes "nv" ∷ codes "ca" ∷ code
 -- what stated acreage ends with
 abbrev pub acreage_ends : List (List ℕ)
 acreage_ends = codes "acres" ∷ codes "acre" ∷ codes "ac" ∷ codes "acres." ∷ codes "ac." ∷ codes "less"
-    ∷ codes "m/l" ∷ codes ")" ∷ codes "pooled" ∷ codes "total" ∷ codes "net" ∷ codes "gross" ∷ codes "/-" ∷ []
+    ∷ codes "m/l" ∷ codes ")" ∷ codes "pooled" ∷ codes "total" ∷ codes "net" ∷ codes "gross" ∷ codes "/-"
+    ∷ codes "acs" ∷ codes "acs." ∷ []
+
+-- or, after a digit, with a letter for acres
+abbrev pub acre_letters : List (List ℕ)
+acre_letters = codes "0a" ∷ codes "1a" ∷ codes "2a" ∷ codes "3a" ∷ codes "4a" ∷ codes "5a" ∷ codes "6a"
+    ∷ codes "7a" ∷ codes "8a" ∷ codes "9a" ∷ []
 
 -- or begins with, after white space
 abbrev pub acreage_fronts : List (List ℕ)
@@ -104,7 +115,7 @@ trailers = codes "subject" ∷ codes "insofar" ∷ codes "limited" ∷ codes "as
 abbrev pub more_trailers : List (List ℕ)
 more_trailers = codes "from the" ∷ codes "below" ∷ codes "above" ∷ codes "down to" ∷ codes "all depths"
     ∷ codes "depths" ∷ codes "surface" ∷ codes "hbp" ∷ codes "exp" ∷ codes "rental" ∷ codes "decimal"
-    ∷ codes "royalty" ∷ codes "open" ∷ codes "leased" ∷ []
+    ∷ codes "royalty" ∷ codes "open" ∷ codes "leased" ∷ codes "in the district" ∷ []
 
 -- or with an estate, or who holds it
 abbrev pub estates : List (List ℕ)
@@ -121,12 +132,13 @@ abbrev pub label_fronts : List (List ℕ)
 label_fronts =
     codes "tract" ∷ codes "parcel" ∷ codes "lease" ∷ codes "serial" ∷ codes "exhibit" ∷ codes "item"
     ∷ codes "case" ∷ codes "file" ∷ codes "permit" ∷ codes "contract" ∷ codes "farm" ∷ codes "well"
-    ∷ codes "owner" ∷ []
+    ∷ codes "owner" ∷ codes "allotment" ∷ []
 
 -- or an interest, or a property
 abbrev pub interest_fronts : List (List ℕ)
 interest_fronts =
-    codes "an und" ∷ codes "und" ∷ codes "all that" ∷ codes "that certain" ∷ codes "all those" ∷ []
+    codes "an und" ∷ codes "und" ∷ codes "all that" ∷ codes "that certain" ∷ codes "all those"
+    ∷ codes "the lands" ∷ []
 
 -- what an interest in land ends with
 abbrev pub interest_ends : List (List ℕ)
@@ -136,7 +148,8 @@ interest_ends = codes "interest in" ∷ codes "int in" ∷ codes "int. in" ∷ c
 -- or with the minerals that it is in
 abbrev pub mineral_ends : List (List ℕ)
 mineral_ends = codes "minerals in" ∷ codes "royalty in" ∷ codes "minerals under" ∷ codes "interest"
-    ∷ codes "int" ∷ codes "int." ∷ []
+    ∷ codes "int" ∷ codes "int." ∷ codes "min" ∷ codes "min." ∷ codes "minerals" ∷ codes "fee"
+    ∷ []
 
 -- the names of columns
 abbrev pub column_names : List (List ℕ)
@@ -155,4 +168,4 @@ well_ends = codes "1h" ∷ codes "2h" ∷ codes "3h" ∷ codes "4h" ∷ codes "5
 
 -- what is in parentheses ends with
 abbrev pub parenthesis_ends : List (List ℕ)
-parenthesis_ends = codes ")" ∷ []
+parenthesis_ends = codes ")" ∷ codes "]" ∷ []

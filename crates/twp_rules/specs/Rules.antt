@@ -26,7 +26,8 @@ use Rattle.twp_rules.specs.Endings.{more_states, state_letters, acreage_ends, ac
 use Rattle.twp_rules.specs.Endings.{label_words, trailers, more_trailers, label_fronts, interest_fronts}
 use Rattle.twp_rules.specs.Endings.{interest_ends, column_names, instrument_fronts, well_ends}
 use Rattle.twp_rules.specs.Endings.{parenthesis_ends, estates, remarks, meridian_labels, column_ends}
-use Rattle.twp_rules.specs.Endings.{mineral_ends}
+use Rattle.twp_rules.specs.Endings.{mineral_ends, acre_letters, worn_section_ends}
+use Rattle.twp_rules.specs.Tables.{worn_directions, worn_section_words}
 
 -- this is written for that, in letters of either case
 abbrev pub is_entry : List ℕ → List ℕ → Entry → Bool
@@ -150,9 +151,10 @@ are_digits seen =
     (length seen == 1) && is_ascii_digit (slice_index seen 0)
     || (length seen == 2) && is_ascii_digit (slice_index seen 0) && is_ascii_digit (slice_index seen 1)
 
--- the digits of a number, as they are, or for the word for it
+-- the digits of a number, as they are, or for the word for it, or for what scanning made of a digit
 abbrev pub is_number : List ℕ → List ℕ → Bool
-is_number seen written = are_digits seen && same_bytes written seen || is_numeral seen written
+is_number seen written =
+    are_digits seen && same_bytes written seen || is_numeral seen written || is_among seen written damages
 
 -- the number that a text has from one place up to another
 abbrev pub is_copied : List ℕ → ℕ → ℕ → List ℕ → Bool
@@ -193,14 +195,16 @@ is_cell text start end =
 abbrev pub may_be_left_out : Rule → List ℕ → Bool
 may_be_left_out Repeated seen = ends_with_one seen parenthesis_ends
 may_be_left_out MovedSection seen =
-    ends_with_one seen digits || ends_with_one seen section_ends || ends_with_one seen section_again
+    ends_with_one seen digits || ends_with_one seen section_ends || ends_with_one seen worn_section_ends
+    || ends_with_one seen section_again
 may_be_left_out MovedHeading seen = ends_with_one seen heading_ends
 may_be_left_out Meridian seen =
     ends_with_one seen meridian_ends || is_place_name seen
     || begins_with_one (without_white seen) meridian_fronts
     || begins_with_one (without_white seen) meridian_labels
 may_be_left_out Acreage seen =
-    ends_with_one seen acreage_ends || is_figure seen || begins_with_one (without_white seen) acreage_fronts
+    ends_with_one seen acreage_ends || ends_with_one seen acre_letters || is_figure seen
+    || begins_with_one (without_white seen) acreage_fronts
 may_be_left_out Label seen = ends_label seen || begins_label seen || are_columns seen
 may_be_left_out _ seen = false
 
@@ -213,7 +217,8 @@ allows Quarter text start end seen written =
     (is_among (without_white seen) written quarters || is_among (without_white seen) written worn_quarters)
     && ends_with_one (take start text) corners
 allows Direction text start end seen written =
-    is_among seen written directions && is_whole_word text start end
+    (is_among seen written directions || is_among seen written worn_directions)
+    && is_whole_word text start end
 allows Numeral text start end seen written = is_numeral seen written
 allows (Copied from to) text start end seen written =
     same_bytes seen [] && is_copied text from to written
@@ -232,7 +237,7 @@ allows Heading text start end seen written =
     is_among seen written headings || is_among seen written heading_words
     || is_among seen written heading_marks
 allows SectionWord text start end seen written =
-    is_among seen written section_words
+    (is_among seen written section_words || is_among seen written worn_section_words)
     && (same_bytes seen [] || same_bytes seen (codes ",") || is_whole_word text start end)
 allows LotWord text start end seen written =
     is_among seen written lot_words && is_whole_word text start end || is_among seen written lot_marks

@@ -63,7 +63,8 @@ section_sign = 194 ∷ 167 ∷ []
 abbrev pub halves : List Entry
 halves = (codes "2" ⇒ codes "1/2") ∷ (codes "/2" ⇒ codes "1/2") ∷ (codes "half" ⇒ codes "1/2")
     ∷ (codes "one-half" ⇒ codes "1/2") ∷ (codes "one half" ⇒ codes "1/2")
-    ∷ ((49 ∷ fraction_slash ++ 50 ∷ []) ⇒ codes "1/2") ∷ []
+    ∷ ((49 ∷ fraction_slash ++ 50 ∷ []) ⇒ codes "1/2") ∷ (codes "/ 2" ⇒ codes "1/2")
+    ∷ (codes "1-2" ⇒ codes "1/2") ∷ []
 
 -- and what is left of a half after scanning, and old abbreviations
 abbrev pub worn_halves : List Entry
@@ -78,7 +79,8 @@ worn_halves = (codes "l/2" ⇒ codes "1/2") ∷ (codes "i/2" ⇒ codes "1/2") �
 abbrev pub quarters : List Entry
 quarters = ([] ⇒ codes "1/4") ∷ (codes "4" ⇒ codes "1/4") ∷ (codes "/4" ⇒ codes "1/4")
     ∷ (codes "quarter" ⇒ codes "1/4") ∷ (codes "one-quarter" ⇒ codes "1/4")
-    ∷ (codes "one quarter" ⇒ codes "1/4") ∷ ((49 ∷ fraction_slash ++ 52 ∷ []) ⇒ codes "1/4") ∷ []
+    ∷ (codes "one quarter" ⇒ codes "1/4") ∷ ((49 ∷ fraction_slash ++ 52 ∷ []) ⇒ codes "1/4")
+    ∷ (codes "/ 4" ⇒ codes "1/4") ∷ (codes "1-4" ⇒ codes "1/4") ∷ (codes "^" ⇒ codes "1/4") ∷ []
 
 -- and what is left of a quarter after scanning, and old abbreviations
 abbrev pub worn_quarters : List Entry
@@ -103,7 +105,7 @@ exceptions = (codes "less" ⇒ codes " except ") ∷ (codes "except" ⇒ codes "
     ∷ (codes "save" ⇒ codes " except ") ∷ (codes "exc" ⇒ codes " except ")
     ∷ (codes "exclusive" ⇒ codes " except ") ∷ (codes "l&e" ⇒ codes " except ")
     ∷ (codes "minus" ⇒ codes " except ") ∷ (codes "but" ⇒ codes " except ")
-    ∷ (codes "with" ⇒ codes " except ") ∷ []
+    ∷ (codes "with" ⇒ codes " except ") ∷ (codes "ex" ⇒ codes " except ") ∷ []
 
 -- DIRECTION: words for sides and corners
 abbrev pub directions : List Entry
@@ -112,6 +114,16 @@ directions = (codes "north" ⇒ codes "N") ∷ (codes "south" ⇒ codes "S") ∷
     ∷ (codes "southeast" ⇒ codes "SE") ∷ (codes "southwest" ⇒ codes "SW")
     ∷ (codes "north east" ⇒ codes "NE") ∷ (codes "north west" ⇒ codes "NW")
     ∷ (codes "south east" ⇒ codes "SE") ∷ (codes "south west" ⇒ codes "SW") ∷ []
+
+-- and such words with a letter missing, or two letters in each other's place
+abbrev pub worn_directions : List Entry
+worn_directions = (codes "nothwest" ⇒ codes "NW") ∷ (codes "norhwest" ⇒ codes "NW")
+    ∷ (codes "nortwest" ⇒ codes "NW") ∷ (codes "northwset" ⇒ codes "NW")
+    ∷ (codes "notheast" ⇒ codes "NE") ∷ (codes "norhteast" ⇒ codes "NE")
+    ∷ (codes "norteast" ⇒ codes "NE") ∷ (codes "northeat" ⇒ codes "NE")
+    ∷ (codes "sothwest" ⇒ codes "SW") ∷ (codes "souhwest" ⇒ codes "SW")
+    ∷ (codes "soutwest" ⇒ codes "SW") ∷ (codes "sotheast" ⇒ codes "SE")
+    ∷ (codes "souhteast" ⇒ codes "SE") ∷ (codes "souteast" ⇒ codes "SE") ∷ []
 
 -- NUMERAL: words for numbers up to twelve
 abbrev pub numerals : List Entry
@@ -155,6 +167,13 @@ section_words = ([] ⇒ codes "sec. ") ∷ ([] ⇒ codes "secs. ") ∷ (codes "s
     ∷ (codes "sec" ⇒ codes "secs") ∷ (codes "section" ⇒ codes "secs") ∷ (codes "," ⇒ codes ".")
     ∷ (codes "scc" ⇒ codes "sec") ∷ (codes "sce" ⇒ codes "sec") ∷ (section_sign ⇒ codes "sec")
     ∷ (section_sign ⇒ codes "secs") ∷ (codes "seo" ⇒ codes "sec") ∷ []
+
+-- and what a slip of the pen, or scanning, leaves of them
+abbrev pub worn_section_words : List Entry
+worn_section_words = (codes "secton" ⇒ codes "sec") ∷ (codes "sectlon" ⇒ codes "sec")
+    ∷ (codes "sectoin" ⇒ codes "sec") ∷ (codes "seciton" ⇒ codes "sec") ∷ (codes "sectiou" ⇒ codes "sec")
+    ∷ (codes "seclion" ⇒ codes "sec") ∷ (codes "seotion" ⇒ codes "sec") ∷ (codes "sectior" ⇒ codes "sec")
+    ∷ []
 
 -- LOT: the words for lots
 abbrev pub lot_words : List Entry

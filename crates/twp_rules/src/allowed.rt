@@ -5,6 +5,7 @@ ghost use Rattle.twp_rules.specs.Rules.{is_place_name, is_copied, is_number, is_
 ghost use Rattle.twp_rules.specs.Rules.{begins_label, ends_label, is_among, is_cell, without_white};
 ghost use Rattle.twp_rules.specs.Tables.{halves, worn_halves, quarters, worn_quarters, little_words};
 ghost use Rattle.twp_rules.specs.Tables.{marks, more_marks, more_little_words, joining_words};
+ghost use Rattle.twp_rules.specs.Tables.{directions, worn_directions, section_words, worn_section_words};
 
 use crate::change::Change;
 use crate::endings::*;
@@ -41,7 +42,7 @@ fn allows(rule: Rule, text: &[u8], start: usize, end: usize, seen: &[u8], writte
     match rule {
         Rule::Half => is_half_mark(seen, written) && has_sides(before(text, start)),
         Rule::Quarter => is_quarter_mark(seen, written) && has_corners(before(text, start)),
-        Rule::Direction => is_in_directions(seen, written) && is_whole_word(text, start, end),
+        Rule::Direction => is_direction(seen, written) && is_whole_word(text, start, end),
         Rule::Numeral => is_numeral(seen, written),
         Rule::Copied(from, to) => are_same(seen, b"") && is_copied(text, from, to, written),
         Rule::CopiedStep(from, to) => {
@@ -60,7 +61,7 @@ fn allows(rule: Rule, text: &[u8], start: usize, end: usize, seen: &[u8], writte
             || is_in_heading_words(seen, written)
             || is_in_heading_marks(seen, written),
         Rule::SectionWord => {
-            is_in_section_words(seen, written)
+            is_section_word(seen, written)
                 && (are_same(seen, b"") || are_same(seen, b",") || is_whole_word(text, start, end))
         }
         Rule::LotWord => {
@@ -98,7 +99,10 @@ fn may_be_left_out(rule: Rule, seen: &[u8]) -> bool
     match rule {
         Rule::Repeated => has_parenthesis_ends(seen),
         Rule::MovedSection => {
-            has_digits(seen) || has_section_ends(seen) || has_section_again(seen)
+            has_digits(seen)
+                || has_section_ends(seen)
+                || has_worn_section_ends(seen)
+                || has_section_again(seen)
         }
         Rule::MovedHeading => has_heading_ends(seen),
         Rule::Meridian => {
@@ -108,7 +112,10 @@ fn may_be_left_out(rule: Rule, seen: &[u8]) -> bool
                 || has_meridian_labels(without_white(seen))
         }
         Rule::Acreage => {
-            has_acreage_ends(seen) || is_figure(seen) || has_acreage_fronts(without_white(seen))
+            has_acreage_ends(seen)
+                || has_acre_letters(seen)
+                || is_figure(seen)
+                || has_acreage_fronts(without_white(seen))
         }
         Rule::Label => ends_label(seen) || begins_label(seen) || are_columns(seen),
         _ => false,
@@ -164,6 +171,22 @@ fn is_quarter_mark(seen: &[u8], written: &[u8]) -> bool
 {
     let mark = without_white(seen);
     is_in_quarters(mark, written) || is_in_worn_quarters(mark, written)
+}
+
+/// Whether a text is a word for a side or a corner, also with a slip, whose letters are written.
+fn is_direction(seen: &[u8], written: &[u8]) -> bool
+    ensures { result ≡ (is_among seen.now written.now directions
+        || is_among seen.now written.now worn_directions) }
+{
+    is_in_directions(seen, written) || is_in_worn_directions(seen, written)
+}
+
+/// Whether a text is a word for sections, or lacks one, which is written.
+fn is_section_word(seen: &[u8], written: &[u8]) -> bool
+    ensures { result ≡ (is_among seen.now written.now section_words
+        || is_among seen.now written.now worn_section_words) }
+{
+    is_in_section_words(seen, written) || is_in_worn_section_words(seen, written)
 }
 
 /// Whether a text is a mark that means nothing.
@@ -224,7 +247,9 @@ fn is_copied(text: &[u8], from: usize, to: usize, written: &[u8]) -> bool
 fn is_number(seen: &[u8], written: &[u8]) -> bool
     ensures { result ≡ is_number seen.now written.now }
 {
-    (are_digits(seen) && are_same(written, seen)) || is_numeral(seen, written)
+    (are_digits(seen) && are_same(written, seen))
+        || is_numeral(seen, written)
+        || is_in_damages(seen, written)
 }
 
 /// Whether what is written are the digits for a word.

@@ -8,7 +8,7 @@ ghost use Rattle.twp_rules.specs.Endings.{heading_ends, instrument_fronts, inter
 ghost use Rattle.twp_rules.specs.Endings.{label_ends, label_fronts, label_words, meridian_ends};
 ghost use Rattle.twp_rules.specs.Endings.{meridian_fronts, more_states, more_trailers, parenthesis_ends};
 ghost use Rattle.twp_rules.specs.Endings.{remarks, section_again, section_ends, sides, state_letters, states};
-ghost use Rattle.twp_rules.specs.Endings.{trailers, well_ends};
+ghost use Rattle.twp_rules.specs.Endings.{acre_letters, trailers, well_ends, worn_section_ends};
 
 use crate::same::is_text;
 
@@ -53,6 +53,24 @@ pub(crate) fn has_acreage_ends(seen: &[u8]) -> bool
         || ends_with(seen, b"net")
         || ends_with(seen, b"gross")
         || ends_with(seen, b"/-")
+        || ends_with(seen, b"acs")
+        || ends_with(seen, b"acs.")
+}
+
+/// The texts `acre_letters` of the specification.
+pub(crate) fn has_acre_letters(seen: &[u8]) -> bool
+    ensures { result ≡ ends_with_one seen.now acre_letters }
+{
+    ends_with(seen, b"0a")
+        || ends_with(seen, b"1a")
+        || ends_with(seen, b"2a")
+        || ends_with(seen, b"3a")
+        || ends_with(seen, b"4a")
+        || ends_with(seen, b"5a")
+        || ends_with(seen, b"6a")
+        || ends_with(seen, b"7a")
+        || ends_with(seen, b"8a")
+        || ends_with(seen, b"9a")
 }
 
 /// The texts `acreage_fronts` of the specification.
@@ -97,6 +115,8 @@ pub(crate) fn has_corners(seen: &[u8]) -> bool
         || ends_with(seen, b"w.")
         || ends_with(seen, b"east")
         || ends_with(seen, b"west")
+        || ends_with(seen, b" e")
+        || ends_with(seen, b" w")
 }
 
 /// The texts `digits` of the specification.
@@ -170,6 +190,10 @@ pub(crate) fn has_mineral_ends(seen: &[u8]) -> bool
         || ends_with(seen, b"interest")
         || ends_with(seen, b"int")
         || ends_with(seen, b"int.")
+        || ends_with(seen, b"min")
+        || ends_with(seen, b"min.")
+        || ends_with(seen, b"minerals")
+        || ends_with(seen, b"fee")
 }
 
 /// The texts `interest_fronts` of the specification.
@@ -181,6 +205,7 @@ pub(crate) fn has_interest_fronts(seen: &[u8]) -> bool
         || begins_with(seen, b"all that")
         || begins_with(seen, b"that certain")
         || begins_with(seen, b"all those")
+        || begins_with(seen, b"the lands")
 }
 
 /// The texts `label_ends` of the specification.
@@ -222,6 +247,7 @@ pub(crate) fn has_label_fronts(seen: &[u8]) -> bool
         || begins_with(seen, b"farm")
         || begins_with(seen, b"well")
         || begins_with(seen, b"owner")
+        || begins_with(seen, b"allotment")
 }
 
 /// The texts `label_words` of the specification.
@@ -308,13 +334,14 @@ pub(crate) fn has_more_trailers(seen: &[u8]) -> bool
         || begins_with(seen, b"royalty")
         || begins_with(seen, b"open")
         || begins_with(seen, b"leased")
+        || begins_with(seen, b"in the district")
 }
 
 /// The texts `parenthesis_ends` of the specification.
 pub(crate) fn has_parenthesis_ends(seen: &[u8]) -> bool
     ensures { result ≡ ends_with_one seen.now parenthesis_ends }
 {
-    ends_with(seen, b")")
+    ends_with(seen, b")") || ends_with(seen, b"]")
 }
 
 /// The texts `estates` of the specification.
@@ -376,6 +403,21 @@ pub(crate) fn has_section_ends(seen: &[u8]) -> bool
         || ends_with(seen, b"twelve")
         || ends_with(seen, b"teen")
         || ends_with(seen, b"ty")
+}
+
+/// The texts `worn_section_ends` of the specification.
+pub(crate) fn has_worn_section_ends(seen: &[u8]) -> bool
+    ensures { result ≡ ends_with_one seen.now worn_section_ends }
+{
+    ends_with(seen, b"1l")
+        || ends_with(seen, b"1i")
+        || ends_with(seen, b"1o")
+        || ends_with(seen, b"2l")
+        || ends_with(seen, b"2i")
+        || ends_with(seen, b"2o")
+        || ends_with(seen, b"3l")
+        || ends_with(seen, b"3i")
+        || ends_with(seen, b"3o")
 }
 
 /// The texts `sides` of the specification.

@@ -10,6 +10,7 @@ ghost use Rattle.twp_rules.specs.Tables.{heading_marks, headings, joining_words,
 ghost use Rattle.twp_rules.specs.Tables.{lot_marks, lot_words, more_marks};
 ghost use Rattle.twp_rules.specs.Tables.{marks, more_little_words, more_numerals, numerals, quarters};
 ghost use Rattle.twp_rules.specs.Tables.{section_words, semicolons, worn_halves, worn_quarters, zeros};
+ghost use Rattle.twp_rules.specs.Tables.{worn_directions, worn_section_words};
 
 use crate::same::{are_same, is_text};
 
@@ -88,6 +89,26 @@ pub(crate) fn is_in_directions(seen: &[u8], written: &[u8]) -> bool
         || is_row(seen, written, b"south west", b"SW")
 }
 
+/// The table `worn_directions` of the specification.
+pub(crate) fn is_in_worn_directions(seen: &[u8], written: &[u8]) -> bool
+    ensures { result ≡ is_among seen.now written.now worn_directions }
+{
+    is_row(seen, written, b"nothwest", b"NW")
+        || is_row(seen, written, b"norhwest", b"NW")
+        || is_row(seen, written, b"nortwest", b"NW")
+        || is_row(seen, written, b"northwset", b"NW")
+        || is_row(seen, written, b"notheast", b"NE")
+        || is_row(seen, written, b"norhteast", b"NE")
+        || is_row(seen, written, b"norteast", b"NE")
+        || is_row(seen, written, b"northeat", b"NE")
+        || is_row(seen, written, b"sothwest", b"SW")
+        || is_row(seen, written, b"souhwest", b"SW")
+        || is_row(seen, written, b"soutwest", b"SW")
+        || is_row(seen, written, b"sotheast", b"SE")
+        || is_row(seen, written, b"souhteast", b"SE")
+        || is_row(seen, written, b"souteast", b"SE")
+}
+
 /// The table `exceptions` of the specification.
 pub(crate) fn is_in_exceptions(seen: &[u8], written: &[u8]) -> bool
     ensures { result ≡ is_among seen.now written.now exceptions }
@@ -103,6 +124,7 @@ pub(crate) fn is_in_exceptions(seen: &[u8], written: &[u8]) -> bool
         || is_row(seen, written, b"minus", b" except ")
         || is_row(seen, written, b"but", b" except ")
         || is_row(seen, written, b"with", b" except ")
+        || is_row(seen, written, b"ex", b" except ")
 }
 
 /// The table `fraction_digits` of the specification.
@@ -122,6 +144,8 @@ pub(crate) fn is_in_halves(seen: &[u8], written: &[u8]) -> bool
         || is_row(seen, written, b"one-half", b"1/2")
         || is_row(seen, written, b"one half", b"1/2")
         || is_row(seen, written, b"1\xE2\x81\x842", b"1/2")
+        || is_row(seen, written, b"/ 2", b"1/2")
+        || is_row(seen, written, b"1-2", b"1/2")
 }
 
 /// The table `heading_marks` of the specification.
@@ -337,6 +361,9 @@ pub(crate) fn is_in_quarters(seen: &[u8], written: &[u8]) -> bool
         || is_row(seen, written, b"one-quarter", b"1/4")
         || is_row(seen, written, b"one quarter", b"1/4")
         || is_row(seen, written, b"1\xE2\x81\x844", b"1/4")
+        || is_row(seen, written, b"/ 4", b"1/4")
+        || is_row(seen, written, b"1-4", b"1/4")
+        || is_row(seen, written, b"^", b"1/4")
 }
 
 /// The table `section_words` of the specification.
@@ -357,6 +384,20 @@ pub(crate) fn is_in_section_words(seen: &[u8], written: &[u8]) -> bool
         || is_row(seen, written, b"\xC2\xA7", b"sec")
         || is_row(seen, written, b"\xC2\xA7", b"secs")
         || is_row(seen, written, b"seo", b"sec")
+}
+
+/// The table `worn_section_words` of the specification.
+pub(crate) fn is_in_worn_section_words(seen: &[u8], written: &[u8]) -> bool
+    ensures { result ≡ is_among seen.now written.now worn_section_words }
+{
+    is_row(seen, written, b"secton", b"sec")
+        || is_row(seen, written, b"sectlon", b"sec")
+        || is_row(seen, written, b"sectoin", b"sec")
+        || is_row(seen, written, b"seciton", b"sec")
+        || is_row(seen, written, b"sectiou", b"sec")
+        || is_row(seen, written, b"seclion", b"sec")
+        || is_row(seen, written, b"seotion", b"sec")
+        || is_row(seen, written, b"sectior", b"sec")
 }
 
 /// The table `semicolons` of the specification.

@@ -4,6 +4,8 @@ use crate::arranging::{Placed, Role};
 use crate::plan::Plan;
 use twp_grammar::Kind;
 use twp_phrases::{Names, Phrase};
+use twp_pieces::plus;
+use twp_rules::Rule;
 
 /// What has to be between two phrases.
 #[derive(Clone, Copy, PartialEq, Eq)]
@@ -76,12 +78,15 @@ impl<'a> Plan<'a> {
             Joining::Nothing if are_parts && left_out.is_empty() => self.are_bare_cells(
                 before, after,
             ),
+            Joining::Nothing if are_lots_and_part(before, after) => false,
             Joining::Nothing => !has_section(left_out),
             Joining::Stop => !(are_parts && left_out.is_empty()),
-            Joining::Colon => true,
-            Joining::And => are_parts && before.form != after.form,
+            Joining::Colon => !has_section(left_out),
+            Joining::And => {
+                are_parts && before.form != after.form && !is_repeated_after(before, left_out)
+            }
             Joining::Comma => are_parts && self.are_comma_cells(before, after),
-            Joining::Other => self.is_unsure_list(before, after),
+            Joining::Other => self.is_unsure_list(before, after, left_out),
             _ => false,
         }
     }
@@ -119,9 +124,20 @@ impl<'a> Plan<'a> {
     }
 
     /// Whether other pieces than commas and semicolons between two lands may mean something else: only an ampersand
-    /// doesn't, between parts that both have an `of`, or none.
-    fn is_unsure_list(&self, before: Phrase, after: Phrase) -> bool {
+    /// doesn't, between parts that both have an `of`, or none, nor a colon after a section that is named again.
+    fn is_unsure_list(&self, before: Phrase, after: Phrase, left_out: &[Placed]) -> bool {
+        let mut next = before.end;
+        let mut rest = left_out;
         for index in before.end..after.first {
+            if let [placed, more @ ..] = rest {
+                if placed.phrase.first == index {
+                    next = placed.phrase.end;
+                    rest = more;
+                }
+            }
+            if index < next || (self.draft.pieces.is(index, b":") && has_section(left_out)) {
+                continue;
+            }
             if !(self.draft.pieces.is(index, b"&")
                 || self.draft.pieces.is(index, b",")
                 || self.draft.pieces.is(index, b";"))
@@ -130,6 +146,24 @@ impl<'a> Plan<'a> {
             }
         }
         before.names == Names::Part && after.names == Names::Part && before.form != after.form
+    }
+}
+
+/// Whether a part of two steps or more follows lots, with white space alone between them: it is no part of a lot.
+fn are_lots_and_part(before: Phrase, after: Phrase) -> bool {
+    before.names == Names::Lots
+        && after.names == Names::Part
+        && after.steps.end > plus(after.steps.first, 1)
+}
+
+/// Whether parentheses after a part repeat it, as in `the East Half (E/2)`.
+fn is_repeated_after(before: Phrase, left_out: &[Placed]) -> bool {
+    match left_out {
+        [placed] => {
+            placed.phrase.first == before.end
+                && placed.phrase.names == Names::Nothing(Rule::Repeated)
+        }
+        _ => false,
     }
 }
 

@@ -42,6 +42,7 @@ pub fn readings_of<'a>(alloc: Global, text: &'a [u8]) -> Result<Vec<Reading<'a>>
         let changes = outline.changes_of(alloc, number)?;
         let found = match reading_with(alloc, text, changes, outline.has_except, &mut land) {
             Ok(found) => found,
+            Err(Unread::Unfit) => continue,
             Err(Unread::Refused) => return Ok(Vec::new(alloc)),
             Err(Unread::Memory) => return Err(AllocError),
         };

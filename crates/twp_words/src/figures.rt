@@ -4,7 +4,10 @@ use crate::same::is_same;
 
 /// Words for the unit of acreage.
 pub fn is_acres(word: &[u8]) -> bool {
-    is_same(word, b"acres") || is_same(word, b"acre") || is_same(word, b"ac")
+    is_same(word, b"acres")
+        || is_same(word, b"acre")
+        || is_same(word, b"ac")
+        || is_same(word, b"acs")
 }
 
 /// Words that say that acreage follows.

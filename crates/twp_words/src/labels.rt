@@ -67,6 +67,7 @@ pub fn begins_line_label(word: &[u8]) -> bool {
         || is_same(word, b"farm")
         || is_same(word, b"well")
         || is_same(word, b"owner")
+        || is_same(word, b"allotment")
 }
 
 /// Words for instruments and where they are recorded, with which such a label begins, too.
@@ -278,4 +279,13 @@ pub fn is_of_property(word: &[u8]) -> bool {
         || is_same(word, b"legally")
         || is_same(word, b"more")
         || is_same(word, b"particularly")
+        || is_same(word, b"covered")
+        || is_same(word, b"affected")
+        || is_same(word, b"by")
+        || is_same(word, b"this")
+        || is_same(word, b"opinion")
+        || is_same(word, b"report")
+        || is_same(word, b"lease")
+        || is_same(word, b"is")
+        || is_same(word, b"are")
 }

@@ -92,6 +92,22 @@ pub fn is_boundary(word: &[u8]) -> bool {
         || is_same(word, b"shoreline")
 }
 
+/// Whose an estate is, and what it is in, as in `100% fed min`, or before a colon, as in `USA minerals:`.
+pub fn is_of_estate(word: &[u8]) -> bool {
+    is_same(word, b"usa")
+        || is_same(word, b"us")
+        || is_same(word, b"fed")
+        || is_same(word, b"federal")
+        || is_same(word, b"fee")
+        || is_same(word, b"state")
+        || is_same(word, b"private")
+        || is_same(word, b"blm")
+        || is_same(word, b"min")
+        || is_same(word, b"mineral")
+        || is_same(word, b"minerals")
+        || is_same(word, b"estate")
+}
+
 /// Words of the plat of a town.
 pub fn is_of_town(word: &[u8]) -> bool {
     is_same(word, b"addition")
@@ -146,6 +162,7 @@ pub fn is_of_interest(word: &[u8]) -> bool {
         || is_same(word, b"of")
         || is_same(word, b"mineral")
         || is_same(word, b"minerals")
+        || is_same(word, b"min")
         || is_same(word, b"rights")
         || is_same(word, b"right")
         || is_same(word, b"title")
