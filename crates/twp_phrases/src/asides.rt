@@ -16,7 +16,52 @@ impl<'a> Draft<'a> {
         if self.pieces.is(index, b"(") || self.pieces.is(index, b"[") {
             return self.repeated(index);
         }
-        Ok(None)
+        self.being(index)
+    }
+
+    /// `being` at an index, with all land that was named before it, as in `All, being Lots 1 thru 7, ..`
+    fn being(&mut self, index: usize) -> Result<Option<Phrase>, AllocError> {
+        let from = self.extent();
+        let first = self.pieces.after_being(index);
+        let is_after_land = matches!(
+            self.last_names(),
+            Some(Names::All | Names::Part | Names::Lots)
+        );
+        if first == index || !is_after_land {
+            return Ok(None);
+        }
+        let mut end = first;
+        let mut has_more = true;
+        for _ in 0..self.pieces.len() {
+            if !has_more {
+                break;
+            }
+            let land = match self.lots(end)? {
+                Some(lots) => Some(lots),
+                None => self.part(end)?,
+            };
+            let Some(land) = land else {
+                return Ok(None);
+            };
+            has_more = self.pieces.is(land.end, b",") || self.pieces.is(land.end, b"and");
+            end = plus(land.end, usize::from(has_more));
+        }
+        let is_last = end >= self.pieces.len()
+            || self.pieces.is(end, b";")
+            || self.pieces.is(end, b".")
+            || self.pieces.begins_line(end);
+        if !is_last {
+            return Ok(None);
+        }
+        let land = self.phrase(Names::Nothing(Rule::Repeated), index, end, from);
+        self.claims.push(Claim {
+            place: index,
+            what: Claimed::Land {
+                pieces: Span { first, end },
+                changes: land.changes,
+            },
+        })?;
+        Ok(Some(land))
     }
 
     /// What is left out at an index, if it doesn't repeat land: its rule, and where it ends.

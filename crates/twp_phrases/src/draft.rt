@@ -95,6 +95,8 @@ pub enum Claimed {
     WholeSection,
     /// Land that includes lots, as a fractional quarter does.
     WithLots,
+    /// What some pieces name, with changes.
+    Land { pieces: Span, changes: Span },
     /// A part with these steps.
     Part(Span),
 }

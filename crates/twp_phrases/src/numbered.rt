@@ -191,7 +191,7 @@ impl<'a> Draft<'a> {
     }
 
     /// Writes the numbers that follow one, and what joins them: the index after the last one.
-    fn numbers_after(
+    pub fn numbers_after(
         &mut self,
         number: Numeral,
         names: Names,
@@ -463,12 +463,5 @@ impl<'a> Draft<'a> {
             };
         }
         index
-    }
-}
-
-impl<'a> Draft<'a> {
-    /// Writes the numbers of sections that follow one which has no word before it: the index after the last one.
-    pub fn more_sections(&mut self, number: Numeral) -> Result<usize, AllocError> {
-        self.numbers_after(number, Names::Sections, true)
     }
 }

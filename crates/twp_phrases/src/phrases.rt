@@ -387,7 +387,7 @@ impl<'a> Draft<'a> {
         self.write(place, place, b"sec. ", Rule::SectionWord)?;
         self.write_numeral(number)?;
         let end = if is_list {
-            self.more_sections(number)?
+            self.numbers_after(number, Names::Sections, true)?
         } else {
             number.end
         };

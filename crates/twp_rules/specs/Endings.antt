@@ -169,3 +169,7 @@ well_ends = codes "1h" ∷ codes "2h" ∷ codes "3h" ∷ codes "4h" ∷ codes "5
 -- what is in parentheses ends with
 abbrev pub parenthesis_ends : List (List ℕ)
 parenthesis_ends = codes ")" ∷ codes "]" ∷ []
+
+-- land that was named before, without parentheses, begins with, after white space
+abbrev pub being_fronts : List (List ℕ)
+being_fronts = codes "being" ∷ codes "aka" ∷ codes "a/" ∷ []

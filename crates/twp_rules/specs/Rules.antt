@@ -26,7 +26,7 @@ use Rattle.twp_rules.specs.Endings.{more_states, state_letters, acreage_ends, ac
 use Rattle.twp_rules.specs.Endings.{label_words, trailers, more_trailers, label_fronts, interest_fronts}
 use Rattle.twp_rules.specs.Endings.{interest_ends, column_names, instrument_fronts, well_ends}
 use Rattle.twp_rules.specs.Endings.{parenthesis_ends, estates, remarks, meridian_labels, column_ends}
-use Rattle.twp_rules.specs.Endings.{mineral_ends, acre_letters, worn_section_ends}
+use Rattle.twp_rules.specs.Endings.{mineral_ends, acre_letters, worn_section_ends, being_fronts}
 use Rattle.twp_rules.specs.Tables.{worn_directions, worn_section_words}
 
 -- this is written for that, in letters of either case
@@ -193,7 +193,8 @@ is_cell text start end =
 
 -- WHAT A RULE ALLOWS to leave out
 abbrev pub may_be_left_out : Rule → List ℕ → Bool
-may_be_left_out Repeated seen = ends_with_one seen parenthesis_ends
+may_be_left_out Repeated seen =
+    ends_with_one seen parenthesis_ends || begins_with_one (without_white seen) being_fronts
 may_be_left_out MovedSection seen =
     ends_with_one seen digits || ends_with_one seen section_ends || ends_with_one seen worn_section_ends
     || ends_with_one seen section_again

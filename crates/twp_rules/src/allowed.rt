@@ -97,7 +97,7 @@ fn may_be_left_out(rule: Rule, seen: &[u8]) -> bool
     ensures { result ≡ may_be_left_out rule seen.now }
 {
     match rule {
-        Rule::Repeated => has_parenthesis_ends(seen),
+        Rule::Repeated => has_parenthesis_ends(seen) || has_being_fronts(without_white(seen)),
         Rule::MovedSection => {
             has_digits(seen)
                 || has_section_ends(seen)

@@ -8,7 +8,7 @@ ghost use Rattle.twp_rules.specs.Endings.{heading_ends, instrument_fronts, inter
 ghost use Rattle.twp_rules.specs.Endings.{label_ends, label_fronts, label_words, meridian_ends};
 ghost use Rattle.twp_rules.specs.Endings.{meridian_fronts, more_states, more_trailers, parenthesis_ends};
 ghost use Rattle.twp_rules.specs.Endings.{remarks, section_again, section_ends, sides, state_letters, states};
-ghost use Rattle.twp_rules.specs.Endings.{acre_letters, trailers, well_ends, worn_section_ends};
+ghost use Rattle.twp_rules.specs.Endings.{acre_letters, being_fronts, trailers, well_ends, worn_section_ends};
 
 use crate::same::is_text;
 
@@ -342,6 +342,13 @@ pub(crate) fn has_parenthesis_ends(seen: &[u8]) -> bool
     ensures { result ≡ ends_with_one seen.now parenthesis_ends }
 {
     ends_with(seen, b")") || ends_with(seen, b"]")
+}
+
+/// The texts `being_fronts` of the specification.
+pub(crate) fn has_being_fronts(seen: &[u8]) -> bool
+    ensures { result ≡ begins_with_one seen.now being_fronts }
+{
+    begins_with(seen, b"being") || begins_with(seen, b"aka") || begins_with(seen, b"a/")
 }
 
 /// The texts `estates` of the specification.

@@ -6,7 +6,7 @@ use crate::on_plat::{land_on, township_of};
 use crate::plan::Plan;
 use std::alloc::{AllocError, Global};
 use twp_land::Land;
-use twp_phrases::{Claim, Claimed, Names, Phrase};
+use twp_phrases::{Claim, Claimed, Names, Phrase, Span};
 use twp_pieces::plus;
 
 /// The land before a place, which moves from one claim to the next.
@@ -86,6 +86,10 @@ impl<'a> Plan<'a> {
                 return includes_lots(alloc, claimed.as_slice());
             }
             Claimed::WholeSection => {}
+            Claimed::Land { pieces, changes } => {
+                claimed.extend_from_slice(b", ")?;
+                self.write_land(pieces, changes, &mut claimed)?;
+            }
             Claimed::Part(span) => {
                 claimed.extend_from_slice(b", ")?;
                 for step in self.draft.steps.get(span.first..span.end).unwrap_or(&[]) {
@@ -143,10 +147,28 @@ impl<'a> Plan<'a> {
         text: &mut Vec<u8>,
     ) -> Result<(), AllocError> {
         text.extend_from_slice(mark)?;
-        let mut at = self.draft.pieces.start(phrase.first);
-        let end = self.draft.pieces.end_before(phrase.end);
-        let span = phrase.changes;
-        for change in self.draft.changes.get(span.first..span.end).unwrap_or(&[]) {
+        let pieces = Span {
+            first: phrase.first,
+            end: phrase.end,
+        };
+        self.write_land(pieces, phrase.changes, text)
+    }
+
+    /// Appends the text of some pieces with changes.
+    fn write_land(
+        &self,
+        pieces: Span,
+        changes: Span,
+        text: &mut Vec<u8>,
+    ) -> Result<(), AllocError> {
+        let mut at = self.draft.pieces.start(pieces.first);
+        let end = self.draft.pieces.end_before(pieces.end);
+        for change in self
+            .draft
+            .changes
+            .get(changes.first..changes.end)
+            .unwrap_or(&[])
+        {
             text.extend_from_slice(self.draft.pieces.text.get(at..change.start).unwrap_or(b""))?;
             text.extend_from_slice(change.written)?;
             at = change.end;

@@ -21,6 +21,9 @@ pub fn letters_of(word: &[u8]) -> Option<&'static [u8]> {
 
 /// The letters of a word for a corner, in lowercase, also with a slip.
 fn corner_of(word: &[u8]) -> Option<&'static [u8]> {
+    if word.len() < 8 {
+        return None;
+    }
     if is_same(word, b"northeast") || is_worn_northeast(word) {
         return Some(b"NE");
     }
@@ -38,10 +41,11 @@ fn corner_of(word: &[u8]) -> Option<&'static [u8]> {
 
 /// Whether a word is one for a corner, with a letter missing, or two letters in each other's place.
 pub fn is_worn_corner(word: &[u8]) -> bool {
-    is_worn_northeast(word)
-        || is_worn_northwest(word)
-        || is_worn_southeast(word)
-        || is_worn_southwest(word)
+    word.len() >= 8
+        && (is_worn_northeast(word)
+            || is_worn_northwest(word)
+            || is_worn_southeast(word)
+            || is_worn_southwest(word))
 }
 
 /// What slips make of `northeast`.
@@ -72,14 +76,15 @@ fn is_worn_southwest(word: &[u8]) -> bool {
 
 /// Words for a section with a slip, or as scanning leaves them.
 pub fn is_worn_section(word: &[u8]) -> bool {
-    is_same(word, b"secton")
-        || is_same(word, b"sectlon")
-        || is_same(word, b"sectoin")
-        || is_same(word, b"seciton")
-        || is_same(word, b"sectiou")
-        || is_same(word, b"seclion")
-        || is_same(word, b"seotion")
-        || is_same(word, b"sectior")
+    word.len() >= 6
+        && (is_same(word, b"secton")
+            || is_same(word, b"sectlon")
+            || is_same(word, b"sectoin")
+            || is_same(word, b"seciton")
+            || is_same(word, b"sectiou")
+            || is_same(word, b"seclion")
+            || is_same(word, b"seotion")
+            || is_same(word, b"sectior"))
 }
 
 /// The first digit of a number that has two words, of which this is the first, in lowercase.
