@@ -25,7 +25,7 @@ impl<'a> Draft<'a> {
         let first = self.pieces.after_being(index);
         let is_after_land = matches!(
             self.last_names(),
-            Some(Names::All | Names::Part | Names::Lots)
+            Some(Names::All | Names::Part | Names::Lots | Names::Sections)
         );
         if first == index || !is_after_land {
             return Ok(None);
