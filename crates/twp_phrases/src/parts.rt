@@ -440,8 +440,8 @@ impl<'a> Draft<'a> {
         None
     }
 
-    /// Whether a fraction with a hyphen is at an index, as in `E 1-2 of NE 1-4`: with an `of` before or after its letters,
-    /// since `NE 1-4` may be of four sections.
+    /// Whether a fraction with a hyphen is at an index, as in `W 1-2 of SE 1-4`: with an `of` before or after its letters,
+    /// since `SE 1-4` may be of four sections.
     fn is_hyphenated(&self, index: usize, size: Size) -> bool {
         let next = plus(index, 1);
         let digit = plus(index, 2);

@@ -42,7 +42,7 @@ impl<'a> Pieces<'a> {
         }
     }
 
-    /// Where acreage after a dash ends, with white space on both sides of the dash, as in `- 39.1 ac`.
+    /// Where acreage after a dash ends, with white space on both sides of the dash, as in `- 38.5 ac`.
     pub fn end_of_dashed_acreage(&self, index: usize) -> Option<usize> {
         let next = plus(index, 1);
         let is_apart = self.is_dash(index) && !self.is_joined(index) && !self.is_joined(next);

@@ -310,7 +310,7 @@ impl<'a> Pieces<'a> {
 }
 
 impl<'a> Pieces<'a> {
-    /// Where words for an estate end, with a colon, as `USA minerals:`.
+    /// Where words for an estate end, with a colon, as `Fee minerals:`.
     fn end_of_estate(&self, index: usize) -> Option<usize> {
         for place in index..plus(index, 4) {
             if self.is(place, b":") && plus(index, 1) < place {

@@ -1,4 +1,4 @@
-//! The numbers of cases, files, parcels, and wells: `IDI-38114`, `#04512`, `RP02N03W100600`, `Moore 14-1H`.
+//! The numbers of cases, files, parcels, and wells: `IDI-38114`, `#30988`, `RP02N03W092400`, `Moore 14-1H`.
 
 use crate::pieces::{Pieces, plus};
 use twp_grammar::Kind;
@@ -34,7 +34,7 @@ impl<'a> Pieces<'a> {
         if has_long { Some(end) } else { None }
     }
 
-    /// Where the number of a parcel at an index ends, as `RP02N03W100600`: letters and digits without white space, which
+    /// Where the number of a parcel at an index ends, as `RP02N03W092400`: letters and digits without white space, which
     /// end with four digits or more.
     fn end_of_parcel_number(&self, index: usize) -> Option<usize> {
         if !self.is(index, b"rp") && !self.is(index, b"pin") && !self.is(index, b"apn") {
@@ -55,7 +55,7 @@ impl<'a> Pieces<'a> {
         }
     }
 
-    /// Where the number of a file at an index ends, as `#04512`: a shorter one may be of a lot.
+    /// Where the number of a file at an index ends, as `#30988`: a shorter one may be of a lot.
     pub fn end_of_file_number(&self, index: usize) -> Option<usize> {
         let number = plus(index, 1);
         let is_number = matches!(self.kind(number), Kind::Number(_) | Kind::BadNumber);

@@ -291,7 +291,7 @@ impl<'a> Plan<'a> {
     }
 
     /// Doubts land that is excepted from one of several parts, and isn't of the last of them: it may be a part of that, as
-    /// in `N/2, SE/4 less NE/4`.
+    /// in `S/2, NW/4 less SW/4`.
     fn doubt_exceptions(&mut self, list: &[Placed]) {
         let mut last: Option<Phrase> = None;
         let mut count: usize = 0;

@@ -92,7 +92,7 @@ pub fn is_boundary(word: &[u8]) -> bool {
         || is_same(word, b"shoreline")
 }
 
-/// Whose an estate is, and what it is in, as in `100% fed min`, or before a colon, as in `USA minerals:`.
+/// Whose an estate is, and what it is in, as in `50% fee min`, or before a colon, as in `Fee minerals:`.
 pub fn is_of_estate(word: &[u8]) -> bool {
     is_same(word, b"usa")
         || is_same(word, b"us")
