@@ -148,8 +148,11 @@ interest_ends = codes "interest in" ∷ codes "int in" ∷ codes "int. in" ∷ c
 -- or with the minerals that it is in
 abbrev pub mineral_ends : List (List ℕ)
 mineral_ends = codes "minerals in" ∷ codes "royalty in" ∷ codes "minerals under" ∷ codes "interest"
-    ∷ codes "int" ∷ codes "int." ∷ codes "min" ∷ codes "min." ∷ codes "minerals" ∷ codes "fee"
-    ∷ []
+    ∷ codes "int" ∷ codes "int." ∷ []
+
+-- and others
+abbrev pub more_mineral_ends : List (List ℕ)
+more_mineral_ends = codes "min" ∷ codes "min." ∷ codes "minerals" ∷ codes "fee" ∷ []
 
 -- the names of columns
 abbrev pub column_names : List (List ℕ)

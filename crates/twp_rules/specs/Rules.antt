@@ -26,7 +26,8 @@ use Rattle.twp_rules.specs.Endings.{more_states, state_letters, acreage_ends, ac
 use Rattle.twp_rules.specs.Endings.{label_words, trailers, more_trailers, label_fronts, interest_fronts}
 use Rattle.twp_rules.specs.Endings.{interest_ends, column_names, instrument_fronts, well_ends}
 use Rattle.twp_rules.specs.Endings.{parenthesis_ends, estates, remarks, meridian_labels, column_ends}
-use Rattle.twp_rules.specs.Endings.{mineral_ends, acre_letters, worn_section_ends, being_fronts}
+use Rattle.twp_rules.specs.Endings.{mineral_ends, more_mineral_ends, acre_letters}
+use Rattle.twp_rules.specs.Endings.{worn_section_ends, being_fronts}
 use Rattle.twp_rules.specs.Tables.{worn_directions, worn_section_words}
 
 -- this is written for that, in letters of either case
@@ -182,8 +183,8 @@ begins_label seen =
 abbrev pub ends_label : List ℕ → Bool
 ends_label seen =
     ends_with_one seen label_ends || ends_with_one seen column_ends || ends_with_one seen label_words
-    || ends_with_one seen interest_ends || ends_with_one seen mineral_ends || ends_with_one seen well_ends
-    || ends_with_number seen
+    || ends_with_one seen interest_ends || ends_with_one seen mineral_ends
+    || ends_with_one seen more_mineral_ends || ends_with_one seen well_ends || ends_with_number seen
 
 -- a text is alone in a cell of a table: a tab is after it, and a tab, a line feed, or nothing before it
 abbrev pub is_cell : List ℕ → ℕ → ℕ → Bool

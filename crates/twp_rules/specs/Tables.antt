@@ -79,12 +79,12 @@ worn_halves = (codes "l/2" ⇒ codes "1/2") ∷ (codes "i/2" ⇒ codes "1/2") �
 abbrev pub quarters : List Entry
 quarters = ([] ⇒ codes "1/4") ∷ (codes "4" ⇒ codes "1/4") ∷ (codes "/4" ⇒ codes "1/4")
     ∷ (codes "quarter" ⇒ codes "1/4") ∷ (codes "one-quarter" ⇒ codes "1/4")
-    ∷ (codes "one quarter" ⇒ codes "1/4") ∷ ((49 ∷ fraction_slash ++ 52 ∷ []) ⇒ codes "1/4")
-    ∷ (codes "/ 4" ⇒ codes "1/4") ∷ (codes "1-4" ⇒ codes "1/4") ∷ (codes "^" ⇒ codes "1/4") ∷ []
+    ∷ (codes "one quarter" ⇒ codes "1/4") ∷ ((49 ∷ fraction_slash ++ 52 ∷ []) ⇒ codes "1/4") ∷ []
 
 -- and what is left of a quarter after scanning, and old abbreviations
 abbrev pub worn_quarters : List Entry
-worn_quarters = (codes "l/4" ⇒ codes "1/4") ∷ (codes "i/4" ⇒ codes "1/4") ∷ (codes "'/4" ⇒ codes "1/4")
+worn_quarters = (codes "/ 4" ⇒ codes "1/4") ∷ (codes "1-4" ⇒ codes "1/4") ∷ (codes "^" ⇒ codes "1/4")
+    ∷ (codes "l/4" ⇒ codes "1/4") ∷ (codes "i/4" ⇒ codes "1/4") ∷ (codes "'/4" ⇒ codes "1/4")
     ∷ ((right_quote ++ codes "/4") ⇒ codes "1/4") ∷ (codes "]/4" ⇒ codes "1/4")
     ∷ (codes "!/4" ⇒ codes "1/4") ∷ (codes "|/4" ⇒ codes "1/4") ∷ (codes "1/" ⇒ codes "1/4")
     ∷ (codes "v4" ⇒ codes "1/4") ∷ (codes "%" ⇒ codes "1/4")

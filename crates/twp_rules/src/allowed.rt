@@ -144,6 +144,7 @@ fn ends_label(seen: &[u8]) -> bool
         || has_label_words(seen)
         || has_interest_ends(seen)
         || has_mineral_ends(seen)
+        || has_more_mineral_ends(seen)
         || has_well_ends(seen)
         || ends_with_number(seen)
 }

@@ -4,6 +4,7 @@ ghost use Rattle.std.specs.Str.{str_to_ascii_lowercase};
 ghost use Rattle.twp_rules.specs.Rules.{begins_with, begins_with_one, ends_with, ends_with_one};
 ghost use Rattle.twp_rules.specs.Endings.{acreage_ends, acreage_fronts, column_names, corners, digits};
 ghost use Rattle.twp_rules.specs.Endings.{column_ends, estates, meridian_labels, mineral_ends};
+ghost use Rattle.twp_rules.specs.Endings.{more_mineral_ends};
 ghost use Rattle.twp_rules.specs.Endings.{heading_ends, instrument_fronts, interest_ends, interest_fronts};
 ghost use Rattle.twp_rules.specs.Endings.{label_ends, label_fronts, label_words, meridian_ends};
 ghost use Rattle.twp_rules.specs.Endings.{meridian_fronts, more_states, more_trailers, parenthesis_ends};
@@ -190,7 +191,13 @@ pub(crate) fn has_mineral_ends(seen: &[u8]) -> bool
         || ends_with(seen, b"interest")
         || ends_with(seen, b"int")
         || ends_with(seen, b"int.")
-        || ends_with(seen, b"min")
+}
+
+/// The texts `more_mineral_ends` of the specification.
+pub(crate) fn has_more_mineral_ends(seen: &[u8]) -> bool
+    ensures { result ≡ ends_with_one seen.now more_mineral_ends }
+{
+    ends_with(seen, b"min")
         || ends_with(seen, b"min.")
         || ends_with(seen, b"minerals")
         || ends_with(seen, b"fee")

@@ -361,9 +361,6 @@ pub(crate) fn is_in_quarters(seen: &[u8], written: &[u8]) -> bool
         || is_row(seen, written, b"one-quarter", b"1/4")
         || is_row(seen, written, b"one quarter", b"1/4")
         || is_row(seen, written, b"1\xE2\x81\x844", b"1/4")
-        || is_row(seen, written, b"/ 4", b"1/4")
-        || is_row(seen, written, b"1-4", b"1/4")
-        || is_row(seen, written, b"^", b"1/4")
 }
 
 /// The table `section_words` of the specification.
@@ -439,7 +436,10 @@ pub(crate) fn is_in_worn_halves(seen: &[u8], written: &[u8]) -> bool
 pub(crate) fn is_in_worn_quarters(seen: &[u8], written: &[u8]) -> bool
     ensures { result ≡ is_among seen.now written.now worn_quarters }
 {
-    is_row(seen, written, b"l/4", b"1/4")
+    is_row(seen, written, b"/ 4", b"1/4")
+        || is_row(seen, written, b"1-4", b"1/4")
+        || is_row(seen, written, b"^", b"1/4")
+        || is_row(seen, written, b"l/4", b"1/4")
         || is_row(seen, written, b"i/4", b"1/4")
         || is_row(seen, written, b"'/4", b"1/4")
         || is_row(seen, written, b"\xE2\x80\x99/4", b"1/4")
