@@ -5,7 +5,7 @@ from typing import Dict, Iterable, List
 from errors import ReadingListError
 from library import Entry, Library
 
-# No row of a table is longer, so that it can be read as text.
+# No row of a table has more bytes, so that it can be read as text.
 ROW = 300
 # The most characters of a comment in a row; a longer comment is cut after its first sentence.
 COMMENT = 190
@@ -34,7 +34,7 @@ class Page:
         self.lines += [row_of(heads), "|" + "---|" * len(heads)]
         for row in rows:
             self.lines.append(row_of(row))
-            if len(self.lines[-1]) > ROW:
+            if size_of_row(row) > ROW:
                 raise ReadingListError("docs/TRUST.md", len(self.lines), f"the row is too long: {self.lines[-1]}")
         self.lines.append("")
 
@@ -51,6 +51,11 @@ def wrapped(text: str) -> List[str]:
 
 def row_of(cells: List[str]) -> str:
     return "| " + " | ".join(cell.replace("|", "\\|") for cell in cells) + " |"
+
+
+def size_of_row(cells: List[str]) -> int:
+    """How many bytes a row has: the tests of the documents count bytes."""
+    return len(row_of(cells).encode())
 
 
 def by_module(entries: Iterable[Entry]) -> List[List[Entry]]:
@@ -106,7 +111,7 @@ def module_rows(library: Library, entries: List[Entry]) -> List[List[str]]:
     where = f"[{title}](../{path.relative_to(library.root)})" if is_ours(library, entries[0]) else title
     rows: List[List[str]] = []
     for entry in entries:
-        if not rows or len(row_of(rows[-1])) + len(entry.name) + 4 > ROW:
+        if not rows or size_of_row(rows[-1]) + len(entry.name.encode()) + 4 > ROW:
             rows.append([where, "0", ""])
         rows[-1][1] = str(int(rows[-1][1]) + entry.what.size)
         rows[-1][2] += f"{', ' if rows[-1][2] else ''}`{entry.name}`"

@@ -259,7 +259,8 @@ class Batch(BatchCase):
         return run.returncode, records(run.stdout)
 
     def test_columns(self):
-        data = f'description\n"{MANY}"\n{TWO}\n"sec. 14, NE1/4."\nthe old mill\n"N2 Sec 14-3N-3W"\n"TRACT 1: sec. 14."\n'
+        data = f'description\n"{MANY}"\n{TWO}\n"sec. 14, NE1/4."\nthe old mill\n"N2 Sec 14-3N-3W"\n"TRACT 1: sec. 14, all."\n' \
+            '"TRACT 1: sec. 14."\n'
         status, (heading, *rows) = self.answers("--suggest", data=data)
         self.assertEqual((status, heading), (1, ["description", *ADDED, *SUGGESTED]))
         self.assertEqual([row[-4:] for row in rows], [
@@ -268,7 +269,9 @@ class Batch(BatchCase):
             ["sec. 14, NE1/4.", "1", "", "160.00"],
             ["", "0", "", ""],
             ["T. 3 N., R. 3 W., sec. 14, N1/2.", "1", "", ""],
-            ["sec. 14.", "1", "without `TRACT 1:`: this is not land", "640.00"],
+            ["sec. 14, all.", "1", "without `TRACT 1:`: this is not land", "640.00"],
+            # A section without land beside a remark: the land may be in the remark.
+            ["", "0", "", ""],
         ])
         # The columns of the answer are the same as without readings.
         without = self.answers(data=data)[1]

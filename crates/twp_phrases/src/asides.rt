@@ -1,10 +1,13 @@
 //! What is left out: the meridian, acreage, labels, and land that is repeated in parentheses.
 
-use crate::draft::{Claim, Claimed, Draft, Names, Phrase, PlacedStep};
+use crate::draft::{Claim, Claimed, Draft, Form, Names, Phrase, PlacedStep, Span};
 use std::alloc::AllocError;
 use twp_grammar::Kind;
 use twp_pieces::plus;
 use twp_rules::Rule;
+
+/// The number of a township's last section: a number up to this in parentheses isn't acreage.
+const SECTIONS: u16 = 36;
 
 impl<'a> Draft<'a> {
     /// What is left out at an index.
@@ -13,19 +16,90 @@ impl<'a> Draft<'a> {
         if let Some((rule, end)) = self.end_of_aside(index) {
             return Ok(Some(self.phrase(Names::Nothing(rule), index, end, from)));
         }
-        if self.pieces.is(index, b"(") {
-            return self.repeated(index);
+        if self.pieces.is(index, b"(") || self.pieces.is(index, b"[") {
+            if let Some(phrase) = self.repeated(index)? {
+                return Ok(Some(phrase));
+            }
+            self.shrink(from);
         }
-        Ok(None)
+        self.being(index)
     }
 
-    /// What is left out at an index, if it isn't in parentheses: its rule, and where it ends.
+    /// `being` at an index, also in parentheses, with all land that was named before it, as in `All, being Lots 1 thru 7, ..`
+    fn being(&mut self, index: usize) -> Result<Option<Phrase>, AllocError> {
+        let from = self.extent();
+        let is_in_parentheses = self.pieces.is(index, b"(");
+        let word = if is_in_parentheses {
+            plus(index, 1)
+        } else {
+            index
+        };
+        let first = self.pieces.after_being(word);
+        if first == word || !self.names_land {
+            return Ok(None);
+        }
+        let mut end = first;
+        let mut has_more = true;
+        for _ in 0..self.pieces.len() {
+            if !has_more {
+                break;
+            }
+            let land = match self.lots(end)? {
+                Some(lots) => Some(lots),
+                None => self.part(end)?,
+            };
+            let Some(land) = land else {
+                return Ok(None);
+            };
+            let next = plus(land.end, 1);
+            has_more = (self.pieces.is(land.end, b",") || self.pieces.is(land.end, b"and"))
+                && (self.pieces.begins_part(next) || matches!(self.pieces.kind(next), Kind::Lot));
+            end = plus(land.end, usize::from(has_more));
+        }
+        let is_closed = self.pieces.is(end, b")");
+        let is_last = end >= self.pieces.len()
+            || self.pieces.is(end, b";")
+            || self.pieces.is(end, b".")
+            || self.pieces.is(end, b",")
+            || self.pieces.begins_line(end);
+        if is_closed != is_in_parentheses || !(is_closed || is_last) {
+            return Ok(None);
+        }
+        let last = plus(end, usize::from(is_closed));
+        let land = self.phrase(Names::Nothing(Rule::Repeated), index, last, from);
+        self.claims.push(Claim {
+            place: index,
+            what: Claimed::Land {
+                pieces: Span { first, end },
+                changes: land.changes,
+            },
+        })?;
+        Ok(Some(land))
+    }
+
+    /// What is left out at an index, if it doesn't repeat land: its rule, and where it ends.
     fn end_of_aside(&self, index: usize) -> Option<(Rule, usize)> {
+        if let Some(end) = self.pieces.end_of_column_label(index) {
+            return Some((Rule::Label, end));
+        }
         if let Some(end) = self.end_of_figure(index) {
             return Some((Rule::Acreage, end));
         }
+        if self.names_land {
+            if let Some(end) = self.pieces.end_of_dashed_acreage(index) {
+                return Some((Rule::Acreage, end));
+            }
+        }
+        if let Some(end) = self.pieces.end_of_file_number(index) {
+            return Some((Rule::Label, end));
+        }
         if let Some(end) = self.pieces.end_of_acreage(index) {
             return Some((Rule::Acreage, end));
+        }
+        if self.pieces.begins_line(index) && self.pieces.is_dash(plus(index, 1)) {
+            if let Some(end) = self.pieces.end_of_serial(index) {
+                return Some((Rule::Label, end));
+            }
         }
         if let Some(end) = self.pieces.end_of_meridian(index) {
             return Some((Rule::Meridian, end));
@@ -48,12 +122,14 @@ impl<'a> Draft<'a> {
 
     /// Where a number in parentheses at an index ends, which is the acreage of the part before it.
     fn end_of_figure(&self, index: usize) -> Option<usize> {
-        let close = plus(index, 2);
-        let is_figure = self.pieces.is(index, b"(")
-            && self.last_names() == Some(Names::Part)
-            && self.pieces.number(plus(index, 1)).is_some()
-            && self.pieces.is(close, b")");
-        if is_figure {
+        if !self.pieces.is(index, b"(") || self.last_names() != Some(Names::Part) {
+            return None;
+        }
+        let first = plus(index, 1);
+        let close = self.pieces.end_of_decimal(first)?;
+        let is_figure = self.pieces.is_figure_with_decimals(first)
+            || self.pieces.number(first).unwrap_or(0) > SECTIONS;
+        if is_figure && self.pieces.is(close, b")") {
             Some(plus(close, 1))
         } else {
             None
@@ -70,10 +146,11 @@ impl<'a> Draft<'a> {
         let (what, close) = if matches!(self.pieces.kind(first), Kind::All) {
             (Claimed::WholeSection, plus(first, 1))
         } else {
-            let Some(part) = self.part(first)? else {
+            let Some(part) = self.part_in_pieces(first)? else {
                 return Ok(None);
             };
-            let is_same = before.names == Names::Part && self.have_same_steps(before, part);
+            let is_same = before.names == Names::Part
+                && (self.have_same_steps(before, part) || self.is_last_step(before, part));
             let what = if is_same {
                 Claimed::Same
             } else {
@@ -81,8 +158,19 @@ impl<'a> Draft<'a> {
             };
             (what, part.end)
         };
+        let acreage = if self.pieces.is(close, b",") {
+            self.pieces.end_of_acreage(plus(close, 1))
+        } else {
+            None
+        };
+        let close = acreage.unwrap_or(close);
         let is_land = matches!(before.names, Names::Part | Names::Lots);
-        if !is_land || !self.pieces.is(close, b")") {
+        let mark: &'static [u8] = if self.pieces.is(index, b"[") {
+            b"]"
+        } else {
+            b")"
+        };
+        if !is_land || !self.pieces.is(close, mark) {
             return Ok(None);
         }
         let end = plus(close, 1);
@@ -91,6 +179,32 @@ impl<'a> Draft<'a> {
             self.claims.push(Claim { place: index, what })?;
         }
         Ok(Some(self.phrase(Names::Nothing(Rule::Repeated), index, end, from)))
+    }
+
+    /// The aliquot part at an index, of which white space may be between two steps, as in `(N 1/2 NE 1/4)`.
+    fn part_in_pieces(&mut self, index: usize) -> Result<Option<Phrase>, AllocError> {
+        let Some(first) = self.part(index)? else {
+            return Ok(None);
+        };
+        match self.part(first.end)? {
+            Some(second) => Ok(Some(Phrase {
+                end: second.end,
+                steps: Span {
+                    first: first.steps.first,
+                    end: second.steps.end,
+                },
+                ..first
+            })),
+            None => Ok(Some(first)),
+        }
+    }
+
+    /// Whether a part is the last step of another, which has an `of`, as in `the West half of the Southwest quarter (SW¼)`.
+    fn is_last_step(&self, whole: Phrase, part: Phrase) -> bool {
+        match (self.steps_of(whole), self.steps_of(part)) {
+            ([.., last], [step]) => whole.form == Form::WithOf && last.written == step.written,
+            _ => false,
+        }
     }
 
     /// Whether two aliquot parts have the same steps.

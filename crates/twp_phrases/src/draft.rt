@@ -86,13 +86,17 @@ pub struct PlacedStep {
     pub is_after_of: bool,
 }
 
-/// What parentheses say that the land before them is.
+/// What is said of the land before a place, as in parentheses.
 #[derive(Clone, Copy, PartialEq, Eq)]
 pub enum Claimed {
     /// The same part.
     Same,
     /// All of its section.
     WholeSection,
+    /// Land that includes lots, as a fractional quarter does.
+    WithLots,
+    /// What some pieces name, with changes.
+    Land { pieces: Span, changes: Span },
     /// A part with these steps.
     Part(Span),
 }
@@ -119,8 +123,14 @@ pub struct Draft<'a> {
     pub claims: Vec<Claim>,
     /// Whether a section or land was found.
     pub names_land: bool,
+    /// Whether text was left out as a remark.
+    pub has_remark: bool,
     /// Whether something was found that makes the text unsure, or that isn't land.
     pub is_unsure: bool,
+    /// Whether a parenthesis before land is open.
+    pub has_open: bool,
+    /// The last section that was found.
+    pub last_section: Option<Phrase>,
 }
 
 /// There is room from the start for this many phrases, changes, steps, and numbers: most texts have fewer.
@@ -158,7 +168,10 @@ impl<'a> Draft<'a> {
             numbers: Vec::with_capacity(alloc, NUMBERS_FIRST)?,
             claims: Vec::new(alloc),
             names_land: false,
+            has_remark: false,
             is_unsure: false,
+            has_open: false,
+            last_section: None,
         })
     }
 

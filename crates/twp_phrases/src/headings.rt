@@ -25,10 +25,16 @@ impl<'a> Draft<'a> {
             self.leave_out(next, plus(next, 1), Rule::Heading)?;
             next = plus(next, 1);
         }
+        if let Some(end) = self.pieces.after_same_township(next) {
+            self.shrink(from);
+            let names = Names::Nothing(Rule::MovedHeading);
+            return Ok(Some(self.phrase(names, index, end, from)));
+        }
         let has_word = self.pieces.is(next, b"t")
             || self.pieces.is(next, b"township")
             || self.pieces.is(next, b"twp")
-            || self.pieces.is(next, b"tp");
+            || self.pieces.is(next, b"tp")
+            || self.pieces.is(next, b"twsp");
         next = self.heading_word(next, has_word, b"T.", b"T. ")?;
         let Some(after) = self.tier(next, has_word)? else {
             return Ok(None);
@@ -49,7 +55,8 @@ impl<'a> Draft<'a> {
             if (self.pieces.is(next, b"r")
                 || self.pieces.is(next, b"range")
                 || self.pieces.is(next, b"rng")
-                || self.pieces.is(next, b"rge"))
+                || self.pieces.is(next, b"rge")
+                || self.pieces.is(next, b"rg"))
                 != has_word
             {
                 return Ok(None);
@@ -76,7 +83,20 @@ impl<'a> Draft<'a> {
             && (self.pieces.is(plus(index, 1), b"t") || self.pieces.is(plus(index, 1), b"r"))
             && self.pieces.is(close, b")");
         let value = self.numbers.last().map(|last| last.value);
-        let is_same = self.pieces.number(number) == value && value.is_some();
+        let side = plus(index, 3);
+        let before = index.saturating_sub(1);
+        let is_north = self.pieces.is(before, b"n") || self.pieces.is(before, b"north");
+        let is_west = self.pieces.is(before, b"w") || self.pieces.is(before, b"west");
+        let is_side = if self.pieces.is_east_west(before) {
+            self.pieces.is_east_west(side) && self.pieces.is(side, b"w") == is_west
+        } else {
+            self.pieces.is_north_south(side) && self.pieces.is(side, b"n") == is_north
+        };
+        let is_letter = self.pieces.is(plus(index, 1), b"t") == self.pieces.is_north_south(side);
+        let is_same = self.pieces.number(number) == value
+            && value.is_some()
+            && is_side
+            && is_letter;
         if !is_tier || !is_same {
             return Ok(index);
         }
@@ -98,16 +118,22 @@ impl<'a> Draft<'a> {
             return Ok(index);
         }
         let next = plus(index, 1);
-        if self.pieces.bytes(index).len() > 1 {
+        let is_letter = self.pieces.bytes(index).len() == 1;
+        if !is_letter {
             self.replace(index, letter, Rule::Heading)?;
-            if matches!(self.pieces.kind(next), Kind::Stop) {
-                self.leave_out(next, plus(next, 1), Rule::Heading)?;
-                return Ok(plus(next, 1));
-            }
-        } else if matches!(self.pieces.kind(next), Kind::Stop) {
-            return Ok(plus(next, 1));
         }
-        Ok(next)
+        match self.pieces.kind(next) {
+            Kind::Stop if is_letter => Ok(plus(next, 1)),
+            Kind::Stop | Kind::Colon | Kind::Comma => {
+                self.leave_out(next, plus(next, 1), Rule::Heading)?;
+                Ok(plus(next, 1))
+            }
+            _ if self.pieces.is(next, b"-") => {
+                self.replace(next, b" ", Rule::Heading)?;
+                Ok(plus(next, 1))
+            }
+            _ => Ok(next),
+        }
     }
 
     /// The same for a range.
@@ -126,16 +152,27 @@ impl<'a> Draft<'a> {
         let Some(number) = self.numeral(index) else {
             return Ok(None);
         };
-        let is_side = self.pieces.is_north_south(number.end)
-            || self.pieces.is_east_west(number.end)
-            || (has_word
-                && (self.pieces.is(number.end, b"nr") || self.pieces.is(number.end, b"sr")));
-        let is_joined = self.pieces.is_joined(number.end) && number.end == next;
+        let has_dash = has_word && self.pieces.is(number.end, b"-");
+        let side = if has_dash {
+            plus(number.end, 1)
+        } else {
+            number.end
+        };
+        let is_side = self.pieces.is_north_south(side)
+            || self.pieces.is_east_west(side)
+            || (has_word && (self.pieces.is(side, b"nr") || self.pieces.is(side, b"sr")));
+        let is_joined = self.pieces.is_joined(side) && side == next;
         if !is_side || (!has_word && !is_joined) || number.value == 0 || number.value > 99 {
             return Ok(None);
         }
         self.write_numeral(number)?;
-        Ok(Some(number.end))
+        if has_dash {
+            self.replace(number.end, b" ", Rule::Heading)?;
+            if let Some(last) = self.numbers.last_mut() {
+                last.end = side;
+            }
+        }
+        Ok(Some(side))
     }
 
     /// The number of four digits of a township or a range at an index. A register's last digit is of a fraction.
@@ -180,18 +217,27 @@ impl<'a> Draft<'a> {
         }
         let next = plus(index, 1);
         if matches!(self.pieces.kind(next), Kind::Stop) && self.pieces.is_joined(next) {
-            return Ok(plus(next, 1));
+            let second = plus(next, 1);
+            if self.pieces.is(second, b".") && self.pieces.is_joined(second) {
+                self.leave_out(second, plus(second, 1), Rule::Heading)?;
+                return Ok(plus(second, 1));
+            }
+            return Ok(second);
         }
         Ok(next)
     }
 
-    /// Passes over a comma between a township and its range, and leaves out a hyphen and `of`.
+    /// Passes over a comma between a township and its range, and leaves out another mark and `of`.
     fn before_range(&mut self, index: usize, has_word: bool) -> Result<usize, AllocError> {
         let mut next = index;
-        if matches!(self.pieces.kind(next), Kind::Comma) && has_word {
+        if matches!(self.pieces.kind(next), Kind::Comma) {
             next = plus(next, 1);
         }
-        if self.pieces.is_dash(next) {
+        if self.pieces.is_dash(next)
+            || self.pieces.is(next, b";")
+            || self.pieces.is(next, b"/")
+            || self.pieces.is(next, b"|")
+        {
             self.replace(next, b" ", Rule::Heading)?;
             next = plus(next, 1);
         }

@@ -3,12 +3,13 @@
 use crate::draft::{Draft, Form, Names, Numeral, Phrase};
 use std::alloc::AllocError;
 use twp_grammar::Kind;
-use twp_pieces::plus;
+use twp_pieces::{is_worn_section, plus};
 use twp_rules::Rule;
 
 /// What joins a number to the one before it.
 #[derive(Clone, Copy, PartialEq, Eq)]
 enum Join {
+    Nothing,
     Comma,
     And,
     To,
@@ -29,23 +30,41 @@ impl<'a> Draft<'a> {
     /// The section or sections at an index, after the word for them.
     pub fn sections(&mut self, index: usize) -> Result<Option<Phrase>, AllocError> {
         let from = self.extent();
-        let word = if self.pieces.is(index, b"fractional") || self.pieces.is(index, b"said") {
+        let is_said = self.pieces.is(index, b"said") || self.pieces.is(index, b"same");
+        let is_after_land = matches!(self.last_names(), Some(Names::Part | Names::Lots));
+        let word = if self.pieces.is(index, b"fractional") || is_said {
             plus(index, 1)
+        } else if is_after_land {
+            self.pieces.after_all_in(index)
         } else {
             index
         };
+        if self.pieces.is_damaged_section_word(word) {
+            return self.damaged_section(word);
+        }
         let is_known = matches!(self.pieces.kind(word), Kind::Sec);
+        let is_worn = is_worn_section(self.pieces.lower(word));
         if !is_known
+            && !is_worn
             && !(self.pieces.is(word, b"sect")
                 || self.pieces.is(word, b"sects")
                 || self.pieces.is(word, b"scc")
                 || self.pieces.is(word, b"sce")
+                || self.pieces.is(word, b"seo")
                 || self.pieces.is(word, b"\xC2\xA7"))
         {
             return Ok(None);
         }
+        if is_said {
+            if let Some(phrase) = self.section_again(index, word) {
+                return Ok(Some(phrase));
+            }
+        }
         if word > index {
-            self.leave_out(index, word, Rule::Word)?;
+            self.leave_out_each(index, word, Rule::Word)?;
+        }
+        if is_worn {
+            self.replace(word, b"sec", Rule::SectionWord)?;
         }
         let next = self.after_section_word(word)?;
         let Some(number) = self.section_number(next) else {
@@ -60,16 +79,52 @@ impl<'a> Draft<'a> {
         Ok(Some(Phrase { form, ..phrase }))
     }
 
+    /// The section that was named before, if words for it at an index have no number.
+    fn section_again(&self, index: usize, word: usize) -> Option<Phrase> {
+        let next = plus(word, 1);
+        let end = if self.pieces.is(next, b".") && self.pieces.is_joined(next) {
+            plus(next, 1)
+        } else {
+            next
+        };
+        if self.section_number(end).is_some() {
+            return None;
+        }
+        let numbers = self.last_section?.numbers;
+        let again = self.phrase(Names::Sections, index, end, self.extent());
+        Some(Phrase { numbers, ..again })
+    }
+
+    /// The section at an index whose word begins with such a digit.
+    fn damaged_section(&mut self, index: usize) -> Result<Option<Phrase>, AllocError> {
+        let from = self.extent();
+        self.replace(index, b"S", Rule::Damage)?;
+        let next = self.after_section_word(plus(index, 1))?;
+        let Some(number) = self.section_number(next) else {
+            return Ok(None);
+        };
+        self.write_numeral(number)?;
+        Ok(Some(self.phrase(Names::Sections, index, number.end, from)))
+    }
+
     /// The index after the marks that follow the word for sections at an index: a period, a second one, or a comma in its
     /// place.
     fn after_section_word(&mut self, word: usize) -> Result<usize, AllocError> {
         let next = plus(word, 1);
+        if matches!(self.pieces.kind(next), Kind::Colon) {
+            self.leave_out(next, plus(next, 1), Rule::Mark)?;
+            return Ok(plus(next, 1));
+        }
+        if self.pieces.is(next, b".") && self.pieces.number(plus(next, 1)).is_some() {
+            return Ok(plus(next, 1));
+        }
         if !self.pieces.is_joined(next) {
             return Ok(next);
         }
         if matches!(self.pieces.kind(next), Kind::Stop) {
             let second = plus(next, 1);
-            if self.pieces.is(second, b".") && self.pieces.is_joined(second) {
+            let is_mark = self.pieces.is(second, b".") || self.pieces.is(second, b":");
+            if is_mark && self.pieces.is_joined(second) {
                 self.leave_out(second, plus(second, 1), Rule::Mark)?;
                 return Ok(plus(second, 1));
             }
@@ -115,6 +170,7 @@ impl<'a> Draft<'a> {
         } else if self.pieces.is(word, b"sect")
             || self.pieces.is(word, b"scc")
             || self.pieces.is(word, b"sce")
+            || self.pieces.is(word, b"seo")
             || self.pieces.is(word, b"\xC2\xA7")
         {
             self.replace(word, b"sec", Rule::SectionWord)?;
@@ -135,7 +191,7 @@ impl<'a> Draft<'a> {
     }
 
     /// Writes the numbers that follow one, and what joins them: the index after the last one.
-    fn numbers_after(
+    pub fn numbers_after(
         &mut self,
         number: Numeral,
         names: Names,
@@ -144,12 +200,25 @@ impl<'a> Draft<'a> {
         let mut last = number;
         let mut end = self.after_acreage(number.end, names)?;
         for _ in 0..self.pieces.len() {
-            let Some(Joined { join, end: next }) = self.join_at(end) else {
+            if names == Names::Lots && self.pieces.end_of_dashed_acreage(end).is_some() {
+                break;
+            }
+            let is_list = names == Names::Lots && is_plural;
+            let joined = match self.join_at(end) {
+                None if is_list => self.join_of_lots(end, last),
+                found => found,
+            };
+            let Some(Joined { join, end: next }) = joined else {
                 break;
             };
             let Some(more) = self.numeral(next) else {
                 break;
             };
+            if self.pieces.is_figure_with_decimals(next)
+                || self.pieces.end_of_acreage(next).is_some()
+            {
+                break;
+            }
             if !self.continues(more, join, names, is_plural) {
                 break;
             }
@@ -163,7 +232,7 @@ impl<'a> Draft<'a> {
             self.write_numeral(more)?;
             last = more;
             end = self.after_acreage(more.end, names)?;
-            end = self.after_inclusive(end, join);
+            end = self.after_inclusive(end, join)?;
         }
         Ok(end)
     }
@@ -203,6 +272,26 @@ impl<'a> Draft<'a> {
         }
     }
 
+    /// White space between the number of a lot and that of the next one, after a word in the plural, as in `LTS 2 3`. Other
+    /// lots may be the first and the last of several.
+    fn join_of_lots(&self, index: usize, last: Numeral) -> Option<Joined> {
+        let is_list = self.pieces.has_digits(index.saturating_sub(1), 1)
+            && self.pieces.has_digits(index, 1)
+            && self.pieces.number(index) == Some(last.value.saturating_add(1))
+            && !self.pieces.has_break_before(index)
+            && !self.pieces.is_joined(index)
+            && !self.pieces.is_dash(plus(index, 1))
+            && !self.pieces.is(plus(index, 1), b"/");
+        if is_list {
+            Some(Joined {
+                join: Join::Nothing,
+                end: index,
+            })
+        } else {
+            None
+        }
+    }
+
     /// Whether a number after a join is one more of the same, and not the number of another section.
     fn continues(&self, more: Numeral, join: Join, names: Names, is_plural: bool) -> bool {
         let after = more.end;
@@ -223,7 +312,10 @@ impl<'a> Draft<'a> {
 
     /// Writes what joins two numbers, where it isn't written so.
     fn write_join(&mut self, index: usize, next: usize, join: Join) -> Result<(), AllocError> {
-        if join == Join::Dash {
+        if join == Join::Nothing {
+            let place = self.pieces.end_before(index);
+            self.write(place, place, b",", Rule::Comma)?;
+        } else if join == Join::Dash {
             self.replace(index, b" thru ", Rule::Through)?;
         } else if self.pieces.is(index, b"&") {
             self.replace(index, b" and ", Rule::And)?;
@@ -234,13 +326,31 @@ impl<'a> Draft<'a> {
     }
 
     /// The index after `inclusive`, if it follows a range.
-    fn after_inclusive(&self, index: usize, join: Join) -> usize {
-        let next = plus(index, 1);
-        match self.pieces.kind(index) {
-            Kind::Inclusive if join == Join::To => next,
-            Kind::Comma if join == Join::To && self.pieces.is(next, b"inclusive") => plus(next, 1),
-            _ => index,
+    fn after_inclusive(&mut self, index: usize, join: Join) -> Result<usize, AllocError> {
+        if !matches!(join, Join::To | Join::Dash) {
+            return Ok(index);
         }
+        let word = if matches!(self.pieces.kind(index), Kind::Comma) {
+            plus(index, 1)
+        } else {
+            index
+        };
+        if matches!(self.pieces.kind(word), Kind::Inclusive) {
+            return Ok(plus(word, 1));
+        }
+        if !self.pieces.is(word, b"incl") {
+            return Ok(index);
+        }
+        if word > index {
+            self.leave_out(index, word, Rule::Mark)?;
+        }
+        self.leave_out(word, plus(word, 1), Rule::Word)?;
+        let mark = plus(word, 1);
+        if self.pieces.is(mark, b".") && self.pieces.is_joined(mark) {
+            self.leave_out(mark, plus(mark, 1), Rule::Mark)?;
+            return Ok(plus(mark, 1));
+        }
+        Ok(mark)
     }
 
     /// The index after the acreage of a lot in parentheses, which is left out.
@@ -280,7 +390,9 @@ impl<'a> Draft<'a> {
             return Ok(None);
         }
         self.write_numeral(number)?;
-        let end = self.numbers_after(number, Names::Lots, true)?;
+        let before = next.saturating_sub(1);
+        let is_plural = self.pieces.is(before, b"lots") || self.pieces.is(before, b"lts");
+        let end = self.numbers_after(number, Names::Lots, is_plural)?;
         Ok(Some(self.phrase(Names::Lots, index, end, from)))
     }
 
@@ -294,20 +406,32 @@ impl<'a> Draft<'a> {
         if !matches!(self.pieces.kind(word), Kind::Lot)
             && !(self.pieces.is(word, b"l")
                 || self.pieces.is(word, b"lt")
+                || self.pieces.is(word, b"gl")
                 || self.pieces.is(word, b"lts"))
         {
             return Ok(None);
         }
         self.leave_out_each(index, word, Rule::LotWord)?;
         let mut next = plus(word, 1);
-        if self.pieces.is(word, b"l") || self.pieces.is(word, b"lt") {
+        if self.pieces.is(word, b"l")
+            || self.pieces.is(word, b"lt")
+            || self.pieces.is(word, b"gl")
+        {
             self.replace(word, b"lot ", Rule::LotWord)?;
         } else if self.pieces.is(word, b"lts") {
             self.replace(word, b"lots ", Rule::LotWord)?;
         }
-        if self.pieces.is(next, b"numbered") || self.pieces.is(next, b".") {
-            self.replace(next, b"", Rule::LotWord)?;
-            next = plus(next, 1);
+        for place in next..plus(next, 3) {
+            if place == next
+                && (self.pieces.is(place, b"numbered")
+                    || self.pieces.is(place, b".")
+                    || self.pieces.is(place, b"no")
+                    || self.pieces.is(place, b"nos")
+                    || self.pieces.is(place, b"#"))
+            {
+                self.replace(place, b"", Rule::LotWord)?;
+                next = plus(place, 1);
+            }
         }
         Ok(Some(next))
     }
@@ -321,8 +445,16 @@ impl<'a> Draft<'a> {
                 next = plus(next, 1);
             }
         }
+        if matches!(self.pieces.kind(next), Kind::Lot) {
+            return next;
+        }
         if self.pieces.is(next, b"government") || self.pieces.is(next, b"govt") {
-            return plus(next, 1);
+            let mark = plus(next, 1);
+            return if self.pieces.is(mark, b".") {
+                plus(mark, 1)
+            } else {
+                mark
+            };
         }
         if self.pieces.is(next, b"gov") {
             let mark = plus(next, 1);
@@ -336,12 +468,5 @@ impl<'a> Draft<'a> {
             };
         }
         index
-    }
-}
-
-impl<'a> Draft<'a> {
-    /// Writes the numbers of sections that follow one which has no word before it: the index after the last one.
-    pub fn more_sections(&mut self, number: Numeral) -> Result<usize, AllocError> {
-        self.numbers_after(number, Names::Sections, true)
     }
 }

@@ -3,7 +3,7 @@
 use crate::draft::{Draft, Numeral};
 use std::alloc::AllocError;
 use twp_grammar::Kind;
-use twp_pieces::plus;
+use twp_pieces::{plus, tens_of, value_of};
 use twp_rules::Rule;
 
 /// The digits of a word for a number, in lowercase.
@@ -33,26 +33,6 @@ fn digits_of(word: &[u8]) -> Option<&'static [u8]> {
         _ => return None,
     };
     Some(digits)
-}
-
-/// The first digit of a number that has two words, of which this is the first, in lowercase.
-fn tens_of(word: &[u8]) -> Option<&'static [u8]> {
-    match word {
-        b"twenty" => Some(b"2"),
-        b"thirty" => Some(b"3"),
-        _ => None,
-    }
-}
-
-/// The value of up to four digits.
-fn value_of(digits: &[u8]) -> u16 {
-    let mut value: u16 = 0;
-    for digit in digits {
-        value = value
-            .saturating_mul(10)
-            .saturating_add(u16::from(digit.saturating_sub(b'0')));
-    }
-    value
 }
 
 impl<'a> Draft<'a> {
@@ -210,6 +190,19 @@ impl<'a> Draft<'a> {
         Ok(())
     }
 
+    /// Writes the digits of a number at a place where they aren't, from one index up to another, some of which are letters.
+    fn copy_damaged(&mut self, place: usize, first: usize, end: usize) -> Result<(), AllocError> {
+        for index in first..end {
+            let (from, to) = (self.pieces.start(index), self.pieces.end(index));
+            match self.damaged_digit(index) {
+                Some(0) => self.write(place, place, b"0", Rule::Copied(from, to))?,
+                Some(_) => self.write(place, place, b"1", Rule::Copied(from, to))?,
+                None => self.copy(place, from, to)?,
+            }
+        }
+        Ok(())
+    }
+
     /// Writes a number at a place where it isn't, without the last so many digits.
     pub fn copy_numeral(
         &mut self,
@@ -219,7 +212,7 @@ impl<'a> Draft<'a> {
     ) -> Result<(), AllocError> {
         let Numeral { first, last, .. } = number;
         if self.is_damaged(number) {
-            self.doubt();
+            return self.copy_damaged(place, first, plus(last, 1));
         }
         if matches!(self.pieces.kind(first), Kind::Number(_)) {
             let from = self.without_zeros(first);

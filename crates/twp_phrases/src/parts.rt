@@ -3,7 +3,7 @@
 use crate::draft::{Draft, Form, Names, Phrase, PlacedStep};
 use std::alloc::AllocError;
 use twp_grammar::Kind;
-use twp_pieces::{is_same, plus};
+use twp_pieces::{is_same, letters_of, plus};
 use twp_rules::Rule;
 
 /// The most steps of a part: each halves a side of the section, which can be halved five times each way.
@@ -52,6 +52,14 @@ impl Size {
         }
     }
 
+    /// Whether a word in lowercase is its name, and no abbreviation.
+    fn is_whole_word(self, word: &[u8]) -> bool {
+        match self {
+            Size::Half => is_same(word, b"half"),
+            Size::Quarter => is_same(word, b"quarter") || is_same(word, b"qtr"),
+        }
+    }
+
     /// Whether a piece is the lowered digit of its fraction.
     fn is_lowered(self, piece: &[u8]) -> bool {
         match self {
@@ -67,22 +75,6 @@ impl Size {
             Size::Quarter => matches!(kind, Kind::Quarter),
         }
     }
-}
-
-/// The letters of a word for a direction, in lowercase.
-fn letters_of(word: &[u8]) -> Option<&'static [u8]> {
-    let letters: &'static [u8] = match word {
-        b"north" => b"N",
-        b"south" => b"S",
-        b"east" => b"E",
-        b"west" => b"W",
-        b"northeast" => b"NE",
-        b"northwest" => b"NW",
-        b"southeast" => b"SE",
-        b"southwest" => b"SW",
-        _ => return None,
-    };
-    Some(letters)
 }
 
 /// Whether letters in lowercase are those of corners, one after another.
@@ -135,8 +127,9 @@ impl<'a> Draft<'a> {
     /// The aliquot part at an index: steps joined without white space, or by `of`.
     pub fn part(&mut self, index: usize) -> Result<Option<Phrase>, AllocError> {
         let from = self.extent();
-        let mut first = index;
-        if self.pieces.is(index, b"the") {
+        let mut first = self.pieces.after_fractional(index);
+        self.leave_out_each(index, first, Rule::Word)?;
+        if first == index && self.pieces.is(index, b"the") {
             self.leave_out(index, plus(index, 1), Rule::Word)?;
             first = plus(index, 1);
         }
@@ -153,8 +146,11 @@ impl<'a> Draft<'a> {
                 end = after;
                 continue;
             }
+            let extent = self.extent();
+            let same = self.after_same_step(end)?;
             let steps = self.steps.len();
-            let Some(after) = self.step_after_of(end)? else {
+            let Some(after) = self.step_after_of(same)? else {
+                self.shrink(extent);
                 break;
             };
             if let Some(step) = self.steps.get_mut(steps) {
@@ -167,12 +163,54 @@ impl<'a> Draft<'a> {
         Ok(Some(Phrase { form, ..phrase }))
     }
 
-    /// The step at an index that is joined to the one before it, also by a backslash.
+    /// The index after the step before an index in parentheses, if `of` follows them, as in `the West half (W½) of`. They
+    /// are left out.
+    fn after_same_step(&mut self, index: usize) -> Result<usize, AllocError> {
+        if !self.pieces.is(index, b"(") {
+            return Ok(index);
+        }
+        let before = self.steps.last().copied();
+        let extent = self.extent();
+        let close = self.step(plus(index, 1))?;
+        let same = self.steps.last().copied();
+        let count = self.extent().steps_after(extent);
+        self.shrink(extent);
+        let (Some(close), Some(before), Some(same)) = (close, before, same) else {
+            return Ok(index);
+        };
+        let end = plus(close, 1);
+        if count != 1
+            || before.written != same.written
+            || !self.pieces.is(close, b")")
+            || !self.pieces.is(end, b"of")
+        {
+            return Ok(index);
+        }
+        self.leave_out(index, end, Rule::Repeated)?;
+        Ok(end)
+    }
+
+    /// The step at an index that is joined to the one before it, also by a backslash, or a slash between bare corners.
     fn step_joined(&mut self, index: usize) -> Result<Option<usize>, AllocError> {
         if !self.pieces.is_joined(index) {
             return Ok(None);
         }
-        if self.pieces.is(index, b"\\") {
+        if self.pieces.is_hyphen_at_line_end(index) {
+            let next = plus(index, 1);
+            let extent = self.extent();
+            let from = self.pieces.start(index);
+            let to = self.pieces.start(next);
+            self.leave_out_bytes(from, to)?;
+            let end = self.step(next)?;
+            if end.is_none() {
+                self.shrink(extent);
+            }
+            return Ok(end);
+        }
+        let is_slash = self.pieces.is(index, b"/")
+            && matches!(self.pieces.kind(index.saturating_sub(1)), Kind::Corner(_))
+            && matches!(self.pieces.kind(plus(index, 1)), Kind::Corner(_));
+        if self.pieces.is(index, b"\\") || is_slash {
             self.leave_out(index, plus(index, 1), Rule::Mark)?;
             let next = plus(index, 1);
             if self.pieces.is_joined(next) {
@@ -191,6 +229,10 @@ impl<'a> Draft<'a> {
             return Ok(None);
         }
         let next = plus(index, 1);
+        if self.pieces.is(next, b"said") {
+            self.leave_out(next, plus(next, 1), Rule::Word)?;
+            return self.step(plus(next, 1));
+        }
         let next = if self.pieces.is(next, b"the") {
             plus(next, 1)
         } else {
@@ -204,7 +246,7 @@ impl<'a> Draft<'a> {
         match self.pieces.kind(index) {
             Kind::NorthSouth(_) | Kind::EastWest(_) => self.half(index),
             Kind::Corner(_) => self.corners(index),
-            Kind::Number(5) if self.pieces.has_digits(index, 1) => self.damaged_corner(index),
+            Kind::Number(5 | 8) if self.pieces.has_digits(index, 1) => self.damaged_corner(index),
             Kind::Other if are_corners(self.pieces.lower(index)) => self.corners(index),
             Kind::Other => self.step_in_words(index),
             _ => Ok(None),
@@ -344,6 +386,21 @@ impl<'a> Draft<'a> {
         if is_joined && pieces.is(index, b"/") && self.is_digit(next, size) {
             return Some(plus(next, 1));
         }
+        if pieces.is_spaced_slash(index)
+            && pieces.number(next) == Some(size.digit())
+            && pieces.has_digits(next, 1)
+        {
+            return Some(plus(next, 1));
+        }
+        if is_joined && pieces.is(index, b"^") && size == Size::Quarter {
+            return Some(next);
+        }
+        if self.is_hyphenated(index, size) {
+            return Some(plus(index, 3));
+        }
+        if size.is_whole_word(pieces.lower(index)) {
+            return Some(next);
+        }
         if is_joined && self.is_digit(index, size) && !self.goes_on(next) {
             return Some(next);
         }
@@ -362,7 +419,8 @@ impl<'a> Draft<'a> {
                 || pieces.is(index, b"\xC2\xB9"))
         {
             let is_lower = size.is_lowered(pieces.lower(digit)) && pieces.is_joined(digit);
-            if self.is_digit(digit, size) || is_lower {
+            let is_z = size == Size::Half && pieces.is(digit, b"z") && pieces.is_joined(digit);
+            if self.is_digit(digit, size) || is_lower || (is_z && pieces.is(index, b"1")) {
                 return Some(plus(digit, 1));
             }
         }
@@ -373,10 +431,11 @@ impl<'a> Draft<'a> {
         {
             return Some(plus(digit, 1));
         }
-        if is_joined && pieces.is(index, b"v") && self.is_digit(next, size) {
+        let is_worn = pieces.is(index, b"v") || pieces.is(index, b"y");
+        if is_joined && is_worn && self.is_digit(next, size) {
             return Some(plus(next, 1));
         }
-        if is_joined && pieces.is(index, b"%") && size == Size::Quarter {
+        if is_joined && pieces.is(index, b"%") {
             return Some(next);
         }
         if is_joined
@@ -388,6 +447,21 @@ impl<'a> Draft<'a> {
             return Some(digit);
         }
         None
+    }
+
+    /// Whether a fraction with a hyphen is at an index, as in `W 1-2 of SE 1-4`: with an `of` before or after its letters,
+    /// since `SE 1-4` may be of four sections.
+    fn is_hyphenated(&self, index: usize, size: Size) -> bool {
+        let next = plus(index, 1);
+        let digit = plus(index, 2);
+        let is_of = self.pieces.is(plus(index, 3), b"of")
+            || self.pieces.is(index.saturating_sub(2), b"of")
+            || self.pieces.is(index.saturating_sub(3), b"of");
+        is_of
+            && self.pieces.is(index, b"1")
+            && self.pieces.is(next, b"-")
+            && self.pieces.is_joined(next)
+            && self.is_digit(digit, size)
     }
 
     /// Whether the piece at an index is the digit that people write for a half or a quarter, joined to what is before it.
@@ -418,7 +492,11 @@ impl<'a> Draft<'a> {
     /// The corner at an index whose letters are apart, or the side, with periods after them, and the fraction.
     fn dotted(&mut self, index: usize) -> Result<Option<usize>, AllocError> {
         let pieces = &self.pieces;
-        let second = self.after_stop(plus(index, 1));
+        let second = if self.pieces.is_hyphen_at_line_end(plus(index, 1)) {
+            plus(index, 2)
+        } else {
+            self.after_stop(plus(index, 1))
+        };
         let extent = self.extent();
         let begin = pieces.start(index);
         if !matches!(pieces.kind(index), Kind::NorthSouth(_))
@@ -523,9 +601,15 @@ impl<'a> Draft<'a> {
         let next = plus(index, 1);
         let is_two = letters.len() == 1
             && (self.pieces.is(index, b"north") || self.pieces.is(index, b"south"))
-            && (self.pieces.is(next, b"east") || self.pieces.is(next, b"west"));
+            && (self.pieces.is_second_word(next)
+                || (self.pieces.is(next, b"-") && self.pieces.is_second_word(plus(next, 1))));
+        let second = if self.pieces.is(next, b"-") {
+            plus(next, 1)
+        } else {
+            next
+        };
         let (after, letters) = if is_two {
-            (plus(index, 2), self.corner_in_words(index))
+            (plus(second, 1), self.corner_in_words(index, second))
         } else {
             (next, letters)
         };
@@ -538,7 +622,15 @@ impl<'a> Draft<'a> {
         let end = self.pieces.end_before(after);
         let extent = self.extent();
         let written = written_step(letters);
-        self.write(start, end, letters, Rule::Direction)?;
+        if is_two {
+            self.write_direction(index)?;
+            let first_end = self.pieces.end(index);
+            let second_start = self.pieces.start(second);
+            self.leave_out_bytes(first_end, second_start)?;
+            self.write_direction(second)?;
+        } else {
+            self.write(start, end, letters, Rule::Direction)?;
+        }
         if let Some(stop) = self.fraction(after, size)? {
             self.push_step(start, stop, written)?;
             return Ok(Some(stop));
@@ -560,11 +652,17 @@ impl<'a> Draft<'a> {
         Ok(Some(plus(word, 1)))
     }
 
-    /// The letters of the corner that two words at an index name.
-    fn corner_in_words(&self, index: usize) -> &'static [u8] {
+    /// Writes the letter of the word for a side at an index.
+    fn write_direction(&mut self, index: usize) -> Result<(), AllocError> {
+        let letters = letters_of(self.pieces.lower(index)).unwrap_or(b"");
+        self.replace(index, letters, Rule::Direction)
+    }
+
+    /// The letters of the corner that two words name.
+    fn corner_in_words(&self, index: usize, second: usize) -> &'static [u8] {
         match (
             self.pieces.is(index, b"north"),
-            self.pieces.is(plus(index, 1), b"east"),
+            self.pieces.is(second, b"east"),
         ) {
             (true, true) => b"NE",
             (true, false) => b"NW",

@@ -1,9 +1,9 @@
 //! The phrases of a text, from left to right.
 
-use crate::draft::{Draft, Form, Names, Phrase};
+use crate::draft::{Claim, Claimed, Draft, Form, Names, Phrase};
 use std::alloc::AllocError;
 use twp_grammar::Kind;
-use twp_pieces::plus;
+use twp_pieces::{Position, plus};
 use twp_rules::Rule;
 
 /// The most pieces that join two phrases.
@@ -26,11 +26,37 @@ impl<'a> Draft<'a> {
                     index = phrase.end;
                     self.names_land = self.names_land
                         || !matches!(phrase.names, Names::Nothing(_) | Names::Heading);
+                    if phrase.names == Names::Sections {
+                        self.last_section = Some(phrase);
+                    }
                     self.phrases.push(phrase)?;
                 }
-                None if self.joins_phrases(here) && here < plus(index, JOINING_MOST) => {}
+                None if self.joins_phrases(here) && here < plus(index, JOINING_MOST) => {
+                    self.has_open = self.pieces.is(here, b"(")
+                        || (self.has_open && !self.pieces.is(here, b")"));
+                }
                 None => self.doubt(),
             }
+        }
+        // A word that isn't known may be what was meant by the land of a section: with remarks, each section has some.
+        let mut sections: usize = 0;
+        let mut lands: usize = 0;
+        let mut is_land = false;
+        for phrase in &self.phrases {
+            match phrase.names {
+                Names::Sections => {
+                    sections = plus(sections, 1);
+                    is_land = false;
+                }
+                Names::Part | Names::Lots | Names::All => {
+                    lands = plus(lands, usize::from(!is_land));
+                    is_land = true;
+                }
+                _ => {}
+            }
+        }
+        if self.has_remark && sections != lands {
+            self.doubt();
         }
         Ok(())
     }
@@ -52,19 +78,45 @@ impl<'a> Draft<'a> {
                 || self.pieces.is(index, b"\xE2\x80\x9C")
                 || self.pieces.is(index, b"\xE2\x80\x9D")
                 || self.pieces.is(index, b"thereof")
-                || self.pieces.is(index, b"\\"))
+                || self.pieces.is(index, b"\\")
+                || self.pieces.is(index, b"|")
+                || self.pieces.is(index, b"\xE2\x80\xA2")
+                || self.pieces.is(index, b"+")
+                || self.pieces.is(index, b"/")
+                || self.pieces.is(index, b"also")
+                || (self.pieces.is(index, b")") && self.has_open))
+            || self.opens_land(index)
+            || self.pieces.joins_together(index)
+    }
+
+    /// Whether parentheses around land are opened at an index: after its section, before its section, or around an
+    /// exception.
+    fn opens_land(&self, index: usize) -> bool {
+        let next = plus(index, 1);
+        if !self.pieces.is(index, b"(") || self.has_open {
+            return false;
+        }
+        match self.last_names() {
+            Some(Names::Sections) => self.pieces.begins_land(next)
+                || self.after_except(next).is_some(),
+            Some(Names::Part | Names::All) => {
+                self.after_except(next).is_some()
+                    || matches!(self.pieces.kind(next), Kind::Sec)
+                    || (self.pieces.number(next).is_some() && self.pieces.is_dash(plus(next, 1)))
+            }
+            _ => false,
+        }
     }
 
     /// The phrase at an index: of a piece that begins only one kind of phrase, that one, before the others are looked for.
     fn phrase_at(&mut self, index: usize) -> Result<Option<Phrase>, AllocError> {
         let from = self.extent();
         let found = match self.pieces.kind(index) {
-            Kind::Comma | Kind::Semicolon | Kind::Stop | Kind::Colon | Kind::And | Kind::To => {
+            Kind::Comma | Kind::Semicolon | Kind::Stop | Kind::Colon | Kind::And => {
                 return Ok(None);
             }
-            Kind::Half | Kind::Quarter => return Ok(None),
-            Kind::BadByte if !(self.pieces.is(index, b"(") || self.pieces.is(index, b"\xC2\xA7")) =>
-                return Ok(None),
+            Kind::Half | Kind::Quarter if index > 0 => return Ok(None),
+            Kind::BadByte if !self.pieces.may_begin_phrase(index) => return Ok(None),
             Kind::Sec => self.sections(index)?,
             Kind::Lot => self.lots(index)?,
             Kind::T => self.heading(index)?,
@@ -72,6 +124,8 @@ impl<'a> Draft<'a> {
             Kind::NorthSouth(_) | Kind::EastWest(_) if !self.pieces.is(plus(index, 1), b".") => {
                 self.half_or_section(index)?
             }
+            Kind::Other if self.pieces.begins_step(index) => self.sure_part(index)?,
+            Kind::The if self.pieces.begins_land(plus(index, 1)) => self.sure_part(index)?,
             _ => None,
         };
         if found.is_some() {
@@ -96,6 +150,12 @@ impl<'a> Draft<'a> {
         let part = self.part(index)?;
         if let Some(phrase) = part {
             self.doubt_part(phrase);
+            if self.pieces.after_fractional(index) > index {
+                self.claims.push(Claim {
+                    place: phrase.end,
+                    what: Claimed::WithLots,
+                })?;
+            }
         }
         Ok(part)
     }
@@ -139,7 +199,18 @@ impl<'a> Draft<'a> {
             return Ok(Some(phrase));
         }
         self.shrink(from);
-        self.bare_section(index)
+        if let Some(phrase) = self.bare_section(index)? {
+            return Ok(Some(phrase));
+        }
+        self.shrink(from);
+        let position = if self.names_land {
+            Position::AfterLand
+        } else {
+            Position::BeforeLand
+        };
+        let end = self.pieces.end_of_remark(index, position);
+        self.has_remark = self.has_remark || end.is_some();
+        Ok(end.map(|end| self.phrase(Names::Nothing(Rule::Label), index, end, from)))
     }
 
     /// All of a section, at an index.
@@ -155,10 +226,24 @@ impl<'a> Draft<'a> {
             self.leave_out(plus(next, 1), plus(next, 2), Rule::Word)?;
             return Ok(Some(self.phrase(Names::All, index, plus(next, 2), from)));
         }
-        if !matches!(self.pieces.kind(next), Kind::All) {
+        if (self.pieces.is(next, b"whole") || self.pieces.is(next, b"entirety"))
+            && self.pieces.is(plus(next, 1), b"of")
+        {
+            self.replace(next, b"all", Rule::Word)?;
+            return Ok(Some(self.phrase(Names::All, index, plus(next, 1), from)));
+        }
+        if !matches!(self.pieces.kind(next), Kind::All) || !self.pieces.may_be_land(next) {
             return Ok(None);
         }
         next = plus(next, 1);
+        if self.pieces.is(next, b"of") && self.pieces.begins_part(plus(next, 1)) {
+            self.leave_out_each(index, plus(next, 1), Rule::Word)?;
+            let part = self.part(plus(next, 1))?;
+            return Ok(part.map(|part| Phrase {
+                form: part.form,
+                ..self.phrase(Names::Part, index, part.end, from)
+            }));
+        }
         if self.pieces.is(next, b"entire") && self.pieces.is(plus(next, 1), b"section") {
             self.leave_out_each(next, plus(next, 2), Rule::Word)?;
             next = plus(next, 2);
@@ -200,7 +285,11 @@ impl<'a> Draft<'a> {
             self.write(start, stop, b" except ", Rule::Exception)?;
         } else {
             self.replace(index, b" except ", Rule::Exception)?;
-            self.leave_out_each(plus(index, 1), end, Rule::Word)?;
+            for place in plus(index, 1)..end {
+                let is_mark = self.pieces.is(place, b".");
+                let rule = if is_mark { Rule::Mark } else { Rule::Word };
+                self.leave_out(place, plus(place, 1), rule)?;
+            }
         }
         Ok(Some(self.phrase(Names::Except, index, end, from)))
     }
@@ -224,12 +313,26 @@ impl<'a> Draft<'a> {
             || pieces.is(index, b"less")
             || pieces.is(index, b"excluding")
             || pieces.is(index, b"exc")
+            || pieces.is(index, b"ex")
+            || pieces.is(index, b"ls")
             || pieces.is(index, b"exclusive")
+            || pieces.is(index, b"minus")
         {
             let is_word = pieces.is(second, b"for")
                 || pieces.is(second, b"therefrom")
-                || pieces.is(second, b"of");
+                || pieces.is(second, b"of")
+                || ((pieces.is(index, b"exc") || pieces.is(index, b"ex"))
+                    && pieces.is(second, b"."));
             return Some(if is_word { third } else { second });
+        }
+        if pieces.is(index, b"but") && pieces.is(second, b"not") {
+            return Some(third);
+        }
+        if pieces.is(index, b"with")
+            && pieces.is(second, b"the")
+            && pieces.is(third, b"exception")
+        {
+            return Some(plus(third, 2));
         }
         None
     }
@@ -251,7 +354,8 @@ impl<'a> Draft<'a> {
         }
         if self.pieces.is(part.end, b"corner")
             || self.pieces.is(part.end, b"cor")
-            || self.pieces.is(part.end, b"/")
+            || (self.pieces.is(part.end, b"/")
+                && (self.pieces.is_joined(part.end) || self.pieces.is_joined(plus(part.end, 1))))
         {
             self.doubt();
         }
@@ -276,16 +380,27 @@ impl<'a> Draft<'a> {
         let next = plus(index, 2);
         if !self.pieces.is(index, b"s")
             || !self.pieces.is_joined(digits)
-            || self.pieces.is_joined(next)
+            || (self.pieces.is_joined(next) && !self.pieces.is_after_tag(next))
         {
             return Ok(None);
         }
         let Some(number) = self.section_number(digits) else {
             return Ok(None);
         };
-        let is_after = self.last_names() == Some(Names::Heading) && self.pieces.is(next, b":");
-        let is_tag = self.pieces.is(next, b"t") && self.has_heading(next)?;
-        if !is_after && !is_tag {
+        let is_list = match self.last_section {
+            Some(section) => self.pieces.is(section.first, b"s"),
+            None => false,
+        };
+        let is_after = (self.last_names() == Some(Names::Heading)
+            && (self.pieces.is(next, b":") || self.pieces.has_digits(digits, 2)))
+            || (is_list && self.pieces.is(next, b":"))
+            || self.pieces.is_section_before_land(index);
+        let place = if self.pieces.is_dash(next) || self.pieces.is(next, b",") {
+            plus(next, 1)
+        } else {
+            next
+        };
+        if !is_after && !self.has_heading(place)? {
             return Ok(None);
         }
         self.replace(index, b"sec. ", Rule::SectionWord)?;
@@ -302,8 +417,9 @@ impl<'a> Draft<'a> {
         if !matches!(self.pieces.kind(index), Kind::Number(_)) {
             return Ok(None);
         }
+        let before = index.saturating_sub(1);
         let is_list = self.last_names() == Some(Names::All)
-            && self.pieces.is(index.saturating_sub(1), b"of");
+            && (self.pieces.is(before, b"of") || matches!(self.pieces.kind(before), Kind::All));
         if !is_list && !self.is_bare_section(index)? {
             return Ok(None);
         }
@@ -311,7 +427,7 @@ impl<'a> Draft<'a> {
         self.write(place, place, b"sec. ", Rule::SectionWord)?;
         self.write_numeral(number)?;
         let end = if is_list {
-            self.more_sections(number)?
+            self.numbers_after(number, Names::Sections, true)?
         } else {
             number.end
         };
@@ -320,16 +436,23 @@ impl<'a> Draft<'a> {
         Ok(Some(Phrase { form, ..phrase }))
     }
 
-    /// Whether a dash with white space on both sides is at an index, and land after it.
-    fn is_before_dash_and_land(&self, index: usize) -> bool {
-        let land = plus(index, 1);
-        self.pieces.is_dash(index)
-            && !self.pieces.is_joined(index)
-            && !self.pieces.is_joined(land)
-            && matches!(
-                self.pieces.kind(land),
-                Kind::NorthSouth(_) | Kind::EastWest(_) | Kind::Corner(_) | Kind::All | Kind::Lot
-            )
+    /// Whether the number at an index is after a township, or after a section with its land in parentheses.
+    fn is_after_land_of_section(&self, index: usize) -> bool {
+        let mut before = index.saturating_sub(1);
+        for _ in 0..2 {
+            if self.pieces.is(before, b",")
+                || self.pieces.is(before, b";")
+                || self.pieces.is(before, b"&")
+                || self.pieces.is(before, b"and")
+            {
+                before = before.saturating_sub(1);
+            }
+        }
+        match self.last_names() {
+            Some(Names::Heading) => true,
+            Some(Names::Part | Names::All | Names::Lots) => self.pieces.is(before, b")"),
+            _ => false,
+        }
     }
 
     /// Whether the number at an index is that of a section: before a location or a colon, after a township and range,
@@ -338,10 +461,25 @@ impl<'a> Draft<'a> {
         let next = plus(index, 1);
         let before = index.saturating_sub(1);
         let last = self.last_names();
+        if self.pieces.is(next, b"/") && self.pieces.is_joined(next) {
+            return Ok(false);
+        }
+        let label = before.saturating_sub(1);
+        if self.pieces.is(label, b"frstdivno") || self.pieces.is(label, b"frstdivlab") {
+            return Ok(true);
+        }
         if self.pieces.is_dash(next) && self.has_heading(plus(next, 1))? {
             return Ok(true);
         }
-        if self.is_before_dash_and_land(next) && self.pieces.begins_line(index) {
+        if self.pieces.is_before_dash_and_land(next) && self.pieces.begins_line(index) {
+            return Ok(true);
+        }
+        if self.pieces.is(next, b"(") && self.pieces.begins_land(plus(next, 1)) {
+            return Ok(self.is_after_land_of_section(index));
+        }
+        let is_cell = self.pieces.is(next, b",") || self.pieces.is(next, b"|");
+        let place = if is_cell { plus(next, 1) } else { next };
+        if self.pieces.begins_cell(index) && self.has_heading(place)? {
             return Ok(true);
         }
         let is_first = last.is_none() || matches!(last, Some(Names::Heading | Names::Nothing(_)));
@@ -352,11 +490,29 @@ impl<'a> Draft<'a> {
         if self.pieces.is(next, b":") && (is_first || is_apart) {
             return Ok(!is_alone);
         }
-        if self.is_before_dash_and_land(next) && is_apart {
+        if self.pieces.is_before_dash_and_land(next) && is_apart {
+            return Ok(true);
+        }
+        let is_list = match self.last_section {
+            Some(section) => matches!(self.pieces.kind(section.first), Kind::Number(_)),
+            None => false,
+        };
+        if is_list
+            && self.pieces.is(before, b";")
+            && matches!(last, Some(Names::Part | Names::All))
+            && self.pieces.begins_land(next)
+            && !self.pieces.is_joined(next)
+        {
             return Ok(true);
         }
         let follows_comma = self.pieces.is(before, b",") && index > 0;
         if last == Some(Names::Heading) && !follows_comma {
+            return Ok(true);
+        }
+        if last == Some(Names::Heading)
+            && self.pieces.is(next, b",")
+            && self.pieces.begins_land(plus(next, 1))
+        {
             return Ok(true);
         }
         if self.pieces.begins_line(index)

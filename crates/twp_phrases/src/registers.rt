@@ -23,7 +23,14 @@ impl<'a> Draft<'a> {
         let from = self.extent();
         let next = plus(index, 1);
         let is_code = self.pieces.has_digits(index, 1) || self.pieces.has_digits(index, 2);
-        let is_row = self.pieces.begins_line(index) && self.pieces.has_digits(next, 4);
+        let is_after_label = self.last_names() == Some(Names::Nothing(Rule::Label));
+        let tier = if self.pieces.is(next, b"t") {
+            plus(next, 1)
+        } else {
+            next
+        };
+        let is_row = (self.pieces.begins_line(index) || is_after_label)
+            && self.pieces.has_digits(tier, 4);
         let is_after_state = self.last_names() == Some(Names::Nothing(Rule::Meridian));
         if !is_code || !(is_row || is_after_state) || !self.has_heading(next)? {
             return Ok(None);

@@ -1,128 +1,38 @@
-//! Phrases that aren't land: the meridian, the state, the county, and acreage.
+//! Phrases that aren't land: the meridian, the state, and the county.
 
 use crate::pieces::{Pieces, plus};
-use crate::words::{are_meridian_letters, is_acres, is_meridian, is_state};
 use twp_grammar::Kind;
-
-/// The most sections of a township: a greater number alone in a cell is acreage.
-const SECTIONS: u16 = 36;
+use twp_words::{
+    are_meridian_letters, is_beyond_label, is_boundary, is_meridian, is_partial, is_state,
+};
 
 /// The most letters for a meridian.
 const LETTERS_MOST: usize = 5;
 
 impl<'a> Pieces<'a> {
-    /// Where the acreage at an index ends.
-    pub fn end_of_acreage(&self, index: usize) -> Option<usize> {
-        let is_aside = self.is(index, b"(");
-        let mut next = if is_aside { plus(index, 1) } else { index };
-        if self.is(next, b"containing")
-            || self.is(next, b"comprising")
-            || self.is(next, b"total")
-            || self.is(next, b"aggregating")
-        {
-            next = plus(next, 1);
-            if self.is(next, b":") {
-                next = plus(next, 1);
-            }
-        }
-        next = self.end_of_decimal(next)?;
-        if !is_acres(self.lower(next)) {
-            return None;
-        }
-        next = plus(next, 1);
-        if self.is(next, b".") && self.is_joined(next) {
-            next = plus(next, 1);
-        }
-        next = self.after_more_or_less(next);
-        if self.is(next, b"pooled")
-            || self.is(next, b"total")
-            || self.is(next, b"net")
-            || self.is(next, b"gross")
-        {
-            next = plus(next, 1);
-        }
-        if is_aside {
-            return if self.is(next, b")") {
-                Some(plus(next, 1))
-            } else {
-                None
-            };
-        }
-        let is_end = next >= self.len()
-            || (self.is(next, b",") || self.is(next, b";") || self.is(next, b"."))
-            || self.begins_line(next);
-        if is_end { Some(next) } else { None }
-    }
-
-    /// Where the acreage at an index ends that stands alone at the end of a text or in a cell: with two decimals, or
-    /// after a tab.
-    pub fn end_of_last_figure(&self, index: usize) -> Option<usize> {
-        let end = self.end_of_decimal(index)?;
-        let has_decimals = end > plus(index, 2)
-            && self.is(end.saturating_sub(2), b".")
-            && self.bytes(end.saturating_sub(1)).len() == 2;
-        let is_cell = self.has_break_before(index) && self.number(index).unwrap_or(0) > SECTIONS;
-        if end == self.len() && index > 0 && (has_decimals || is_cell) {
-            Some(end)
-        } else {
-            None
-        }
-    }
-
-    /// Where the number at an index ends, with commas and a decimal point.
-    fn end_of_decimal(&self, index: usize) -> Option<usize> {
-        self.number(index)?;
-        let mut next = plus(index, 1);
-        for mark in [Kind::Comma, Kind::Stop] {
-            let digits = plus(next, 1);
-            let is_part = self.kind(next) == mark
-                && self.is_joined(next)
-                && self.is_joined(digits)
-                && self.number(digits).is_some();
-            if is_part {
-                next = plus(next, 2);
-            }
-        }
-        Some(next)
-    }
-
-    /// The index after `more or less`, or `m/l`, if that is at an index.
-    fn after_more_or_less(&self, index: usize) -> usize {
-        let next = if self.is(index, b",") {
-            plus(index, 1)
-        } else {
-            index
-        };
-        let is_more = self.is(next, b"more")
-            && self.is(plus(next, 1), b"or")
-            && self.is(plus(next, 2), b"less");
-        let is_short = self.is(next, b"m")
-            && self.is(plus(next, 1), b"/")
-            && self.is(plus(next, 2), b"l");
-        if is_more || is_short {
-            plus(next, 3)
-        } else {
-            index
-        }
-    }
-
     /// Where the meridian, the state, or the county at an index ends.
     pub fn end_of_meridian(&self, index: usize) -> Option<usize> {
         let mut next = index;
-        if self.is(next, b"of") && self.is(plus(next, 1), b"the") {
-            next = plus(next, 2);
-            let is_ordinal = self.number(next).is_some()
-                && (self.is(plus(next, 1), b"th")
-                    || self.is(plus(next, 1), b"st")
-                    || self.is(plus(next, 1), b"nd")
-                    || self.is(plus(next, 1), b"rd"));
-            if !is_meridian(self.lower(next)) && !is_ordinal {
+        if self.is(next, b"situated") || self.is(next, b"situate") || self.is(next, b"located") {
+            next = plus(next, 1);
+            if !self.is(next, b"in") {
                 return None;
             }
         }
-        let second = plus(next, 1);
-        if self.is(next, b"meridian") && self.number(second).is_some() {
-            return Some(plus(next, 2));
+        if self.is(next, b"in") {
+            return self.end_of_state_after_in(next);
+        }
+        if self.is(next, b"of") {
+            next = plus(next, 1);
+            if self.is(next, b"the") {
+                next = plus(next, 1);
+            }
+            if !is_meridian(self.lower(next)) && !self.is_ordinal(next) {
+                return None;
+            }
+        }
+        if let Some(end) = self.end_of_labelled_meridian(next) {
+            return Some(end);
         }
         if self.number(next).is_some() {
             return self.end_of_numbered(next);
@@ -136,14 +46,58 @@ impl<'a> Pieces<'a> {
         self.end_of_state(next)
     }
 
+    /// Whether an ordinal is at an index, as `6th`.
+    fn is_ordinal(&self, index: usize) -> bool {
+        let second = plus(index, 1);
+        self.number(index).is_some()
+            && (self.is(second, b"th")
+                || self.is(second, b"st")
+                || self.is(second, b"nd")
+                || self.is(second, b"rd"))
+    }
+
+    /// Where `in`, and the state or the county after it, end.
+    pub fn end_of_state_after_in(&self, index: usize) -> Option<usize> {
+        let next = plus(index, 1);
+        let next = if self.is(next, b"the") {
+            plus(next, 1)
+        } else {
+            next
+        };
+        self.end_of_state(next)
+    }
+
+    /// Where a meridian, a state, or a county ends after the word for it, as in `Mer: 08` or `County: Canyon`.
+    fn end_of_labelled_meridian(&self, index: usize) -> Option<usize> {
+        let is_meridian_word = self.is(index, b"meridian") || self.is(index, b"mer");
+        if !is_meridian_word
+            && !(self.is(index, b"county") || self.is(index, b"state") || self.is(index, b"st"))
+        {
+            return None;
+        }
+        let mark = plus(index, 1);
+        let has_colon = self.is(mark, b":");
+        let value = if has_colon || (is_meridian_word && self.is(mark, b".")) {
+            plus(mark, 1)
+        } else {
+            mark
+        };
+        if is_meridian_word && self.number(value).is_some() {
+            return Some(plus(value, 1));
+        }
+        let is_name = is_meridian(self.lower(value))
+            || is_state(self.lower(value))
+            || (self.is(index, b"county") && matches!(self.kind(value), Kind::Other));
+        if has_colon && is_name {
+            return Some(plus(value, 1));
+        }
+        None
+    }
+
     /// Where a meridian with a number at an index ends, as `6th P.M.`, `08 PM`, or `6th Principal Meridian`.
     fn end_of_numbered(&self, index: usize) -> Option<usize> {
         let second = plus(index, 1);
-        let is_ordinal = (self.is(second, b"th")
-            || self.is(second, b"st")
-            || self.is(second, b"nd")
-            || self.is(second, b"rd"))
-            && self.is_joined(second);
+        let is_ordinal = self.is_ordinal(index) && self.is_joined(second);
         if is_ordinal && self.is(plus(second, 1), b"principal") {
             return self.end_of_meridian_word(plus(second, 1));
         }
@@ -179,7 +133,12 @@ impl<'a> Pieces<'a> {
             }
             let is_letter = matches!(bytes, [byte] if byte.is_ascii_alphabetic())
                 && count < LETTERS_MOST;
-            if !is_letter || (place > index && !self.is_joined(place)) {
+            let before = place.saturating_sub(1);
+            let follows = self.is_joined(place) || self.is(before, b".") || self.is(before, b"&");
+            if !is_letter
+                || (place > index && !follows)
+                || self.has_break_before(place) && place > index
+            {
                 break;
             }
             if let (Some(slot), Some(letter)) = (letters.get_mut(count), bytes.first()) {
@@ -200,7 +159,7 @@ impl<'a> Pieces<'a> {
         let letter = plus(index, 1);
         (self.is(index, b".") || self.is(index, b"&"))
             && self.is_joined(index)
-            && self.is_joined(letter)
+            && !self.has_break_before(letter)
             && (self.is(letter, b"p")
                 || self.is(letter, b"m")
                 || self.is(letter, b"b")
@@ -219,11 +178,13 @@ impl<'a> Pieces<'a> {
 
     /// Where the word for a meridian at an index ends.
     fn end_of_meridian_word(&self, index: usize) -> Option<usize> {
-        let index = if self.is(index, b"principal") || self.is(index, b"base") {
-            plus(index, 1)
-        } else {
-            index
-        };
+        let mut index = index;
+        if self.is(index, b"principal") || self.is(index, b"base") {
+            index = plus(index, 1);
+            if self.is(index, b"and") || self.is(index, b"&") {
+                index = plus(index, 1);
+            }
+        }
         let point = plus(index, 1);
         if self.is(index, b"meridian") {
             return Some(point);
@@ -240,6 +201,14 @@ impl<'a> Pieces<'a> {
         let third = plus(index, 2);
         if (self.is(index, b"state") || self.is(index, b"county")) && self.is(second, b"of") {
             let is_known = is_state(self.lower(third)) || self.is(index, b"county");
+            let state = plus(index, 6);
+            let has_state = self.is(plus(index, 3), b"and")
+                && self.is(plus(index, 4), b"state")
+                && self.is(plus(index, 5), b"of")
+                && is_state(self.lower(state));
+            if has_state {
+                return Some(plus(state, 1));
+            }
             return if is_known && matches!(self.kind(third), Kind::Other) {
                 Some(plus(third, 1))
             } else {
@@ -249,11 +218,19 @@ impl<'a> Pieces<'a> {
         if self.is_state_of_two(index) {
             return Some(third);
         }
-        if matches!(self.kind(index), Kind::Other) {
-            if self.is(second, b"county") {
-                return Some(third);
+        if matches!(self.kind(index), Kind::Other) && self.may_name_county(index) {
+            if let Some(end) = self.end_of_county_word(second) {
+                return Some(end);
             }
-            if matches!(self.kind(second), Kind::Other) && self.is(third, b"county") {
+            if matches!(self.kind(second), Kind::Other) && self.may_name_county(second) {
+                if let Some(end) = self.end_of_county_word(third) {
+                    return Some(end);
+                }
+            }
+            if self.is_county_cell(index) {
+                return Some(third.min(self.len()));
+            }
+            if self.is_county_and_state(index) {
                 return Some(plus(third, 1));
             }
         }
@@ -262,6 +239,47 @@ impl<'a> Pieces<'a> {
         } else {
             None
         }
+    }
+
+    /// Whether the word at an index may be the name of a county: it names no land, and limits none.
+    fn may_name_county(&self, index: usize) -> bool {
+        let word = self.lower(index);
+        word.len() >= 3
+            && !self.may_be_land(index)
+            && !is_beyond_label(word)
+            && !is_boundary(word)
+            && !is_partial(word)
+    }
+
+    /// Where the word for a county at an index ends.
+    fn end_of_county_word(&self, index: usize) -> Option<usize> {
+        let next = plus(index, 1);
+        if self.is(index, b"county") {
+            return Some(next);
+        }
+        if self.is(index, b"co") {
+            return Some(self.after_point(next));
+        }
+        None
+    }
+
+    /// Whether a county's name is at an index, and after a comma the state.
+    fn is_county_and_state(&self, index: usize) -> bool {
+        let word = self.lower(index);
+        word.len() >= 3
+            && self.is(plus(index, 1), b",")
+            && is_state(self.lower(plus(index, 2)))
+            && !self.may_be_land(index)
+            && !is_beyond_label(word)
+            && !is_boundary(word)
+    }
+
+    /// Whether a county is alone in a cell at an index: after a state and before another cell, with a bar between them.
+    fn is_county_cell(&self, index: usize) -> bool {
+        let bar = index.saturating_sub(1);
+        self.is(bar, b"|")
+            && self.is(plus(index, 1), b"|")
+            && is_state(self.lower(bar.saturating_sub(1)))
     }
 
     /// Whether the pieces at an index are a meridian's name of two words.

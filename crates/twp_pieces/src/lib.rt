@@ -2,12 +2,18 @@
 //! meridian, acreage, labels, and what lots and aliquot parts can't describe.
 #![tactic(auto)]
 
+mod acreage;
 mod asides;
 mod beyond;
+mod interests;
+mod joints;
 mod labels;
 mod pieces;
-mod words;
+mod remarks;
+mod serials;
+mod trailers;
 
 pub use beyond::{Beyond, beyond_of};
+pub use labels::Position;
 pub use pieces::{Pieces, plus};
-pub use words::is_same;
+pub use twp_words::{is_same, is_worn_section, letters_of, tens_of, value_of};

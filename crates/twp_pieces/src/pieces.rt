@@ -1,8 +1,8 @@
 //! The pieces of a text: its tokens, and the characters that begin none.
 
-use crate::words::is_same;
 use std::alloc::{AllocError, Global};
 use twp_grammar::{Kind, Token, Tokens};
+use twp_words::is_same;
 
 /// The pieces of a text, from left to right.
 #[derive(Drop)]
@@ -133,6 +133,27 @@ impl<'a> Pieces<'a> {
         index == 0 || self.has_break_before(index)
     }
 
+    /// Whether the piece at an index is the first on its line, or in its cell, also after a bar or a quote, or the text ends there.
+    pub fn begins_cell(&self, index: usize) -> bool {
+        self.begins_line(index)
+            || index >= self.len()
+            || self.is(index, b"|")
+            || self.is_quote_of_cell(index)
+            || self.is(index.saturating_sub(1), b"|")
+            || (index > 0 && self.is_quote_of_cell(index.saturating_sub(1)))
+    }
+
+    /// Whether the quote before a cell, or the one after it, is at an index.
+    fn is_quote_of_cell(&self, index: usize) -> bool {
+        let next = plus(index, 1);
+        self.is(index, b"\"")
+            && (self.begins_line(index)
+                || self.is(index.saturating_sub(1), b",")
+                || self.is(next, b",")
+                || next >= self.len()
+                || self.begins_line(next))
+    }
+
     /// Whether a line feed or a tab is between the piece at an index and the one before it.
     pub fn has_break_before(&self, index: usize) -> bool {
         let white = self.text.get(self.end_before(index)..self.start(index));
@@ -196,6 +217,7 @@ fn size_of_first(token: &Token<'_>, lower: &[u8], before: &[Piece]) -> Option<us
         Kind::BadNumber if bytes.len() == 6 => Some(2),
         Kind::Other if begins_aliquots(bytes) && is_after_section(lower, before) => Some(1),
         Kind::Other if is_damaged_corner(bytes) => Some(2),
+        Kind::Other if is_damaged_half(bytes, lower.get(plus(token.at, 2)..)) => Some(1),
         _ => None,
     }
 }
@@ -207,9 +229,19 @@ fn is_damaged_corner(bytes: &[u8]) -> bool {
         [
             b'N' | b'n' | b'S' | b's',
             b'E' | b'e' | b'W' | b'w',
-            b'l' | b'I' | b'i' | b'V' | b'v'
+            b'l' | b'I' | b'i' | b'V' | b'v' | b'Y' | b'y'
         ]
     )
+}
+
+/// Whether a word is a side and a letter that scanning makes of a `1`, before a slash, as in `Wl/2`, or of `1/`, as in
+/// `WY2`.
+fn is_damaged_half(bytes: &[u8], rest: Option<&[u8]>) -> bool {
+    match bytes {
+        [b'N' | b'S' | b'E' | b'W', b'l' | b'I' | b'i'] => matches!(rest, Some([b'/', ..])),
+        [b'N' | b'S' | b'E' | b'W', b'Y'] => matches!(rest, Some([b'2', ..])),
+        _ => false,
+    }
 }
 
 /// Whether a word may be the A before aliquot parts, and their letters.

@@ -1,2 +1,3 @@
 pub mod SameTexts
 pub mod ChangeFacts
+pub mod RemarkFacts

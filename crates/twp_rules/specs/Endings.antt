@@ -4,28 +4,28 @@ use Rattle.twp_rules.specs.Tables.{half_sign, quarter_sign}
 
 -- what the land is before of which HALF is written
 abbrev pub sides : List (List ℕ)
-sides = codes "n" ∷ codes "s" ∷ codes "e" ∷ codes "w" ∷ codes "north" ∷ codes "south" ∷ codes "east"
-    ∷ codes "west" ∷ []
+sides = codes "n" ∷ codes "s" ∷ codes "e" ∷ codes "w" ∷ codes "n." ∷ codes "s." ∷ codes "e." ∷ codes "w."
+    ∷ codes "north" ∷ codes "south" ∷ codes "east" ∷ codes "west" ∷ []
 
--- what the land is before of which QUARTER is written
+-- what the land is before of which QUARTER is written, or the last word of it
 abbrev pub corners : List (List ℕ)
-corners = codes "ne" ∷ codes "nw" ∷ codes "se" ∷ codes "sw" ∷ codes "northeast" ∷ codes "northwest"
-    ∷ codes "southeast" ∷ codes "southwest" ∷ codes "north east" ∷ codes "north west" ∷ codes "south east"
-    ∷ codes "south west" ∷ []
+corners = codes "ne" ∷ codes "nw" ∷ codes "se" ∷ codes "sw" ∷ codes "e." ∷ codes "w." ∷ codes "east"
+    ∷ codes "west" ∷ codes " e" ∷ codes " w" ∷ []
 
--- what the range of a township ends with
+-- what the range of a township ends with, and words for one that was named before
 abbrev pub heading_ends : List (List ℕ)
-heading_ends = codes "e" ∷ codes "w" ∷ codes "e." ∷ codes "w." ∷ codes "east" ∷ codes "west" ∷ []
+heading_ends = codes "e" ∷ codes "w" ∷ codes "e." ∷ codes "w." ∷ codes "east" ∷ codes "west"
+    ∷ codes "e)" ∷ codes "w)" ∷ codes "township" ∷ codes "range" ∷ []
 
--- the spellings of a half
+-- the spellings of a half, after white space, if any
 abbrev pub half_texts : List (List ℕ)
-half_texts = codes "2" ∷ codes "/2" ∷ codes "1/2" ∷ codes " 1/2" ∷ half_sign ∷ (32 ∷ half_sign)
-    ∷ codes " half" ∷ codes " one-half" ∷ codes " one half" ∷ []
+half_texts = codes "2" ∷ codes "/2" ∷ codes "1/2" ∷ half_sign ∷ codes "half" ∷ codes "one-half"
+    ∷ codes "one half" ∷ []
 
--- the spellings of a quarter
+-- the spellings of a quarter, after white space, if any
 abbrev pub quarter_texts : List (List ℕ)
-quarter_texts = [] ∷ codes "4" ∷ codes "/4" ∷ codes "1/4" ∷ codes " 1/4" ∷ quarter_sign ∷ (32 ∷ quarter_sign)
-    ∷ codes " quarter" ∷ codes " one-quarter" ∷ codes " one quarter" ∷ []
+quarter_texts = [] ∷ codes "4" ∷ codes "/4" ∷ codes "1/4" ∷ quarter_sign ∷ codes "quarter"
+    ∷ codes "one-quarter" ∷ codes "one quarter" ∷ []
 
 -- digits
 abbrev pub digits : List (List ℕ)
@@ -38,13 +38,27 @@ section_ends = codes ")" ∷ codes "one" ∷ codes "two" ∷ codes "three" ∷ c
     ∷ codes "six" ∷ codes "seven" ∷ codes "eight" ∷ codes "nine" ∷ codes "ten" ∷ codes "eleven"
     ∷ codes "twelve" ∷ codes "teen" ∷ codes "ty" ∷ []
 
--- what a meridian or a county ends with, if not with a digit
-abbrev pub meridian_ends : List (List ℕ)
-meridian_ends = codes "meridian" ∷ codes "mer" ∷ codes "mer." ∷ codes "m" ∷ codes "m." ∷ codes "county" ∷ []
+-- or with a digit that scanning made a letter of
+abbrev pub worn_section_ends : List (List ℕ)
+worn_section_ends = codes "1l" ∷ codes "1i" ∷ codes "1o" ∷ codes "2l" ∷ codes "2i" ∷ codes "2o" ∷ codes "3l"
+    ∷ codes "3i" ∷ codes "3o" ∷ []
 
--- what a county or a state begins with, if not with its name
+-- and the word for one that was named before
+abbrev pub section_again : List (List ℕ)
+section_again = codes "section" ∷ codes "sec" ∷ codes "sec." ∷ []
+
+-- what a meridian or a county ends with, if not with a digit, or a cell after a state
+abbrev pub meridian_ends : List (List ℕ)
+meridian_ends = codes "meridian" ∷ codes "mer" ∷ codes "mer." ∷ codes "m" ∷ codes "m." ∷ codes "county"
+    ∷ codes "co" ∷ codes "co." ∷ codes "|" ∷ []
+
+-- what a county or a state begins with, if not with its name, after white space
 abbrev pub meridian_fronts : List (List ℕ)
-meridian_fronts = codes "county of" ∷ codes "state of" ∷ []
+meridian_fronts = codes "county of" ∷ codes "state of" ∷ codes "in the county of" ∷ []
+
+-- or the word for it, and a colon
+abbrev pub meridian_labels : List (List ℕ)
+meridian_labels = codes "meridian:" ∷ codes "mer:" ∷ codes "county:" ∷ codes "state:" ∷ codes "st:" ∷ []
 
 -- the names of states that have public land
 abbrev pub states : List (List ℕ)
@@ -63,46 +77,59 @@ state_letters = codes "id" ∷ codes "wy" ∷ codes "nv" ∷ codes "ca" ∷ code
 -- what stated acreage ends with
 abbrev pub acreage_ends : List (List ℕ)
 acreage_ends = codes "acres" ∷ codes "acre" ∷ codes "ac" ∷ codes "acres." ∷ codes "ac." ∷ codes "less"
-    ∷ codes "m/l" ∷ codes ")" ∷ codes "pooled" ∷ codes "total" ∷ codes "net" ∷ codes "gross" ∷ []
+    ∷ codes "m/l" ∷ codes ")" ∷ codes "pooled" ∷ codes "total" ∷ codes "net" ∷ codes "gross" ∷ codes "/-"
+    ∷ codes "acs" ∷ codes "acs." ∷ []
 
--- what a label ends with
-abbrev pub label_ends : List (List ℕ)
-label_ends = codes ":" ∷ codes ";" ∷ codes "aliq" ∷ codes "aliquot" ∷ codes "subdivision" ∷ []
+-- or, after a digit, with a letter for acres
+abbrev pub acre_letters : List (List ℕ)
+acre_letters = codes "0a" ∷ codes "1a" ∷ codes "2a" ∷ codes "3a" ∷ codes "4a" ∷ codes "5a" ∷ codes "6a"
+    ∷ codes "7a" ∷ codes "8a" ∷ codes "9a" ∷ []
 
--- or with what it is of
-abbrev pub label_words : List (List ℕ)
-label_words = codes "unit" ∷ codes " fo" ∷ codes "office" ∷ []
+-- or begins with, after white space
+abbrev pub acreage_fronts : List (List ℕ)
+acreage_fronts = codes "acres" ∷ codes "acreage" ∷ codes "ac" ∷ codes "gross" ∷ codes "net" ∷ codes "total"
+    ∷ codes "containing" ∷ codes "the area" ∷ []
 
--- what is said after land begins with
-abbrev pub trailers : List (List ℕ)
-trailers = codes "subject" ∷ codes "insofar" ∷ codes "limited" ∷ codes "as to" ∷ codes "as shown"
-    ∷ codes "according" ∷ codes "recorded" ∷ codes "doi" ∷ codes "nri" ∷ codes "wi" ∷ codes "ri"
-    ∷ codes "orri" ∷ []
+-- what is said of land begins with, if it isn't a remark: rights,
+abbrev pub rights : List (List ℕ)
+rights = codes "subject" ∷ codes "according" ∷ codes "together with" ∷ codes "reserving"
+    ∷ codes "excepting and" ∷ codes "grantor" ∷ []
 
--- what a label begins with
-abbrev pub label_fronts : List (List ℕ)
-label_fronts =
-    codes "tract" ∷ codes "parcel" ∷ codes "lease" ∷ codes "serial" ∷ codes "exhibit" ∷ codes "item" ∷ []
+-- terms,
+abbrev pub terms : List (List ℕ)
+terms = codes "insofar" ∷ codes "limited" ∷ codes "as to" ∷ codes "as shown" ∷ codes "attached to"
+    ∷ codes "in the district" ∷ []
 
--- or an interest, or a property
+-- depths,
+abbrev pub depths : List (List ℕ)
+depths = codes "from the" ∷ codes "below" ∷ codes "above" ∷ codes "down to" ∷ codes "all depths" ∷ []
+
+-- what is at them,
+abbrev pub estates : List (List ℕ)
+estates = codes "depths" ∷ codes "surface" ∷ codes "from surf" ∷ codes "mineral" ∷ codes "oil"
+    ∷ codes "only" ∷ []
+
+-- or the number of a lease, or of a parcel
+abbrev pub number_fronts : List (List ℕ)
+number_fronts = codes "lease" ∷ codes "rp" ∷ codes "pin" ∷ codes "apn" ∷ []
+
+-- what an interest begins with,
 abbrev pub interest_fronts : List (List ℕ)
-interest_fronts =
-    codes "an und" ∷ codes "und" ∷ codes "all that" ∷ codes "that certain" ∷ codes "all those" ∷ []
+interest_fronts = codes "an und" ∷ codes "und" ∷ codes "one-half" ∷ codes "one half" ∷ []
 
--- the words for the columns of a table, and for an instrument
-abbrev pub column_fronts : List (List ℕ)
-column_fronts =
-    (codes "sec" ++ 9 ∷ []) ∷ (codes "section" ++ 9 ∷ []) ∷ (codes "twp" ++ 9 ∷ [])
-    ∷ (codes "township" ++ 9 ∷ []) ∷ (codes "t" ++ 9 ∷ [])
-    ∷ (codes "tract" ++ 9 ∷ []) ∷ (codes "legal" ++ 9 ∷ []) ∷ codes "wd" ∷ codes "qcd" ∷ codes "ogl"
-    ∷ codes "md"
-    ∷ codes "deed" ∷ []
+-- or a property
+abbrev pub property_fronts : List (List ℕ)
+property_fronts = codes "all that" ∷ codes "that certain" ∷ codes "all those" ∷ codes "the lands" ∷ []
 
--- the number of a well, with which its name ends
-abbrev pub well_ends : List (List ℕ)
-well_ends = codes "1h" ∷ codes "2h" ∷ codes "3h" ∷ codes "4h" ∷ codes "5h" ∷ codes "6h" ∷ codes "7h"
-    ∷ codes "8h" ∷ codes "9h" ∷ codes "0h" ∷ []
+-- the names of columns
+abbrev pub column_names : List (List ℕ)
+column_names = codes "sec" ∷ codes "section" ∷ codes "twp" ∷ codes "township" ∷ codes "t" ∷ codes "tract"
+    ∷ codes "legal" ∷ codes "mer" ∷ codes "st" ∷ codes "county" ∷ codes "school section" ∷ []
 
 -- what is in parentheses ends with
 abbrev pub parenthesis_ends : List (List ℕ)
-parenthesis_ends = codes ")" ∷ []
+parenthesis_ends = codes ")" ∷ codes "]" ∷ []
+
+-- land that was named before, without parentheses, begins with, after white space
+abbrev pub being_fronts : List (List ℕ)
+being_fronts = codes "being" ∷ codes "aka" ∷ codes "a/" ∷ []

@@ -1,4 +1,5 @@
 pub mod Tables
 pub mod Endings
+pub mod Remarks
 pub mod Rules
 pub mod Changes

@@ -5,7 +5,7 @@ use Rattle.std.specs.Prelude.{drop, take}
 use Rattle.std.specs.Prelude.{if◌then◌else◌, codes, nat_le, slice_index, slice_range, not}
 use Rattle.std.specs.Char.{is_ascii_alphabetic, is_ascii_digit}
 use Rattle.std.specs.Str.{str_to_ascii_lowercase}
-use Rattle.twp_grammar.specs.Tokens.{same_bytes}
+use Rattle.twp_grammar.specs.Tokens.{same_bytes, is_white}
 use Rattle.twp_rules.specs.declared.rule.Rule.{Rule}
 use Rattle.twp_rules.specs.declared.rule.Rule.TheVariants.{Half, Quarter, Direction, Numeral, Copied}
 use Rattle.twp_rules.specs.declared.rule.Rule.TheVariants.{CopiedStep}
@@ -16,15 +16,18 @@ use Rattle.twp_rules.specs.declared.rule.Rule.TheVariants.{Exception, Damage}
 use Rattle.twp_rules.specs.declared.rule.Rule.TheVariants.{MovedHeading, Meridian, Acreage, Label}
 use Rattle.twp_rules.specs.Tables.{Entry, halves, worn_halves, quarters, worn_quarters, damages}
 use Rattle.twp_rules.specs.Tables.{damaged_corners, exceptions, directions, numerals, more_numerals, headings}
-use Rattle.twp_rules.specs.Tables.{heading_words, section_words, lot_words, lot_marks, dashes, ampersands}
-use Rattle.twp_rules.specs.Tables.{commas, semicolons, marks, little_words, more_little_words, zeros}
+use Rattle.twp_rules.specs.Tables.{heading_words, heading_marks, section_words, lot_words, lot_marks, dashes}
+use Rattle.twp_rules.specs.Tables.{ampersands, commas, semicolons, marks, more_marks, little_words}
+use Rattle.twp_rules.specs.Tables.{more_little_words, joining_words, zeros}
 use Rattle.twp_rules.specs.Tables.{fraction_digits, joints}
-use Rattle.twp_rules.specs.Endings.{sides, corners, heading_ends, half_texts, quarter_texts, digits}
-use Rattle.twp_rules.specs.Endings.{section_ends, meridian_ends, meridian_fronts, states, more_states}
-use Rattle.twp_rules.specs.Endings.{state_letters}
-use Rattle.twp_rules.specs.Endings.{acreage_ends, label_ends, label_words, trailers, label_fronts}
-use Rattle.twp_rules.specs.Endings.{interest_fronts}
-use Rattle.twp_rules.specs.Endings.{column_fronts, well_ends, parenthesis_ends}
+use Rattle.twp_rules.specs.Tables.{quarter_abbreviations, worn_directions, worn_section_words}
+use Rattle.twp_rules.specs.Endings.{acre_letters, acreage_ends, acreage_fronts, being_fronts, column_names}
+use Rattle.twp_rules.specs.Endings.{corners, depths, digits, estates, half_texts, heading_ends}
+use Rattle.twp_rules.specs.Endings.{interest_fronts, meridian_ends, meridian_fronts, meridian_labels}
+use Rattle.twp_rules.specs.Endings.{more_states, number_fronts, parenthesis_ends, property_fronts}
+use Rattle.twp_rules.specs.Endings.{quarter_texts, rights, section_again, section_ends, sides}
+use Rattle.twp_rules.specs.Endings.{state_letters, states, terms, worn_section_ends}
+use Rattle.twp_rules.specs.Remarks.{has_no_land, is_remark}
 
 -- this is written for that, in letters of either case
 abbrev pub is_entry : List ℕ → List ℕ → Entry → Bool
@@ -62,11 +65,17 @@ abbrev pub is_one_of : List ℕ → List (List ℕ) → Bool
 is_one_of seen [] = false
 is_one_of seen (text ∷ texts) = same_bytes (str_to_ascii_lowercase seen) text || is_one_of seen texts
 
+-- a text without the white space before it
+abbrev pub without_white : List ℕ → List ℕ
+without_white [] = []
+without_white (byte ∷ bytes) = if is_white byte then without_white bytes else byte ∷ bytes
+
 -- it is one of these, and one of those
 abbrev pub is_spelled : List ℕ → List (List ℕ) → List (List ℕ) → Bool
 is_spelled seen [] ends = false
 is_spelled seen (front ∷ fronts) ends =
-    begins_with seen front && is_one_of (drop (length front) seen) ends || is_spelled seen fronts ends
+    begins_with seen front && is_one_of (without_white (drop (length front) seen)) ends
+    || is_spelled seen fronts ends
 
 -- a half or a quarter, with the spellings of its letters
 abbrev pub is_half : List ℕ → List ℕ → List (List ℕ) → List ℕ → Bool
@@ -110,6 +119,11 @@ abbrev pub is_figure : List ℕ → Bool
 is_figure [] = true
 is_figure (byte ∷ bytes) = is_of_figure byte && is_figure bytes
 
+-- no digit is in a text
+abbrev pub has_no_digit : List ℕ → Bool
+has_no_digit [] = true
+has_no_digit (byte ∷ bytes) = not (is_ascii_digit byte) && has_no_digit bytes
+
 -- the byte before a place, or 0 at the beginning
 abbrev pub byte_before : List ℕ → ℕ → ℕ
 byte_before text at = if at == 0 then 0 else slice_index text (at - 1)
@@ -129,9 +143,10 @@ are_digits seen =
     (length seen == 1) && is_ascii_digit (slice_index seen 0)
     || (length seen == 2) && is_ascii_digit (slice_index seen 0) && is_ascii_digit (slice_index seen 1)
 
--- the digits of a number, as they are, or for the word for it
+-- the digits of a number, as they are, or for the word for it, or for what scanning made of a digit
 abbrev pub is_number : List ℕ → List ℕ → Bool
-is_number seen written = are_digits seen && same_bytes written seen || is_numeral seen written
+is_number seen written =
+    are_digits seen && same_bytes written seen || is_numeral seen written || is_among seen written damages
 
 -- the number that a text has from one place up to another
 abbrev pub is_copied : List ℕ → ℕ → ℕ → List ℕ → Bool
@@ -144,30 +159,50 @@ is_place_name seen =
     ends_with_one seen states || ends_with_one seen more_states || ends_with_one seen state_letters
     || ends_with_one seen digits
 
+-- the names of the columns of a table
+abbrev pub are_columns : List ℕ → Bool
+are_columns seen = begins_with_one seen column_names && has_no_digit seen
+
+-- what is said of land, without naming any: terms, records, depths, rights, and numbers of leases and parcels
+abbrev pub is_trailer : List ℕ → Bool
+is_trailer seen =
+    (begins_with_one seen rights || begins_with_one seen terms || begins_with_one seen depths
+    || begins_with_one seen estates || begins_with_one seen number_fronts)
+    && has_no_land false seen
+
 -- WHAT A RULE ALLOWS to leave out
 abbrev pub may_be_left_out : Rule → List ℕ → Bool
-may_be_left_out Repeated seen = ends_with_one seen parenthesis_ends
-may_be_left_out MovedSection seen = ends_with_one seen digits || ends_with_one seen section_ends
+may_be_left_out Repeated seen =
+    ends_with_one seen parenthesis_ends || begins_with_one (without_white seen) being_fronts
+may_be_left_out MovedSection seen =
+    ends_with_one seen digits || ends_with_one seen section_ends || ends_with_one seen worn_section_ends
+    || ends_with_one seen section_again
 may_be_left_out MovedHeading seen = ends_with_one seen heading_ends
 may_be_left_out Meridian seen =
-    ends_with_one seen meridian_ends || is_place_name seen || begins_with_one seen meridian_fronts
-may_be_left_out Acreage seen = ends_with_one seen acreage_ends || is_figure seen
+    ends_with_one seen meridian_ends || is_place_name seen
+    || begins_with_one (without_white seen) meridian_fronts
+    || begins_with_one (without_white seen) meridian_labels
+may_be_left_out Acreage seen =
+    ends_with_one seen acreage_ends || ends_with_one seen acre_letters || is_figure seen
+    || begins_with_one (without_white seen) acreage_fronts
 may_be_left_out Label seen =
-    ends_with_one seen label_ends || ends_with_one seen label_words || ends_with_one seen well_ends
-    || begins_with_one seen trailers || begins_with_one seen label_fronts
-    || begins_with_one seen interest_fronts || begins_with_one seen column_fronts
+    is_remark seen || is_trailer seen || begins_with_one seen interest_fronts
+    || begins_with_one seen property_fronts || are_columns seen
 may_be_left_out _ seen = false
 
 -- WHAT A RULE ALLOWS: to write this instead of the text from one place up to another
 abbrev pub allows : Rule → List ℕ → ℕ → ℕ → List ℕ → List ℕ → Bool
 allows Half text start end seen written =
-    (is_among seen written halves || is_among seen written worn_halves)
+    (is_among (without_white seen) written halves || is_among (without_white seen) written worn_halves)
     && ends_with_one (take start text) sides
 allows Quarter text start end seen written =
-    (is_among seen written quarters || is_among seen written worn_quarters)
+    (is_among (without_white seen) written quarters
+    || is_among (without_white seen) written quarter_abbreviations
+    || is_among (without_white seen) written worn_quarters)
     && ends_with_one (take start text) corners
 allows Direction text start end seen written =
-    is_among seen written directions && is_whole_word text start end
+    (is_among seen written directions || is_among seen written worn_directions)
+    && is_whole_word text start end
 allows Numeral text start end seen written = is_numeral seen written
 allows (Copied from to) text start end seen written =
     same_bytes seen [] && is_copied text from to written
@@ -184,8 +219,9 @@ allows FractionDigit text start end seen written =
     is_among seen written fraction_digits && is_ascii_digit (byte_before text start)
 allows Heading text start end seen written =
     is_among seen written headings || is_among seen written heading_words
+    || is_among seen written heading_marks
 allows SectionWord text start end seen written =
-    is_among seen written section_words
+    (is_among seen written section_words || is_among seen written worn_section_words)
     && (same_bytes seen [] || same_bytes seen (codes ",") || is_whole_word text start end)
 allows LotWord text start end seen written =
     is_among seen written lot_words && is_whole_word text start end || is_among seen written lot_marks
@@ -194,8 +230,9 @@ allows And text start end seen written = is_among seen written ampersands
 allows Comma text start end seen written = is_among seen written commas
 allows Semicolon text start end seen written = is_among seen written semicolons
 allows OnePart text start end seen written = is_among seen written joints
-allows Mark text start end seen written = is_among seen written marks
+allows Mark text start end seen written = is_among seen written marks || is_among seen written more_marks
 allows Word text start end seen written =
-    (is_among seen written little_words || is_among seen written more_little_words)
+    (is_among seen written little_words || is_among seen written more_little_words
+    || is_among seen written joining_words)
     && is_whole_word text start end
 allows rule text start end seen written = same_bytes written [] && may_be_left_out rule seen

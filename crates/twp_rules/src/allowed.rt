@@ -1,14 +1,17 @@
 //! Whether a rule allows a change.
 ghost use Rattle.std.specs.Prelude.{◌≡◌, ◌≤◌, ◌||◌, length, slice_index, slice_range, take};
 ghost use Rattle.twp_rules.specs.Rules.{allows, byte_before, is_whole_word, may_be_left_out};
-ghost use Rattle.twp_rules.specs.Rules.{is_place_name, is_copied, is_number, is_numeral, are_digits};
-ghost use Rattle.twp_rules.specs.Rules.{is_among, is_figure};
-ghost use Rattle.twp_rules.specs.Tables.{halves, worn_halves, quarters, worn_quarters, little_words};
-ghost use Rattle.twp_rules.specs.Tables.{more_little_words};
+ghost use Rattle.twp_rules.specs.Rules.{is_copied, is_number, is_numeral, are_digits};
+ghost use Rattle.twp_rules.specs.Rules.{is_among, is_trailer, without_white};
+ghost use Rattle.twp_rules.specs.Tables.{halves, worn_halves, quarters, quarter_abbreviations, worn_quarters};
+ghost use Rattle.twp_rules.specs.Tables.{little_words};
+ghost use Rattle.twp_rules.specs.Tables.{marks, more_marks, more_little_words, joining_words};
+ghost use Rattle.twp_rules.specs.Tables.{directions, worn_directions, section_words, worn_section_words};
 
 use crate::change::Change;
 use crate::endings::*;
-use crate::figures::is_figure;
+use crate::figures::{has_no_digit, is_figure, without_white};
+use crate::remarks::{has_no_land, is_remark};
 use crate::rule::Rule;
 use crate::same::are_same;
 use crate::steps::is_copied_step;
@@ -41,7 +44,7 @@ fn allows(rule: Rule, text: &[u8], start: usize, end: usize, seen: &[u8], writte
     match rule {
         Rule::Half => is_half_mark(seen, written) && has_sides(before(text, start)),
         Rule::Quarter => is_quarter_mark(seen, written) && has_corners(before(text, start)),
-        Rule::Direction => is_in_directions(seen, written) && is_whole_word(text, start, end),
+        Rule::Direction => is_direction(seen, written) && is_whole_word(text, start, end),
         Rule::Numeral => is_numeral(seen, written),
         Rule::Copied(from, to) => are_same(seen, b"") && is_copied(text, from, to, written),
         Rule::CopiedStep(from, to) => {
@@ -56,9 +59,11 @@ fn allows(rule: Rule, text: &[u8], start: usize, end: usize, seen: &[u8], writte
         Rule::Zeros => is_in_zeros(seen, written) && byte_at(text, end).is_ascii_digit(),
         Rule::FractionDigit => is_in_fraction_digits(seen, written)
             && byte_before(text, start).is_ascii_digit(),
-        Rule::Heading => is_in_headings(seen, written) || is_in_heading_words(seen, written),
+        Rule::Heading => is_in_headings(seen, written)
+            || is_in_heading_words(seen, written)
+            || is_in_heading_marks(seen, written),
         Rule::SectionWord => {
-            is_in_section_words(seen, written)
+            is_section_word(seen, written)
                 && (are_same(seen, b"") || are_same(seen, b",") || is_whole_word(text, start, end))
         }
         Rule::LotWord => {
@@ -70,7 +75,7 @@ fn allows(rule: Rule, text: &[u8], start: usize, end: usize, seen: &[u8], writte
         Rule::Comma => is_in_commas(seen, written),
         Rule::Semicolon => is_in_semicolons(seen, written),
         Rule::OnePart => is_in_joints(seen, written),
-        Rule::Mark => is_in_marks(seen, written),
+        Rule::Mark => is_mark(seen, written),
         Rule::Word => is_little_word(seen, written) && is_whole_word(text, start, end),
         _ => are_same(written, b"") && may_be_left_out(rule, seen),
     }
@@ -81,52 +86,104 @@ fn may_be_left_out(rule: Rule, seen: &[u8]) -> bool
     ensures { result ≡ may_be_left_out rule seen.now }
 {
     match rule {
-        Rule::Repeated => has_parenthesis_ends(seen),
-        Rule::MovedSection => has_digits(seen) || has_section_ends(seen),
+        Rule::Repeated => has_parenthesis_ends(seen) || has_being_fronts(without_white(seen)),
+        Rule::MovedSection => {
+            has_digits(seen)
+                || has_section_ends(seen)
+                || has_worn_section_ends(seen)
+                || has_section_again(seen)
+        }
         Rule::MovedHeading => has_heading_ends(seen),
         Rule::Meridian => {
-            has_meridian_ends(seen) || is_place_name(seen) || has_meridian_fronts(seen)
+            has_meridian_ends(seen)
+                || has_states(seen)
+                || has_more_states(seen)
+                || has_state_letters(seen)
+                || has_digits(seen)
+                || has_meridian_fronts(without_white(seen))
+                || has_meridian_labels(without_white(seen))
         }
-        Rule::Acreage => has_acreage_ends(seen) || is_figure(seen),
+        Rule::Acreage => {
+            has_acreage_ends(seen)
+                || has_acre_letters(seen)
+                || is_figure(seen)
+                || has_acreage_fronts(without_white(seen))
+        }
         Rule::Label => {
-            has_label_ends(seen)
-                || has_label_words(seen)
-                || has_well_ends(seen)
-                || has_trailers(seen)
-                || has_label_fronts(seen)
+            is_remark(seen)
+                || is_trailer(seen)
                 || has_interest_fronts(seen)
-                || has_column_fronts(seen)
+                || has_property_fronts(seen)
+                || (has_column_names(seen) && has_no_digit(seen))
         }
         _ => false,
     }
 }
 
-/// Whether a text ends with a state, the letters for one, or a digit.
-fn is_place_name(seen: &[u8]) -> bool
-    ensures { result ≡ is_place_name seen.now }
+/// Whether a text says something of land, without naming any.
+fn is_trailer(seen: &[u8]) -> bool
+    ensures { result ≡ is_trailer seen.now }
 {
-    has_states(seen) || has_more_states(seen) || has_state_letters(seen) || has_digits(seen)
+    (has_rights(seen)
+        || has_terms(seen)
+        || has_depths(seen)
+        || has_estates(seen)
+        || has_number_fronts(seen))
+        && has_no_land(seen)
 }
 
 /// Whether a text is a half without a description's fraction, or what scanning leaves of it.
 fn is_half_mark(seen: &[u8], written: &[u8]) -> bool
-    ensures { result ≡ (is_among seen.now written.now halves || is_among seen.now written.now worn_halves) }
+    ensures { result ≡ (is_among (without_white seen.now) written.now halves
+        || is_among (without_white seen.now) written.now worn_halves) }
 {
-    is_in_halves(seen, written) || is_in_worn_halves(seen, written)
+    let mark = without_white(seen);
+    is_in_halves(mark, written) || is_in_worn_halves(mark, written)
 }
 
 /// The same for a quarter.
 fn is_quarter_mark(seen: &[u8], written: &[u8]) -> bool
-    ensures { result ≡ (is_among seen.now written.now quarters || is_among seen.now written.now worn_quarters) }
+    ensures { result ≡ (is_among (without_white seen.now) written.now quarters
+        || is_among (without_white seen.now) written.now quarter_abbreviations
+        || is_among (without_white seen.now) written.now worn_quarters) }
 {
-    is_in_quarters(seen, written) || is_in_worn_quarters(seen, written)
+    let mark = without_white(seen);
+    is_in_quarters(mark, written)
+        || is_in_quarter_abbreviations(mark, written)
+        || is_in_worn_quarters(mark, written)
+}
+
+/// Whether a text is a word for a side or a corner, also with a slip, whose letters are written.
+fn is_direction(seen: &[u8], written: &[u8]) -> bool
+    ensures { result ≡ (is_among seen.now written.now directions
+        || is_among seen.now written.now worn_directions) }
+{
+    is_in_directions(seen, written) || is_in_worn_directions(seen, written)
+}
+
+/// Whether a text is a word for sections, or lacks one, which is written.
+fn is_section_word(seen: &[u8], written: &[u8]) -> bool
+    ensures { result ≡ (is_among seen.now written.now section_words
+        || is_among seen.now written.now worn_section_words) }
+{
+    is_in_section_words(seen, written) || is_in_worn_section_words(seen, written)
+}
+
+/// Whether a text is a mark that means nothing.
+fn is_mark(seen: &[u8], written: &[u8]) -> bool
+    ensures { result ≡ (is_among seen.now written.now marks || is_among seen.now written.now more_marks) }
+{
+    is_in_marks(seen, written) || is_in_more_marks(seen, written)
 }
 
 /// Whether a text is a word that means nothing.
 fn is_little_word(seen: &[u8], written: &[u8]) -> bool
-    ensures { result ≡ (is_among seen.now written.now little_words || is_among seen.now written.now more_little_words) }
+    ensures { result ≡ (is_among seen.now written.now little_words || is_among seen.now written.now more_little_words
+        || is_among seen.now written.now joining_words) }
 {
-    is_in_little_words(seen, written) || is_in_more_little_words(seen, written)
+    is_in_little_words(seen, written)
+        || is_in_more_little_words(seen, written)
+        || is_in_joining_words(seen, written)
 }
 
 /// The text before a place.
@@ -170,7 +227,9 @@ fn is_copied(text: &[u8], from: usize, to: usize, written: &[u8]) -> bool
 fn is_number(seen: &[u8], written: &[u8]) -> bool
     ensures { result ≡ is_number seen.now written.now }
 {
-    (are_digits(seen) && are_same(written, seen)) || is_numeral(seen, written)
+    (are_digits(seen) && are_same(written, seen))
+        || is_numeral(seen, written)
+        || is_in_damages(seen, written)
 }
 
 /// Whether what is written are the digits for a word.

@@ -2,10 +2,12 @@
 ghost use Rattle.std.specs.Prelude.{◌≡◌};
 ghost use Rattle.std.specs.Str.{str_to_ascii_lowercase};
 ghost use Rattle.twp_rules.specs.Rules.{begins_with, begins_with_one, ends_with, ends_with_one};
-ghost use Rattle.twp_rules.specs.Endings.{acreage_ends, column_fronts, corners, digits, heading_ends};
-ghost use Rattle.twp_rules.specs.Endings.{interest_fronts, label_ends, label_fronts, label_words, meridian_ends};
-ghost use Rattle.twp_rules.specs.Endings.{meridian_fronts, more_states, parenthesis_ends, section_ends, sides};
-ghost use Rattle.twp_rules.specs.Endings.{state_letters, states, trailers, well_ends};
+ghost use Rattle.twp_rules.specs.Endings.{acre_letters, acreage_ends, acreage_fronts, being_fronts};
+ghost use Rattle.twp_rules.specs.Endings.{column_names, corners, depths, digits, estates, heading_ends};
+ghost use Rattle.twp_rules.specs.Endings.{interest_fronts, meridian_ends, meridian_fronts, meridian_labels};
+ghost use Rattle.twp_rules.specs.Endings.{more_states, number_fronts, parenthesis_ends, property_fronts};
+ghost use Rattle.twp_rules.specs.Endings.{rights, section_again, section_ends, sides, state_letters, states};
+ghost use Rattle.twp_rules.specs.Endings.{terms, worn_section_ends};
 
 use crate::same::is_text;
 
@@ -49,24 +51,56 @@ pub(crate) fn has_acreage_ends(seen: &[u8]) -> bool
         || ends_with(seen, b"total")
         || ends_with(seen, b"net")
         || ends_with(seen, b"gross")
+        || ends_with(seen, b"/-")
+        || ends_with(seen, b"acs")
+        || ends_with(seen, b"acs.")
 }
 
-/// The texts `column_fronts` of the specification.
-pub(crate) fn has_column_fronts(seen: &[u8]) -> bool
-    ensures { result ≡ begins_with_one seen.now column_fronts }
+/// The texts `acre_letters` of the specification.
+pub(crate) fn has_acre_letters(seen: &[u8]) -> bool
+    ensures { result ≡ ends_with_one seen.now acre_letters }
 {
-    begins_with(seen, b"sec\t")
-        || begins_with(seen, b"section\t")
-        || begins_with(seen, b"twp\t")
-        || begins_with(seen, b"township\t")
-        || begins_with(seen, b"t\t")
-        || begins_with(seen, b"tract\t")
-        || begins_with(seen, b"legal\t")
-        || begins_with(seen, b"wd")
-        || begins_with(seen, b"qcd")
-        || begins_with(seen, b"ogl")
-        || begins_with(seen, b"md")
-        || begins_with(seen, b"deed")
+    ends_with(seen, b"0a")
+        || ends_with(seen, b"1a")
+        || ends_with(seen, b"2a")
+        || ends_with(seen, b"3a")
+        || ends_with(seen, b"4a")
+        || ends_with(seen, b"5a")
+        || ends_with(seen, b"6a")
+        || ends_with(seen, b"7a")
+        || ends_with(seen, b"8a")
+        || ends_with(seen, b"9a")
+}
+
+/// The texts `acreage_fronts` of the specification.
+pub(crate) fn has_acreage_fronts(seen: &[u8]) -> bool
+    ensures { result ≡ begins_with_one seen.now acreage_fronts }
+{
+    begins_with(seen, b"acres")
+        || begins_with(seen, b"acreage")
+        || begins_with(seen, b"ac")
+        || begins_with(seen, b"gross")
+        || begins_with(seen, b"net")
+        || begins_with(seen, b"total")
+        || begins_with(seen, b"containing")
+        || begins_with(seen, b"the area")
+}
+
+/// The texts `column_names` of the specification.
+pub(crate) fn has_column_names(seen: &[u8]) -> bool
+    ensures { result ≡ begins_with_one seen.now column_names }
+{
+    begins_with(seen, b"sec")
+        || begins_with(seen, b"section")
+        || begins_with(seen, b"twp")
+        || begins_with(seen, b"township")
+        || begins_with(seen, b"t")
+        || begins_with(seen, b"tract")
+        || begins_with(seen, b"legal")
+        || begins_with(seen, b"mer")
+        || begins_with(seen, b"st")
+        || begins_with(seen, b"county")
+        || begins_with(seen, b"school section")
 }
 
 /// The texts `corners` of the specification.
@@ -77,14 +111,12 @@ pub(crate) fn has_corners(seen: &[u8]) -> bool
         || ends_with(seen, b"nw")
         || ends_with(seen, b"se")
         || ends_with(seen, b"sw")
-        || ends_with(seen, b"northeast")
-        || ends_with(seen, b"northwest")
-        || ends_with(seen, b"southeast")
-        || ends_with(seen, b"southwest")
-        || ends_with(seen, b"north east")
-        || ends_with(seen, b"north west")
-        || ends_with(seen, b"south east")
-        || ends_with(seen, b"south west")
+        || ends_with(seen, b"e.")
+        || ends_with(seen, b"w.")
+        || ends_with(seen, b"east")
+        || ends_with(seen, b"west")
+        || ends_with(seen, b" e")
+        || ends_with(seen, b" w")
 }
 
 /// The texts `digits` of the specification.
@@ -113,47 +145,10 @@ pub(crate) fn has_heading_ends(seen: &[u8]) -> bool
         || ends_with(seen, b"w.")
         || ends_with(seen, b"east")
         || ends_with(seen, b"west")
-}
-
-/// The texts `interest_fronts` of the specification.
-pub(crate) fn has_interest_fronts(seen: &[u8]) -> bool
-    ensures { result ≡ begins_with_one seen.now interest_fronts }
-{
-    begins_with(seen, b"an und")
-        || begins_with(seen, b"und")
-        || begins_with(seen, b"all that")
-        || begins_with(seen, b"that certain")
-        || begins_with(seen, b"all those")
-}
-
-/// The texts `label_ends` of the specification.
-pub(crate) fn has_label_ends(seen: &[u8]) -> bool
-    ensures { result ≡ ends_with_one seen.now label_ends }
-{
-    ends_with(seen, b":")
-        || ends_with(seen, b";")
-        || ends_with(seen, b"aliq")
-        || ends_with(seen, b"aliquot")
-        || ends_with(seen, b"subdivision")
-}
-
-/// The texts `label_fronts` of the specification.
-pub(crate) fn has_label_fronts(seen: &[u8]) -> bool
-    ensures { result ≡ begins_with_one seen.now label_fronts }
-{
-    begins_with(seen, b"tract")
-        || begins_with(seen, b"parcel")
-        || begins_with(seen, b"lease")
-        || begins_with(seen, b"serial")
-        || begins_with(seen, b"exhibit")
-        || begins_with(seen, b"item")
-}
-
-/// The texts `label_words` of the specification.
-pub(crate) fn has_label_words(seen: &[u8]) -> bool
-    ensures { result ≡ ends_with_one seen.now label_words }
-{
-    ends_with(seen, b"unit") || ends_with(seen, b" fo") || ends_with(seen, b"office")
+        || ends_with(seen, b"e)")
+        || ends_with(seen, b"w)")
+        || ends_with(seen, b"township")
+        || ends_with(seen, b"range")
 }
 
 /// The texts `meridian_ends` of the specification.
@@ -166,13 +161,29 @@ pub(crate) fn has_meridian_ends(seen: &[u8]) -> bool
         || ends_with(seen, b"m")
         || ends_with(seen, b"m.")
         || ends_with(seen, b"county")
+        || ends_with(seen, b"co")
+        || ends_with(seen, b"co.")
+        || ends_with(seen, b"|")
 }
 
 /// The texts `meridian_fronts` of the specification.
 pub(crate) fn has_meridian_fronts(seen: &[u8]) -> bool
     ensures { result ≡ begins_with_one seen.now meridian_fronts }
 {
-    begins_with(seen, b"county of") || begins_with(seen, b"state of")
+    begins_with(seen, b"county of")
+        || begins_with(seen, b"state of")
+        || begins_with(seen, b"in the county of")
+}
+
+/// The texts `meridian_labels` of the specification.
+pub(crate) fn has_meridian_labels(seen: &[u8]) -> bool
+    ensures { result ≡ begins_with_one seen.now meridian_labels }
+{
+    begins_with(seen, b"meridian:")
+        || begins_with(seen, b"mer:")
+        || begins_with(seen, b"county:")
+        || begins_with(seen, b"state:")
+        || begins_with(seen, b"st:")
 }
 
 /// The texts `more_states` of the specification.
@@ -190,7 +201,21 @@ pub(crate) fn has_more_states(seen: &[u8]) -> bool
 pub(crate) fn has_parenthesis_ends(seen: &[u8]) -> bool
     ensures { result ≡ ends_with_one seen.now parenthesis_ends }
 {
-    ends_with(seen, b")")
+    ends_with(seen, b")") || ends_with(seen, b"]")
+}
+
+/// The texts `being_fronts` of the specification.
+pub(crate) fn has_being_fronts(seen: &[u8]) -> bool
+    ensures { result ≡ begins_with_one seen.now being_fronts }
+{
+    begins_with(seen, b"being") || begins_with(seen, b"aka") || begins_with(seen, b"a/")
+}
+
+/// The texts `section_again` of the specification.
+pub(crate) fn has_section_again(seen: &[u8]) -> bool
+    ensures { result ≡ ends_with_one seen.now section_again }
+{
+    ends_with(seen, b"section") || ends_with(seen, b"sec") || ends_with(seen, b"sec.")
 }
 
 /// The texts `section_ends` of the specification.
@@ -214,6 +239,21 @@ pub(crate) fn has_section_ends(seen: &[u8]) -> bool
         || ends_with(seen, b"ty")
 }
 
+/// The texts `worn_section_ends` of the specification.
+pub(crate) fn has_worn_section_ends(seen: &[u8]) -> bool
+    ensures { result ≡ ends_with_one seen.now worn_section_ends }
+{
+    ends_with(seen, b"1l")
+        || ends_with(seen, b"1i")
+        || ends_with(seen, b"1o")
+        || ends_with(seen, b"2l")
+        || ends_with(seen, b"2i")
+        || ends_with(seen, b"2o")
+        || ends_with(seen, b"3l")
+        || ends_with(seen, b"3i")
+        || ends_with(seen, b"3o")
+}
+
 /// The texts `sides` of the specification.
 pub(crate) fn has_sides(seen: &[u8]) -> bool
     ensures { result ≡ ends_with_one seen.now sides }
@@ -222,6 +262,10 @@ pub(crate) fn has_sides(seen: &[u8]) -> bool
         || ends_with(seen, b"s")
         || ends_with(seen, b"e")
         || ends_with(seen, b"w")
+        || ends_with(seen, b"n.")
+        || ends_with(seen, b"s.")
+        || ends_with(seen, b"e.")
+        || ends_with(seen, b"w.")
         || ends_with(seen, b"north")
         || ends_with(seen, b"south")
         || ends_with(seen, b"east")
@@ -265,36 +309,79 @@ pub(crate) fn has_states(seen: &[u8]) -> bool
         || ends_with(seen, b"washington")
 }
 
-/// The texts `trailers` of the specification.
-pub(crate) fn has_trailers(seen: &[u8]) -> bool
-    ensures { result ≡ begins_with_one seen.now trailers }
+/// The texts `rights` of the specification.
+pub(crate) fn has_rights(seen: &[u8]) -> bool
+    ensures { result ≡ begins_with_one seen.now rights }
 {
     begins_with(seen, b"subject")
-        || begins_with(seen, b"insofar")
+        || begins_with(seen, b"according")
+        || begins_with(seen, b"together with")
+        || begins_with(seen, b"reserving")
+        || begins_with(seen, b"excepting and")
+        || begins_with(seen, b"grantor")
+}
+
+/// The texts `terms` of the specification.
+pub(crate) fn has_terms(seen: &[u8]) -> bool
+    ensures { result ≡ begins_with_one seen.now terms }
+{
+    begins_with(seen, b"insofar")
         || begins_with(seen, b"limited")
         || begins_with(seen, b"as to")
         || begins_with(seen, b"as shown")
-        || begins_with(seen, b"according")
-        || begins_with(seen, b"recorded")
-        || begins_with(seen, b"doi")
-        || begins_with(seen, b"nri")
-        || begins_with(seen, b"wi")
-        || begins_with(seen, b"ri")
-        || begins_with(seen, b"orri")
+        || begins_with(seen, b"attached to")
+        || begins_with(seen, b"in the district")
 }
 
-/// The texts `well_ends` of the specification.
-pub(crate) fn has_well_ends(seen: &[u8]) -> bool
-    ensures { result ≡ ends_with_one seen.now well_ends }
+/// The texts `depths` of the specification.
+pub(crate) fn has_depths(seen: &[u8]) -> bool
+    ensures { result ≡ begins_with_one seen.now depths }
 {
-    ends_with(seen, b"1h")
-        || ends_with(seen, b"2h")
-        || ends_with(seen, b"3h")
-        || ends_with(seen, b"4h")
-        || ends_with(seen, b"5h")
-        || ends_with(seen, b"6h")
-        || ends_with(seen, b"7h")
-        || ends_with(seen, b"8h")
-        || ends_with(seen, b"9h")
-        || ends_with(seen, b"0h")
+    begins_with(seen, b"from the")
+        || begins_with(seen, b"below")
+        || begins_with(seen, b"above")
+        || begins_with(seen, b"down to")
+        || begins_with(seen, b"all depths")
+}
+
+/// The texts `estates` of the specification.
+pub(crate) fn has_estates(seen: &[u8]) -> bool
+    ensures { result ≡ begins_with_one seen.now estates }
+{
+    begins_with(seen, b"depths")
+        || begins_with(seen, b"surface")
+        || begins_with(seen, b"from surf")
+        || begins_with(seen, b"mineral")
+        || begins_with(seen, b"oil")
+        || begins_with(seen, b"only")
+}
+
+/// The texts `number_fronts` of the specification.
+pub(crate) fn has_number_fronts(seen: &[u8]) -> bool
+    ensures { result ≡ begins_with_one seen.now number_fronts }
+{
+    begins_with(seen, b"lease")
+        || begins_with(seen, b"rp")
+        || begins_with(seen, b"pin")
+        || begins_with(seen, b"apn")
+}
+
+/// The texts `interest_fronts` of the specification.
+pub(crate) fn has_interest_fronts(seen: &[u8]) -> bool
+    ensures { result ≡ begins_with_one seen.now interest_fronts }
+{
+    begins_with(seen, b"an und")
+        || begins_with(seen, b"und")
+        || begins_with(seen, b"one-half")
+        || begins_with(seen, b"one half")
+}
+
+/// The texts `property_fronts` of the specification.
+pub(crate) fn has_property_fronts(seen: &[u8]) -> bool
+    ensures { result ≡ begins_with_one seen.now property_fronts }
+{
+    begins_with(seen, b"all that")
+        || begins_with(seen, b"that certain")
+        || begins_with(seen, b"all those")
+        || begins_with(seen, b"the lands")
 }

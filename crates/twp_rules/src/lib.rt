@@ -6,10 +6,12 @@ mod allowed;
 mod change;
 mod endings;
 mod figures;
+mod remarks;
 mod rule;
 mod same;
 mod steps;
 mod tables;
 
 pub use change::{Change, are_changes, changed};
+pub use remarks::is_remark;
 pub use rule::Rule;

@@ -42,7 +42,7 @@ pub enum Rule {
     Mark,
     /// A word that means nothing is left out.
     Word,
-    /// What is in parentheses is left out: it is said before them.
+    /// What is in parentheses, or after `being`, is left out: it is said before.
     Repeated,
     /// A section is left out where it is written before its land.
     MovedSection,

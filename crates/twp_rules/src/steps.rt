@@ -3,10 +3,11 @@ ghost use Rattle.std.specs.Prelude.{◌≡◌, ◌≤◌, ◌&&◌, [], ◌∷�
 ghost use Rattle.std.specs.Str.{str_to_ascii_lowercase};
 ghost use Rattle.twp_grammar.specs.Tokens.{same_bytes};
 ghost use Rattle.twp_rules.specs.Endings.{half_texts, quarter_texts};
-ghost use Rattle.twp_rules.specs.Rules.{is_one_of, is_step, is_copied_step};
+ghost use Rattle.twp_rules.specs.Rules.{is_one_of, is_step, is_copied_step, without_white};
 ghost use Rattle.twp_rules.specs.Rules.{begins_with, is_half, is_quarter, is_some_half, is_some_quarter};
 
 use crate::endings::begins_with;
+use crate::figures::without_white;
 use crate::same::{are_same, is_text};
 
 /// The texts `half_texts` of the specification.
@@ -16,12 +17,10 @@ fn is_in_half_texts(seen: &[u8]) -> bool
     is_text(seen, b"2")
         || is_text(seen, b"/2")
         || is_text(seen, b"1/2")
-        || is_text(seen, b" 1/2")
         || is_text(seen, b"\xC2\xBD")
-        || is_text(seen, b" \xC2\xBD")
-        || is_text(seen, b" half")
-        || is_text(seen, b" one-half")
-        || is_text(seen, b" one half")
+        || is_text(seen, b"half")
+        || is_text(seen, b"one-half")
+        || is_text(seen, b"one half")
 }
 
 /// The texts `quarter_texts` of the specification.
@@ -32,12 +31,10 @@ fn is_in_quarter_texts(seen: &[u8]) -> bool
         || is_text(seen, b"4")
         || is_text(seen, b"/4")
         || is_text(seen, b"1/4")
-        || is_text(seen, b" 1/4")
         || is_text(seen, b"\xC2\xBC")
-        || is_text(seen, b" \xC2\xBC")
-        || is_text(seen, b" quarter")
-        || is_text(seen, b" one-quarter")
-        || is_text(seen, b" one quarter")
+        || is_text(seen, b"quarter")
+        || is_text(seen, b"one-quarter")
+        || is_text(seen, b"one quarter")
 }
 
 /// The rest of a text after so many bytes.
@@ -52,17 +49,19 @@ fn after(seen: &[u8], count: usize) -> &[u8]
 /// Whether a text is a front and a half.
 fn has_half(seen: &[u8], front: &[u8]) -> bool
     requires { str_to_ascii_lowercase front.now ≡ front.now }
-    ensures { result ≡ (begins_with seen.now front.now && is_one_of (drop (length front.now) seen.now) half_texts) }
+    ensures { result ≡ (begins_with seen.now front.now
+        && is_one_of (without_white (drop (length front.now) seen.now)) half_texts) }
 {
-    begins_with(seen, front) && is_in_half_texts(after(seen, front.len()))
+    begins_with(seen, front) && is_in_half_texts(without_white(after(seen, front.len())))
 }
 
 /// Whether a text is a front and a quarter.
 fn has_quarter(seen: &[u8], front: &[u8]) -> bool
     requires { str_to_ascii_lowercase front.now ≡ front.now }
-    ensures { result ≡ (begins_with seen.now front.now && is_one_of (drop (length front.now) seen.now) quarter_texts) }
+    ensures { result ≡ (begins_with seen.now front.now
+        && is_one_of (without_white (drop (length front.now) seen.now)) quarter_texts) }
 {
-    begins_with(seen, front) && is_in_quarter_texts(after(seen, front.len()))
+    begins_with(seen, front) && is_in_quarter_texts(without_white(after(seen, front.len())))
 }
 
 /// Whether a text is a spelling of `N1/2`, which is written.

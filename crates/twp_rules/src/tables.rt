@@ -6,9 +6,11 @@ ghost use Rattle.twp_rules.specs.Rules.{is_entry, is_among};
 ghost use Rattle.twp_rules.specs.Tables.{◌⇒◌};
 ghost use Rattle.twp_rules.specs.Tables.{ampersands, commas, damaged_corners, damages, dashes};
 ghost use Rattle.twp_rules.specs.Tables.{directions, exceptions, fraction_digits, halves, heading_words};
-ghost use Rattle.twp_rules.specs.Tables.{headings, joints, little_words, lot_marks, lot_words};
+ghost use Rattle.twp_rules.specs.Tables.{heading_marks, headings, joining_words, joints, little_words};
+ghost use Rattle.twp_rules.specs.Tables.{lot_marks, lot_words, more_marks};
 ghost use Rattle.twp_rules.specs.Tables.{marks, more_little_words, more_numerals, numerals, quarters};
-ghost use Rattle.twp_rules.specs.Tables.{section_words, semicolons, worn_halves, worn_quarters, zeros};
+ghost use Rattle.twp_rules.specs.Tables.{quarter_abbreviations, section_words, semicolons, worn_directions};
+ghost use Rattle.twp_rules.specs.Tables.{worn_halves, worn_quarters, worn_section_words, zeros};
 
 use crate::same::{are_same, is_text};
 
@@ -40,13 +42,15 @@ pub(crate) fn is_in_commas(seen: &[u8], written: &[u8]) -> bool
         || is_row(seen, written, b"-", b",")
         || is_row(seen, written, b"\xE2\x80\x93", b",")
         || is_row(seen, written, b"\xE2\x80\x94", b",")
+        || is_row(seen, written, b"|", b",")
+        || is_row(seen, written, b"+", b",")
 }
 
 /// The table `damaged_corners` of the specification.
 pub(crate) fn is_in_damaged_corners(seen: &[u8], written: &[u8]) -> bool
     ensures { result ≡ is_among seen.now written.now damaged_corners }
 {
-    is_row(seen, written, b"5", b"S")
+    is_row(seen, written, b"5", b"S") || is_row(seen, written, b"8", b"S")
 }
 
 /// The table `damages` of the specification.
@@ -85,6 +89,26 @@ pub(crate) fn is_in_directions(seen: &[u8], written: &[u8]) -> bool
         || is_row(seen, written, b"south west", b"SW")
 }
 
+/// The table `worn_directions` of the specification.
+pub(crate) fn is_in_worn_directions(seen: &[u8], written: &[u8]) -> bool
+    ensures { result ≡ is_among seen.now written.now worn_directions }
+{
+    is_row(seen, written, b"nothwest", b"NW")
+        || is_row(seen, written, b"norhwest", b"NW")
+        || is_row(seen, written, b"nortwest", b"NW")
+        || is_row(seen, written, b"northwset", b"NW")
+        || is_row(seen, written, b"notheast", b"NE")
+        || is_row(seen, written, b"norhteast", b"NE")
+        || is_row(seen, written, b"norteast", b"NE")
+        || is_row(seen, written, b"northeat", b"NE")
+        || is_row(seen, written, b"sothwest", b"SW")
+        || is_row(seen, written, b"souhwest", b"SW")
+        || is_row(seen, written, b"soutwest", b"SW")
+        || is_row(seen, written, b"sotheast", b"SE")
+        || is_row(seen, written, b"souhteast", b"SE")
+        || is_row(seen, written, b"souteast", b"SE")
+}
+
 /// The table `exceptions` of the specification.
 pub(crate) fn is_in_exceptions(seen: &[u8], written: &[u8]) -> bool
     ensures { result ≡ is_among seen.now written.now exceptions }
@@ -97,6 +121,11 @@ pub(crate) fn is_in_exceptions(seen: &[u8], written: &[u8]) -> bool
         || is_row(seen, written, b"exc", b" except ")
         || is_row(seen, written, b"exclusive", b" except ")
         || is_row(seen, written, b"l&e", b" except ")
+        || is_row(seen, written, b"minus", b" except ")
+        || is_row(seen, written, b"but", b" except ")
+        || is_row(seen, written, b"with", b" except ")
+        || is_row(seen, written, b"ex", b" except ")
+        || is_row(seen, written, b"ls", b" except ")
 }
 
 /// The table `fraction_digits` of the specification.
@@ -112,10 +141,38 @@ pub(crate) fn is_in_halves(seen: &[u8], written: &[u8]) -> bool
 {
     is_row(seen, written, b"2", b"1/2")
         || is_row(seen, written, b"/2", b"1/2")
-        || is_row(seen, written, b" half", b"1/2")
-        || is_row(seen, written, b" one-half", b"1/2")
-        || is_row(seen, written, b" one half", b"1/2")
+        || is_row(seen, written, b"half", b"1/2")
+        || is_row(seen, written, b"one-half", b"1/2")
+        || is_row(seen, written, b"one half", b"1/2")
         || is_row(seen, written, b"1\xE2\x81\x842", b"1/2")
+        || is_row(seen, written, b"/ 2", b"1/2")
+        || is_row(seen, written, b"1-2", b"1/2")
+}
+
+/// The table `heading_marks` of the specification.
+pub(crate) fn is_in_heading_marks(seen: &[u8], written: &[u8]) -> bool
+    ensures { result ≡ is_among seen.now written.now heading_marks }
+{
+    is_row(seen, written, b".", b"")
+        || is_row(seen, written, b",", b"")
+        || is_row(seen, written, b":", b"")
+        || is_row(seen, written, b"-", b" ")
+        || is_row(seen, written, b"/", b" ")
+        || is_row(seen, written, b"|", b" ")
+        || is_row(seen, written, b";", b" ")
+}
+
+/// The table `joining_words` of the specification.
+pub(crate) fn is_in_joining_words(seen: &[u8], written: &[u8]) -> bool
+    ensures { result ≡ is_among seen.now written.now joining_words }
+{
+    is_row(seen, written, b"also", b"")
+        || is_row(seen, written, b"together", b"")
+        || is_row(seen, written, b"with", b"")
+        || is_row(seen, written, b"not", b"")
+        || is_row(seen, written, b"exception", b"")
+        || is_row(seen, written, b"inclusive", b"")
+        || is_row(seen, written, b"incl", b"")
 }
 
 /// The table `heading_words` of the specification.
@@ -125,14 +182,13 @@ pub(crate) fn is_in_heading_words(seen: &[u8], written: &[u8]) -> bool
     is_row(seen, written, b"township", b"T.")
         || is_row(seen, written, b"twp", b"T.")
         || is_row(seen, written, b"tp", b"T.")
+        || is_row(seen, written, b"twsp", b"T.")
         || is_row(seen, written, b"range", b"R.")
         || is_row(seen, written, b"rng", b"R.")
         || is_row(seen, written, b"rge", b"R.")
-        || is_row(seen, written, b".", b"")
-        || is_row(seen, written, b",", b"")
+        || is_row(seen, written, b"rg", b"R.")
         || is_row(seen, written, b"in", b"")
         || is_row(seen, written, b"of", b"")
-        || is_row(seen, written, b"-", b" ")
         || is_row(seen, written, b"0sn", b", sec. ")
         || is_row(seen, written, b"a", b"")
 }
@@ -160,6 +216,7 @@ pub(crate) fn is_in_joints(seen: &[u8], written: &[u8]) -> bool
         || is_row(seen, written, b"\n", b"")
         || is_row(seen, written, b"\r", b"")
         || is_row(seen, written, b".", b"")
+        || is_row(seen, written, b"-", b"")
 }
 
 /// The table `little_words` of the specification.
@@ -175,6 +232,8 @@ pub(crate) fn is_in_little_words(seen: &[u8], written: &[u8]) -> bool
         || is_row(seen, written, b"entire", b"")
         || is_row(seen, written, b"section", b"")
         || is_row(seen, written, b"entire", b"all")
+        || is_row(seen, written, b"whole", b"all")
+        || is_row(seen, written, b"entirety", b"all")
 }
 
 /// The table `lot_marks` of the specification.
@@ -184,6 +243,7 @@ pub(crate) fn is_in_lot_marks(seen: &[u8], written: &[u8]) -> bool
     is_row(seen, written, b"'", b"")
         || is_row(seen, written, b"\xE2\x80\x99", b"")
         || is_row(seen, written, b".", b"")
+        || is_row(seen, written, b"#", b"")
 }
 
 /// The table `lot_words` of the specification.
@@ -201,6 +261,21 @@ pub(crate) fn is_in_lot_words(seen: &[u8], written: &[u8]) -> bool
         || is_row(seen, written, b"s", b"")
         || is_row(seen, written, b"the", b"")
         || is_row(seen, written, b"numbered", b"")
+        || is_row(seen, written, b"no", b"")
+        || is_row(seen, written, b"nos", b"")
+        || is_row(seen, written, b"gl", b"lot ")
+}
+
+/// The table `more_marks` of the specification.
+pub(crate) fn is_in_more_marks(seen: &[u8], written: &[u8]) -> bool
+    ensures { result ≡ is_among seen.now written.now more_marks }
+{
+    is_row(seen, written, b"(", b"")
+        || is_row(seen, written, b")", b"")
+        || is_row(seen, written, b"|", b"")
+        || is_row(seen, written, b"+", b"")
+        || is_row(seen, written, b"/", b"")
+        || is_row(seen, written, b"\xE2\x80\xA2", b"")
 }
 
 /// The table `marks` of the specification.
@@ -284,10 +359,20 @@ pub(crate) fn is_in_quarters(seen: &[u8], written: &[u8]) -> bool
     is_row(seen, written, b"", b"1/4")
         || is_row(seen, written, b"4", b"1/4")
         || is_row(seen, written, b"/4", b"1/4")
-        || is_row(seen, written, b" quarter", b"1/4")
-        || is_row(seen, written, b" one-quarter", b"1/4")
-        || is_row(seen, written, b" one quarter", b"1/4")
+        || is_row(seen, written, b"quarter", b"1/4")
+        || is_row(seen, written, b"one-quarter", b"1/4")
+        || is_row(seen, written, b"one quarter", b"1/4")
         || is_row(seen, written, b"1\xE2\x81\x844", b"1/4")
+}
+
+/// The table `quarter_abbreviations` of the specification.
+pub(crate) fn is_in_quarter_abbreviations(seen: &[u8], written: &[u8]) -> bool
+    ensures { result ≡ is_among seen.now written.now quarter_abbreviations }
+{
+    is_row(seen, written, b"qr.", b"1/4")
+        || is_row(seen, written, b".", b"1/4")
+        || is_row(seen, written, b"qtr", b"1/4")
+        || is_row(seen, written, b"qtr.", b"1/4")
 }
 
 /// The table `section_words` of the specification.
@@ -307,6 +392,21 @@ pub(crate) fn is_in_section_words(seen: &[u8], written: &[u8]) -> bool
         || is_row(seen, written, b"sce", b"sec")
         || is_row(seen, written, b"\xC2\xA7", b"sec")
         || is_row(seen, written, b"\xC2\xA7", b"secs")
+        || is_row(seen, written, b"seo", b"sec")
+}
+
+/// The table `worn_section_words` of the specification.
+pub(crate) fn is_in_worn_section_words(seen: &[u8], written: &[u8]) -> bool
+    ensures { result ≡ is_among seen.now written.now worn_section_words }
+{
+    is_row(seen, written, b"secton", b"sec")
+        || is_row(seen, written, b"sectlon", b"sec")
+        || is_row(seen, written, b"sectoin", b"sec")
+        || is_row(seen, written, b"seciton", b"sec")
+        || is_row(seen, written, b"sectiou", b"sec")
+        || is_row(seen, written, b"seclion", b"sec")
+        || is_row(seen, written, b"seotion", b"sec")
+        || is_row(seen, written, b"sectior", b"sec")
 }
 
 /// The table `semicolons` of the specification.
@@ -320,6 +420,9 @@ pub(crate) fn is_in_semicolons(seen: &[u8], written: &[u8]) -> bool
         || is_row(seen, written, b"&", b";")
         || is_row(seen, written, b"-", b";")
         || is_row(seen, written, b":", b";")
+        || is_row(seen, written, b"|", b";")
+        || is_row(seen, written, b"+", b";")
+        || is_row(seen, written, b"/", b";")
 }
 
 /// The table `worn_halves` of the specification.
@@ -327,30 +430,31 @@ pub(crate) fn is_in_worn_halves(seen: &[u8], written: &[u8]) -> bool
     ensures { result ≡ is_among seen.now written.now worn_halves }
 {
     is_row(seen, written, b"l/2", b"1/2")
-        || is_row(seen, written, b" l/2", b"1/2")
         || is_row(seen, written, b"i/2", b"1/2")
-        || is_row(seen, written, b" i/2", b"1/2")
         || is_row(seen, written, b"'/2", b"1/2")
         || is_row(seen, written, b"\xE2\x80\x99/2", b"1/2")
         || is_row(seen, written, b"]/2", b"1/2")
         || is_row(seen, written, b"!/2", b"1/2")
         || is_row(seen, written, b"|/2", b"1/2")
         || is_row(seen, written, b"1/", b"1/2")
-        || is_row(seen, written, b" 2/2", b"1/2")
         || is_row(seen, written, b"2/2", b"1/2")
+        || is_row(seen, written, b"1/z", b"1/2")
         || is_row(seen, written, b"\xC2\xB9\xE2\x81\x84\xE2\x82\x82", b"1/2")
-        || is_row(seen, written, b" h.", b"1/2")
+        || is_row(seen, written, b"h.", b"1/2")
         || is_row(seen, written, b"v2", b"1/2")
+        || is_row(seen, written, b"y2", b"1/2")
+        || is_row(seen, written, b"%", b"1/2")
 }
 
 /// The table `worn_quarters` of the specification.
 pub(crate) fn is_in_worn_quarters(seen: &[u8], written: &[u8]) -> bool
     ensures { result ≡ is_among seen.now written.now worn_quarters }
 {
-    is_row(seen, written, b"l/4", b"1/4")
-        || is_row(seen, written, b" l/4", b"1/4")
+    is_row(seen, written, b"/ 4", b"1/4")
+        || is_row(seen, written, b"1-4", b"1/4")
+        || is_row(seen, written, b"^", b"1/4")
+        || is_row(seen, written, b"l/4", b"1/4")
         || is_row(seen, written, b"i/4", b"1/4")
-        || is_row(seen, written, b" i/4", b"1/4")
         || is_row(seen, written, b"'/4", b"1/4")
         || is_row(seen, written, b"\xE2\x80\x99/4", b"1/4")
         || is_row(seen, written, b"]/4", b"1/4")
@@ -358,10 +462,9 @@ pub(crate) fn is_in_worn_quarters(seen: &[u8], written: &[u8]) -> bool
         || is_row(seen, written, b"|/4", b"1/4")
         || is_row(seen, written, b"1/", b"1/4")
         || is_row(seen, written, b"v4", b"1/4")
+        || is_row(seen, written, b"y4", b"1/4")
         || is_row(seen, written, b"%", b"1/4")
         || is_row(seen, written, b"\xC2\xB9\xE2\x81\x84\xE2\x82\x84", b"1/4")
-        || is_row(seen, written, b" qr.", b"1/4")
-        || is_row(seen, written, b".", b"1/4")
 }
 
 /// The table `zeros` of the specification.

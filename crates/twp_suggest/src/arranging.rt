@@ -56,6 +56,7 @@ impl<'a> Plan<'a> {
         }
         self.place_headings(&mut list);
         self.share_sections(&mut list);
+        self.doubt_exceptions(list.as_slice());
         match first {
             Some(Names::Sections) => self.place_land_after(&mut list),
             Some(_) => self.place_land_before(&mut list),
@@ -207,8 +208,8 @@ impl<'a> Plan<'a> {
         }
     }
 
-    /// Leaves out several sections before a colon and aliquot parts, which are for each of them, and are written after
-    /// each.
+    /// Leaves out several sections before a colon, or the end of their cell, and aliquot parts, which are for each of them,
+    /// and are written after each.
     fn share_sections(&mut self, list: &mut Vec<Placed>) {
         let mut shared: Option<usize> = None;
         for index in 0..list.len() {
@@ -219,7 +220,8 @@ impl<'a> Plan<'a> {
                 Names::Sections => {
                     let is_shared = self.count_of(phrase) > 1
                         && !self.has_range(phrase)
-                        && matches!(self.draft.pieces.kind(phrase.end), Kind::Colon);
+                        && (matches!(self.draft.pieces.kind(phrase.end), Kind::Colon)
+                            || self.draft.pieces.has_tab_before(phrase.end));
                     shared = if is_shared { Some(index) } else { None };
                 }
                 Names::Nothing(_) | Names::Heading => {}
@@ -275,7 +277,7 @@ impl<'a> Plan<'a> {
             };
             if placed.phrase.names == Names::Sections {
                 if let Some(end) = end {
-                    if !self.has_semicolon(end, placed.phrase.first) {
+                    if !self.has_kind(end, placed.phrase.first, Kind::Semicolon) {
                         return false;
                     }
                 }
@@ -288,20 +290,57 @@ impl<'a> Plan<'a> {
         true
     }
 
-    /// Whether a semicolon is among some pieces.
-    fn has_semicolon(&self, first: usize, end: usize) -> bool {
-        for index in first..end {
-            if matches!(self.draft.pieces.kind(index), Kind::Semicolon) {
-                return true;
+    /// Doubts land that is excepted from one of several parts, and isn't of the last of them: it may be a part of that, as
+    /// in `S/2, NW/4 less SW/4`.
+    fn doubt_exceptions(&mut self, list: &[Placed]) {
+        let mut last: Option<Phrase> = None;
+        let mut count: usize = 0;
+        let mut is_first = false;
+        for index in 0..list.len() {
+            let Some(phrase) = list.get(index).map(|placed| placed.phrase) else {
+                break;
+            };
+            match phrase.names {
+                Names::Sections => count = 0,
+                Names::Nothing(_) | Names::Heading => {}
+                Names::Except => is_first = true,
+                Names::Part if is_first && count > 1 && !goes_on(list, index) => {
+                    is_first = false;
+                    if !self.may_hold(last, phrase) {
+                        self.draft.doubt();
+                    }
+                }
+                _ if is_first => is_first = false,
+                _ => {
+                    count = plus(count, 1);
+                    last = Some(phrase);
+                }
             }
         }
-        false
     }
 
-    /// Whether a comma is among some pieces.
-    fn has_comma(&self, first: usize, end: usize) -> bool {
+    /// Whether a part that is excepted is of the last land before it, or has two steps or more.
+    fn may_hold(&self, last: Option<Phrase>, excepted: Phrase) -> bool {
+        let [step] = self.draft.steps_of(excepted) else {
+            return true;
+        };
+        let Some(last) = last else {
+            return true;
+        };
+        match self.draft.steps_of(last) {
+            [whole] => {
+                let letter = whole.written.first().copied().unwrap_or(0);
+                let is_of_half = whole.written.ends_with(b"2") && step.written.ends_with(b"4");
+                is_of_half && step.written.get(..2).unwrap_or(b"").contains(&letter)
+            }
+            _ => last.names != Names::Part,
+        }
+    }
+
+    /// Whether a piece of a kind is among some pieces.
+    fn has_kind(&self, first: usize, end: usize, kind: Kind) -> bool {
         for index in first..end {
-            if matches!(self.draft.pieces.kind(index), Kind::Comma) {
+            if self.draft.pieces.kind(index) == kind {
                 return true;
             }
         }
@@ -315,6 +354,8 @@ impl<'a> Plan<'a> {
         let mut lands: usize = 0;
         let mut count: usize = 1;
         let mut has_comma = false;
+        let mut are_apart = true;
+        let mut is_one = true;
         let mut unsure = false;
         let mut section: Option<Phrase> = None;
         let mut excepted: Option<usize> = None;
@@ -329,7 +370,7 @@ impl<'a> Plan<'a> {
                 Names::Nothing(_) | Names::Heading => {}
                 Names::Sections => {
                     placed.role = Role::LeftOut;
-                    has_comma = has_comma || self.has_comma(last, phrase.first);
+                    has_comma = has_comma || self.has_kind(last, phrase.first, Kind::Comma);
                     last = phrase.first;
                     let is_several = self.count_of(phrase) > 1;
                     let is_again = is_excepting && lands == 0 && self.is_again(section, phrase);
@@ -338,7 +379,9 @@ impl<'a> Plan<'a> {
                     let is_each = lands == 1
                         && !is_excepting
                         && land_names(&land) == Some(Names::Part);
+                    let is_one_word = is_each && phrase.form != Form::Plural;
                     unsure = unsure
+                        || (is_several && is_one_word)
                         || (is_several && (!(is_all || is_each) || self.has_range(phrase)))
                         || (is_ended && !is_again);
                     match land {
@@ -353,6 +396,7 @@ impl<'a> Plan<'a> {
                         }
                     }
                     is_ended = is_excepting;
+                    is_one = is_one && (section.is_none() || self.is_again(section, phrase));
                     section = Some(phrase);
                     first = None;
                     lands = 0;
@@ -379,15 +423,31 @@ impl<'a> Plan<'a> {
                 }
                 _ => {
                     placed.role = Role::Kept(count);
+                    if let (None, Some(before)) = (first, section) {
+                        let is_divided = self.has_kind(before.end, phrase.first, Kind::Semicolon)
+                            || self.has_kind(before.end, phrase.first, Kind::And);
+                        are_apart = are_apart && is_divided;
+                    }
                     first = Some(first.unwrap_or(index));
                     last = phrase.end;
                     lands = lands.saturating_add(1);
                 }
             }
         }
-        if unsure || lands > 0 || (has_comma && count > 2) || (is_excepting && excepted.is_none()) {
+        let is_unsure_list = has_comma && count > 2 && !are_apart && !is_one;
+        if unsure || lands > 0 || is_unsure_list || (is_excepting && excepted.is_none()) {
             self.draft.doubt();
         }
+    }
+}
+
+/// Whether another phrase follows the one at an index, with white space alone between them.
+fn goes_on(list: &[Placed], index: usize) -> bool {
+    match (list.get(index), list.get(plus(index, 1))) {
+        (Some(one), Some(other)) => {
+            other.phrase.names == Names::Part && other.phrase.first == one.phrase.end
+        }
+        _ => false,
     }
 }
 

@@ -2,10 +2,11 @@
 
 use crate::arranging::{Placed, Role};
 use crate::named::land_in;
+use crate::on_plat::{land_on, township_of};
 use crate::plan::Plan;
 use std::alloc::{AllocError, Global};
 use twp_land::Land;
-use twp_phrases::{Claim, Claimed, Names, Phrase};
+use twp_phrases::{Claim, Claimed, Names, Phrase, Span};
 use twp_pieces::plus;
 
 /// The land before a place, which moves from one claim to the next.
@@ -80,7 +81,15 @@ impl<'a> Plan<'a> {
         let mut claimed = section_text(alloc, section)?;
         match claim.what {
             Claimed::Same => return Ok(true),
+            Claimed::WithLots => {
+                self.write_phrase(last.phrase, b", ", &mut claimed)?;
+                return includes_lots(alloc, claimed.as_slice());
+            }
             Claimed::WholeSection => {}
+            Claimed::Land { pieces, changes } => {
+                claimed.extend_from_slice(b", ")?;
+                self.write_land(pieces, changes, &mut claimed)?;
+            }
             Claimed::Part(span) => {
                 claimed.extend_from_slice(b", ")?;
                 for step in self.draft.steps.get(span.first..span.end).unwrap_or(&[]) {
@@ -89,20 +98,29 @@ impl<'a> Plan<'a> {
             }
         }
         let mut alone = section_text(alloc, section)?;
-        self.write_phrase(last.phrase, &mut alone)?;
+        self.write_phrase(last.phrase, b", ", &mut alone)?;
         if are_same(alloc, claimed.as_slice(), alone.as_slice())? {
             return Ok(true);
         }
         let mut all = section_text(alloc, section)?;
+        let mut joined = section_text(alloc, section)?;
+        let mut end: Option<usize> = None;
         for placed in group {
             if placed.phrase.end > claim.place {
                 break;
             }
             if is_land(*placed) && placed.role == last.role {
-                self.write_phrase(placed.phrase, &mut all)?;
+                self.write_phrase(placed.phrase, b", ", &mut all)?;
+                let is_more = end == Some(placed.phrase.first);
+                let mark: &[u8] = if is_more { b" " } else { b", " };
+                self.write_phrase(placed.phrase, mark, &mut joined)?;
+                end = Some(placed.phrase.end);
             }
         }
-        are_same(alloc, claimed.as_slice(), all.as_slice())
+        if are_same(alloc, claimed.as_slice(), all.as_slice())? {
+            return Ok(true);
+        }
+        are_same(alloc, claimed.as_slice(), joined.as_slice())
     }
 
     /// The number of the section of a group, with which phrases begin.
@@ -121,13 +139,36 @@ impl<'a> Plan<'a> {
         None
     }
 
-    /// Appends a comma and the text of a phrase with its changes.
-    fn write_phrase(&self, phrase: Phrase, text: &mut Vec<u8>) -> Result<(), AllocError> {
-        text.extend_from_slice(b", ")?;
-        let mut at = self.draft.pieces.start(phrase.first);
-        let end = self.draft.pieces.end_before(phrase.end);
-        let span = phrase.changes;
-        for change in self.draft.changes.get(span.first..span.end).unwrap_or(&[]) {
+    /// Appends a mark and the text of a phrase with its changes.
+    fn write_phrase(
+        &self,
+        phrase: Phrase,
+        mark: &[u8],
+        text: &mut Vec<u8>,
+    ) -> Result<(), AllocError> {
+        text.extend_from_slice(mark)?;
+        let pieces = Span {
+            first: phrase.first,
+            end: phrase.end,
+        };
+        self.write_land(pieces, phrase.changes, text)
+    }
+
+    /// Appends the text of some pieces with changes.
+    fn write_land(
+        &self,
+        pieces: Span,
+        changes: Span,
+        text: &mut Vec<u8>,
+    ) -> Result<(), AllocError> {
+        let mut at = self.draft.pieces.start(pieces.first);
+        let end = self.draft.pieces.end_before(pieces.end);
+        for change in self
+            .draft
+            .changes
+            .get(changes.first..changes.end)
+            .unwrap_or(&[])
+        {
             text.extend_from_slice(self.draft.pieces.text.get(at..change.start).unwrap_or(b""))?;
             text.extend_from_slice(change.written)?;
             at = change.end;
@@ -159,5 +200,16 @@ fn are_same(alloc: Global, one: &[u8], other: &[u8]) -> Result<bool, AllocError>
     match (first, second) {
         (Some(first), Some(second)) => Ok(first.same(&second)),
         _ => Ok(false),
+    }
+}
+
+/// Whether the land of a text is on the plat only with its lots named.
+fn includes_lots(alloc: Global, text: &[u8]) -> Result<bool, AllocError> {
+    if land_in(alloc, text)?.is_none() {
+        return Ok(false);
+    }
+    match township_of(alloc, text)? {
+        Some(township) => Ok(land_on(alloc, text, township)?.is_none()),
+        None => Ok(false),
     }
 }

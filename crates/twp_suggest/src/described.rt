@@ -6,7 +6,7 @@ ghost use Rattle.twp_suggest.specs.Readings.{as_written, except};
 ghost use Rattle.twp_suggest.specs.Readings.{without_first_line};
 
 use crate::manner::Manner;
-use crate::named::land_with_lots;
+use crate::named::{land_with_lots, why_unread};
 use crate::on_plat::{first_township, land_of, land_on, read};
 use crate::unread::Unread;
 use std::alloc::{AllocError, Global};
@@ -34,7 +34,7 @@ pub(crate) struct Wording {
 }
 
 /// The description that comes of a changed text in its township, or in any if it names none. None if it names some land
-/// twice. The land is looked for in `land`.
+/// twice, or a part that is too fine. The land is looked for in `land`.
 pub(crate) fn described(
     alloc: Global,
     made: Vec<u8>,
@@ -64,7 +64,7 @@ pub(crate) fn described(
             text: made,
             manner: Manner::Changed,
         })),
-        Err(PlaceFault::Overlap { .. }) => Ok(None),
+        Err(PlaceFault::Overlap { .. } | PlaceFault::TooFine { .. }) => Ok(None),
         Err(PlaceFault::OnLot { .. }) => {
             let text = with_lots_named(alloc, made.as_slice())?;
             accept(alloc, text.as_slice())?;
@@ -99,7 +99,7 @@ fn with_lots_named(alloc: Global, made: &[u8]) -> Result<Vec<u8>, Unread>
         return Err(Unread::Refused);
     };
     let Some(land) = land_with_lots(&description) else {
-        return Err(Unread::Refused);
+        return Err(why_unread(&description));
     };
     let full = spell(alloc, &land, township)?;
     let text = as_written(alloc, &description, full.as_slice())?;
@@ -156,18 +156,26 @@ fn remainder(alloc: Global, whole: &[u8], excepted: &[u8]) -> Result<Vec<u8>, Un
         return Err(Unread::Refused);
     };
     let Some(mut land) = land_of(&description, township) else {
-        return Err(Unread::Refused);
+        return Err(why_unread(&description));
     };
     let Some(less) = land_on(alloc, excepted, township)? else {
-        return Err(Unread::Refused);
+        return Err(why_text_is_unread(alloc, excepted)?);
     };
     if !land.holds_land(&less) || land.same(&less) {
-        return Err(Unread::Refused);
+        return Err(Unread::Unfit);
     }
     land.take_away(&less);
     let full = spell(alloc, &land, township)?;
     let text = as_written(alloc, &description, full.as_slice())?;
     Ok(text)
+}
+
+/// Why the land of a text isn't on the plat.
+fn why_text_is_unread(alloc: Global, text: &[u8]) -> Result<Unread, AllocError> {
+    let Some(description) = read(alloc, text)? else {
+        return Ok(Unread::Refused);
+    };
+    Ok(why_unread(&description))
 }
 
 /// A canonical text as a description of land for which another was written.

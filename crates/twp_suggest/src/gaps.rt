@@ -77,6 +77,15 @@ impl<'a> Plan<'a> {
             before = Some(placed);
             next = plus(index, 1);
         }
+        // A joint in the land of several sections would be read in both ways for each of them.
+        for placed in list {
+            let numbers = placed.phrase.numbers;
+            let is_several = placed.phrase.names == Names::Sections
+                && numbers.end > plus(numbers.first, 1);
+            if is_several && !out.joints.is_empty() {
+                self.draft.doubt();
+            }
+        }
         let left_out = list.get(next..).unwrap_or(&[]);
         if left_out.is_empty() && self.may_be_cut_off(before) {
             self.draft.doubt();
@@ -227,9 +236,12 @@ impl<'a> Plan<'a> {
     /// Which steps of one of two parts with `and` between them may be for both.
     fn shared_of(&self, one: Placed, other: Placed, joining: Joining, out: &Outline<'a>) -> Shared {
         let (before, after) = (one.phrase, other.phrase);
-        let is_and = joining == Joining::And
-            || (joining == Joining::Other && self.draft.pieces.is(before.end, b"&"));
-        let is_close = after.first <= plus(before.end, 1) && out.joints.len() <= 1;
+        let has_the = self.draft.pieces.is(plus(before.end, 1), b"the");
+        let is_mark = self.draft.pieces.is(before.end, b"&")
+            || (self.draft.pieces.is(before.end, b"and") && has_the);
+        let is_and = joining == Joining::And || (joining == Joining::Other && is_mark);
+        let is_close = after.first <= plus(before.end, plus(1, usize::from(has_the)))
+            && out.joints.len() <= 1;
         if !is_joint(one, other) || !is_and || !is_close || before.form == after.form {
             return Shared::Nothing;
         }
@@ -261,10 +273,7 @@ impl<'a> Plan<'a> {
         out: &mut Outline<'a>,
     ) -> Result<(), AllocError> {
         let begin = out.options.len();
-        let place = match self.draft.steps_of(other) {
-            [step, ..] => step.start,
-            [] => self.draft.pieces.start(other.first),
-        };
+        let place = self.draft.pieces.start(other.first);
         self.copy_steps_of(one, false, place, out)?;
         self.note_joint(begin, begin, out)
     }
@@ -360,7 +369,8 @@ impl<'a> Plan<'a> {
     /// Whether a comma or a semicolon may be written instead of a piece.
     fn may_be_mark(&self, index: usize, is_comma: bool) -> bool {
         match self.draft.pieces.lower(index) {
-            b"," | b";" | b":" | b"." | b"&" | b"-" => true,
+            b"," | b";" | b":" | b"." | b"&" | b"-" | b"|" | b"+" => true,
+            b"/" => !is_comma,
             b"\xE2\x80\x93" | b"\xE2\x80\x94" => is_comma,
             _ => false,
         }

@@ -4,6 +4,8 @@ use crate::arranging::{Placed, Role};
 use crate::plan::Plan;
 use twp_grammar::Kind;
 use twp_phrases::{Names, Phrase};
+use twp_pieces::plus;
+use twp_rules::Rule;
 
 /// What has to be between two phrases.
 #[derive(Clone, Copy, PartialEq, Eq)]
@@ -76,11 +78,15 @@ impl<'a> Plan<'a> {
             Joining::Nothing if are_parts && left_out.is_empty() => self.are_bare_cells(
                 before, after,
             ),
+            Joining::Nothing if are_lots_and_part(before, after) => false,
             Joining::Nothing => !has_section(left_out),
             Joining::Stop => !(are_parts && left_out.is_empty()),
-            Joining::Colon => true,
-            Joining::And => are_parts && before.form != after.form,
-            Joining::Other => self.is_unsure_list(before, after),
+            Joining::Colon => !has_section(left_out),
+            Joining::And => {
+                are_parts && before.form != after.form && !is_repeated_after(before, left_out)
+            }
+            Joining::Comma => are_parts && self.are_comma_cells(before, after),
+            Joining::Other => self.is_unsure_list(before, after, left_out),
             _ => false,
         }
     }
@@ -98,10 +104,40 @@ impl<'a> Plan<'a> {
             )
     }
 
+    /// Whether two corners without a fraction are in cells of their own, with commas between the cells of their row, as in
+    /// `2N,3W,14,NE,SE`: the second may be a part of the first.
+    fn are_comma_cells(&self, before: Phrase, after: Phrase) -> bool {
+        let pieces = &self.draft.pieces;
+        let comma = before.first.saturating_sub(1);
+        let number = before.first.saturating_sub(2);
+        let mark = before.first.saturating_sub(3);
+        let is_cell = pieces.is_east_west(number)
+            || (pieces.number(number).is_some() && pieces.is(mark, b",") && pieces.is_joined(mark));
+        is_cell
+            && pieces.is(comma, b",")
+            && pieces.is_joined(comma)
+            && pieces.is_joined(before.first)
+            && pieces.is_joined(before.end)
+            && pieces.is_joined(after.first)
+            && matches!(pieces.kind(before.end.saturating_sub(1)), Kind::Corner(_))
+            && matches!(pieces.kind(after.end.saturating_sub(1)), Kind::Corner(_))
+    }
+
     /// Whether other pieces than commas and semicolons between two lands may mean something else: only an ampersand
-    /// doesn't, between parts that both have an `of`, or none.
-    fn is_unsure_list(&self, before: Phrase, after: Phrase) -> bool {
+    /// doesn't, between parts that both have an `of`, or none, nor a colon after a section that is named again.
+    fn is_unsure_list(&self, before: Phrase, after: Phrase, left_out: &[Placed]) -> bool {
+        let mut next = before.end;
+        let mut rest = left_out;
         for index in before.end..after.first {
+            if let [placed, more @ ..] = rest {
+                if placed.phrase.first == index {
+                    next = placed.phrase.end;
+                    rest = more;
+                }
+            }
+            if index < next || (self.draft.pieces.is(index, b":") && has_section(left_out)) {
+                continue;
+            }
             if !(self.draft.pieces.is(index, b"&")
                 || self.draft.pieces.is(index, b",")
                 || self.draft.pieces.is(index, b";"))
@@ -110,6 +146,24 @@ impl<'a> Plan<'a> {
             }
         }
         before.names == Names::Part && after.names == Names::Part && before.form != after.form
+    }
+}
+
+/// Whether a part of two steps or more follows lots, with white space alone between them: it is no part of a lot.
+fn are_lots_and_part(before: Phrase, after: Phrase) -> bool {
+    before.names == Names::Lots
+        && after.names == Names::Part
+        && after.steps.end > plus(after.steps.first, 1)
+}
+
+/// Whether parentheses after a part repeat it, as in `the East Half (E/2)`.
+fn is_repeated_after(before: Phrase, left_out: &[Placed]) -> bool {
+    match left_out {
+        [placed] => {
+            placed.phrase.first == before.end
+                && placed.phrase.names == Names::Nothing(Rule::Repeated)
+        }
+        _ => false,
     }
 }
 

@@ -9,6 +9,7 @@ ghost use Rattle.twp_grammar.specs.OnPlat.{HasLot};
 ghost use Rattle.twp_resolve.specs.steps.ResolvingSteps.{sections_from, lots_from, AreAdded, number_of_section};
 
 use crate::on_plat::read;
+use crate::unread::Unread;
 use std::alloc::{AllocError, Global};
 use twp_grammar::{Item, Numeral, Steps};
 use twp_grid::{Block, Section, lot_count};
@@ -41,6 +42,14 @@ pub(crate) fn land_with_lots(description: &Description) -> Option<Lanes>
         return Some(land);
     }
     None
+}
+
+/// Why a description isn't read whose land isn't on the plat: it names some land twice, or a part of a lot.
+pub(crate) fn why_unread(description: &Description) -> Unread {
+    match land_named::<Lanes>(description) {
+        Some(_) => Unread::Refused,
+        None => Unread::Unfit,
+    }
 }
 
 /// The land of the items of a description: all places of its items, none of which is named twice. None if they name what

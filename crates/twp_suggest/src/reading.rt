@@ -42,6 +42,7 @@ pub fn readings_of<'a>(alloc: Global, text: &'a [u8]) -> Result<Vec<Reading<'a>>
         let changes = outline.changes_of(alloc, number)?;
         let found = match reading_with(alloc, text, changes, outline.has_except, &mut land) {
             Ok(found) => found,
+            Err(Unread::Unfit) => continue,
             Err(Unread::Refused) => return Ok(Vec::new(alloc)),
             Err(Unread::Memory) => return Err(AllocError),
         };
@@ -120,7 +121,7 @@ fn has_no_doubt(alloc: Global, text: &[u8]) -> Result<bool, AllocError>
 }
 
 /// The reading that changes make, if they are allowed and the reader accepts what they make. None if that names some
-/// land twice.
+/// land twice, or a part that is too fine.
 fn reading_with<'a>(
     alloc: Global,
     text: &'a [u8],

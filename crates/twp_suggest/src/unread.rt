@@ -5,6 +5,8 @@ use std::alloc::AllocError;
 pub(crate) enum Unread {
     /// It names what no township has, or the reader refuses it.
     Refused,
+    /// It names some land twice, or excepts what isn't of the land: another candidate may do neither.
+    Unfit,
     /// Memory ran out.
     Memory,
 }

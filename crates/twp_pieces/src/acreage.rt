@@ -1,0 +1,275 @@
+//! Acreage: `containing 160.00 acres, more or less`, `(80 ac)`, `Net Ac: 240.00`, `containing eighty acres`.
+
+use crate::pieces::{Pieces, plus};
+use twp_grammar::Kind;
+use twp_words::{
+    are_corners, is_acreage_lead, is_acres, is_area_word, is_net_or_gross, is_of_count, is_same,
+};
+
+/// The most sections of a township: a greater number alone in a cell is acreage.
+const SECTIONS: u16 = 36;
+
+/// The acres of a section.
+const SECTION_ACRES: u16 = 640;
+
+/// The most pieces of words before acreage, or of a number in words.
+const WORDS_MOST: usize = 12;
+
+/// The pieces before acreage: the index after them, and whether they name its unit.
+#[derive(Clone, Copy)]
+struct Lead {
+    end: usize,
+    has_unit: bool,
+}
+
+impl<'a> Pieces<'a> {
+    /// Where the acreage at an index ends.
+    pub fn end_of_acreage(&self, index: usize) -> Option<usize> {
+        if !self.is(index, b"(") {
+            let end = self.end_of_figure_and_unit(index)?;
+            return if self.is_end_of_acreage(end) {
+                Some(end)
+            } else {
+                None
+            };
+        }
+        let mut next = self.end_of_figure_and_unit(plus(index, 1))?;
+        if self.is(next, b",") || self.is(next, b"/") || self.is(next, b";") {
+            next = self.end_of_figure_and_unit(plus(next, 1))?;
+        }
+        if self.is(next, b"spacing") {
+            next = plus(next, 1);
+        }
+        if self.is(next, b")") {
+            Some(plus(next, 1))
+        } else {
+            None
+        }
+    }
+
+    /// Where acreage after a dash ends, with white space on both sides of the dash, as in `- 38.5 ac`.
+    pub fn end_of_dashed_acreage(&self, index: usize) -> Option<usize> {
+        let next = plus(index, 1);
+        let is_apart = self.is_dash(index) && !self.is_joined(index) && !self.is_joined(next);
+        if !is_apart || self.number(next).is_none() {
+            return None;
+        }
+        let end = self.end_of_acreage(next)?;
+        let is_last = end >= self.len()
+            || (self.is(end, b";") || self.is(end, b",") || self.is(end, b"."))
+            || self.begins_line(end);
+        if is_last { Some(end) } else { None }
+    }
+
+    /// Where acreage ends: words before it, a number, and its unit, before or after the number.
+    fn end_of_figure_and_unit(&self, index: usize) -> Option<usize> {
+        let Lead { end, has_unit } = self.lead_of_acreage(index);
+        let mut next = match self.end_of_decimal(end) {
+            Some(next) => next,
+            None if end > index || self.is(index.saturating_sub(1), b",") => {
+                self.end_of_count(end)?
+            }
+            None => return None,
+        };
+        if self.is(next, b"and") {
+            if let Some(count) = self.end_of_count(plus(next, 1)) {
+                let dash = plus(count, usize::from(self.is_dash(count)));
+                if self.is(dash, b"hundredths") && is_acres(self.lower(plus(dash, 1))) {
+                    next = plus(dash, 1);
+                }
+            }
+        }
+        if is_net_or_gross(self.lower(next)) && is_acres(self.lower(plus(next, 1))) {
+            next = plus(next, 1);
+        }
+        let is_letter = self.is(next, b"a")
+            && (self.is_joined(next)
+                || self.is(plus(next, 1), b".")
+                || self.begins_column(plus(next, 1)));
+        if is_acres(self.lower(next)) || is_letter {
+            next = plus(next, 1);
+        } else if !has_unit {
+            return None;
+        }
+        if self.is(next, b".") && self.is_joined(next) {
+            next = plus(next, 1);
+        }
+        next = self.after_hundredths(next);
+        next = self.after_more_or_less(next);
+        if is_net_or_gross(self.lower(next)) {
+            next = plus(next, 1);
+        }
+        Some(next)
+    }
+
+    /// Words before acreage, at an index.
+    fn lead_of_acreage(&self, index: usize) -> Lead {
+        let mut lead = Lead {
+            end: index,
+            has_unit: false,
+        };
+        if !matches!(self.kind(index), Kind::Other | Kind::The) {
+            return lead;
+        }
+        let mut has_word = false;
+        for place in index..plus(index, WORDS_MOST) {
+            let word = self.lower(place);
+            let is_lead = is_acreage_lead(word);
+            let is_unit = is_acres(word) || is_same(word, b"acreage");
+            let is_mark = (self.is(place, b":") || self.is(place, b".")) && place > index;
+            if !is_lead && !is_unit && !is_mark && !is_area_word(word) {
+                break;
+            }
+            has_word = has_word || is_lead || is_unit;
+            lead.has_unit = lead.has_unit || is_unit;
+            lead.end = plus(place, 1);
+        }
+        if has_word {
+            lead
+        } else {
+            Lead {
+                end: index,
+                has_unit: false,
+            }
+        }
+    }
+
+    /// Whether acreage may end before an index: land that follows would be a part of it.
+    fn is_end_of_acreage(&self, index: usize) -> bool {
+        match self.kind(index) {
+            Kind::Of | Kind::Lot | Kind::Half | Kind::Quarter | Kind::Corner(_) => false,
+            Kind::NorthSouth(_) | Kind::EastWest(_) => false,
+            _ => {
+                let word = self.lower(index);
+                let is_in_land = is_same(word, b"in")
+                    && self.end_of_state_after_in(index).is_none();
+                self.begins_line(index)
+                    || !(is_in_land
+                        || is_same(word, b"out")
+                        || is_same(word, b"off")
+                        || is_same(word, b"on")
+                        || is_same(word, b"lying")
+                        || is_same(word, b"located")
+                        || is_same(word, b"situated")
+                        || is_same(word, b"unit")
+                        || is_same(word, b"spacing")
+                        || is_same(word, b"drilling")
+                        || self.begins_step(index))
+            }
+        }
+    }
+
+    /// Where the acreage at an index ends that stands alone at the end of a text or of a row: with two decimals, or
+    /// after a tab.
+    pub fn end_of_last_figure(&self, index: usize) -> Option<usize> {
+        let end = self.end_of_decimal(index)?;
+        let has_decimals = end > plus(index, 2) && self.is(end.saturating_sub(2), b".");
+        let number = self.number(index).unwrap_or(0);
+        let is_cell = (self.begins_column(index) || self.is_after_part(index))
+            && number > SECTIONS
+            && number <= SECTION_ACRES;
+        let is_apart = self.begins_column(index) || self.is_after_part(index);
+        let is_last = end == self.len() || (is_apart && self.begins_column(end));
+        if is_last && index > 0 && (has_decimals || is_cell) {
+            Some(end)
+        } else {
+            None
+        }
+    }
+
+    /// Whether an aliquot part ends before an index.
+    fn is_after_part(&self, index: usize) -> bool {
+        let before = index.saturating_sub(1);
+        matches!(
+            self.kind(before),
+            Kind::Corner(_) | Kind::Half | Kind::Quarter
+        ) || ((self.is(before, b"2") || self.is(before, b"4")) && self.is_joined(before))
+            || are_corners(self.lower(before))
+    }
+
+    /// Whether a number with decimals is at an index.
+    pub fn is_figure_with_decimals(&self, index: usize) -> bool {
+        let point = plus(index, 1);
+        let digits = plus(index, 2);
+        self.is(point, b".")
+            && self.is_joined(point)
+            && self.is_joined(digits)
+            && self.number(digits).is_some()
+    }
+
+    /// Where the number at an index ends, with commas and a decimal point.
+    pub fn end_of_decimal(&self, index: usize) -> Option<usize> {
+        self.number(index)?;
+        let mut next = plus(index, 1);
+        for mark in [Kind::Comma, Kind::Stop] {
+            let digits = plus(next, 1);
+            let is_part = self.kind(next) == mark
+                && self.is_joined(next)
+                && self.is_joined(digits)
+                && self.number(digits).is_some();
+            if is_part {
+                next = plus(next, 2);
+            }
+        }
+        Some(next)
+    }
+
+    /// Where a number in words ends, as `one hundred and sixty`.
+    fn end_of_count(&self, index: usize) -> Option<usize> {
+        let mut next = index;
+        for place in index..plus(index, WORDS_MOST) {
+            if !is_of_count(self.lower(place)) {
+                break;
+            }
+            next = plus(place, 1);
+        }
+        if next > index { Some(next) } else { None }
+    }
+
+    /// The index after `and forty hundredths of an acre`, if that is at an index.
+    fn after_hundredths(&self, index: usize) -> usize {
+        if !self.is(index, b"and") {
+            return index;
+        }
+        let next = match self.end_of_decimal(plus(index, 1)) {
+            Some(next) => next,
+            None => match self.end_of_count(plus(index, 1)) {
+                Some(next) => next,
+                None => return index,
+            },
+        };
+        let next = if self.is(next, b"hundredths") {
+            plus(next, 1)
+        } else {
+            next
+        };
+        if self.is(next, b"of")
+            && self.is(plus(next, 1), b"an")
+            && self.is(plus(next, 2), b"acre")
+        {
+            plus(next, 3)
+        } else {
+            index
+        }
+    }
+
+    /// The index after `more or less`, `m/l`, or `+/-`, if that is at an index.
+    fn after_more_or_less(&self, index: usize) -> usize {
+        let next = if self.is(index, b",") {
+            plus(index, 1)
+        } else {
+            index
+        };
+        let is_more = self.is(next, b"more")
+            && self.is(plus(next, 1), b"or")
+            && self.is(plus(next, 2), b"less");
+        let is_short = self.is(plus(next, 1), b"/")
+            && ((self.is(next, b"m") && self.is(plus(next, 2), b"l"))
+                || (self.is(next, b"+") && self.is(plus(next, 2), b"-")));
+        if is_more || is_short {
+            plus(next, 3)
+        } else {
+            index
+        }
+    }
+}

@@ -1,0 +1,147 @@
+//! Interests in land, and words for a property, before land: `An undivided one-half interest in`, `that certain real
+//! property in Canyon County, Idaho, to wit:`.
+
+use crate::pieces::{Pieces, plus};
+use twp_grammar::Kind;
+use twp_words::{is_of_interest, is_of_property, is_owner, is_same, is_whose};
+
+/// The most pieces of an interest, or of words for a property.
+const PIECES_MOST: usize = 48;
+
+impl<'a> Pieces<'a> {
+    /// Where words for an interest end, with words for what it is in.
+    pub(crate) fn end_of_interest(&self, index: usize) -> Option<usize> {
+        let first = if self.is(index, b"an") || self.is(index, b"a") {
+            plus(index, 1)
+        } else {
+            index
+        };
+        let is_undivided = self.is(first, b"undivided") || self.is(first, b"und");
+        if !is_undivided && !(self.begins_line(index) && self.begins_share(first)) {
+            return None;
+        }
+        let mut end: Option<usize> = None;
+        let mut has_interest = false;
+        for place in first..plus(first, PIECES_MOST) {
+            if has_interest && self.is(place, b":") {
+                return Some(plus(place, 1));
+            }
+            if !self.is_part_of_interest(place) {
+                break;
+            }
+            let word = self.lower(place);
+            let is_interest = is_same(word, b"interest") || is_same(word, b"int");
+            has_interest = has_interest
+                || is_interest
+                || is_same(word, b"minerals")
+                || is_same(word, b"royalty");
+            let is_in = is_same(word, b"in")
+                || is_same(word, b"wit")
+                || is_same(word, b"under")
+                || (is_same(word, b"to") && self.is(place.saturating_sub(1), b"and"));
+            let is_of = is_undivided && end.is_none() && self.is_of_share(place);
+            if is_interest || (is_in && has_interest) || is_of {
+                end = Some(self.after_stop_of_word(plus(place, 1)));
+            }
+        }
+        end
+    }
+
+    /// Whether the `of` after a share is at an index, as in `an undivided 1/2 of`.
+    fn is_of_share(&self, index: usize) -> bool {
+        let before = index.saturating_sub(1);
+        matches!(self.kind(index), Kind::Of)
+            && (matches!(
+                self.kind(before),
+                Kind::Half | Kind::Quarter | Kind::Number(_)
+            ) || self.is(before, b"half")
+                || self.is(before, b"third")
+                || self.is(before, b"fourth"))
+    }
+
+    /// Whether a share of land begins at an index: a fraction, or all that somebody has.
+    fn begins_share(&self, index: usize) -> bool {
+        let next = plus(index, 1);
+        matches!(self.kind(index), Kind::Half | Kind::Quarter)
+            || (self.is(index, b"one") || self.is(index, b"two") || self.is(index, b"three"))
+            || (self.number(index).is_some()
+                && (self.is(next, b"/") || self.is(next, b"%") || self.is(next, b".")))
+            || (self.is(index, b"all")
+                && self.is(next, b"of")
+                && is_owner(self.lower(plus(index, 2))))
+            || (self.is(index, b"all") && (self.is(next, b"right") || is_whose(self.lower(next))))
+            || is_owner(self.lower(index))
+    }
+
+    /// Whether the piece at an index may be one of words for an interest.
+    fn is_part_of_interest(&self, index: usize) -> bool {
+        match self.kind(index) {
+            Kind::Number(_) | Kind::BadNumber | Kind::Half | Kind::Quarter | Kind::All => true,
+            Kind::NorthSouth(_) => self.is_possessive(index),
+            _ => is_of_interest(self.lower(index)) || is_owner(self.lower(index)),
+        }
+    }
+
+    /// Whether the piece at an index is the S after an apostrophe.
+    pub(crate) fn is_possessive(&self, index: usize) -> bool {
+        let mark = index.saturating_sub(1);
+        self.is(index, b"s")
+            && self.is_joined(index)
+            && (self.is(mark, b"'") || self.is(mark, b"\xE2\x80\x99"))
+    }
+
+    /// The index after a period that is joined to a word before it.
+    fn after_stop_of_word(&self, index: usize) -> usize {
+        if self.is(index, b".") && self.is_joined(index) {
+            plus(index, 1)
+        } else {
+            index
+        }
+    }
+
+    /// Where `all that certain real property being`, or words like it, end.
+    pub(crate) fn end_of_property(&self, index: usize) -> Option<usize> {
+        let word = self.lower(index);
+        if !(is_same(word, b"all")
+            || is_same(word, b"the")
+            || is_same(word, b"that")
+            || is_same(word, b"those")
+            || is_same(word, b"real")
+            || is_same(word, b"property")
+            || is_same(word, b"lands"))
+        {
+            return None;
+        }
+        let mut has_property = false;
+        let mut next = index;
+        for place in index..plus(index, PIECES_MOST) {
+            if place < next {
+                continue;
+            }
+            let word = self.lower(place);
+            let after = plus(place, 1);
+            let ends = (is_same(word, b"being") || is_same(word, b":"))
+                || (is_same(word, b"are")
+                    && !(self.is(after, b"as") || self.is(after, b"described")))
+                || (is_same(word, b"follows") && !(self.is(after, b":") || self.is(after, b",")))
+                || (is_same(word, b"wit") && !(self.is(after, b":") || self.is(after, b",")));
+            if ends && has_property {
+                return Some(after);
+            }
+            has_property = has_property
+                || is_same(word, b"property")
+                || is_same(word, b"land")
+                || is_same(word, b"lands")
+                || is_same(word, b"estate")
+                || is_same(word, b"premises");
+            if let (true, Some(end)) = (has_property, self.end_of_meridian(place)) {
+                next = end;
+                continue;
+            }
+            if !is_of_property(word) {
+                return None;
+            }
+        }
+        None
+    }
+}

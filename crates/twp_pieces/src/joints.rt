@@ -1,0 +1,144 @@
+//! What begins at a piece, and what joins two of them: land, words for a township that was named before, a hyphen at the
+//! end of a line.
+
+use crate::pieces::{Pieces, plus};
+use twp_grammar::Kind;
+
+impl<'a> Pieces<'a> {
+    /// Whether land may begin at an index.
+    pub fn begins_land(&self, index: usize) -> bool {
+        match self.kind(index) {
+            Kind::NorthSouth(_) | Kind::EastWest(_) | Kind::Corner(_) | Kind::All | Kind::Lot =>
+                true,
+            Kind::Other => self.begins_step(index),
+            _ => false,
+        }
+    }
+
+    /// Whether an aliquot part begins at an index, also after `the`.
+    pub fn begins_part(&self, index: usize) -> bool {
+        let first = if self.is(index, b"the") {
+            plus(index, 1)
+        } else {
+            index
+        };
+        self.begins_land(first) && !matches!(self.kind(first), Kind::All | Kind::Lot)
+    }
+
+    /// Whether `together with` is at an index, and land after it.
+    pub fn joins_together(&self, index: usize) -> bool {
+        let first = if self.is(index, b"with") {
+            index.saturating_sub(1)
+        } else {
+            index
+        };
+        self.is(first, b"together")
+            && self.is(plus(first, 1), b"with")
+            && (self.begins_land(plus(first, 2)) || self.begins_land(plus(first, 3)))
+    }
+
+    /// Whether a mark at an index may begin a phrase: parentheses, brackets, a section sign, the number of a file, or a
+    /// dash before acreage.
+    pub fn may_begin_phrase(&self, index: usize) -> bool {
+        (self.is(index, b"(") || self.is(index, b"[") || self.is(index, b"\xC2\xA7"))
+            || self.is(index, b"#")
+            || self.is_dash(index)
+    }
+
+    /// The index after `all in` at an index, after a comma and before the word for a section.
+    pub fn after_all_in(&self, index: usize) -> usize {
+        let next = plus(index, 2);
+        let is_all = self.is(index.saturating_sub(1), b",")
+            && matches!(self.kind(index), Kind::All)
+            && self.is(plus(index, 1), b"in");
+        if is_all && matches!(self.kind(next), Kind::Sec) {
+            next
+        } else {
+            index
+        }
+    }
+
+    /// The index after `the fractional` at an index, before a corner or a side.
+    pub fn after_fractional(&self, index: usize) -> usize {
+        let word = if matches!(self.kind(index), Kind::The) {
+            plus(index, 1)
+        } else {
+            index
+        };
+        let next = plus(word, 1);
+        if self.is(word, b"fractional") && self.begins_land(next) {
+            next
+        } else {
+            index
+        }
+    }
+
+    /// Whether a side and two digits at an index are a section, since no half has two digits: land follows.
+    pub fn is_section_before_land(&self, index: usize) -> bool {
+        let next = plus(index, 2);
+        self.is(index, b"s")
+            && self.has_digits(plus(index, 1), 2)
+            && self.begins_land(next)
+            && !self.is_joined(next)
+    }
+
+    /// Whether a slash with a space on each side is at an index.
+    pub fn is_spaced_slash(&self, index: usize) -> bool {
+        self.is(index, b"/")
+            && self.start(index) == plus(self.end_before(index), 1)
+            && self.start(plus(index, 1)) == plus(self.end(index), 1)
+    }
+
+    /// Whether the piece at an index ends the section of a location.
+    pub fn is_after_tag(&self, index: usize) -> bool {
+        self.is_dash(index)
+            || self.is(index, b":")
+            || self.is(index, b",")
+            || self.is(index, b";")
+            || self.is(index, b".")
+    }
+
+    /// Whether a dash with white space on both sides is at an index, and land after it.
+    pub fn is_before_dash_and_land(&self, index: usize) -> bool {
+        let land = plus(index, 1);
+        self.is_dash(index)
+            && !self.is_joined(index)
+            && !self.is_joined(land)
+            && matches!(
+                self.kind(land),
+                Kind::NorthSouth(_) | Kind::EastWest(_) | Kind::Corner(_) | Kind::All | Kind::Lot
+            )
+    }
+
+    /// Whether a hyphen that divides a part is at an index, at the end of its line.
+    pub fn is_hyphen_at_line_end(&self, index: usize) -> bool {
+        self.is(index, b"-") && self.is_joined(index) && self.has_line_feed_before(plus(index, 1))
+    }
+
+    /// Whether the second word for a corner is at an index.
+    pub fn is_second_word(&self, index: usize) -> bool {
+        self.is(index, b"east") || self.is(index, b"west")
+    }
+
+    /// Whether the word for a section at an index begins with a digit that scanning made of its S.
+    pub fn is_damaged_section_word(&self, index: usize) -> bool {
+        let next = plus(index, 1);
+        (self.is(index, b"5") || self.is(index, b"8"))
+            && self.is_joined(next)
+            && (self.is(next, b"ec") || self.is(next, b"ection"))
+    }
+
+    /// The index after words for the township that was named before, as `said Township and Range`.
+    pub fn after_same_township(&self, index: usize) -> Option<usize> {
+        let next = plus(index, 1);
+        let after = plus(index, 2);
+        let is_again = self.is(index, b"said") || self.is(index, b"same");
+        if !is_again || !(self.is(next, b"township") || self.is(next, b"twp")) {
+            return None;
+        }
+        let range = plus(after, 1);
+        let has_range = (self.is(after, b"and") || self.is(after, b"&"))
+            && (self.is(range, b"range") || self.is(range, b"rge"));
+        Some(if has_range { plus(range, 1) } else { after })
+    }
+}

@@ -1,0 +1,91 @@
+//! The numbers of cases, files, parcels, and wells: `IDI-38114`, `#30988`, `RP02N03W092400`, `Moore 14-1H`.
+
+use crate::pieces::{Pieces, plus};
+use twp_grammar::Kind;
+
+impl<'a> Pieces<'a> {
+    /// Where the serial number of a case at an index ends, as `IDI-38114`, or `ID-031-2023-0012`, or that of a parcel.
+    pub fn end_of_serial(&self, index: usize) -> Option<usize> {
+        if let Some(end) = self.end_of_code(index) {
+            if self.begins_column(end) || self.begins_place(end) {
+                return Some(end);
+            }
+        }
+        let is_letters = matches!(self.kind(index), Kind::Other)
+            && self.bytes(index).len() >= 2
+            && self.bytes(index).len() <= 8;
+        if !is_letters {
+            return None;
+        }
+        let mut has_long = false;
+        let mut end = index;
+        for place in plus(index, 1)..plus(index, 8) {
+            let is_number = matches!(self.kind(place), Kind::Number(_) | Kind::BadNumber);
+            let is_dash = self.is_dash(place) && self.is_joined(place);
+            let follows = self.is_joined(place) || place == plus(index, 1);
+            if !follows || !(is_number || is_dash) {
+                break;
+            }
+            let least: usize = if self.is_joined(place) { 4 } else { 5 };
+            has_long = is_number && (self.bytes(place).len() >= least || has_long);
+            end = plus(place, 1);
+        }
+        if has_long { Some(end) } else { None }
+    }
+
+    /// Where the number of a file at an index ends, as `#30988`: a shorter one may be of a lot.
+    pub fn end_of_file_number(&self, index: usize) -> Option<usize> {
+        let number = plus(index, 1);
+        let is_number = matches!(self.kind(number), Kind::Number(_) | Kind::BadNumber);
+        let is_long = is_number && self.bytes(number).len() >= 4 && self.is_joined(number);
+        if self.is(index, b"#") && is_long {
+            Some(plus(number, 1))
+        } else {
+            None
+        }
+    }
+
+    /// Where the name of a well ends, as `Moore 14-1H`, before a mark.
+    pub(crate) fn end_of_well(&self, index: usize) -> Option<usize> {
+        let mut next = index;
+        for place in index..plus(index, 4) {
+            if self.number(place).is_some() {
+                break;
+            }
+            let is_name = matches!(self.kind(place), Kind::Other) && self.bytes(place).len() > 1;
+            if !is_name {
+                return None;
+            }
+            next = plus(place, 1);
+        }
+        let mark = plus(next, 3);
+        let is_letter = next > index
+            && self.number(next).is_some()
+            && self.is(plus(next, 1), b"-")
+            && self.is(plus(next, 2), b"h")
+            && self.is_joined(plus(next, 2));
+        if is_letter && (self.is(mark, b":") || self.is(mark, b";")) {
+            return Some(plus(mark, 1));
+        }
+        let is_well = next > index
+            && self.number(next).is_some()
+            && self.is(plus(next, 1), b"-")
+            && self.number(plus(next, 2)).is_some();
+        if is_well && self.is(plus(next, 3), b":") {
+            return Some(plus(next, 4));
+        }
+        let is_horizontal = is_well
+            && self.is(plus(next, 3), b"h")
+            && self.is_joined(plus(next, 3))
+            && (self.is(plus(next, 4), b",")
+                || self.is(plus(next, 4), b":")
+                || self.is(plus(next, 4), b";")
+                || self.is(plus(next, 4), b"-")
+                || self.begins_place(plus(next, 4)));
+        if is_horizontal {
+            Some(plus(next, 4))
+        } else {
+            None
+        }
+    }
+}

@@ -1,0 +1,28 @@
+//! The words of what people write about land, in lowercase: those of labels, of terms, of acreage, of meridians, and of
+//! sides and corners. Each list says what its words are in a text.
+#![tactic(auto)]
+
+mod directions;
+mod figures;
+mod labels;
+mod meridians;
+mod parties;
+mod same;
+mod terms;
+
+pub use directions::{is_worn_corner, is_worn_section, letters_of, tens_of, value_of};
+pub use figures::{is_acreage_lead, is_acres, is_area_word, is_of_count};
+pub use labels::{
+    adds_land, is_beyond_label, is_column, is_instrument, is_of_covering, is_of_label,
+    is_of_property, is_of_water, points_into,
+};
+pub use meridians::{are_meridian_letters, is_meridian, is_state};
+pub use parties::{
+    begins_exception, begins_reference, is_net_or_gross, is_of_record, is_of_time, is_owner,
+    is_partial, is_whose, may_be_corners,
+};
+pub use same::{are_corners, is_same};
+pub use terms::{
+    begins_terms, is_boundary, is_of_depth, is_of_interest, is_of_right, is_of_share, is_of_town,
+    names_parcel,
+};
