@@ -49,8 +49,10 @@ e2e: township
 descriptions: township
 	@cd crates/twp_readings && rt run > /dev/null
 	@python3 tests/descriptions/suggested.py
-	@python3 tests/descriptions/suggested.py ./township crates/twp_readings/out/twp_readings \
-		tests/descriptions/practice.tsv
+	@for author in practice landman recorder clerk paralegal traps; do \
+		python3 tests/descriptions/suggested.py ./township crates/twp_readings/out/twp_readings \
+			tests/descriptions/$$author.tsv || exit 1; \
+	done
 
 ## check          prove all crates, and nothing else
 check:

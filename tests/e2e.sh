@@ -16,10 +16,12 @@ if python=$(sh "$root/tools/python_with.sh" argparse); then
     begin descriptions "$python" "$root/tests/descriptions/check.py" "$program"
     begin advice "$python" "$root/tests/descriptions/follow.py" "$program"
     begin readings "$python" "$root/tests/descriptions/suggested.py" "$program"
-    # The descriptions of another author.
+    # The descriptions of other authors.
     reader=$root/crates/twp_readings/out/twp_readings
-    begin practice "$python" "$root/tests/descriptions/suggested.py" "$program" "$reader" \
-        "$root/tests/descriptions/practice.tsv"
+    for author in practice landman recorder clerk paralegal traps; do
+        begin "$author" "$python" "$root/tests/descriptions/suggested.py" "$program" "$reader" \
+            "$root/tests/descriptions/$author.tsv"
+    done
     begin followed "$python" "$root/tests/descriptions/follow.py" "$program" "$root/tests/descriptions/practice.tsv"
 else
     skip 'the descriptions, since there is no Python here'
