@@ -231,7 +231,7 @@ impl Items {
         ensures { OnOk result (self.new ≡ before_parts state self.old) }
     {
         match state {
-            State::SectionNumber | State::SectionComma => self.change_once(Change::Parted),
+            State::SectionNumber | State::SectionComma => self.change(Change::Parted),
             _ => Ok(()),
         }
     }
