@@ -9,13 +9,13 @@ use Rattle.std.proofs.lemmas.List.{take-append-drop, drop-drop}
 use Rattle.std.proofs.lemmas.List.Sums.{AllPass-from_list_all, list_all-from_AllPass}
 use Rattle.twp_grammar.specs.declared.item.Item.{Item}
 use Rattle.twp_grammar.specs.declared.kind.Kind.{Kind}
-use Rattle.twp_grammar.specs.declared.kind.Kind.TheVariants.{Half, Quarter, Of, The, And, Comma}
+use Rattle.twp_grammar.specs.declared.kind.Kind.TheVariants.{Half, Quarter, Of, The, And, Comma, Stop}
 use Rattle.twp_grammar.specs.declared.state.State.{State}
 use Rattle.twp_grammar.specs.declared.state.State.TheVariants as past
 use Rattle.twp_grammar.specs.declared.state.State.TheVariants.{Start}
 use Rattle.twp_grammar.specs.Tokens.{Token, StartsWith, HasTokens, IsGoodToken, is_white}
 use Rattle.twp_grammar.specs.Tokens.IsToken.{good}
-use Rattle.twp_grammar.specs.Tokens.IsGoodToken.{a_word, a_half, a_quarter, a_comma}
+use Rattle.twp_grammar.specs.Tokens.IsGoodToken.{a_word, a_half, a_quarter, a_comma, a_stop}
 use Rattle.twp_grammar.specs.Grammar.{class_of}
 use Rattle.twp_grammar.specs.Machine.{next}
 use Rattle.twp_read.specs.steps.TokenSteps.{take_token, run}
@@ -219,6 +219,13 @@ pub record IsMark (byte : ℕ) (kind : Kind) : Type 0 where
 pub the_comma : IsMark 44 Comma
 the_comma = record {
   is = λ rest. a_comma refl refl;
+  kept = λ state at its. refl;
+  usual = λ state end token. refl;
+}
+
+pub the_stop : IsMark 46 Stop
+the_stop = record {
+  is = λ rest. a_stop refl refl;
   kept = λ state at its. refl;
   usual = λ state end token. refl;
 }
