@@ -1,12 +1,12 @@
 -- Numbers as bits, and lists of them.
 use Rattle.std.proofs.Common.{◌≡◌, ◌==◌, ℕ, zero, suc, ◌+◌, ◌-◌, ◌*◌, ◌/◌, ◌%◌, ◌^◌, ◌<◌, ◌≤◌, ◌⊎◌, Bool}
-use Rattle.std.proofs.Common.{true, false, List, [], ◌∷◌, length, get_or, ap, refl, sym, ◌∙◌, inl, inr, arith}
+use Rattle.std.proofs.Common.{true, false, List, [], ◌∷◌, length, get_or, ap, refl, ◌∙◌, inl, inr, arith}
 use Rattle.std.proofs.Common.{replicate}
 use Rattle.std.specs.Int.{bit_at}
 use Rattle.std.specs.Int.Bits.{bit_or, or_zero_l}
 use Rattle.std.specs.Int.RustNames.{count_ones}
 use Rattle.std.specs.Int.Count.{ones_step}
-use Rattle.std.specs.Simd.Lanes.{fold_l, sum_l}
+use Rattle.std.specs.Simd.Lanes.{fold_l}
 use Rattle.std.proofs.lemmas.Nat.{pow-add, pow_pos, le_or_l, le_or_r, ones_le_self}
 use Rattle.std.proofs.lemmas.Nat.Bits.{bit_at_lowest, bit_at-suc, bit_at-zero, bit_at_mask_inside}
 use Rattle.std.proofs.lemmas.Nat.Bits.{bit_at_mask_below, bit_at_mask_above}
@@ -57,19 +57,6 @@ zeros_of_or first (lane ∷ lanes) none =
         → (i : ℕ) → i < suc (length lanes) → get_or (lane ∷ lanes) i 0 ≡ 0
     each lane lanes none rest zero below = none
     each lane lanes none rest (suc i) below = rest i (omega arith)
-
--- the sum of a list
-pub sum_is_total : (lanes : List ℕ) → sum_l lanes ≡ total (length lanes) (λ i. get_or lanes i 0)
-sum_is_total [] = sym (total-zero (λ i. get_or [] i 0))
-sum_is_total (lane ∷ lanes) =
-    let front = total-front (length lanes) (λ i. get_or (lane ∷ lanes) i 0) in
-    let rest =
-    total-ext (length lanes) (λ i. get_or (lane ∷ lanes) (i + 1) 0) (λ i. get_or lanes i 0)
-    (λ i below. later i) in
-    ap (λ s. lane + s) (sum_is_total lanes) ∙ ap (λ s. lane + s) (sym rest) ∙ sym front
-  where
-    later : (i : ℕ) → get_or (lane ∷ lanes) (i + 1) 0 ≡ get_or lanes i 0
-    later i = let e : i + 1 ≡ suc i = omega arith in rw e refl
 
 -- the ones of a number with this many digits
 pub ones_are_total : (digits n : ℕ) → n < 2 ^ digits → count_ones n ≡ total digits (λ i. bit_at n i)
