@@ -135,16 +135,16 @@ fn after_sec(text: &[u8], from: Reached) -> Option<Reached>
         return None;
     }
     let at = after_white(text, from.at);
-    if goes_on(text, at, b"Section ") {
-        return Some(Reached {
-            at: at + SECTION,
-            state: State::SectionWord,
-        });
-    }
     if goes_on(text, at, b"sec. ") {
         return Some(Reached {
             at: at + SEC,
             state: State::SectionStop,
+        });
+    }
+    if goes_on(text, at, b"Section ") {
+        return Some(Reached {
+            at: at + SECTION,
+            state: State::SectionWord,
         });
     }
     None
