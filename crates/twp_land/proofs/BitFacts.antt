@@ -1,18 +1,18 @@
 -- Numbers as bits, and lists of them.
 use Rattle.std.proofs.Common.{◌≡◌, ◌==◌, ℕ, zero, suc, ◌+◌, ◌-◌, ◌*◌, ◌/◌, ◌%◌, ◌^◌, ◌<◌, ◌≤◌, ◌⊎◌, Bool}
-use Rattle.std.proofs.Common.{true, false, List, [], ◌∷◌, length, get_or, ap, refl, sym, ◌∙◌, inl, inr, arith}
+use Rattle.std.proofs.Common.{true, false, List, [], ◌∷◌, length, get_or, ap, refl, ◌∙◌, inl, inr, arith}
 use Rattle.std.proofs.Common.{replicate}
 use Rattle.std.specs.Int.{bit_at}
 use Rattle.std.specs.Int.Bits.{bit_or, or_zero_l}
 use Rattle.std.specs.Int.RustNames.{count_ones}
 use Rattle.std.specs.Int.Count.{ones_step}
-use Rattle.std.specs.Simd.Lanes.{fold_l, sum_l}
+use Rattle.std.specs.Simd.Lanes.{fold_l}
 use Rattle.std.proofs.lemmas.Nat.{pow-add, pow_pos, le_or_l, le_or_r, ones_le_self}
 use Rattle.std.proofs.lemmas.Nat.Bits.{bit_at_lowest, bit_at-suc, bit_at-zero, bit_at_mask_inside}
 use Rattle.std.proofs.lemmas.Nat.Bits.{bit_at_mask_below, bit_at_mask_above}
 use Rattle.std.proofs.lemmas.Bool.{cases_eq, cases_Bool, cases_lt}
 use Rattle.std.proofs.lemmas.Bool.Decides.{nat_tests}
-use Rattle.std.proofs.Math.Nat.{two-pow-succ, mod-eq_of_lt, mul_comm, mul-sub}
+use Rattle.std.proofs.Math.Nat.{two-pow-succ, mod-eq_of_lt, mul_comm, mul-add, mul-sub}
 use Rattle.std.proofs.Math.Pow.{pow_mono}
 use Rattle.twp_grid.specs.Spans.{Span, in_span}
 use Rattle.twp_grid.specs.Spans.{total, one_where}
@@ -58,19 +58,6 @@ zeros_of_or first (lane ∷ lanes) none =
     each lane lanes none rest zero below = none
     each lane lanes none rest (suc i) below = rest i (omega arith)
 
--- the sum of a list
-pub sum_is_total : (lanes : List ℕ) → sum_l lanes ≡ total (length lanes) (λ i. get_or lanes i 0)
-sum_is_total [] = sym (total-zero (λ i. get_or [] i 0))
-sum_is_total (lane ∷ lanes) =
-    let front = total-front (length lanes) (λ i. get_or (lane ∷ lanes) i 0) in
-    let rest =
-    total-ext (length lanes) (λ i. get_or (lane ∷ lanes) (i + 1) 0) (λ i. get_or lanes i 0)
-    (λ i below. later i) in
-    ap (λ s. lane + s) (sum_is_total lanes) ∙ ap (λ s. lane + s) (sym rest) ∙ sym front
-  where
-    later : (i : ℕ) → get_or (lane ∷ lanes) (i + 1) 0 ≡ get_or lanes i 0
-    later i = let e : i + 1 ≡ suc i = omega arith in rw e refl
-
 -- the ones of a number with this many digits
 pub ones_are_total : (digits n : ℕ) → n < 2 ^ digits → count_ones n ≡ total digits (λ i. bit_at n i)
 ones_are_total zero n below =
@@ -86,6 +73,31 @@ ones_are_total (suc digits) n below =
   where
     later : (i : ℕ) → bit_at n (i + 1) ≡ bit_at (n / 2) i
     later i = let e : i + 1 ≡ suc i = omega arith in rw e (bit_at-suc n i)
+
+-- the ones of two numbers, side by side
+pub ones_beside : (digits low high : ℕ) → low < 2 ^ digits
+    → count_ones (low + high * 2 ^ digits) ≡ count_ones low + count_ones high
+ones_beside zero low high below =
+    let none : low ≡ 0 = omega (arith, below) in
+    let zeros : count_ones low ≡ 0 = omega (arith, ones_le_self low, none) in
+    let same : low + high * 2 ^ 0 ≡ high = omega (arith, none) in
+    ap count_ones same ∙ omega (arith, zeros)
+ones_beside (suc digits) low high below =
+    let twice = two-pow-succ digits in
+    let shifted : high * 2 ^ suc digits ≡ 2 * (high * 2 ^ digits) =
+    ap (λ n. high * n) twice ∙ mul-add high (2 ^ digits) (2 ^ digits) ∙ omega arith in
+    let half = ones_beside digits (low / 2) high (omega arith) in
+    ap (λ n. count_ones (low + n)) shifted
+    ∙ ones_step (low + 2 * (high * 2 ^ digits))
+    ∙ halves low (high * 2 ^ digits)
+    ∙ omega (arith, half, ones_step low)
+  where
+    halves : (low rest : ℕ) → (low + 2 * rest) % 2 + count_ones ((low + 2 * rest) / 2)
+        ≡ low % 2 + count_ones (low / 2 + rest)
+    halves low rest =
+        let odd : (low + 2 * rest) % 2 ≡ low % 2 = omega arith in
+        let half : (low + 2 * rest) / 2 ≡ low / 2 + rest = omega arith in
+        rw (odd, half) refl
 
 -- a first one that passes the test, or none
 pub some_or_none : (n : ℕ) (test : ℕ → Bool)

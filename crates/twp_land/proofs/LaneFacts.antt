@@ -1,16 +1,14 @@
 -- A section's places, stored in lanes of bits.
-use Rattle.std.proofs.Common.{◌≡◌, ◌↔◌, IsTrue, ◌≢◌, ◌==◌, ℕ, zero, suc, ◌+◌, ◌*◌, ◌%◌, ◌^◌, ◌<◌, ◌≤◌, ◌||◌}
+use Rattle.std.proofs.Common.{◌≡◌, ◌↔◌, IsTrue, ◌≢◌, ◌==◌, ℕ, zero, suc, ◌+◌, ◌%◌, ◌^◌, ◌<◌, ◌||◌}
 use Rattle.std.proofs.Common.{◌⊎◌, Bool, true, false, not, List, length, get_or, nat_lt, ap, refl}
-use Rattle.std.proofs.Common.{sym, ◌∙◌, inl, inr, arith, replicate, min, max, map, Fits, w32}
+use Rattle.std.proofs.Common.{sym, ◌∙◌, inl, inr, arith, replicate, min, max, map}
 use Rattle.std.proofs.Math.Path.{fun_ext}
 use Rattle.std.proofs.Math.Nat.{min-zero}
 use Rattle.std.specs.Int.{bit_at}
 use Rattle.std.specs.Int.Bits.{bit_and, bit_or, bit_xor}
 use Rattle.std.specs.Int.RustNames.{count_ones}
-use Rattle.std.specs.Simd.Lanes.{zip2, fold_l, sum_l, put_chunk, Each1, Steps}
-use Rattle.std.proofs.lemmas.Simd.{get_or-zip2, length-zip2, put_chunk_whole, Each1-from_get_or}
-use Rattle.std.proofs.lemmas.Simd.{fold-sum, sum_bound, sum_fits}
-use Rattle.std.proofs.lemmas.List.{get_or-map, length-map}
+use Rattle.std.specs.Simd.Lanes.{zip2, fold_l, put_chunk}
+use Rattle.std.proofs.lemmas.Simd.{get_or-zip2, length-zip2, put_chunk_whole}
 use Rattle.std.proofs.lemmas.Nat.{and_le_r}
 use Rattle.std.proofs.lemmas.Nat.Bits.{bit_at_and, bit_at_or, bit_at_xor, bit_at-lt, bit_at-zero}
 use Rattle.std.proofs.lemmas.Nat.Bits.{same_from_bits, same_from_bits_below}
@@ -19,12 +17,12 @@ use Rattle.std.proofs.lemmas.Bool.Decides.{nat_tests}
 use Rattle.twp_grid.specs.Places.{PLACE_DIGITS, places_across, is_place}
 use Rattle.twp_grid.specs.Spans.{Rectangle, in_rectangle}
 use Rattle.twp_grid.specs.Spans.{total, one_where}
-use Rattle.twp_grid.proofs.TotalFacts.{total-ext, total-le, total-same}
+use Rattle.twp_grid.proofs.TotalFacts.{total-ext}
 use Rattle.twp_land.specs.Lands.{Meets, HoldsAll, count_held}
 use Rattle.twp_land.specs.Storage.{held_by_lane, nothing_held, with_block}
-use Rattle.twp_land.specs.steps.BitLanes.{AreBlockLanes}
+use Rattle.twp_land.specs.steps.BitLanes.{AreBlockLanes, ones_in_lanes}
 use Rattle.twp_land.proofs.BlockFacts.{InSection, place_inside, total_of_block}
-use Rattle.twp_land.proofs.BitFacts.{or_of_zeros, zeros_of_or, sum_is_total, ones_are_total, some_or_none}
+use Rattle.twp_land.proofs.BitFacts.{or_of_zeros, zeros_of_or, ones_are_total, some_or_none}
 use Rattle.twp_land.proofs.BitFacts.{no_bit}
 
 -- the test of a place is its lane's bit
@@ -285,55 +283,19 @@ module _ (lanes block_lanes : List ℕ) (block : Rectangle) (count : length lane
 
   -- the ones in a row's lane
   ones_of_row : (row : ℕ) → row < places_across PLACE_DIGITS
-      → get_or ones row 0
+      → count_ones (get_or both row 0)
       ≡ total (places_across PLACE_DIGITS)
       (λ column. min (one_where (held_by_lane lanes column row)) (one_where (in_rectangle block column row)))
   ones_of_row row below =
-      get_or-map (λ n. count_ones n) both row 0 0 (omega (arith, length_both))
-      ∙ ones_are_total (places_across PLACE_DIGITS) (get_or both row 0) (both_below row below)
+      ones_are_total (places_across PLACE_DIGITS) (get_or both row 0) (both_below row below)
       ∙ total-ext (places_across PLACE_DIGITS) _ _ (λ column within.
       bit_of_both column row below
       ∙ ap (λ bit. min bit (one_where (in_rectangle block column row)))
       (bit_as_test lanes column row within below))
 
-  count_of_lanes : sum_l ones ≡ count_held (held_by_lane lanes) block
-  count_of_lanes =
-      let length_ones : length ones ≡ places_across PLACE_DIGITS =
-      length-map both (λ n. count_ones n) ∙ length_both in
-      sum_is_total ones
-      ∙ ap (λ n. total n (λ row. get_or ones row 0)) length_ones
-      ∙ total-ext (places_across PLACE_DIGITS) _ _ ones_of_row
-      ∙ total_of_block (held_by_lane lanes) block lies
-
-  ones_below : Each1 (λ n. n ≤ places_across PLACE_DIGITS) ones
-  ones_below = Each1-from_get_or (λ n. n ≤ places_across PLACE_DIGITS) ones 0 (λ row below.
-      small row (omega (arith, length-map both (λ n. count_ones n), length_both)))
-    where
-      at_most_one : (test test' : Bool) → min (one_where test) (one_where test') ≤ 1
-      at_most_one true true = omega arith
-      at_most_one true false = omega arith
-      at_most_one false true = omega arith
-      at_most_one false false = omega arith
-
-      small : (row : ℕ) → row < places_across PLACE_DIGITS → get_or ones row 0 ≤ places_across PLACE_DIGITS
-      small row below =
-          let most =
-          total-le (places_across PLACE_DIGITS) (λ column.
-          min (one_where (held_by_lane lanes column row)) (one_where (in_rectangle block column row)))
-          (λ column. 1)
-          (λ column _. at_most_one (held_by_lane lanes column row) (in_rectangle block column row)) in
-          omega (arith, ones_of_row row below, most, total-same (places_across PLACE_DIGITS) 1)
-
-  pub count_in_lanes : fold_l (λ s n. s + n) 0 ones ≡ count_held (held_by_lane lanes) block
-  count_in_lanes = fold-sum 0 ones ∙ omega (arith, count_of_lanes)
-
-  pub sums_fit : Steps (λ s n. Fits w32 (s + n)) (λ s n. s + n) 0 ones
-  sums_fit =
-      let most = sum_bound (places_across PLACE_DIGITS) ones ones_below in
-      let few : length ones ≡ places_across PLACE_DIGITS =
-      length-map both (λ n. count_ones n) ∙ length_both in
-      let least : sum_l ones ≤ places_across PLACE_DIGITS * places_across PLACE_DIGITS = rw few at most in
-      sum_fits w32 0 ones (omega arith)
+  pub count_in_lanes : ones_in_lanes both ≡ count_held (held_by_lane lanes) block
+  count_in_lanes =
+      total-ext (places_across PLACE_DIGITS) _ _ ones_of_row ∙ total_of_block (held_by_lane lanes) block lies
 
 -- lanes without bits contain no place
 pub held_in_no_lanes : (n : ℕ) → held_by_lane (replicate n 0) ≡ nothing_held

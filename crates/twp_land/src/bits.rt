@@ -1,7 +1,7 @@
-ghost use Rattle.std.specs.Prelude.{◌≡◌, ◌+◌, ◌-◌, ◌^◌, ◌≤◌, length};
+ghost use Rattle.std.specs.Prelude.{◌≡◌, ◌+◌, ◌-◌, ◌*◌, ◌^◌, ◌≤◌, length, count_ones};
 ghost use Rattle.twp_grid.specs.Places.{PLACE_DIGITS, places_across};
 ghost use Rattle.twp_grid.specs.Spans.{IsDyadic};
-ghost use Rattle.twp_land.specs.steps.BitLanes.{AreBlockLanes, AreLanes};
+ghost use Rattle.twp_land.specs.steps.BitLanes.{AreBlockLanes, AreLanes, ones_in_lanes, LANE_BITS};
 
 use std::simd::prelude::*;
 use twp_grid::{Block, PLACES_ACROSS};
@@ -61,4 +61,26 @@ pub(crate) fn block_lanes(block: Block) -> LaneVector
     (rows & row_bits)
         .simd_eq(row_bits)
         .select(columns, LaneVector::splat(0))
+}
+
+/// How many bits of all lanes are one. Two lanes at a time make a word, since x86-64-v2 counts the
+/// bits of a word by one instruction, and those of a vector by a table of half bytes.
+#[inline(always)]
+pub(crate) fn count_bits(lanes: &[Lane; PLACES_ACROSS]) -> u32
+    ensures { result ≡ ones_in_lanes lanes.now }
+{
+    let mut count = 0;
+    for pair in 0..PLACES_ACROSS / 2 {
+        count += count_pair(lanes[2 * pair], lanes[2 * pair + 1]);
+    }
+    count
+}
+
+/// How many bits of two lanes are one.
+#[inline(always)]
+fn count_pair(low: Lane, high: Lane) -> u32
+    ensures count { result ≡ count_ones low + count_ones high }
+    ensures most { result ≤ 2 * LANE_BITS }
+{
+    (u64::from(low) + (u64::from(high) << 32)).count_ones()
 }

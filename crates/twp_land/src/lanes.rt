@@ -3,7 +3,7 @@ ghost use Rattle.twp_grid.specs.Places.{PLACE_DIGITS};
 ghost use Rattle.twp_grid.specs.Spans.{IsDyadic};
 ghost use Rattle.twp_land.specs.Storage.{held_by_lane};
 
-use crate::bits::{Lane, block_lanes, column_bits, vector};
+use crate::bits::{Lane, block_lanes, column_bits, count_bits, vector};
 use crate::plot::Plot;
 use crate::sections::Sections;
 use std::simd::prelude::*;
@@ -95,7 +95,7 @@ impl Plot for LaneRows {
     #[inline]
     fn count(&self, block: Block) -> u32 {
         let held = vector(&self.lanes) & block_lanes(block);
-        held.count_ones().strict_reduce_sum()
+        count_bits(&held.to_array())
     }
 
     #[inline]

@@ -1,63 +1,53 @@
 //! Which numbers can be the closing quarters of a plat.
-ghost use Rattle.std.specs.Prelude.{◌≡◌, ◌≤◌, ◌↔◌, ℕ, IsTrue, slice_index_or};
-ghost use Rattle.twp_grid.specs.Lines.{IsLine, IsClosing};
-ghost use Rattle.twp_plat.specs.Closing.{QUARTER_MILE, CLOSING_LEAST, CLOSING_MOST};
-ghost use Rattle.twp_plat.specs.Plats.{AreQuartersOnPlat};
+ghost use Rattle.std.specs.Prelude.{◌≡◌, ◌≤◌, ◌<◌, ◌↔◌, IsTrue};
+ghost use Rattle.twp_grid.specs.Lines.{LINE_COUNT};
+ghost use Rattle.twp_plat.specs.Plats.{AreQuartersOnPlat, IsQuarterOnPlat};
 
-use crate::closing::{CLOSING_LEAST, CLOSING_MOST, QUARTER_MILE};
 use twp_grid::LINES;
 
-/// How many lines are closing lines.
-const CLOSING_LINE_COUNT: usize = 14;
-
-/// The closing lines, by index.
-const CLOSING_LINES: [usize; CLOSING_LINE_COUNT] = [
-    0, 1, 2, 3, 4, 5, 6, 47, 53, 59, 65, 71, 77, 83,
+/// The least closing quarter that each line can have, by index: 5 chains for a closing line, and a
+/// quarter mile for another.
+const LEAST: [u32; LINES] = [
+    5_000, 5_000, 5_000, 5_000, 5_000, 5_000, 5_000, 20_000, 20_000, 20_000, 20_000, 20_000,
+    20_000, 20_000, 20_000, 20_000, 20_000, 20_000, 20_000, 20_000, 20_000, 20_000, 20_000, 20_000,
+    20_000, 20_000, 20_000, 20_000, 20_000, 20_000, 20_000, 20_000, 20_000, 20_000, 20_000, 20_000,
+    20_000, 20_000, 20_000, 20_000, 20_000, 20_000, 20_000, 20_000, 20_000, 20_000, 20_000, 5_000,
+    20_000, 20_000, 20_000, 20_000, 20_000, 5_000, 20_000, 20_000, 20_000, 20_000, 20_000, 5_000,
+    20_000, 20_000, 20_000, 20_000, 20_000, 5_000, 20_000, 20_000, 20_000, 20_000, 20_000, 5_000,
+    20_000, 20_000, 20_000, 20_000, 20_000, 5_000, 20_000, 20_000, 20_000, 20_000, 20_000, 5_000,
 ];
 
-/// For each line, by index: 1 if it is not a closing line, and 0 if it is one.
-const OTHER_LINES: [u32; LINES] = [
-    0, 0, 0, 0, 0, 0, 0, 1, 1, 1, 1, 1, 1, 1, 1, 1, 1, 1, 1, 1, 1, 1, 1, 1, 1, 1, 1, 1, 1, 1, 1, 1,
-    1, 1, 1, 1, 1, 1, 1, 1, 1, 1, 1, 1, 1, 1, 1, 0, 1, 1, 1, 1, 1, 0, 1, 1, 1, 1, 1, 0, 1, 1, 1, 1,
-    1, 0, 1, 1, 1, 1, 1, 0, 1, 1, 1, 1, 1, 0, 1, 1, 1, 1, 1, 0,
+/// By how much more than the least one each line's closing quarter can be, by index: 20 chains for a
+/// closing line, and nothing for another.
+const SPAN: [u32; LINES] = [
+    20_000, 20_000, 20_000, 20_000, 20_000, 20_000, 20_000, 0, 0, 0, 0, 0, 0, 0, 0, 0, 0, 0, 0, 0,
+    0, 0, 0, 0, 0, 0, 0, 0, 0, 0, 0, 0, 0, 0, 0, 0, 0, 0, 0, 0, 0, 0, 0, 0, 0, 0, 0, 20_000, 0, 0,
+    0, 0, 0, 20_000, 0, 0, 0, 0, 0, 20_000, 0, 0, 0, 0, 0, 20_000, 0, 0, 0, 0, 0, 20_000, 0, 0, 0,
+    0, 0, 20_000, 0, 0, 0, 0, 0, 20_000,
 ];
 
-/// Whether each line can have the closing quarter at its index.
+/// Whether each line can have the closing quarter at its index. The loop never ends early, so several
+/// lines are compared at once.
 pub fn are_on_plat(closing_quarters: &[u32; LINES]) -> bool
     ensures { IsTrue result ↔ AreQuartersOnPlat closing_quarters.now }
 {
-    if !others_are_quarter_miles(closing_quarters) {
-        return false;
-    }
-    closing_lines_close(closing_quarters)
-}
-
-/// Whether each line that is not a closing line has a quarter mile. The loop never ends early, so
-/// several lines are compared at once.
-fn others_are_quarter_miles(closing_quarters: &[u32; LINES]) -> bool
-    ensures { IsTrue result ↔ ((line : ℕ) → IsLine line → ¬ IsClosing line
-        → slice_index_or closing_quarters.now line 0 ≡ QUARTER_MILE) }
-{
-    let mut irregular = 0;
+    let mut outside = 0;
     for index in 0..LINES {
-        if closing_quarters[index] != QUARTER_MILE {
-            irregular += OTHER_LINES[index];
-        }
+        outside += outside_limits(index, closing_quarters[index]);
     }
-    irregular == 0
+    outside == 0
 }
 
-/// Whether each closing line has a quarter within its limits, in thousandths of a chain.
-fn closing_lines_close(closing_quarters: &[u32; LINES]) -> bool
-    ensures { IsTrue result ↔ ((line : ℕ) → IsLine line → IsClosing line
-        → (CLOSING_LEAST ≤ slice_index_or closing_quarters.now line 0)
-        × (slice_index_or closing_quarters.now line 0 ≤ CLOSING_MOST)) }
+/// 0 if a line, by its index, can have a closing quarter, and 1 if it can't. One comparison tests both
+/// limits: what is less than the least one wraps around.
+#[inline(always)]
+fn outside_limits(index: usize, quarter: u32) -> u32
+    requires { index < LINE_COUNT }
+    ensures none { (result ≡ 0) ↔ IsQuarterOnPlat index quarter }
+    ensures most { result ≤ 1 }
 {
-    for at in 0..CLOSING_LINE_COUNT {
-        let quarter = closing_quarters[CLOSING_LINES[at]];
-        if quarter < CLOSING_LEAST || quarter > CLOSING_MOST {
-            return false;
-        }
+    if quarter.wrapping_sub(LEAST[index]) > SPAN[index] {
+        return 1;
     }
-    true
+    0
 }

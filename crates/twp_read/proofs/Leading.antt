@@ -19,9 +19,13 @@ use Rattle.twp_grammar.specs.Tokens.IsGoodToken.{a_word, a_half, a_quarter, a_co
 use Rattle.twp_grammar.specs.Grammar.{class_of}
 use Rattle.twp_grammar.specs.Machine.{next}
 use Rattle.twp_read.specs.steps.TokenSteps.{take_token, run}
-use Rattle.twp_read.specs.steps.Usual.{Leads, end_of}
-use Rattle.twp_read.specs.steps.Watching.{is_step, is_usual, AreUsual, end_from}
-use Rattle.twp_read.proofs.WatchFacts.{usual_then, stays_then, no_white_after_step, usual_token}
+use Rattle.twp_read.specs.declared.watch.ListWord.{ListWord}
+use Rattle.twp_read.specs.declared.watch.ListWord.TheVariants as word
+use Rattle.twp_read.specs.steps.Usual.{Leads, LeadsBy, end_of}
+use Rattle.twp_read.specs.steps.Watching.{is_step, is_usual, end_from, clouds, word_after, word_from}
+use Rattle.twp_read.specs.steps.Watching.{Unclouded}
+use Rattle.twp_read.proofs.WatchFacts.{stays_then, no_white_after_step, unclouded_then, word_then, word_end}
+use Rattle.twp_read.proofs.WatchFacts.{moved_unclouded, one_unclouded, no_cloud, word_stays}
 use Rattle.twp_grammar.proofs.TokenFacts.{all_white}
 use Rattle.twp_grammar.proofs.WordFacts.{both}
 use Rattle.twp_read.proofs.Reading.{run-append, go_on}
@@ -44,31 +48,49 @@ goes_further text at state its to after grown f l =
     }
 
 -- what leads to where more leads on
-pub leads_then : (text : List ℕ) (at : ℕ) (state : State) (its : List Item) (mid : ℕ) (between : State)
-    (some : List Item) (to : ℕ) (after : State) (grown : List Item)
-    → Leads text at state its mid between some → Leads text mid between some to after grown
-    → Leads text at state its to after grown
-leads_then text at state its mid between some to after grown f g =
+pub by_then : (it mid_word last : ListWord) (text : List ℕ) (at : ℕ) (state : State) (its : List Item)
+    (mid : ℕ)
+    (between : State) (some : List Item) (to : ℕ) (after : State) (grown : List Item)
+    → LeadsBy it mid_word text at state its mid between some
+    → LeadsBy mid_word last text mid between some to after grown
+    → LeadsBy it last text at state its to after grown
+by_then it mid_word last text at state its mid between some to after grown f g =
     let first : at ≤ mid = f.forward in
     let then : mid ≤ to = g.forward in
+    let moved : Unclouded false mid_word (end_from at f.tokens) (Some between) g.tokens =
+    moved_unclouded false mid_word between mid (end_from at f.tokens) g.tokens f.stays g.clear in
     record {
       tokens = f.tokens ++ g.tokens;
       cut = λ left has. rw append_assoc (f.cut (g.tokens ++ left) (g.cut left has));
       walked = run-append (Some state) its f.tokens g.tokens ∙ ap (λ o. go_on o g.tokens) f.walked ∙ g.walked;
-      usual =
-          usual_then at mid (Some state) its between some f.tokens g.tokens f.usual f.walked f.stays g.usual;
+      clear =
+          unclouded_then false it at (Some state) its between some f.tokens g.tokens f.clear f.walked
+          (subst (λ (w : ListWord). Unclouded false w (end_from at f.tokens) (Some between) g.tokens)
+          (sym f.ended) moved);
+      ended =
+          word_then it (Some state) its between some f.tokens g.tokens f.walked
+          ∙ ap (λ (w : ListWord). word_from w (Some between) g.tokens) f.ended
+          ∙ g.ended;
       stays = stays_then at mid to between some after grown f.tokens g.tokens f.stays g.walked g.stays;
       forward = omega arith;
       within = g.within;
     }
 
+pub leads_then : (text : List ℕ) (at : ℕ) (state : State) (its : List Item) (mid : ℕ) (between : State)
+    (some : List Item) (to : ℕ) (after : State) (grown : List Item)
+    → Leads text at state its mid between some → Leads text mid between some to after grown
+    → Leads text at state its to after grown
+leads_then text at state its mid between some to after grown f g =
+    by_then word.Usual word.Usual word.Usual text at state its mid between some to after grown f g
+
 -- one token
-pub leads_token : (text : List ℕ) (at : ℕ) (state : State) (its : List Item) (token : Token) (to : ℕ)
-    (after : State)
+pub by_token : (it last : ListWord) (text : List ℕ) (at : ℕ) (state : State) (its : List Item) (token : Token)
+    (to : ℕ) (after : State)
     → StartsWith at (drop at text) token (drop to text) → end_of token ≡ to → to ≤ length text
-    → next state (class_of token.kind) ≡ Some after → is_usual state at token token.kind ≡ true
-    → Leads text at state its to after (take_token state token.kind token.at its)
-leads_token text at state its token to after starts ends within is usual =
+    → next state (class_of token.kind) ≡ Some after → clouds false it state at token token.kind ≡ false
+    → word_after token.kind token.text (next state (class_of token.kind)) it ≡ last
+    → LeadsBy it last text at state its to after (take_token state token.kind token.at its)
+by_token it last text at state its token to after starts ends within is clear ended =
     let place : token.at ≡ at + length starts.space = starts.place in
     record {
       tokens = token ∷ [];
@@ -78,14 +100,28 @@ leads_token text at state its token to after starts ends within is usual =
         subst (λ (n : ℕ). HasTokens n (drop to text) left) (sym ends) has,
       );
       walked = ap (λ o. run o (take_token state token.kind token.at its) []) is;
-      usual = usual_token at state after token usual is;
+      clear = one_unclouded false it at state after token clear is;
+      ended =
+          word_end (word_after token.kind token.text (next state (class_of token.kind)) it)
+          (next state (class_of token.kind))
+          ∙ ended;
       stays = λ _. sym ends;
       forward = omega arith;
       within = within;
     }
 
+pub leads_token : (text : List ℕ) (at : ℕ) (state : State) (its : List Item) (token : Token) (to : ℕ)
+    (after : State)
+    → StartsWith at (drop at text) token (drop to text) → end_of token ≡ to → to ≤ length text
+    → next state (class_of token.kind) ≡ Some after → is_usual state at token token.kind ≡ true
+    → Leads text at state its to after (take_token state token.kind token.at its)
+leads_token text at state its token to after starts ends within is usual =
+    by_token word.Usual word.Usual text at state its token to after starts ends within is
+    (no_cloud false state at token token.kind usual)
+    (word_stays state at token token.kind (next state (class_of token.kind)) usual)
+
 -- a space before tokens
-spaced : (text : List ℕ) (at : ℕ) → drop at text ≡ codes " " ++ drop (at + 1) text → (left : List Token)
+pub spaced : (text : List ℕ) (at : ℕ) → drop at text ≡ codes " " ++ drop (at + 1) text → (left : List Token)
     → HasTokens (at + 1) (drop (at + 1) text) left → HasTokens at (drop at text) left
 spaced text at spelled [] has =
     subst (λ (b : List ℕ). AllPass is_white b) (sym spelled)
@@ -114,7 +150,8 @@ leads_space text at state its spelled within no_step =
       tokens = [];
       cut = spaced text at spelled;
       walked = refl;
-      usual = tt;
+      clear = tt;
+      ended = refl;
       stays = λ step. no_white_after_step state at (at + 1) step no_step;
       forward = omega arith;
       within = within;
@@ -271,7 +308,7 @@ white_append (x ∷ xs) ys h k =
     rw parts.0 (white_append xs ys parts.1 k)
 
 -- a token after white space starts where the white space does
-after_space : (text : List ℕ) (from at : ℕ) (token : Token) (rest : List ℕ)
+pub after_space : (text : List ℕ) (from at : ℕ) (token : Token) (rest : List ℕ)
     → at ≡ from + prefix_len is_white (drop from text) → StartsWith at (drop at text) token rest
     → StartsWith from (drop from text) token rest
 after_space text from at token rest is s =
@@ -304,7 +341,8 @@ white_leads text from at state its is within no_step =
       tokens = [];
       cut = before;
       walked = refl;
-      usual = tt;
+      clear = tt;
+      ended = refl;
       stays = λ step. no_white_after_step state from at step no_step;
       forward = omega arith;
       within = within;

@@ -9,6 +9,7 @@ pub mod StandingSteps
 pub mod UsualFacts
 pub mod FrontFacts
 pub mod NumberFacts
+pub mod SeveralSections
 pub mod FirstTextFaults
 pub mod OneAnswer
 pub mod WatchFacts

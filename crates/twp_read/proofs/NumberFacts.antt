@@ -19,7 +19,8 @@ use Rattle.twp_grammar.specs.Grammar.{class_of, comma, number}
 use Rattle.twp_grammar.specs.Machine.{next}
 use Rattle.twp_read.specs.steps.TokenSteps.{take_number, take_token, with_newest}
 use Rattle.twp_read.specs.declared.item_change.Change.TheVariants.{Last}
-use Rattle.twp_read.specs.steps.Usual.{Leads, IsNumberAfter, IsAfterWhite, entry_of, state_after}
+use Rattle.twp_read.specs.steps.Usual.{Leads, IsNumberAfter, IsNumberToken, IsAfterWhite, entry_of}
+use Rattle.twp_read.specs.steps.Usual.{state_after}
 use Rattle.twp_read.specs.steps.Usual.{last_state_after, listed_in, listed_after_and, listed_after_to}
 use Rattle.twp_read.specs.steps.Usual.{may_be_doubtful}
 use Rattle.twp_read.specs.steps.Watching.{is_step, is_usual}
@@ -28,11 +29,12 @@ use Rattle.twp_grammar.proofs.ByteRuns.{digit_no_space}
 use Rattle.twp_grammar.proofs.Cuts.{IsFirstToken, cut_of_digit}
 use Rattle.twp_grammar.proofs.TokenFacts.{first_at, first_in}
 use Rattle.twp_read.proofs.FrontFacts.{number_leads}
-use Rattle.twp_read.proofs.Leading.{the_comma, mark_leads, leads_token, leads_then, white_leads}
+use Rattle.twp_read.proofs.Leading.{the_comma, mark_leads, leads_token, leads_then, white_leads, after_space}
 
 -- what is said of a number that begins at a place, after white space
 pub record BeginsHere (text : List ℕ) (from : ℕ) (it : Numeral) (end : ℕ) : Type 0 where
   pub leads : IsNumberAfter text from it end
+  pub first : IsNumberToken text from it end
   pub further : from < end
   pub within : end ≤ length text
 
@@ -72,6 +74,16 @@ begins_here text from at value l here digit is kind =
     record {
       leads = number_leads text from (token_of text at l) (record { value = value; at = at }) (at + l.size)
           it.first kind refl it.ends;
+      first = record {
+        token = token_of text at l;
+        starts =
+            subst (λ (n : ℕ). StartsWith from (drop from text) (token_of text at l) (drop n text)) it.ends
+            it.first.starts;
+        kind_is = kind;
+        here = refl;
+        ends = it.ends;
+        within = subst (λ (n : ℕ). n ≤ length text) it.ends it.first.within;
+      };
       further = subst (λ (n : ℕ). from < n) it.ends it.first.further;
       within = subst (λ (n : ℕ). n ≤ length text) it.ends it.first.within;
     }
@@ -135,6 +147,18 @@ number_ahead text from at it end white leads state after items is plain =
     leads_then text from state items at state items end after (take_number state it items)
     (white_leads text from at state items white.0 white.1 (not_step number state after refl is))
     (leads state after items is plain)
+
+-- its token after white space
+pub token_ahead : (text : List ℕ) (from at : ℕ) (it : Numeral) (end : ℕ) → IsAfterWhite text from at
+    → IsNumberToken text at it end → IsNumberToken text from it end
+token_ahead text from at it end white is = record {
+  token = is.token;
+  starts = after_space text from at is.token (drop end text) white.0 is.starts;
+  kind_is = is.kind_is;
+  here = is.here;
+  ends = is.ends;
+  within = is.within;
+}
 
 -- a comma, and the white space after it
 pub comma_leads : (text : List ℕ) (at to : ℕ) (state after : State) (items : List Item)

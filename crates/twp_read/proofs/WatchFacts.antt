@@ -1,6 +1,7 @@
 -- What is taken in its usual spelling is not left to the reader's loop, and white space after a step is.
-use Rattle.std.proofs.Common.{◌≡◌, ℕ, ◌+◌, ◌≤◌, ◌&&◌, ◌||◌, ◌==◌, not, Bool, true, false, List, [], ◌∷◌, ◌++◌}
+use Rattle.std.proofs.Common.{◌≡◌, ℕ, ◌&&◌, ◌||◌, ◌==◌, not, Bool, true, false, List, [], ◌∷◌, ◌++◌}
 use Rattle.std.proofs.Common.{Option, Some, None, length, drop, refl, sym, ap, subst, ◌∙◌, arith, ltb}
+use Rattle.std.proofs.Common.{if◌then◌else◌}
 use Rattle.std.specs.Option.{is_some}
 use Rattle.std.proofs.lemmas.Bool.{le-ltb}
 use Rattle.std.proofs.lemmas.List.{append-nil, drop-drop}
@@ -10,18 +11,22 @@ use Rattle.twp_grammar.specs.declared.item.Item.{Item}
 use Rattle.twp_grammar.specs.declared.item.Step.{Step}
 use Rattle.twp_grammar.specs.declared.item.Step.TheVariants as step
 use Rattle.twp_grammar.specs.declared.kind.Kind.{Kind}
-use Rattle.twp_grammar.specs.declared.kind.Kind.TheVariants.{And, To, NorthSouth, EastWest, Corner, Number}
+use Rattle.twp_grammar.specs.declared.kind.Kind.TheVariants.{Sec, Lot, And, To, NorthSouth, EastWest, Corner}
+use Rattle.twp_grammar.specs.declared.kind.Kind.TheVariants.{Number}
 use Rattle.twp_grammar.specs.declared.state.State.{State}
 use Rattle.twp_grammar.specs.declared.state.State.TheVariants as past
 use Rattle.twp_grammar.specs.Tokens.{Token, StartsWith}
 use Rattle.twp_grammar.specs.Grammar.{Class, class_of, comma, lot}
 use Rattle.twp_grammar.specs.Machine.{next}
-use Rattle.twp_read.specs.Doubts.{end_of, is_padded}
+use Rattle.twp_read.specs.Doubts.{end_of, is_padded, is_singular}
 use Rattle.twp_read.specs.steps.TokenSteps.{run, take_token}
 use Rattle.twp_read.specs.steps.Usual.{letters_of, fraction_of, may_be_doubtful, begins_with_zero}
 use Rattle.twp_read.specs.steps.Usual.{joins_doubtfully}
-use Rattle.twp_read.specs.steps.Watching.{is_step, is_section, is_heading, is_lot_join, is_usual, AreUsual}
-use Rattle.twp_read.specs.steps.Watching.{end_from}
+use Rattle.twp_read.specs.declared.watch.ListWord.{ListWord}
+use Rattle.twp_read.specs.declared.watch.ListWord.TheVariants as word
+use Rattle.twp_read.specs.steps.Watching.{is_step, is_section, is_heading, is_lot_join, is_usual, end_from}
+use Rattle.twp_read.specs.steps.Watching.{is_pending_at, clouds, begins_list, word_after, word_from}
+use Rattle.twp_read.specs.steps.Watching.{Unclouded}
 
 -- what a step doesn't continue with begins at no step
 pub not_step : (class : Class) (state after : State) → next past.Step class ≡ None
@@ -52,51 +57,129 @@ no_white_after_step state at to step no_step =
     let both : true ≡ false = sym step ∙ no_step in
     absurd (cc both)
 
--- one token
-pub usual_token : (at : ℕ) (state after : State) (token : Token) → is_usual state at token token.kind ≡ true
-    → next state (class_of token.kind) ≡ Some after → AreUsual at (Some state) (token ∷ [])
-usual_token at state after token usual is =
-    (usual, subst (λ (o : Option State). AreUsual (end_of token) o []) (sym is) tt)
-
--- where the token before ends matters only after a step
-moved_letters : (b : Bool) (mid at place : ℕ) → (b ≡ true → mid ≡ at) → not (b && ltb mid place) ≡ true
-    → not (b && ltb at place) ≡ true
-moved_letters false mid at place same h = refl
-moved_letters true mid at place same h = subst (λ n. not (ltb n place) ≡ true) (same refl) h
-
-moved_token : (state : State) (mid at : ℕ) (token : Token) (kind : Kind) → (is_step state ≡ true → mid ≡ at)
-    → is_usual state mid token kind ≡ true → is_usual state at token kind ≡ true
-moved_token state mid at token (NorthSouth which) same h =
-    moved_letters (is_step state) mid at token.at same h
-moved_token state mid at token (EastWest which) same h =
-    moved_letters (is_step state) mid at token.at same h
-moved_token state mid at token (Corner which) same h =
-    moved_letters (is_step state) mid at token.at same h
-moved_token state mid at token _ same h = h
-
-pub moved_usual : (state : State) (mid at : ℕ) (tokens : List Token) → (is_step state ≡ true → mid ≡ at)
-    → AreUsual mid (Some state) tokens → AreUsual at (Some state) tokens
-moved_usual state mid at [] same usual = tt
-moved_usual state mid at (token ∷ tokens) same usual =
-    (moved_token state mid at token token.kind same usual.0, usual.1)
-
 abbrev state_of : State → Option (State × List Item) → State
 state_of other None = other
 state_of other (Some reached) = reached.0
 
--- tokens after others
-pub usual_then : (at mid : ℕ) (o : Option State) (its : List Item) (between : State) (some : List Item)
+-- more tokens after some, of which none clouds the text
+pub unclouded_then : (ands : Bool) (it : ListWord) (end : ℕ) (o : Option State) (its : List Item)
+    (state : State)
+    (some : List Item) (fs gs : List Token)
+    → Unclouded ands it end o fs → run o its fs ≡ Some (state, some)
+    → Unclouded ands (word_from it o fs) (end_from end fs) (Some state) gs
+    → Unclouded ands it end o (fs ++ gs)
+unclouded_then ands it end None its state some fs gs first walked after_that = absurd first
+unclouded_then ands it end (Some begun) its state some [] gs first walked after_that =
+    let same : begun ≡ state = ap (state_of begun) walked in
+    subst (λ (s : State). Unclouded ands it end (Some s) gs) (sym same) after_that
+unclouded_then ands it end (Some begun) its state some (token ∷ fs) gs first walked after_that = (
+  first.0,
+  unclouded_then ands (word_after token.kind token.text (next begun (class_of token.kind)) it) (end_of token)
+      (next begun (class_of token.kind)) (take_token begun token.kind token.at its) state some fs gs first.1
+      walked after_that,
+)
+
+pub word_then : (it : ListWord) (o : Option State) (its : List Item) (state : State) (some : List Item)
     (fs gs : List Token)
-    → AreUsual at o fs → run o its fs ≡ Some (between, some) → (is_step between ≡ true → mid ≡ end_from at fs)
-    → AreUsual mid (Some between) gs → AreUsual at o (fs ++ gs)
-usual_then at mid None its between some fs gs usual walked stays more = absurd usual
-usual_then at mid (Some state) its between some [] gs usual walked stays more =
-    let same : state ≡ between = ap (state_of state) walked in
-    subst (λ (s : State). AreUsual at (Some s) gs) (sym same) (moved_usual between mid at gs stays more)
-usual_then at mid (Some state) its between some (token ∷ fs) gs usual walked stays more = (
-  usual.0,
-  usual_then (end_of token) mid (next state (class_of token.kind)) (take_token state token.kind token.at its)
-      between some fs gs usual.1 walked stays more,
+    → run o its fs ≡ Some (state, some)
+    → word_from it o (fs ++ gs) ≡ word_from (word_from it o fs) (Some state) gs
+word_then it None its state some [] gs walked = cc walked
+word_then it None its state some (token ∷ fs) gs walked = cc walked
+word_then it (Some begun) its state some [] gs walked =
+    let same : begun ≡ state = ap (state_of begun) walked in
+    ap (λ (s : State). word_from it (Some s) gs) same
+word_then it (Some begun) its state some (token ∷ fs) gs walked =
+    word_then (word_after token.kind token.text (next begun (class_of token.kind)) it)
+    (next begun (class_of token.kind)) (take_token begun token.kind token.at its) state some fs gs walked
+
+-- if `and` after a step is let pass, so is what clouds the text without it
+let_pass : (section step_there ands : Bool) → (section || (step_there && not ands)) ≡ false
+    → (section || (step_there && false)) ≡ false
+let_pass false false ands h = refl
+let_pass false true ands h = refl
+let_pass true step_there ands h = cc h
+
+clouds_less : (ands : Bool) (it : ListWord) (state : State) (end : ℕ) (token : Token) (kind : Kind)
+    → clouds ands it state end token kind ≡ false → clouds true it state end token kind ≡ false
+clouds_less ands it state end token And h = let_pass (begins_list it state) (is_step state) ands h
+clouds_less ands it state end token _ h = h
+
+unclouded_less : (ands : Bool) (it : ListWord) (end : ℕ) (o : Option State) (tokens : List Token)
+    → Unclouded ands it end o tokens → Unclouded true it end o tokens
+unclouded_less ands it end None tokens h = h
+unclouded_less ands it end (Some state) [] h = h
+unclouded_less ands it end (Some state) (token ∷ tokens) h = (
+  clouds_less ands it state end token token.kind h.0,
+  unclouded_less ands (word_after token.kind token.text (next state (class_of token.kind)) it) (end_of token)
+      (next state (class_of token.kind)) tokens h.1,
+)
+
+pub unclouded_or : (ands more : Bool) (it : ListWord) (end : ℕ) (o : Option State) (tokens : List Token)
+    → Unclouded ands it end o tokens → Unclouded (ands || more) it end o tokens
+unclouded_or true more it end o tokens h = h
+unclouded_or false false it end o tokens h = h
+unclouded_or false true it end o tokens h = unclouded_less false it end o tokens h
+
+-- where the token before ends matters only after a step
+moved_letters : (b : Bool) (mid at place : ℕ) → (b ≡ true → mid ≡ at) → (b && ltb mid place) ≡ false
+    → (b && ltb at place) ≡ false
+moved_letters false mid at place same h = refl
+moved_letters true mid at place same h = subst (λ n. ltb n place ≡ false) (same refl) h
+
+pub moved_clouds : (ands : Bool) (it : ListWord) (state : State) (mid at : ℕ) (token : Token) (kind : Kind)
+    → (is_step state ≡ true → mid ≡ at) → clouds ands it state mid token kind ≡ false
+    → clouds ands it state at token kind ≡ false
+moved_clouds ands it state mid at token (NorthSouth which) same h =
+    moved_letters (is_step state) mid at token.at same h
+moved_clouds ands it state mid at token (EastWest which) same h =
+    moved_letters (is_step state) mid at token.at same h
+moved_clouds ands it state mid at token (Corner which) same h =
+    moved_letters (is_step state) mid at token.at same h
+moved_clouds ands it state mid at token _ same h = h
+
+pub moved_unclouded : (ands : Bool) (it : ListWord) (state : State) (mid at : ℕ) (tokens : List Token)
+    → (is_step state ≡ true → mid ≡ at) → Unclouded ands it mid (Some state) tokens
+    → Unclouded ands it at (Some state) tokens
+moved_unclouded ands it state mid at [] same clear = tt
+moved_unclouded ands it state mid at (token ∷ tokens) same clear =
+    (moved_clouds ands it state mid at token token.kind same clear.0, clear.1)
+
+-- what is usual clouds no text, and needs no watching
+yes : (b : Bool) → not b ≡ true → b ≡ false
+yes false h = refl
+yes true h = cc h
+
+pub no_cloud : (ands : Bool) (state : State) (end : ℕ) (token : Token) (kind : Kind)
+    → is_usual state end token kind ≡ true → clouds ands word.Usual state end token kind ≡ false
+no_cloud true state end token And h =
+    let_pass (begins_list word.Usual state) (is_step state) false
+    (yes (clouds false word.Usual state end token And) h)
+no_cloud false state end token And h = yes (clouds false word.Usual state end token And) h
+no_cloud ands state end token Sec h = refl
+no_cloud ands state end token Lot h = refl
+no_cloud ands state end token kind h = yes (clouds ands word.Usual state end token kind) h
+
+usual_either : (b : Bool) → (if b then word.Usual else word.Usual) ≡ word.Usual
+usual_either true = refl
+usual_either false = refl
+
+pub word_stays : (state : State) (end : ℕ) (token : Token) (kind : Kind) (after : Option State)
+    → is_usual state end token kind ≡ true → word_after kind token.text after word.Usual ≡ word.Usual
+word_stays state end token Sec after h = rw h refl
+word_stays state end token Lot after h = rw (yes (is_singular token.text) h) refl
+word_stays state end token kind after h = usual_either (is_pending_at after)
+
+pub word_end : (it : ListWord) (o : Option State) → word_from it o [] ≡ it
+word_end it None = refl
+word_end it (Some state) = refl
+
+pub one_unclouded : (ands : Bool) (it : ListWord) (end : ℕ) (state after : State) (token : Token)
+    → clouds ands it state end token token.kind ≡ false → next state (class_of token.kind) ≡ Some after
+    → Unclouded ands it end (Some state) (token ∷ [])
+one_unclouded ands it end state after token h step = (
+  h,
+  subst (λ (o : Option State). Unclouded ands (word_after token.kind token.text o it) (end_of token) o [])
+      (sym step) tt,
 )
 
 pub end_from-append : (at : ℕ) (fs gs : List Token) → end_from at (fs ++ gs) ≡ end_from (end_from at fs) gs

@@ -117,7 +117,7 @@ impl Items {
         ensures { OnOk result (self.new ≡ take_north_south state side at self.old) }
     {
         match state {
-            State::TownshipNumber => self.change_once(Change::TownshipSide(side)),
+            State::TownshipNumber => self.change(Change::TownshipSide(side)),
             _ => self.take_step(alloc, state, Step::Half(north_or_south(side)), at),
         }
     }
@@ -134,17 +134,9 @@ impl Items {
         ensures { OnOk result (self.new ≡ take_east_west state side at self.old) }
     {
         match state {
-            State::RangeNumber => self.change_once(Change::RangeSide(side)),
+            State::RangeNumber => self.change(Change::RangeSide(side)),
             _ => self.take_step(alloc, state, Step::Half(east_or_west(side)), at),
         }
-    }
-
-    /// Changes the newest item by what only one kind of token says of it.
-    #[inline(never)]
-    fn change_once(&mut self, change: Change) -> Result<(), AllocError>
-        ensures { OnOk result (self.new ≡ with_newest change self.old) }
-    {
-        self.change(change)
     }
 
     /// A step: the next one of the chain before it, or the first of a new chain.
@@ -231,7 +223,7 @@ impl Items {
         ensures { OnOk result (self.new ≡ before_parts state self.old) }
     {
         match state {
-            State::SectionNumber | State::SectionComma => self.change_once(Change::Parted),
+            State::SectionNumber | State::SectionComma => self.change(Change::Parted),
             _ => Ok(()),
         }
     }

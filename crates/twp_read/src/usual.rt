@@ -19,7 +19,8 @@ mod step;
 
 use crate::items::Items;
 use crate::reached::Reached;
-use crate::usual::part::after_fraction;
+use crate::usual::bytes::goes_on;
+use crate::usual::part::{after_fraction, after_stop};
 use crate::watch::Watch;
 use std::alloc::{AllocError, Global};
 use twp_grammar::State;
@@ -64,7 +65,8 @@ impl Items {
         let section = self.take_section(text, begun)?;
         let lots = self.take_lots(text, section)?;
         let list = self.take_list(text, lots)?;
-        self.take_parts(alloc, text, list)
+        let parts = self.take_parts(alloc, text, list)?;
+        Ok(after_stop(text, parts))
     }
 
     /// Takes a heading, or the fraction of a step whose letters were taken.
@@ -76,7 +78,7 @@ impl Items {
             (λ to. Leads text.now from.at from.state self.old to.at to.state self.new) }
     {
         match from.state {
-            State::Start => self.take_heading(text, from.at),
+            State::Start if goes_on(text, from.at, b"T. ") => self.take_heading(text, from.at),
             _ => Ok(after_fraction(text, from)),
         }
     }

@@ -13,7 +13,7 @@ use Rattle.twp_grammar.specs.declared.item.Step.{Step}
 use Rattle.twp_grammar.specs.declared.item.Step.TheVariants as step
 use Rattle.twp_grammar.specs.declared.kind.Kind.{Kind}
 use Rattle.twp_grammar.specs.declared.kind.Kind.TheVariants.{NorthSouth, EastWest, Corner, Half}
-use Rattle.twp_grammar.specs.declared.kind.Kind.TheVariants.{Quarter}
+use Rattle.twp_grammar.specs.declared.kind.Kind.TheVariants.{Quarter, Number}
 use Rattle.twp_read.specs.declared.usual.list.Listed.{Listed}
 use Rattle.twp_read.specs.declared.usual.list.Listed.TheVariants as listed
 use Rattle.twp_grammar.specs.declared.state.State.{State}
@@ -28,21 +28,27 @@ use Rattle.twp_read.specs.steps.BadTokens.{NoneBad}
 use Rattle.twp_read.specs.declared.reached.Reached.{Reached}
 use Rattle.twp_read.specs.declared.watch.ListWord.{ListWord}
 use Rattle.twp_read.specs.declared.watch.ListWord.TheVariants as word
-use Rattle.twp_read.specs.steps.Watching.{AreUsual, is_step, is_section, is_heading, end_from}
+use Rattle.twp_read.specs.steps.Watching.{Unclouded, word_from, is_step, is_section, is_heading, end_from}
 pub use Rattle.twp_read.specs.Doubts.{end_of}
 
--- The tokens of a text between two places lead the machine from a state and items to others. None of them is
--- left to the reader's loop, and no white space follows the last one if it ends a step.
-pub record Leads (text : List ℕ) (at : ℕ) (state : State) (items : List Item)
+-- The tokens of a text between two places lead the machine from a state and items to others, and the word
+-- whose numbers are read one by one to another. None of them clouds the text, and no white space follows the
+-- last one if it ends a step.
+pub record LeadsBy (it last : ListWord) (text : List ℕ) (at : ℕ) (state : State) (items : List Item)
     (to : ℕ) (after : State) (grown : List Item) : Type 0 where
   pub tokens : List Token
   pub cut : (left : List Token) → HasTokens to (drop to text) left
       → HasTokens at (drop at text) (tokens ++ left)
   pub walked : run (Some state) items tokens ≡ Some (after, grown)
-  pub usual : AreUsual at (Some state) tokens
+  pub clear : Unclouded false it at (Some state) tokens
+  pub ended : word_from it (Some state) tokens ≡ last
   pub stays : is_step after ≡ true → to ≡ end_from at tokens
   pub forward : at ≤ to
   pub within : to ≤ length text
+
+-- the same where no word needs watching before them or after them
+abbrev pub Leads : List ℕ → ℕ → State → List Item → ℕ → State → List Item → Type 0
+Leads text at state items to after grown = LeadsBy word.Usual word.Usual text at state items to after grown
 
 -- after the usual words what follows is taken as a whole; after others nothing is
 abbrev pub MovesOn : ListWord → List ℕ → Reached → List Item → List Item → Reached → Type 0
@@ -123,6 +129,15 @@ IsNumberAfter text from it end =
     (state after : State) (items : List Item) → next state number ≡ Some after
     → may_be_doubtful state (drop it.at text) ≡ false
     → Leads text from state items end after (take_number state it items)
+
+-- a number is the next token of a text from a place on, and ends at another
+pub record IsNumberToken (text : List ℕ) (from : ℕ) (it : Numeral) (end : ℕ) : Type 0 where
+  pub token : Token
+  pub starts : StartsWith from (drop from text) token (drop end text)
+  pub kind_is : token.kind ≡ Number it.value
+  pub here : token.at ≡ it.at
+  pub ends : end_of token ≡ end
+  pub within : end ≤ length text
 
 -- all the white space from a place on ends at another
 abbrev pub IsAfterWhite : List ℕ → ℕ → ℕ → Type 0

@@ -1,6 +1,6 @@
 -- What the reader's loop watches for, so that it can say that a text has no doubtful place. No public promise
 -- speaks of it.
-use Rattle.std.specs.Prelude.{◌≡◌, ◌||◌, ◌&&◌, not, ℕ, nat_lt, Bool, true, false, List, [], ◌∷◌, ◌++◌, Option}
+use Rattle.std.specs.Prelude.{◌≡◌, ◌||◌, ◌&&◌, not, ℕ, nat_lt, Bool, true, false, List, [], ◌∷◌, Option}
 use Rattle.std.specs.Prelude.{Some, None, if◌then◌else◌, ⊤}
 use Rattle.twp_grammar.specs.declared.kind.Kind.{Kind}
 use Rattle.twp_grammar.specs.declared.kind.Kind.TheVariants.{Sec, Lot, And, To, NorthSouth, EastWest, Corner}
@@ -118,19 +118,11 @@ Unclouded ands it end (Some state) (token ∷ tokens) =
     × Unclouded ands (word_after token.kind token.text (next state (class_of token.kind)) it) (end_of token)
     (next state (class_of token.kind)) tokens
 
--- a token that isn't left to the reader's loop
+-- a token that needs no watching after a word that needs none
 abbrev pub is_usual : State → ℕ → Token → Kind → Bool
 is_usual state end token Sec = is_singular token.text
 is_usual state end token Lot = not (is_singular token.text)
 is_usual state end token kind = not (clouds false word.Usual state end token kind)
-
--- all tokens are such, from a state on
-abbrev pub AreUsual : ℕ → Option State → List Token → Type 0
-AreUsual end None tokens = ⊥
-AreUsual end (Some state) [] = ⊤
-AreUsual end (Some state) (token ∷ tokens) =
-    (is_usual state end token token.kind ≡ true)
-    × AreUsual (end_of token) (next state (class_of token.kind)) tokens
 
 -- where the last of some tokens ends
 abbrev pub end_from : ℕ → List Token → ℕ

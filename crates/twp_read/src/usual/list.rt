@@ -3,7 +3,7 @@ ghost use Rattle.std.specs.Prelude.{◌≡◌, ◌≤◌, ◌<◌, ◌+◌, ◌+
 ghost use Rattle.std.specs.Prelude.{IfOk, IfSome, IsTrue};
 ghost use Rattle.twp_grammar.specs.Tokens.{is_white};
 ghost use Rattle.twp_grammar.specs.declared.item.Item.{Item as TakenItem};
-ghost use Rattle.twp_read.specs.steps.Usual.{IsNumberAfter, IsAfterWhite, Leads, entry_of};
+ghost use Rattle.twp_read.specs.steps.Usual.{IsNumberAfter, IsNumberToken, IsAfterWhite, Leads, entry_of};
 ghost use Rattle.twp_read.specs.steps.Usual.{state_after, last_state_after, listed_in};
 ghost use Rattle.twp_read.specs.steps.Usual.{listed_after_and, listed_after_to};
 ghost use Rattle.twp_read.specs.steps.Usual.{joins_doubtfully};
@@ -18,7 +18,7 @@ use std::alloc::AllocError;
 use twp_grammar::{Item, Kind, Numeral, State, after_white, byte_at, digits, lexeme_at};
 
 /// How many bytes a comma has.
-const COMMA: usize = 1;
+pub const COMMA: usize = 1;
 
 /// A number, and the place after it.
 #[derive(Clone, Copy)]
@@ -118,6 +118,7 @@ pub fn number_after(text: &[u8], from: usize) -> Option<UsualNumber>
     requires place { from ≤ length text.now }
     requires limit { length text.now ≤ TEXT_LIMIT }
     ensures number { IfSome result (λ it. IsNumberAfter text.now from it.numeral it.end) }
+    ensures token { IfSome result (λ it. IsNumberToken text.now from it.numeral it.end) }
     ensures within { IfSome result (λ it. it.end ≤ length text.now) }
     ensures forward { IfSome result (λ it. from < it.end) }
 {
@@ -130,6 +131,7 @@ pub fn number_at(text: &[u8], at: usize) -> Option<UsualNumber>
     requires place { at ≤ length text.now }
     requires limit { length text.now ≤ TEXT_LIMIT }
     ensures number { IfSome result (λ it. IsNumberAfter text.now at it.numeral it.end) }
+    ensures token { IfSome result (λ it. IsNumberToken text.now at it.numeral it.end) }
     ensures here { IfSome result (λ it. it.numeral.at ≡ at) }
     ensures within { IfSome result (λ it. it.end ≤ length text.now) }
     ensures forward { IfSome result (λ it. at < it.end) }

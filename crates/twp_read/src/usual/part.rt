@@ -1,4 +1,4 @@
-//! Parts in their usual spelling: their steps, and what comes between them.
+//! Parts in their usual spelling: their steps, what comes between them, and the full stop after the last.
 ghost use Rattle.std.specs.Prelude.{◌≡◌, ◌≤◌, ◌<◌, ◌∷◌, ◌+◌, [], true, List, length, IfOk, IfSome};
 ghost use Rattle.twp_grammar.specs.declared.item.Item.{Item as TakenItem};
 ghost use Rattle.twp_grammar.specs.Machine.{is_in_chain};
@@ -11,7 +11,7 @@ use crate::usual::bytes::goes_on;
 use crate::usual::chain::take_more_steps;
 use crate::usual::step::{UsualStep, step_at};
 use std::alloc::{AllocError, Global};
-use twp_grammar::{State, after_white};
+use twp_grammar::{Kind, State, after_white};
 
 /// How many bytes a half or a quarter has.
 const FRACTION: usize = 3;
@@ -27,6 +27,9 @@ const COMMA_SPACE: usize = 2;
 
 /// How many bytes `and` has, with a space after it.
 const AND: usize = 4;
+
+/// How many bytes a full stop has.
+const STOP: usize = 1;
 
 impl Items {
     /// Takes what comes next of a chain, and the parts after it, as long as each step is spelled
@@ -188,5 +191,24 @@ pub fn after_and(text: &[u8], comma: Reached) -> Option<Reached>
             state: State::BeforePart,
         }),
         _ => None,
+    }
+}
+
+/// Passes over the full stop that usually ends a description, where one may follow the tokens so far.
+#[inline(always)]
+pub fn after_stop(text: &[u8], from: Reached) -> Reached
+    requires { from.at ≤ length text.now }
+    ensures { (items : List TakenItem)
+        → Leads text.now from.at from.state items result.at result.state items }
+{
+    if !goes_on(text, from.at, b".") {
+        return from;
+    }
+    match from.state.next(Kind::Stop) {
+        Some(state) => Reached {
+            at: from.at + STOP,
+            state,
+        },
+        None => from,
     }
 }

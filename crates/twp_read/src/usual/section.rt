@@ -1,4 +1,5 @@
-//! What a description says of a section, up to its first lot, in its usual spelling.
+//! What a description says of a section, up to its first lot, and the first two of several sections, in their
+//! usual spelling.
 ghost use Rattle.std.specs.Prelude.{◌≡◌, ◌≤◌, ◌+◌, List, Some, length, IfOk, IfSome};
 ghost use Rattle.twp_grammar.specs.declared.item.Item.{Item as TakenItem};
 ghost use Rattle.twp_grammar.specs.Grammar.{number};
@@ -10,12 +11,15 @@ ghost use Rattle.twp_read.specs.steps.Usual.{Leads};
 use crate::items::Items;
 use crate::reached::Reached;
 use crate::usual::bytes::goes_on;
-use crate::usual::list::{Listed, number_after};
+use crate::usual::list::{COMMA, Listed, number_after};
 use std::alloc::AllocError;
 use twp_grammar::{Item, State, after_white};
 
 /// How many bytes `sec. ` has.
 const SEC: usize = 5;
+
+/// How many bytes `secs. ` has.
+const SECS: usize = 6;
 
 /// How many bytes `Section ` has.
 const SECTION: usize = 8;
@@ -30,7 +34,7 @@ const COMMA_LOTS: usize = 7;
 const COLON: usize = 1;
 
 impl Items {
-    /// Takes a section as `sec. 5`, and the colon after it.
+    /// Takes a section as `sec. 5`, and the colon after it, or the first two of several sections.
     #[inline(always)]
     pub(crate) fn take_section(&mut self, text: &[u8], from: Reached) -> Result<Reached, AllocError>
         requires place { from.at ≤ length text.now }
@@ -39,7 +43,7 @@ impl Items {
             (λ to. Leads text.now from.at from.state self.old to.at to.state self.new) }
     {
         let Some(word) = after_sec(text, from) else {
-            return Ok(from);
+            return self.take_several(text, from);
         };
         let Some(number) = number_after(text, word.at) else {
             return Ok(from);
@@ -59,6 +63,40 @@ impl Items {
         Ok(Reached {
             at: number.end + COLON,
             state: State::BeforePart,
+        })
+    }
+
+    /// Takes the first two of several sections as `secs. 5, 6`. With one number alone, it isn't known yet whether the
+    /// word is doubtful, and the reader's loop watches each token.
+    #[inline(always)]
+    fn take_several(&mut self, text: &[u8], from: Reached) -> Result<Reached, AllocError>
+        requires place { from.at ≤ length text.now }
+        requires limit { length text.now ≤ TEXT_LIMIT }
+        ensures { IfOk result
+            (λ to. Leads text.now from.at from.state self.old to.at to.state self.new) }
+    {
+        let state = from.state;
+        if !state.begins_sections() {
+            return Ok(from);
+        }
+        let word = after_white(text, from.at);
+        if !goes_on(text, word, b"secs. ") {
+            return Ok(from);
+        }
+        let Some(first) = number_after(text, word + SECS) else {
+            return Ok(from);
+        };
+        if !goes_on(text, first.end, b",") {
+            return Ok(from);
+        }
+        let Some(second) = number_after(text, first.end + COMMA) else {
+            return Ok(from);
+        };
+        self.push(Listed::Sections.entry(first.numeral))?;
+        self.push(Listed::Sections.entry(second.numeral))?;
+        Ok(Reached {
+            at: second.end,
+            state: State::ListNumber,
         })
     }
 
@@ -97,16 +135,16 @@ fn after_sec(text: &[u8], from: Reached) -> Option<Reached>
         return None;
     }
     let at = after_white(text, from.at);
-    if goes_on(text, at, b"Section ") {
-        return Some(Reached {
-            at: at + SECTION,
-            state: State::SectionWord,
-        });
-    }
     if goes_on(text, at, b"sec. ") {
         return Some(Reached {
             at: at + SEC,
             state: State::SectionStop,
+        });
+    }
+    if goes_on(text, at, b"Section ") {
+        return Some(Reached {
+            at: at + SECTION,
+            state: State::SectionWord,
         });
     }
     None

@@ -1,8 +1,6 @@
 use Rattle.std.proofs.Common.{ℕ, List}
 use Rattle.twp_grammar.specs.declared.item.Item.{Item}
 use Rattle.twp_read.specs.declared.reached.Reached.{Reached}
-use Rattle.twp_read.specs.steps.Usual.{Leads}
-use Rattle.twp_read.proofs.NewestItem.{if_ok}
 use Rattle.twp_read.proofs.Leading.{leads_then}
 use Rattle.twp_read.proofs.items.Items.take_usual.Goals as goal
 
@@ -19,16 +17,15 @@ returns c =
     let begun_lots : List Item = c.take_lots.new.self in
     let list : Reached = c.in_ok-list.list in
     let listed : List Item = c.take_list.new.self in
+    let parts : Reached = c.in_ok-parts.parts in
     let grown : List Item = c.take_parts.new.self in
-    if_ok c.take_parts.result
-    (λ to. Leads text list.at list.state listed to.at to.state grown)
-    (λ to. Leads text from.at from.state before to.at to.state grown)
-    (λ to leads. leads_then text from.at from.state before list.at list.state listed to.at to.state grown
+    let end : Reached = c.after_stop.result in
+    leads_then text from.at from.state before parts.at parts.state grown end.at end.state grown
+    (leads_then text from.at from.state before list.at list.state listed parts.at parts.state grown
     (leads_then text from.at from.state before lots.at lots.state begun_lots list.at list.state listed
     (leads_then text from.at from.state before section.at section.state sectioned lots.at lots.state
     begun_lots
     (leads_then text from.at from.state before begun.at begun.state with_begun section.at section.state
     sectioned
     c.in_ok-begun.ensures c.in_ok-section.ensures)
-    c.in_ok-lots.ensures) c.in_ok-list.ensures) leads)
-    c.take_parts.ensures
+    c.in_ok-lots.ensures) c.in_ok-list.ensures) c.in_ok-parts.ensures) (c.after_stop.ensures grown)

@@ -26,6 +26,17 @@ returns-clause-number c =
     (digit_here text c.args.at digit) digit c.digits-number.ensures c.in-Number.is in
     it.leads
 
+pub returns-clause-token : goal.returns-clause-token
+returns-clause-token c =
+    let text = c.args.text.now in
+    let digit : is_ascii_digit (slice_index (drop c.args.at text) 0) ≡ true =
+    ap is_ascii_digit (sym c.byte_at.ensures.value) ∙ sym c.if-not-is_ascii_digit.ensures.value in
+    let it : BeginsHere text c.args.at (record { value = c.in-Number.value; at = c.args.at })
+    (c.args.at + c.digits-number.result.size) =
+    begins_here text c.args.at c.args.at c.in-Number.value c.digits-number.result
+    (digit_here text c.args.at digit) digit c.digits-number.ensures c.in-Number.is in
+    it.first
+
 pub returns-clause-within : goal.returns-clause-within
 returns-clause-within c =
     let text = c.args.text.now in
