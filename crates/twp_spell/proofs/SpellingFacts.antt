@@ -214,16 +214,42 @@ begun_more township line lines text is none =
     let same : [] ≡ lines_begun township (line ∷ lines) = sym none ∙ is in
     false≢true (ap is_more same)
 
-line_more : (township : Designation) (lines : List (List ℕ)) (line old mid new : List ℕ)
-    → old ≡ lines_begun township lines → (old ≡ [] → mid ≡ heading_line township)
-    → (¬ (old ≡ []) → mid ≡ old ++ (codes ";" ++ line_end)) → new ≡ mid ++ line
+-- the text before a section, given the text so far: the heading's line, or the end of the previous line
+pub text_before : Designation → List ℕ → List ℕ
+text_before township [] = heading_line township
+text_before township (byte ∷ more) = (byte ∷ more) ++ (codes ";" ++ line_end)
+
+pub lead_written : (township : Designation) (old new : List ℕ)
+    → (old ≡ [] → new ≡ heading_line township ++ codes "sec. ")
+    → (¬ (old ≡ []) → new ≡ (old ++ (codes ";" ++ line_end)) ++ codes "sec. ")
+    → new ≡ text_before township old ++ codes "sec. "
+unfolding text_before
+lead_written township [] new first after = first refl
+lead_written township (byte ∷ more) new first after = after (λ none. cc none)
+
+before_first : (township : Designation) (old : List ℕ) → old ≡ []
+    → text_before township old ≡ heading_line township
+unfolding text_before
+before_first township old none = rw none refl
+
+before_next : (township : Designation) (old : List ℕ) → ¬ (old ≡ [])
+    → text_before township old ≡ old ++ (codes ";" ++ line_end)
+unfolding text_before
+before_next township [] some = absurd (some refl)
+before_next township (byte ∷ more) some = refl
+
+line_more : (township : Designation) (lines : List (List ℕ)) (line old new : List ℕ)
+    → old ≡ lines_begun township lines → new ≡ text_before township old ++ line
     → new ≡ lines_begun township (lines ++ line ∷ [])
-line_more township [] line old mid new begun first after is =
-    is ∙ ap (λ t. t ++ line) (first begun) ∙ ap (λ t. heading_line township ++ t) (sym (append-nil line))
-line_more township (top ∷ lines) line old mid new begun first after is =
+line_more township [] line old new begun is =
+    is ∙ ap (λ t. t ++ line) (before_first township old begun)
+    ∙ ap (λ t. heading_line township ++ t) (sym (append-nil line))
+line_more township (top ∷ lines) line old new begun is =
     let sep = codes ";" ++ line_end in
     let texts = join_by (λ y. y) sep (top ∷ lines) in
-    is ∙ ap (λ t. t ++ line) (after (begun_more township top lines old begun) ∙ ap (λ t. t ++ sep) begun)
+    is
+    ∙ ap (λ t. t ++ line)
+    (before_next township old (begun_more township top lines old begun) ∙ ap (λ t. t ++ sep) begun)
     ∙ append_assoc (heading_line township ++ texts) sep line
     ∙ append_assoc (heading_line township) texts (sep ++ line)
     ∙ ap (λ t. heading_line township ++ t) (flat_map_more (λ y. sep ++ y) top lines line)
@@ -261,18 +287,17 @@ begun_skip g township places number text begun none = record {
 }
 
 pub begun_next : (g : ℕ) (township : Designation) (places : ℕ → ℕ → ℕ → Bool) (number : ℕ)
-    (old mid new : List ℕ)
+    (old new : List ℕ)
     → AreBegun g township places number old → IsSection number
-    → HoldsSome g (places number) → (old ≡ [] → mid ≡ heading_line township)
-    → (¬ (old ≡ []) → mid ≡ old ++ (codes ";" ++ line_end))
-    → HasSection g places number mid new → AreBegun g township places (number + 1) new
-begun_next g township places number old mid new begun range some first after last = record {
+    → HoldsSome g (places number) → HasSection g places number (text_before township old) new
+    → AreBegun g township places (number + 1) new
+begun_next g township places number old new begun range some last = record {
   sections = begun.sections ++ number ∷ [];
   lines = begun.lines ++ last.line ∷ [];
   sections_are = below_more (IsSectionOfLand g places) number begun.sections begun.sections_are (range, some);
   lines_are =
       zip_more (IsSectionText g places) begun.sections begun.lines number last.line begun.lines_are last.is;
-  text_is = line_more township begun.lines last.line old mid new begun.text_is first after last.text_is;
+  text_is = line_more township begun.lines last.line old new begun.text_is last.text_is;
 }
 
 lines_end : (township : Designation) (lines : List (List ℕ)) (old new : List ℕ)
