@@ -115,6 +115,7 @@ fn after_range(direction: EastWest) -> &'static [u8]
 }
 
 /// Appends a section that the land meets, with its list, after `sec. `.
+#[inline(never)]
 fn write_section<L: Land>(
     alloc: Global,
     land: &L,

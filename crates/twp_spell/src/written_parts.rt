@@ -1,7 +1,8 @@
 //! The written parts of a section, quarter by quarter.
-ghost use Rattle.std.specs.Prelude.{◌≡◌, ◌↔◌, ◌+◌, ◌<◌, ◌∷◌, ℕ, Bool, List, IsTrue, OnOk};
+ghost use Rattle.std.specs.Prelude.{◌≡◌, ◌↔◌, ◌+◌, ◌<◌, [], ◌∷◌, ℕ, Bool, List, IsTrue, OnOk};
 ghost use Rattle.twp_grid.specs.Places.{PLACE_DIGITS, places_across};
-ghost use Rattle.twp_grid.specs.Blocks.{CanQuarter};
+ghost use Rattle.twp_grid.specs.Blocks.{quarter_of, CanQuarter};
+ghost use Rattle.twp_grid.specs.Spans.{whole_block};
 ghost use Rattle.twp_grid.specs.declared.block.Corner.{Corner};
 ghost use Rattle.twp_spell.specs.WrittenParts.{Part, IsFull, AreWrittenParts};
 ghost use Rattle.twp_spell.specs.WrittenParts.Part.{square};
@@ -31,7 +32,53 @@ pub(crate) fn write_parts<L: Land>(
         (off_lots PLACE_DIGITS section (L.places land.now section)))
         text.old.items text.new.items) }
 {
-    write_square(land, section, Block::whole(), &Path::whole(), text)
+    let full = full_quarters(land, section, Block::whole());
+    write_quarter_of_section(land, section, full, Corner::NE, text)?;
+    write_quarter_of_section(land, section, full, Corner::NW, text)?;
+    write_quarter_of_section(land, section, full, Corner::SW, text)?;
+    write_quarter_of_section(land, section, full, Corner::SE, text)
+}
+
+/// Appends the written parts that begin in a quarter of a section that is not full. It is inlined,
+/// with what it does for the quarter's own quarters, so that the blocks are known when the code is
+/// compiled: most parts are no smaller than these, and a test of a known block takes a fifth of the
+/// instructions.
+#[inline(always)]
+fn write_quarter_of_section<L: Land>(
+    land: &L,
+    section: Section,
+    full: FullQuarters,
+    corner: Corner,
+    text: &mut Vec<u8>,
+) -> Result<(), AllocError>
+    ensures { ¬ IsFull PLACE_DIGITS (off_lots PLACE_DIGITS section (L.places land.now section))
+        (square [])
+        → AreFull PLACE_DIGITS (off_lots PLACE_DIGITS section (L.places land.now section)) [] full
+        → OnOk result (AreWritten (AreOfQuarter PLACE_DIGITS
+        (off_lots PLACE_DIGITS section (L.places land.now section)) [] corner)
+        text.old.items text.new.items) }
+{
+    let path = Path::whole();
+    if let Some(side) = half_at(full.chosen_half(), corner) {
+        return write_half_if_first(side, corner, &path, text);
+    }
+    if full.at(corner) {
+        return write_full_quarter(corner, &path, text);
+    }
+    let quarter = quarter_of_section(corner);
+    if !land.meets(section, quarter) {
+        return Ok(());
+    }
+    write_coarse_square(land, section, quarter, &path.quarter(corner), text)
+}
+
+/// The quarter of a section at a corner.
+#[inline(always)]
+fn quarter_of_section(corner: Corner) -> Block
+    ensures quarter { result ≡ quarter_of (whole_block PLACE_DIGITS) corner }
+    ensures divisible { CanQuarter result }
+{
+    Block::whole().quarter(corner).unwrap()
 }
 
 /// Appends the written parts of a square that is not full, each after a comma.
@@ -58,6 +105,28 @@ fn write_square<L: Land>(
     if !land.meets(section, block) {
         return Ok(());
     }
+    write_coarse_square(land, section, block, path, text)
+}
+
+/// Appends the written parts of a square that is not full, quarter by quarter.
+#[cycle(descent)]
+#[inline(always)]
+fn write_coarse_square<L: Land>(
+    land: &L,
+    section: Section,
+    block: Block,
+    path: &Path,
+    text: &mut Vec<u8>,
+) -> Result<(), AllocError>
+    requires { CanQuarter block }
+    ensures { (quarters : List Corner) → IsBlockOf PLACE_DIGITS (square quarters) block
+        → path.now ≡ quarters_text quarters
+        → ¬ IsFull PLACE_DIGITS (off_lots PLACE_DIGITS section (L.places land.now section))
+        (square quarters)
+        → OnOk result (AreWritten (AreOfSquare PLACE_DIGITS
+        (off_lots PLACE_DIGITS section (L.places land.now section)) quarters)
+        text.old.items text.new.items) }
+{
     let full = full_quarters(land, section, block);
     write_quarter(land, section, block, full, Corner::NE, path, text)?;
     write_quarter(land, section, block, full, Corner::NW, path, text)?;

@@ -142,8 +142,8 @@ write_square-returns-then-not-meets g t c = λ quarters of_square path_is short.
     (square quarters) c.args.block of_square
     (λ meets. false≢true (sym c.if-not-meets.true ∙ c.meets.ensures.1 meets))))
 
-pub write_square-returns : goal.write_square-returns
-write_square-returns g t c = λ quarters of_square path_is short.
+pub write_coarse_square-returns : goal.write_coarse_square-returns
+write_coarse_square-returns g t c = λ quarters of_square path_is short.
     let are = c.full_quarters-full.ensures quarters of_square in
     quarters_written c.write_quarter-4.result PLACE_DIGITS
     (off_lots PLACE_DIGITS c.args.section (g.L.Land.places c.args.land.now c.args.section)) quarters
