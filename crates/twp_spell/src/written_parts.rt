@@ -9,10 +9,12 @@ ghost use Rattle.twp_spell.specs.WrittenParts.Part.{square};
 ghost use Rattle.twp_land.specs.Lands.{off_lots};
 ghost use Rattle.twp_spell.specs.CanonicalText.{HoldsEach};
 ghost use Rattle.twp_spell.specs.steps.Spelling.{IsBlockOf, AreOfSquare, AreOfQuarter};
+ghost use Rattle.twp_spell.specs.steps.OpenHalves.{AreOpen};
 ghost use Rattle.twp_spell.specs.steps.Spelling.{AreWritten, AreFull, FINE_SIDE, quarters_text};
 
 use crate::fine_parts::push_fine_square;
 use crate::full_quarters::FullQuarters;
+use crate::open_halves::{OpenHalves, full_open_quarters, open_halves};
 use crate::part_buffer::{FINE_SIDE, PartBuffer};
 use crate::part_text::{half_at, write_full_quarter, write_half_if_first};
 use crate::path::Path;
@@ -32,11 +34,12 @@ pub(crate) fn write_parts<L: Land>(
         (off_lots PLACE_DIGITS section (L.places land.now section)))
         text.old.items text.new.items) }
 {
-    let full = full_quarters(land, section, Block::whole());
-    write_quarter_of_section(land, section, full, Corner::NE, text)?;
-    write_quarter_of_section(land, section, full, Corner::NW, text)?;
-    write_quarter_of_section(land, section, full, Corner::SW, text)?;
-    write_quarter_of_section(land, section, full, Corner::SE, text)
+    let halves = open_halves(land, section, Block::whole());
+    let full = full_open_quarters(land, section, Block::whole(), halves);
+    write_quarter_of_section(land, section, halves, full, Corner::NE, text)?;
+    write_quarter_of_section(land, section, halves, full, Corner::NW, text)?;
+    write_quarter_of_section(land, section, halves, full, Corner::SW, text)?;
+    write_quarter_of_section(land, section, halves, full, Corner::SE, text)
 }
 
 /// Appends the written parts that begin in a quarter of a section that is not full. It is inlined,
@@ -47,12 +50,14 @@ pub(crate) fn write_parts<L: Land>(
 fn write_quarter_of_section<L: Land>(
     land: &L,
     section: Section,
+    halves: OpenHalves,
     full: FullQuarters,
     corner: Corner,
     text: &mut Vec<u8>,
 ) -> Result<(), AllocError>
     ensures { ¬ IsFull PLACE_DIGITS (off_lots PLACE_DIGITS section (L.places land.now section))
         (square [])
+        → AreOpen PLACE_DIGITS (off_lots PLACE_DIGITS section (L.places land.now section)) [] halves
         → AreFull PLACE_DIGITS (off_lots PLACE_DIGITS section (L.places land.now section)) [] full
         → OnOk result (AreWritten (AreOfQuarter PLACE_DIGITS
         (off_lots PLACE_DIGITS section (L.places land.now section)) [] corner)
@@ -64,6 +69,9 @@ fn write_quarter_of_section<L: Land>(
     }
     if full.at(corner) {
         return write_full_quarter(corner, &path, text);
+    }
+    if !halves.at(corner) {
+        return Ok(());
     }
     let quarter = quarter_of_section(corner);
     if !land.meets(section, quarter) {
@@ -127,11 +135,12 @@ fn write_coarse_square<L: Land>(
         (off_lots PLACE_DIGITS section (L.places land.now section)) quarters)
         text.old.items text.new.items) }
 {
-    let full = full_quarters(land, section, block);
-    write_quarter(land, section, block, full, Corner::NE, path, text)?;
-    write_quarter(land, section, block, full, Corner::NW, path, text)?;
-    write_quarter(land, section, block, full, Corner::SW, path, text)?;
-    write_quarter(land, section, block, full, Corner::SE, path, text)
+    let halves = open_halves(land, section, block);
+    let full = full_open_quarters(land, section, block, halves);
+    write_quarter(land, section, block, halves, full, Corner::NE, path, text)?;
+    write_quarter(land, section, block, halves, full, Corner::NW, path, text)?;
+    write_quarter(land, section, block, halves, full, Corner::SW, path, text)?;
+    write_quarter(land, section, block, halves, full, Corner::SE, path, text)
 }
 
 /// Appends the written parts that begin in a quarter of a square that is not full.
@@ -141,6 +150,7 @@ fn write_quarter<L: Land>(
     land: &L,
     section: Section,
     block: Block,
+    halves: OpenHalves,
     full: FullQuarters,
     corner: Corner,
     path: &Path,
@@ -151,6 +161,8 @@ fn write_quarter<L: Land>(
         → path.now ≡ quarters_text quarters
         → ¬ IsFull PLACE_DIGITS (off_lots PLACE_DIGITS section (L.places land.now section))
         (square quarters)
+        → AreOpen PLACE_DIGITS (off_lots PLACE_DIGITS section (L.places land.now section))
+        quarters halves
         → AreFull PLACE_DIGITS (off_lots PLACE_DIGITS section (L.places land.now section))
         quarters full
         → OnOk result (AreWritten (AreOfQuarter PLACE_DIGITS
@@ -162,6 +174,9 @@ fn write_quarter<L: Land>(
     }
     if full.at(corner) {
         return write_full_quarter(corner, path, text);
+    }
+    if !halves.at(corner) {
+        return Ok(());
     }
     let quarter = block.quarter(corner).unwrap();
     // A place cannot be divided further. None gets here, because fine squares are written
@@ -256,7 +271,12 @@ fn held_places<L: Land>(land: &L, section: Section, column: u8, row: u8) -> Full
 
 /// Whether a quarter of a block consists of places in the land that belong to no lot.
 #[inline(always)]
-fn quarter_is_full<L: Land>(land: &L, section: Section, block: Block, corner: Corner) -> bool
+pub(crate) fn quarter_is_full<L: Land>(
+    land: &L,
+    section: Section,
+    block: Block,
+    corner: Corner,
+) -> bool
     requires { CanQuarter block }
     ensures { (quarters : List Corner) → IsBlockOf PLACE_DIGITS (square quarters) block
         → (IsTrue result ↔ IsFull PLACE_DIGITS

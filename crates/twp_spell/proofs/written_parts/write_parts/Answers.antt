@@ -12,7 +12,9 @@ returns g c = λ short.
     let held = off_lots PLACE_DIGITS c.args.section (g.L.Land.places c.args.land.now c.args.section) in
     let not_full : ¬ IsFull PLACE_DIGITS held (square []) = λ full.
     short (whole_held PLACE_DIGITS c.args.section (g.L.Land.places c.args.land.now c.args.section) full) in
-    let are = c.full_quarters-full.ensures [] (whole_of PLACE_DIGITS c.whole.result c.whole.ensures) in
+    let halves = c.open_halves-halves.ensures [] (whole_of PLACE_DIGITS c.whole.result c.whole.ensures) in
+    let are =
+    c.full_open_quarters-full.ensures [] (whole_of PLACE_DIGITS c.whole-2.result c.whole-2.ensures) halves in
     section_written c.write_quarter_of_section-4.result PLACE_DIGITS c.args.section
     (g.L.Land.places c.args.land.now c.args.section) c.args.text.now.items
     c.write_quarter_of_section-4.new.text.items
@@ -21,7 +23,7 @@ returns g c = λ short.
     c.write_quarter_of_section-2.new.text.items
     c.write_quarter_of_section-3.new.text.items c.write_quarter_of_section-4.new.text.items
     (omega arith) not_full
-    (c.in_ok-write_quarter_of_section.ensures not_full are)
-    (c.in_ok-write_quarter_of_section-2.ensures not_full are)
-    (c.in_ok-write_quarter_of_section-3.ensures not_full are)
-    (c.write_quarter_of_section-4.ensures not_full are))
+    (c.in_ok-write_quarter_of_section.ensures not_full halves are)
+    (c.in_ok-write_quarter_of_section-2.ensures not_full halves are)
+    (c.in_ok-write_quarter_of_section-3.ensures not_full halves are)
+    (c.write_quarter_of_section-4.ensures not_full halves are))

@@ -14,10 +14,11 @@ use Rattle.twp_spell.proofs.PathFacts.{path_of_quarter}
 use Rattle.twp_spell.proofs.SquareBlocks.{quarter_block, empty_block}
 use Rattle.twp_spell.proofs.WritingFacts.{half_written, off_choice, choice_is, full_written}
 use Rattle.twp_spell.proofs.WritingFacts.{inner_written, none_written, whole_of}
+use Rattle.twp_spell.proofs.OpenFacts.{closed_has_none}
 use Rattle.twp_spell.proofs.written_parts.write_quarter_of_section.Goals as goal
 
 pub returns-in-Some : goal.returns-in-Some
-returns-in-Some g c = λ short are.
+returns-in-Some g c = λ short halves are.
     let held = off_lots PLACE_DIGITS c.args.section (g.L.Land.places c.args.land.now c.args.section) in
     let choice =
     choice_made PLACE_DIGITS held [] c.args.full c.chosen_half.result (omega arith) c.chosen_half.ensures are
@@ -30,7 +31,7 @@ returns-in-Some g c = λ short are.
     c.write_half_if_first.ensures.first c.write_half_if_first.ensures.second
 
 pub returns-then-at : goal.returns-then-at
-returns-then-at g c = λ short are.
+returns-then-at g c = λ short halves are.
     let held = off_lots PLACE_DIGITS c.args.section (g.L.Land.places c.args.land.now c.args.section) in
     let choice =
     choice_made PLACE_DIGITS held [] c.args.full c.chosen_half.result (omega arith) c.chosen_half.ensures are
@@ -42,8 +43,19 @@ returns-then-at g c = λ short are.
     (off_choice PLACE_DIGITS held [] c.chosen_half.result c.args.corner choice c.in_default.ensures)
     ((are c.args.corner).0 (sym c.at.ensures ∙ c.if-at.true)) c.write_full_quarter.ensures
 
+pub returns-then-not-at : goal.returns-then-not-at
+returns-then-not-at g c = λ short halves are.
+    let held = off_lots PLACE_DIGITS c.args.section (g.L.Land.places c.args.land.now c.args.section) in
+    let choice =
+    choice_made PLACE_DIGITS held [] c.args.full c.chosen_half.result (omega arith) c.chosen_half.ensures are
+    short in
+    none_written PLACE_DIGITS held [] c.args.corner c.args.text.now.items
+    (off_choice PLACE_DIGITS held [] c.chosen_half.result c.args.corner choice c.in_default.ensures)
+    (closed_has_none PLACE_DIGITS held c.args.corner [] c.args.halves (omega arith) halves
+    (sym c.at-2.ensures ∙ c.if-not-at.true))
+
 pub returns-then-not-meets : goal.returns-then-not-meets
-returns-then-not-meets g c = λ short are.
+returns-then-not-meets g c = λ short halves are.
     let held = off_lots PLACE_DIGITS c.args.section (g.L.Land.places c.args.land.now c.args.section) in
     let choice =
     choice_made PLACE_DIGITS held [] c.args.full c.chosen_half.result (omega arith) c.chosen_half.ensures are
@@ -61,7 +73,7 @@ returns-then-not-meets g c = λ short are.
     (λ meets. false≢true (sym c.if-not-meets.true ∙ c.meets.ensures.1 meets))))
 
 pub returns : goal.returns
-returns g c = λ short are.
+returns g c = λ short halves are.
     let held = off_lots PLACE_DIGITS c.args.section (g.L.Land.places c.args.land.now c.args.section) in
     let choice =
     choice_made PLACE_DIGITS held [] c.args.full c.chosen_half.result (omega arith) c.chosen_half.ensures are
