@@ -1,7 +1,7 @@
 -- Texts of lots, of sections, and of land, which grow piece by piece.
 use Rattle.std.proofs.Common.{◌≡◌, ℕ, zero, suc, ◌+◌, ◌<◌, ◌≤◌, ◌⊎◌, Bool, true, false, List, [], ◌∷◌, ◌++◌}
 use Rattle.std.proofs.Common.{map, length, Option, Some, None, Result, Ok, Err, OnOk, refl, sym, ap, subst}
-use Rattle.std.proofs.Common.{◌∙◌, inl, inr, arith, codes, decimal}
+use Rattle.std.proofs.Common.{◌∙◌, inl, inr, arith, codes, decimal, is_ok, if◌then◌else◌}
 use Rattle.std.specs.List.{AllZip, Contains, join_by}
 use Rattle.std.proofs.Math.ListN.{get_or, take}
 use Rattle.std.proofs.lemmas.Bool.{cases_lt, false≢true}
@@ -28,6 +28,12 @@ use Rattle.twp_spell.proofs.PartLaws.{hold_all}
 pub on_ok : {T E : Type 0} (result : Result T E) (P Q : Type 0) → OnOk result P → (P → Q) → OnOk result Q
 on_ok (Ok value) P Q is follows = follows is
 on_ok (Err fault) P Q is follows = is
+
+-- a text that was appended, if there was room
+pub appended : {T E : Type 0} (result : Result T E) (old piece new text : List ℕ)
+    → new ≡ (if is_ok result then old ++ piece else old) → piece ≡ text → OnOk result (new ≡ old ++ text)
+appended (Ok value) old piece new text is same = is ∙ ap (λ t. old ++ t) same
+appended (Err fault) old piece new text is same = tt
 
 -- the numbers below a number that have a property
 abbrev pub Below : (ℕ → Type 0) → ℕ → ℕ → Type 0

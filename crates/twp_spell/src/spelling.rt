@@ -198,9 +198,15 @@ fn lots_lead(count: usize) -> &'static [u8]
     b", lots "
 }
 
-/// Appends a number in decimal.
+/// Appends a number in decimal. Most have one digit or two.
 fn write_number(number: u8, text: &mut Vec<u8>) -> Result<(), AllocError>
     ensures { OnOk result (text.new.items ≡ text.old.items ++ decimal number) }
 {
+    if number < 10 {
+        return text.extend_from_slice(&[b'0' + number]);
+    }
+    if number < 100 {
+        return text.extend_from_slice(&[b'0' + number / 10, b'0' + number % 10]);
+    }
     text.extend_from_slice(Buffer::new().format(number).as_bytes())
 }
