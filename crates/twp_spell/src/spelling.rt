@@ -114,7 +114,8 @@ fn after_range(direction: EastWest) -> &'static [u8]
     }
 }
 
-/// Appends a section that the land meets, with its list, after `sec. `.
+/// Appends a section that the land meets, with its list, after `sec. `. Inlined, it would make the
+/// masks of its blocks before the first section, whether or not they are needed.
 #[inline(never)]
 fn write_section<L: Land>(
     alloc: Global,

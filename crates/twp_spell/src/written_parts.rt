@@ -44,7 +44,7 @@ pub(crate) fn write_parts<L: Land>(
 
 /// Appends the written parts that begin in a quarter of a section that is not full. It is inlined,
 /// with what it does for the quarter's own quarters, so that the blocks are known when the code is
-/// compiled: most parts are no smaller than these, and a test of a known block takes a fifth of the
+/// compiled: most parts are no smaller than these, and a test of a known block takes half of the
 /// instructions.
 #[inline(always)]
 fn write_quarter_of_section<L: Land>(
