@@ -14,6 +14,7 @@ pub mod DescentLists
 pub mod SquareBlocks
 pub mod PlaceSquares
 pub mod WritingFacts
+pub mod OpenFacts
 pub mod GatheringFacts
 pub mod PartLaws
 pub mod CanonicalFacts

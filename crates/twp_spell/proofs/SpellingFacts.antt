@@ -1,7 +1,7 @@
 -- Texts of lots, of sections, and of land, which grow piece by piece.
 use Rattle.std.proofs.Common.{◌≡◌, ℕ, zero, suc, ◌+◌, ◌<◌, ◌≤◌, ◌⊎◌, Bool, true, false, List, [], ◌∷◌, ◌++◌}
 use Rattle.std.proofs.Common.{map, length, Option, Some, None, Result, Ok, Err, OnOk, refl, sym, ap, subst}
-use Rattle.std.proofs.Common.{◌∙◌, inl, inr, arith, codes, decimal}
+use Rattle.std.proofs.Common.{◌∙◌, inl, inr, arith, codes, decimal, is_ok, if◌then◌else◌}
 use Rattle.std.specs.List.{AllZip, Contains, join_by}
 use Rattle.std.proofs.Math.ListN.{get_or, take}
 use Rattle.std.proofs.lemmas.Bool.{cases_lt, false≢true}
@@ -28,6 +28,12 @@ use Rattle.twp_spell.proofs.PartLaws.{hold_all}
 pub on_ok : {T E : Type 0} (result : Result T E) (P Q : Type 0) → OnOk result P → (P → Q) → OnOk result Q
 on_ok (Ok value) P Q is follows = follows is
 on_ok (Err fault) P Q is follows = is
+
+-- a text that was appended, if there was room
+pub appended : {T E : Type 0} (result : Result T E) (old piece new text : List ℕ)
+    → new ≡ (if is_ok result then old ++ piece else old) → piece ≡ text → OnOk result (new ≡ old ++ text)
+appended (Ok value) old piece new text is same = is ∙ ap (λ t. old ++ t) same
+appended (Err fault) old piece new text is same = tt
 
 -- the numbers below a number that have a property
 abbrev pub Below : (ℕ → Type 0) → ℕ → ℕ → Type 0
@@ -214,16 +220,42 @@ begun_more township line lines text is none =
     let same : [] ≡ lines_begun township (line ∷ lines) = sym none ∙ is in
     false≢true (ap is_more same)
 
-line_more : (township : Designation) (lines : List (List ℕ)) (line old mid new : List ℕ)
-    → old ≡ lines_begun township lines → (old ≡ [] → mid ≡ heading_line township)
-    → (¬ (old ≡ []) → mid ≡ old ++ (codes ";" ++ line_end)) → new ≡ mid ++ line
+-- the text before a section, given the text so far: the heading's line, or the end of the previous line
+pub text_before : Designation → List ℕ → List ℕ
+text_before township [] = heading_line township
+text_before township (byte ∷ more) = (byte ∷ more) ++ (codes ";" ++ line_end)
+
+pub lead_written : (township : Designation) (old new : List ℕ)
+    → (old ≡ [] → new ≡ heading_line township ++ codes "sec. ")
+    → (¬ (old ≡ []) → new ≡ (old ++ (codes ";" ++ line_end)) ++ codes "sec. ")
+    → new ≡ text_before township old ++ codes "sec. "
+unfolding text_before
+lead_written township [] new first after = first refl
+lead_written township (byte ∷ more) new first after = after (λ none. cc none)
+
+before_first : (township : Designation) (old : List ℕ) → old ≡ []
+    → text_before township old ≡ heading_line township
+unfolding text_before
+before_first township old none = rw none refl
+
+before_next : (township : Designation) (old : List ℕ) → ¬ (old ≡ [])
+    → text_before township old ≡ old ++ (codes ";" ++ line_end)
+unfolding text_before
+before_next township [] some = absurd (some refl)
+before_next township (byte ∷ more) some = refl
+
+line_more : (township : Designation) (lines : List (List ℕ)) (line old new : List ℕ)
+    → old ≡ lines_begun township lines → new ≡ text_before township old ++ line
     → new ≡ lines_begun township (lines ++ line ∷ [])
-line_more township [] line old mid new begun first after is =
-    is ∙ ap (λ t. t ++ line) (first begun) ∙ ap (λ t. heading_line township ++ t) (sym (append-nil line))
-line_more township (top ∷ lines) line old mid new begun first after is =
+line_more township [] line old new begun is =
+    is ∙ ap (λ t. t ++ line) (before_first township old begun)
+    ∙ ap (λ t. heading_line township ++ t) (sym (append-nil line))
+line_more township (top ∷ lines) line old new begun is =
     let sep = codes ";" ++ line_end in
     let texts = join_by (λ y. y) sep (top ∷ lines) in
-    is ∙ ap (λ t. t ++ line) (after (begun_more township top lines old begun) ∙ ap (λ t. t ++ sep) begun)
+    is
+    ∙ ap (λ t. t ++ line)
+    (before_next township old (begun_more township top lines old begun) ∙ ap (λ t. t ++ sep) begun)
     ∙ append_assoc (heading_line township ++ texts) sep line
     ∙ append_assoc (heading_line township) texts (sep ++ line)
     ∙ ap (λ t. heading_line township ++ t) (flat_map_more (λ y. sep ++ y) top lines line)
@@ -261,18 +293,17 @@ begun_skip g township places number text begun none = record {
 }
 
 pub begun_next : (g : ℕ) (township : Designation) (places : ℕ → ℕ → ℕ → Bool) (number : ℕ)
-    (old mid new : List ℕ)
+    (old new : List ℕ)
     → AreBegun g township places number old → IsSection number
-    → HoldsSome g (places number) → (old ≡ [] → mid ≡ heading_line township)
-    → (¬ (old ≡ []) → mid ≡ old ++ (codes ";" ++ line_end))
-    → HasSection g places number mid new → AreBegun g township places (number + 1) new
-begun_next g township places number old mid new begun range some first after last = record {
+    → HoldsSome g (places number) → HasSection g places number (text_before township old) new
+    → AreBegun g township places (number + 1) new
+begun_next g township places number old new begun range some last = record {
   sections = begun.sections ++ number ∷ [];
   lines = begun.lines ++ last.line ∷ [];
   sections_are = below_more (IsSectionOfLand g places) number begun.sections begun.sections_are (range, some);
   lines_are =
       zip_more (IsSectionText g places) begun.sections begun.lines number last.line begun.lines_are last.is;
-  text_is = line_more township begun.lines last.line old mid new begun.text_is first after last.text_is;
+  text_is = line_more township begun.lines last.line old new begun.text_is last.text_is;
 }
 
 lines_end : (township : Designation) (lines : List (List ℕ)) (old new : List ℕ)

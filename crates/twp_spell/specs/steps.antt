@@ -1,3 +1,4 @@
 pub mod Spelling
 pub mod SpellingSteps
 pub mod Gathering
+pub mod OpenHalves

@@ -119,7 +119,8 @@ fn gather_half_if_first(
 }
 
 /// The half of a block toward a side.
-fn half_toward(block: Block, side: Side) -> Block
+#[inline(always)]
+pub(crate) fn half_toward(block: Block, side: Side) -> Block
     requires { CanQuarter block }
     ensures { result ≡ half_of block side }
 {

@@ -57,7 +57,7 @@ pub(crate) fn write_half_if_first(
         return Ok(());
     }
     text.extend_from_slice(half_step(side))?;
-    text.extend_from_slice(path.written())
+    write_path(path, text)
 }
 
 /// Appends a quarter that is full.
@@ -71,6 +71,17 @@ pub(crate) fn write_full_quarter(
         ≡ text.old.items ++ ((codes ", " ++ step_text (Quarter corner)) ++ path.now)) }
 {
     text.extend_from_slice(quarter_step(corner))?;
+    write_path(path, text)
+}
+
+/// Appends a path. That of the section itself is empty, and most parts are its halves and quarters.
+#[inline(always)]
+fn write_path(path: &Path, text: &mut Vec<u8>) -> Result<(), AllocError>
+    ensures { OnOk result (text.new.items ≡ text.old.items ++ path.now) }
+{
+    if path.len() == 0 {
+        return Ok(());
+    }
     text.extend_from_slice(path.written())
 }
 

@@ -1,5 +1,5 @@
 //! The canonical text of land: its sections by ascending number, each with its lots and its parts.
-ghost use Rattle.std.specs.Prelude.{◌≡◌, ◌+◌, ◌++◌, ◌<◌, [], OnOk, IfOk, codes, decimal};
+ghost use Rattle.std.specs.Prelude.{◌≡◌, ◌+◌, ◌++◌, ◌<◌, [], ℕ, List, OnOk, IfOk, codes, decimal};
 ghost use Rattle.twp_grid.specs.Places.{PLACE_DIGITS};
 ghost use Rattle.twp_spell.specs.Listing.{AreListed};
 ghost use Rattle.twp_spell.specs.CanonicalText.{lots_entry, heading_line, line_end};
@@ -55,18 +55,18 @@ fn write_if_held<L: Land>(
     write_section(alloc, land, section, text)
 }
 
-/// Appends the text before a section: the heading's line, or the end of the previous line.
+/// Appends the text before a section's number: the heading's line, or the end of the previous line,
+/// and then `sec. `. Known texts beside one another are appended in one piece.
 fn write_lead(township: Township, text: &mut Vec<u8>) -> Result<(), AllocError>
     ensures first { text.old.items ≡ []
-        → OnOk result (text.new.items ≡ heading_line township) }
-    ensures after { ¬ (text.old.items ≡ [])
-        → OnOk result (text.new.items ≡ text.old.items ++ (codes ";" ++ line_end)) }
+        → OnOk result (text.new.items ≡ heading_line township ++ codes "sec. ") }
+    ensures after { ¬ (text.old.items ≡ []) → OnOk result
+        (text.new.items ≡ (text.old.items ++ (codes ";" ++ line_end)) ++ codes "sec. ") }
 {
     if text.is_empty() {
         return write_heading(township, text);
     }
-    text.extend_from_slice(b";")?;
-    text.extend_from_slice(b"\n")
+    text.extend_from_slice(b";\nsec. ")
 }
 
 /// Appends the end of the last line, if there are any lines.
@@ -78,57 +78,55 @@ fn write_end(text: &mut Vec<u8>) -> Result<(), AllocError>
     if text.is_empty() {
         return Ok(());
     }
-    text.extend_from_slice(b".")?;
-    text.extend_from_slice(b"\n")
+    text.extend_from_slice(b".\n")
 }
 
-/// Appends the heading's line.
+/// Appends the heading's line, and the text before a section's number.
 fn write_heading(township: Township, text: &mut Vec<u8>) -> Result<(), AllocError>
-    ensures { OnOk result (text.new.items ≡ text.old.items ++ heading_line township) }
+    ensures { OnOk result
+        (text.new.items ≡ text.old.items ++ (heading_line township ++ codes "sec. ")) }
 {
     text.extend_from_slice(b"T. ")?;
     write_number(township.number(), text)?;
-    text.extend_from_slice(b" ")?;
-    text.extend_from_slice(north_south_name(township.north_south()))?;
-    text.extend_from_slice(b"., R. ")?;
+    text.extend_from_slice(after_number(township.north_south()))?;
     write_number(township.range(), text)?;
-    text.extend_from_slice(b" ")?;
-    text.extend_from_slice(east_west_name(township.east_west()))?;
-    text.extend_from_slice(b".,")?;
-    text.extend_from_slice(b"\n")
+    text.extend_from_slice(after_range(township.east_west()))
 }
 
-/// The letter of a township's direction from its base line.
-fn north_south_name(direction: NorthSouth) -> &'static [u8]
-    ensures { result.now ≡ north_south_letter direction }
+/// The heading between the number of the township and that of the range.
+fn after_number(direction: NorthSouth) -> &'static [u8]
+    ensures { result.now ≡ codes " " ++ north_south_letter direction ++ codes "., R. " }
 {
     match direction {
-        NorthSouth::N => b"N",
-        NorthSouth::S => b"S",
+        NorthSouth::N => b" N., R. ",
+        NorthSouth::S => b" S., R. ",
     }
 }
 
-/// The letter of a range's direction from its meridian.
-fn east_west_name(direction: EastWest) -> &'static [u8]
-    ensures { result.now ≡ east_west_letter direction }
+/// The end of the heading after the number of the range, and the text before a section's number.
+fn after_range(direction: EastWest) -> &'static [u8]
+    ensures { result.now
+        ≡ codes " " ++ east_west_letter direction ++ codes ".," ++ line_end ++ codes "sec. " }
 {
     match direction {
-        EastWest::E => b"E",
-        EastWest::W => b"W",
+        EastWest::E => b" E.,\nsec. ",
+        EastWest::W => b" W.,\nsec. ",
     }
 }
 
-/// Appends a section that the land meets, with its list.
+/// Appends a section that the land meets, with its list, after `sec. `. Inlined, it would make the
+/// masks of its blocks before the first section, whether or not they are needed.
+#[inline(never)]
 fn write_section<L: Land>(
     alloc: Global,
     land: &L,
     section: Section,
     text: &mut Vec<u8>,
 ) -> Result<(), AllocError>
-    ensures { HoldsSome PLACE_DIGITS (L.places land.now section) → OnOk result
-        (HasSection PLACE_DIGITS (L.places land.now) section text.old.items text.new.items) }
+    ensures { (before : List ℕ) → text.old.items ≡ before ++ codes "sec. "
+        → HoldsSome PLACE_DIGITS (L.places land.now section) → OnOk result
+        (HasSection PLACE_DIGITS (L.places land.now) section before text.new.items) }
 {
-    text.extend_from_slice(b"sec. ")?;
     write_number(section.number(), text)?;
     if land.full(section, Block::whole()) {
         return write_all(text);
@@ -201,9 +199,15 @@ fn lots_lead(count: usize) -> &'static [u8]
     b", lots "
 }
 
-/// Appends a number in decimal.
+/// Appends a number in decimal. Most have one digit or two.
 fn write_number(number: u8, text: &mut Vec<u8>) -> Result<(), AllocError>
     ensures { OnOk result (text.new.items ≡ text.old.items ++ decimal number) }
 {
+    if number < 10 {
+        return text.extend_from_slice(&[b'0' + number]);
+    }
+    if number < 100 {
+        return text.extend_from_slice(&[b'0' + number / 10, b'0' + number % 10]);
+    }
     text.extend_from_slice(Buffer::new().format(number).as_bytes())
 }

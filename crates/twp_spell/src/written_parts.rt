@@ -1,17 +1,20 @@
 //! The written parts of a section, quarter by quarter.
-ghost use Rattle.std.specs.Prelude.{◌≡◌, ◌↔◌, ◌+◌, ◌<◌, ◌∷◌, ℕ, Bool, List, IsTrue, OnOk};
+ghost use Rattle.std.specs.Prelude.{◌≡◌, ◌↔◌, ◌+◌, ◌<◌, [], ◌∷◌, ℕ, Bool, List, IsTrue, OnOk};
 ghost use Rattle.twp_grid.specs.Places.{PLACE_DIGITS, places_across};
-ghost use Rattle.twp_grid.specs.Blocks.{CanQuarter};
+ghost use Rattle.twp_grid.specs.Blocks.{quarter_of, CanQuarter};
+ghost use Rattle.twp_grid.specs.Spans.{whole_block};
 ghost use Rattle.twp_grid.specs.declared.block.Corner.{Corner};
 ghost use Rattle.twp_spell.specs.WrittenParts.{Part, IsFull, AreWrittenParts};
 ghost use Rattle.twp_spell.specs.WrittenParts.Part.{square};
 ghost use Rattle.twp_land.specs.Lands.{off_lots};
 ghost use Rattle.twp_spell.specs.CanonicalText.{HoldsEach};
 ghost use Rattle.twp_spell.specs.steps.Spelling.{IsBlockOf, AreOfSquare, AreOfQuarter};
+ghost use Rattle.twp_spell.specs.steps.OpenHalves.{AreOpen};
 ghost use Rattle.twp_spell.specs.steps.Spelling.{AreWritten, AreFull, FINE_SIDE, quarters_text};
 
 use crate::fine_parts::push_fine_square;
 use crate::full_quarters::FullQuarters;
+use crate::open_halves::{OpenHalves, full_open_quarters, open_halves};
 use crate::part_buffer::{FINE_SIDE, PartBuffer};
 use crate::part_text::{half_at, write_full_quarter, write_half_if_first};
 use crate::path::Path;
@@ -31,7 +34,59 @@ pub(crate) fn write_parts<L: Land>(
         (off_lots PLACE_DIGITS section (L.places land.now section)))
         text.old.items text.new.items) }
 {
-    write_square(land, section, Block::whole(), &Path::whole(), text)
+    let halves = open_halves(land, section, Block::whole());
+    let full = full_open_quarters(land, section, Block::whole(), halves);
+    write_quarter_of_section(land, section, halves, full, Corner::NE, text)?;
+    write_quarter_of_section(land, section, halves, full, Corner::NW, text)?;
+    write_quarter_of_section(land, section, halves, full, Corner::SW, text)?;
+    write_quarter_of_section(land, section, halves, full, Corner::SE, text)
+}
+
+/// Appends the written parts that begin in a quarter of a section that is not full. It is inlined,
+/// with what it does for the quarter's own quarters, so that the blocks are known when the code is
+/// compiled: most parts are no smaller than these, and a test of a known block takes half of the
+/// instructions.
+#[inline(always)]
+fn write_quarter_of_section<L: Land>(
+    land: &L,
+    section: Section,
+    halves: OpenHalves,
+    full: FullQuarters,
+    corner: Corner,
+    text: &mut Vec<u8>,
+) -> Result<(), AllocError>
+    ensures { ¬ IsFull PLACE_DIGITS (off_lots PLACE_DIGITS section (L.places land.now section))
+        (square [])
+        → AreOpen PLACE_DIGITS (off_lots PLACE_DIGITS section (L.places land.now section)) [] halves
+        → AreFull PLACE_DIGITS (off_lots PLACE_DIGITS section (L.places land.now section)) [] full
+        → OnOk result (AreWritten (AreOfQuarter PLACE_DIGITS
+        (off_lots PLACE_DIGITS section (L.places land.now section)) [] corner)
+        text.old.items text.new.items) }
+{
+    let path = Path::whole();
+    if let Some(side) = half_at(full.chosen_half(), corner) {
+        return write_half_if_first(side, corner, &path, text);
+    }
+    if full.at(corner) {
+        return write_full_quarter(corner, &path, text);
+    }
+    if !halves.at(corner) {
+        return Ok(());
+    }
+    let quarter = quarter_of_section(corner);
+    if !land.meets(section, quarter) {
+        return Ok(());
+    }
+    write_coarse_square(land, section, quarter, &path.quarter(corner), text)
+}
+
+/// The quarter of a section at a corner.
+#[inline(always)]
+fn quarter_of_section(corner: Corner) -> Block
+    ensures quarter { result ≡ quarter_of (whole_block PLACE_DIGITS) corner }
+    ensures divisible { CanQuarter result }
+{
+    Block::whole().quarter(corner).unwrap()
 }
 
 /// Appends the written parts of a square that is not full, each after a comma.
@@ -58,11 +113,34 @@ fn write_square<L: Land>(
     if !land.meets(section, block) {
         return Ok(());
     }
-    let full = full_quarters(land, section, block);
-    write_quarter(land, section, block, full, Corner::NE, path, text)?;
-    write_quarter(land, section, block, full, Corner::NW, path, text)?;
-    write_quarter(land, section, block, full, Corner::SW, path, text)?;
-    write_quarter(land, section, block, full, Corner::SE, path, text)
+    write_coarse_square(land, section, block, path, text)
+}
+
+/// Appends the written parts of a square that is not full, quarter by quarter.
+#[cycle(descent)]
+#[inline(always)]
+fn write_coarse_square<L: Land>(
+    land: &L,
+    section: Section,
+    block: Block,
+    path: &Path,
+    text: &mut Vec<u8>,
+) -> Result<(), AllocError>
+    requires { CanQuarter block }
+    ensures { (quarters : List Corner) → IsBlockOf PLACE_DIGITS (square quarters) block
+        → path.now ≡ quarters_text quarters
+        → ¬ IsFull PLACE_DIGITS (off_lots PLACE_DIGITS section (L.places land.now section))
+        (square quarters)
+        → OnOk result (AreWritten (AreOfSquare PLACE_DIGITS
+        (off_lots PLACE_DIGITS section (L.places land.now section)) quarters)
+        text.old.items text.new.items) }
+{
+    let halves = open_halves(land, section, block);
+    let full = full_open_quarters(land, section, block, halves);
+    write_quarter(land, section, block, halves, full, Corner::NE, path, text)?;
+    write_quarter(land, section, block, halves, full, Corner::NW, path, text)?;
+    write_quarter(land, section, block, halves, full, Corner::SW, path, text)?;
+    write_quarter(land, section, block, halves, full, Corner::SE, path, text)
 }
 
 /// Appends the written parts that begin in a quarter of a square that is not full.
@@ -72,6 +150,7 @@ fn write_quarter<L: Land>(
     land: &L,
     section: Section,
     block: Block,
+    halves: OpenHalves,
     full: FullQuarters,
     corner: Corner,
     path: &Path,
@@ -82,6 +161,8 @@ fn write_quarter<L: Land>(
         → path.now ≡ quarters_text quarters
         → ¬ IsFull PLACE_DIGITS (off_lots PLACE_DIGITS section (L.places land.now section))
         (square quarters)
+        → AreOpen PLACE_DIGITS (off_lots PLACE_DIGITS section (L.places land.now section))
+        quarters halves
         → AreFull PLACE_DIGITS (off_lots PLACE_DIGITS section (L.places land.now section))
         quarters full
         → OnOk result (AreWritten (AreOfQuarter PLACE_DIGITS
@@ -93,6 +174,9 @@ fn write_quarter<L: Land>(
     }
     if full.at(corner) {
         return write_full_quarter(corner, path, text);
+    }
+    if !halves.at(corner) {
+        return Ok(());
     }
     let quarter = block.quarter(corner).unwrap();
     // A place cannot be divided further. None gets here, because fine squares are written
@@ -187,7 +271,12 @@ fn held_places<L: Land>(land: &L, section: Section, column: u8, row: u8) -> Full
 
 /// Whether a quarter of a block consists of places in the land that belong to no lot.
 #[inline(always)]
-fn quarter_is_full<L: Land>(land: &L, section: Section, block: Block, corner: Corner) -> bool
+pub(crate) fn quarter_is_full<L: Land>(
+    land: &L,
+    section: Section,
+    block: Block,
+    corner: Corner,
+) -> bool
     requires { CanQuarter block }
     ensures { (quarters : List Corner) → IsBlockOf PLACE_DIGITS (square quarters) block
         → (IsTrue result ↔ IsFull PLACE_DIGITS

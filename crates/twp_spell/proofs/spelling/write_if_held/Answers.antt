@@ -4,7 +4,7 @@ use Rattle.std.proofs.lemmas.Bool.{false≢true}
 use Rattle.twp_grid.specs.Places.{PLACE_DIGITS}
 use Rattle.twp_spell.specs.steps.SpellingSteps.{HasSection, AreBegun}
 use Rattle.twp_spell.proofs.HeldFacts.{some_of_meets, meets_of_some}
-use Rattle.twp_spell.proofs.SpellingFacts.{on_ok, begun_skip, begun_next}
+use Rattle.twp_spell.proofs.SpellingFacts.{on_ok, begun_skip, begun_next, text_before, lead_written}
 use Rattle.twp_spell.proofs.spelling.write_if_held.Goals as goal
 
 pub returns-then-not-meets : goal.returns-then-not-meets
@@ -24,9 +24,10 @@ returns g c = λ begun.
     some_of_meets (places c.args.section) c.whole.result c.whole.ensures
     (c.meets.ensures.0 c.if-not-meets.false) in
     let range = (g.met.L.Land.within c.args.land.now c.args.section some.column some.row some.is_held).0 in
-    on_ok c.write_section.result
-    (HasSection PLACE_DIGITS places c.args.section c.write_lead.new.text.items new)
-    (AreBegun PLACE_DIGITS c.args.township places (c.args.section + 1) new) (c.write_section.ensures some)
-    (begun_next PLACE_DIGITS c.args.township places c.args.section c.args.text.now.items
-    c.write_lead.new.text.items new begun range some
-    c.in_ok-write_lead.ensures.first c.in_ok-write_lead.ensures.after)
+    let before = text_before c.args.township c.args.text.now.items in
+    on_ok c.write_section.result (HasSection PLACE_DIGITS places c.args.section before new)
+    (AreBegun PLACE_DIGITS c.args.township places (c.args.section + 1) new)
+    (c.write_section.ensures before
+    (lead_written c.args.township c.args.text.now.items c.write_lead.new.text.items
+    c.in_ok-write_lead.ensures.first c.in_ok-write_lead.ensures.after) some)
+    (begun_next PLACE_DIGITS c.args.township places c.args.section c.args.text.now.items new begun range some)

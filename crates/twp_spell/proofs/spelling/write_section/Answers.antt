@@ -12,27 +12,27 @@ use Rattle.twp_spell.proofs.SpellingFacts.{on_ok, all_done, parts_done}
 use Rattle.twp_spell.proofs.spelling.write_section.Goals as goal
 
 pub returns-then-full : goal.returns-then-full
-returns-then-full g c = λ some.
+returns-then-full g c = λ before lead some.
     let places = g.L.Land.places c.args.land.now in
     let new = c.write_all.new.text.items in
     let named =
     c.in_ok-write_number.ensures
-    ∙ ap (λ n. c.extend_from_slice.new.self.items ++ decimal n) c.number.ensures.value in
+    ∙ ap (λ n. c.args.text.now.items ++ decimal n) c.number.ensures.value in
     on_ok c.write_all.result (new ≡ c.write_number.new.text.items ++ codes ", all")
-    (HasSection PLACE_DIGITS places c.args.section c.args.text.now.items new) c.write_all.ensures
-    (all_done PLACE_DIGITS places c.args.section c.args.text.now.items c.extend_from_slice.new.self.items
+    (HasSection PLACE_DIGITS places c.args.section before new) c.write_all.ensures
+    (all_done PLACE_DIGITS places c.args.section before c.args.text.now.items
     c.write_number.new.text.items new
     (each_of_all (places c.args.section) c.whole.result c.whole.ensures (c.full.ensures.0 c.if-full.true))
-    c.in_ok-extend_from_slice.ensures.items named)
+    lead named)
 
 pub returns : goal.returns
-returns g c = λ some.
+returns g c = λ before lead some.
     let places = g.L.Land.places c.args.land.now in
     let lotted = c.write_held_lots.new.text.items in
     let new = c.write_parts.new.text.items in
     let named =
     c.in_ok-write_number.ensures
-    ∙ ap (λ n. c.extend_from_slice.new.self.items ++ decimal n) c.number.ensures.value in
+    ∙ ap (λ n. c.args.text.now.items ++ decimal n) c.number.ensures.value in
     let short : ¬ HoldsEach PLACE_DIGITS (places c.args.section) = λ each.
     false≢true
     (sym c.if-full.false
@@ -40,7 +40,7 @@ returns g c = λ some.
     on_ok c.write_parts.result
     (AreWritten (AreWrittenParts PLACE_DIGITS (off_lots PLACE_DIGITS c.args.section (places c.args.section)))
     lotted new)
-    (HasSection PLACE_DIGITS places c.args.section c.args.text.now.items new) (c.write_parts.ensures short)
-    (parts_done PLACE_DIGITS places c.args.section c.args.text.now.items c.extend_from_slice.new.self.items
+    (HasSection PLACE_DIGITS places c.args.section before new) (c.write_parts.ensures short)
+    (parts_done PLACE_DIGITS places c.args.section before c.args.text.now.items
     c.write_number.new.text.items lotted new
-    short some c.in_ok-extend_from_slice.ensures.items named c.in_ok-write_held_lots.ensures)
+    short some lead named c.in_ok-write_held_lots.ensures)

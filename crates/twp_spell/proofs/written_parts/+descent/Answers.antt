@@ -15,10 +15,11 @@ use Rattle.twp_spell.proofs.SquareBlocks.{quarter_judged, block_of_quarter, deep
 use Rattle.twp_spell.proofs.SquareBlocks.{empty_block}
 use Rattle.twp_spell.proofs.WritingFacts.{written_none, half_written, off_choice, choice_is, full_written}
 use Rattle.twp_spell.proofs.WritingFacts.{inner_written, none_written, quarters_written}
+use Rattle.twp_spell.proofs.OpenFacts.{closed_has_none}
 use Rattle.twp_spell.proofs.written_parts.+descent.Goals as goal
 
 pub write_quarter-returns-in-Some : goal.write_quarter-returns-in-Some
-write_quarter-returns-in-Some g t c = λ quarters of_square path_is short are.
+write_quarter-returns-in-Some g t c = λ quarters of_square path_is short halves are.
     let choice =
     choice_made PLACE_DIGITS
     (off_lots PLACE_DIGITS c.args.section (g.L.Land.places c.args.land.now c.args.section)) quarters
@@ -33,7 +34,7 @@ write_quarter-returns-in-Some g t c = λ quarters of_square path_is short are.
     c.in-Some.ensures.1 path_is c.write_half_if_first.ensures.first c.write_half_if_first.ensures.second
 
 pub write_quarter-returns-then-at : goal.write_quarter-returns-then-at
-write_quarter-returns-then-at g t c = λ quarters of_square path_is short are.
+write_quarter-returns-then-at g t c = λ quarters of_square path_is short halves are.
     let choice =
     choice_made PLACE_DIGITS
     (off_lots PLACE_DIGITS c.args.section (g.L.Land.places c.args.land.now c.args.section)) quarters
@@ -49,8 +50,20 @@ write_quarter-returns-then-at g t c = λ quarters of_square path_is short are.
     c.chosen_half.result c.args.corner choice c.in_default.ensures)
     ((are c.args.corner).0 (sym c.at.ensures ∙ c.if-at.true)) c.write_full_quarter.ensures
 
+pub write_quarter-returns-then-not-at : goal.write_quarter-returns-then-not-at
+write_quarter-returns-then-not-at g t c = λ quarters of_square path_is short halves are.
+    let fits = deeper PLACE_DIGITS quarters c.args.block of_square c.requires.0 in
+    let held = off_lots PLACE_DIGITS c.args.section (g.L.Land.places c.args.land.now c.args.section) in
+    let choice =
+    choice_made PLACE_DIGITS held quarters c.args.full c.chosen_half.result fits c.chosen_half.ensures are
+    short in
+    none_written PLACE_DIGITS held quarters c.args.corner c.args.text.now.items
+    (off_choice PLACE_DIGITS held quarters c.chosen_half.result c.args.corner choice c.in_default.ensures)
+    (closed_has_none PLACE_DIGITS held c.args.corner quarters c.args.halves fits halves
+    (sym c.at-2.ensures ∙ c.if-not-at.true))
+
 pub write_quarter-returns-then-width-eq1 : goal.write_quarter-returns-then-width-eq1
-write_quarter-returns-then-width-eq1 g t c = λ quarters of_square path_is short are.
+write_quarter-returns-then-width-eq1 g t c = λ quarters of_square path_is short halves are.
     let choice =
     choice_made PLACE_DIGITS
     (off_lots PLACE_DIGITS c.args.section (g.L.Land.places c.args.land.now c.args.section)) quarters
@@ -77,7 +90,7 @@ write_quarter-returns-then-width-eq1 g t c = λ quarters of_square path_is short
     (λ full. false≢true (sym c.if-at.false ∙ c.at.ensures ∙ (are c.args.corner).1 full))))
 
 pub write_quarter-returns-then-height-eq1 : goal.write_quarter-returns-then-height-eq1
-write_quarter-returns-then-height-eq1 g t c = λ quarters of_square path_is short are.
+write_quarter-returns-then-height-eq1 g t c = λ quarters of_square path_is short halves are.
     let choice =
     choice_made PLACE_DIGITS
     (off_lots PLACE_DIGITS c.args.section (g.L.Land.places c.args.land.now c.args.section)) quarters
@@ -104,7 +117,7 @@ write_quarter-returns-then-height-eq1 g t c = λ quarters of_square path_is shor
     (λ full. false≢true (sym c.if-at.false ∙ c.at.ensures ∙ (are c.args.corner).1 full))))
 
 pub write_quarter-returns : goal.write_quarter-returns
-write_quarter-returns g t c = λ quarters of_square path_is short are.
+write_quarter-returns g t c = λ quarters of_square path_is short halves are.
     let fits = deeper PLACE_DIGITS quarters c.args.block of_square c.requires.0 in
     let choice =
     choice_made PLACE_DIGITS
@@ -142,15 +155,16 @@ write_square-returns-then-not-meets g t c = λ quarters of_square path_is short.
     (square quarters) c.args.block of_square
     (λ meets. false≢true (sym c.if-not-meets.true ∙ c.meets.ensures.1 meets))))
 
-pub write_square-returns : goal.write_square-returns
-write_square-returns g t c = λ quarters of_square path_is short.
-    let are = c.full_quarters-full.ensures quarters of_square in
+pub write_coarse_square-returns : goal.write_coarse_square-returns
+write_coarse_square-returns g t c = λ quarters of_square path_is short.
+    let halves = c.open_halves-halves.ensures quarters of_square in
+    let are = c.full_open_quarters-full.ensures quarters of_square halves in
     quarters_written c.write_quarter-4.result PLACE_DIGITS
     (off_lots PLACE_DIGITS c.args.section (g.L.Land.places c.args.land.now c.args.section)) quarters
     c.args.text.now.items c.write_quarter.new.text.items c.write_quarter-2.new.text.items
     c.write_quarter-3.new.text.items c.write_quarter-4.new.text.items
     (deeper PLACE_DIGITS quarters c.args.block of_square c.requires.0) short
-    (c.in_ok-write_quarter.ensures quarters of_square path_is short are)
-    (c.in_ok-write_quarter-2.ensures quarters of_square path_is short are)
-    (c.in_ok-write_quarter-3.ensures quarters of_square path_is short are)
-    (c.write_quarter-4.ensures quarters of_square path_is short are)
+    (c.in_ok-write_quarter.ensures quarters of_square path_is short halves are)
+    (c.in_ok-write_quarter-2.ensures quarters of_square path_is short halves are)
+    (c.in_ok-write_quarter-3.ensures quarters of_square path_is short halves are)
+    (c.write_quarter-4.ensures quarters of_square path_is short halves are)
