@@ -49,7 +49,7 @@ section_again = codes "section" ∷ codes "sec" ∷ codes "sec." ∷ []
 
 -- what a meridian or a county ends with, if not with a digit, or a cell after a state
 abbrev pub meridian_ends : List (List ℕ)
-meridian_ends = codes "meridian" ∷ codes "mer" ∷ codes "mer." ∷ codes "m" ∷ codes "m." ∷ codes "county"
+meridian_ends = codes "meridian" ∷ codes "meridan" ∷ codes "mer" ∷ codes "mer." ∷ codes "m" ∷ codes "m." ∷ codes "county"
     ∷ codes "co" ∷ codes "co." ∷ codes "|" ∷ []
 
 -- what a county or a state begins with, if not with its name, after white space
@@ -80,11 +80,6 @@ acreage_ends = codes "acres" ∷ codes "acre" ∷ codes "ac" ∷ codes "acres." 
     ∷ codes "m/l" ∷ codes ")" ∷ codes "pooled" ∷ codes "total" ∷ codes "net" ∷ codes "gross" ∷ codes "/-"
     ∷ codes "acs" ∷ codes "acs." ∷ []
 
--- or, after a digit, with a letter for acres
-abbrev pub acre_letters : List (List ℕ)
-acre_letters = codes "0a" ∷ codes "1a" ∷ codes "2a" ∷ codes "3a" ∷ codes "4a" ∷ codes "5a" ∷ codes "6a"
-    ∷ codes "7a" ∷ codes "8a" ∷ codes "9a" ∷ []
-
 -- or begins with, after white space
 abbrev pub acreage_fronts : List (List ℕ)
 acreage_fronts = codes "acres" ∷ codes "acreage" ∷ codes "ac" ∷ codes "gross" ∷ codes "net" ∷ codes "total"
@@ -92,7 +87,7 @@ acreage_fronts = codes "acres" ∷ codes "acreage" ∷ codes "ac" ∷ codes "gro
 
 -- what is said of land begins with, if it isn't a remark: rights,
 abbrev pub rights : List (List ℕ)
-rights = codes "subject" ∷ codes "according" ∷ codes "together with" ∷ codes "reserving"
+rights = codes "subj" ∷ codes "according" ∷ codes "together with" ∷ codes "reserving"
     ∷ codes "excepting and" ∷ codes "grantor" ∷ []
 
 -- terms,

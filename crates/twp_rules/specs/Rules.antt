@@ -21,7 +21,7 @@ use Rattle.twp_rules.specs.Tables.{ampersands, commas, semicolons, marks, more_m
 use Rattle.twp_rules.specs.Tables.{more_little_words, joining_words, zeros}
 use Rattle.twp_rules.specs.Tables.{fraction_digits, joints}
 use Rattle.twp_rules.specs.Tables.{quarter_abbreviations, worn_directions, worn_section_words}
-use Rattle.twp_rules.specs.Endings.{acre_letters, acreage_ends, acreage_fronts, being_fronts, column_names}
+use Rattle.twp_rules.specs.Endings.{acreage_ends, acreage_fronts, being_fronts, column_names}
 use Rattle.twp_rules.specs.Endings.{corners, depths, digits, estates, half_texts, heading_ends}
 use Rattle.twp_rules.specs.Endings.{interest_fronts, meridian_ends, meridian_fronts, meridian_labels}
 use Rattle.twp_rules.specs.Endings.{more_states, number_fronts, parenthesis_ends, property_fronts}
@@ -119,6 +119,12 @@ abbrev pub is_figure : List ℕ → Bool
 is_figure [] = true
 is_figure (byte ∷ bytes) = is_of_figure byte && is_figure bytes
 
+-- a figure, and the letter for acres, which a period may end
+abbrev pub is_figure_of_acres : List ℕ → Bool
+is_figure_of_acres seen =
+    if ends_with seen (codes "a") then is_figure (take (length seen - 1) seen)
+    else (ends_with seen (codes "a.") && is_figure (take (length seen - 2) seen))
+
 -- no digit is in a text
 abbrev pub has_no_digit : List ℕ → Bool
 has_no_digit [] = true
@@ -163,11 +169,13 @@ is_place_name seen =
 abbrev pub are_columns : List ℕ → Bool
 are_columns seen = begins_with_one seen column_names && has_no_digit seen
 
--- what is said of land, without naming any: terms, records, depths, rights, and numbers of leases and parcels
-abbrev pub is_trailer : List ℕ → Bool
-is_trailer seen =
+-- what is said of land, without naming any: terms, records, depths, rights, numbers of leases and parcels, interests,
+-- and properties
+abbrev pub is_said_of_land : List ℕ → Bool
+is_said_of_land seen =
     (begins_with_one seen rights || begins_with_one seen terms || begins_with_one seen depths
-    || begins_with_one seen estates || begins_with_one seen number_fronts)
+    || begins_with_one seen estates || begins_with_one seen number_fronts
+    || begins_with_one seen interest_fronts || begins_with_one seen property_fronts)
     && has_no_land false seen
 
 -- WHAT A RULE ALLOWS to leave out
@@ -183,11 +191,9 @@ may_be_left_out Meridian seen =
     || begins_with_one (without_white seen) meridian_fronts
     || begins_with_one (without_white seen) meridian_labels
 may_be_left_out Acreage seen =
-    ends_with_one seen acreage_ends || ends_with_one seen acre_letters || is_figure seen
+    ends_with_one seen acreage_ends || is_figure_of_acres seen || is_figure seen
     || begins_with_one (without_white seen) acreage_fronts
-may_be_left_out Label seen =
-    is_remark seen || is_trailer seen || begins_with_one seen interest_fronts
-    || begins_with_one seen property_fronts || are_columns seen
+may_be_left_out Label seen = is_remark seen || is_said_of_land seen || are_columns seen
 may_be_left_out _ seen = false
 
 -- WHAT A RULE ALLOWS: to write this instead of the text from one place up to another

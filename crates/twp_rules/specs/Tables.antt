@@ -93,7 +93,7 @@ worn_quarters = (codes "/ 4" ⇒ codes "1/4") ∷ (codes "1-4" ⇒ codes "1/4") 
 -- or abbreviated
 abbrev pub quarter_abbreviations : List Entry
 quarter_abbreviations = (codes "qr." ⇒ codes "1/4") ∷ (codes "." ⇒ codes "1/4") ∷ (codes "qtr" ⇒ codes "1/4")
-    ∷ (codes "qtr." ⇒ codes "1/4") ∷ []
+    ∷ (codes "qtr." ⇒ codes "1/4") ∷ (codes "quater" ⇒ codes "1/4") ∷ []
 
 -- DAMAGE: letters that scanning makes of digits, and digits of letters
 abbrev pub damages : List Entry
@@ -157,7 +157,7 @@ abbrev pub heading_words : List Entry
 heading_words = (codes "township" ⇒ codes "T.") ∷ (codes "twp" ⇒ codes "T.") ∷ (codes "tp" ⇒ codes "T.")
     ∷ (codes "twsp" ⇒ codes "T.") ∷ (codes "range" ⇒ codes "R.") ∷ (codes "rng" ⇒ codes "R.")
     ∷ (codes "rge" ⇒ codes "R.") ∷ (codes "rg" ⇒ codes "R.") ∷ left_out (codes "in") ∷ left_out (codes "of")
-    ∷ (codes "0sn" ⇒ codes ", sec. ") ∷ left_out (codes "a") ∷ []
+    ∷ (codes "0sn" ⇒ codes ", sec. ") ∷ left_out (codes "a") ∷ left_out (codes "numbered") ∷ []
 
 -- and the marks in them
 abbrev pub heading_marks : List Entry
@@ -190,7 +190,8 @@ lot_words = (codes "l" ⇒ codes "lot ") ∷ (codes "lt" ⇒ codes "lot ") ∷ (
 
 -- and marks in them
 abbrev pub lot_marks : List Entry
-lot_marks = left_out (codes "'") ∷ left_out right_quote ∷ left_out (codes ".") ∷ left_out (codes "#") ∷ []
+lot_marks = left_out (codes "'") ∷ left_out right_quote ∷ left_out (codes ".") ∷ left_out (codes "#")
+    ∷ left_out (codes ":") ∷ []
 
 -- THROUGH: between numbers
 abbrev pub dashes : List Entry
@@ -240,7 +241,7 @@ more_little_words = left_out (codes "public") ∷ left_out (codes "domain") ∷ 
 abbrev pub joining_words : List Entry
 joining_words = left_out (codes "also") ∷ left_out (codes "together") ∷ left_out (codes "with")
     ∷ left_out (codes "not") ∷ left_out (codes "exception") ∷ left_out (codes "inclusive")
-    ∷ left_out (codes "incl") ∷ []
+    ∷ left_out (codes "incl") ∷ left_out (codes "both") ∷ left_out (codes "numbered") ∷ []
 
 -- ZEROS: before the other digits of a number
 abbrev pub zeros : List Entry

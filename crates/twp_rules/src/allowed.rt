@@ -2,7 +2,7 @@
 ghost use Rattle.std.specs.Prelude.{◌≡◌, ◌≤◌, ◌||◌, length, slice_index, slice_range, take};
 ghost use Rattle.twp_rules.specs.Rules.{allows, byte_before, is_whole_word, may_be_left_out};
 ghost use Rattle.twp_rules.specs.Rules.{is_copied, is_number, is_numeral, are_digits};
-ghost use Rattle.twp_rules.specs.Rules.{is_among, is_trailer, without_white};
+ghost use Rattle.twp_rules.specs.Rules.{is_among, is_said_of_land, without_white};
 ghost use Rattle.twp_rules.specs.Tables.{halves, worn_halves, quarters, quarter_abbreviations, worn_quarters};
 ghost use Rattle.twp_rules.specs.Tables.{little_words};
 ghost use Rattle.twp_rules.specs.Tables.{marks, more_marks, more_little_words, joining_words};
@@ -10,7 +10,7 @@ ghost use Rattle.twp_rules.specs.Tables.{directions, worn_directions, section_wo
 
 use crate::change::Change;
 use crate::endings::*;
-use crate::figures::{has_no_digit, is_figure, without_white};
+use crate::figures::{has_no_digit, is_figure, is_figure_of_acres, without_white};
 use crate::remarks::{has_no_land, is_remark};
 use crate::rule::Rule;
 use crate::same::are_same;
@@ -105,15 +105,13 @@ fn may_be_left_out(rule: Rule, seen: &[u8]) -> bool
         }
         Rule::Acreage => {
             has_acreage_ends(seen)
-                || has_acre_letters(seen)
+                || is_figure_of_acres(seen)
                 || is_figure(seen)
                 || has_acreage_fronts(without_white(seen))
         }
         Rule::Label => {
             is_remark(seen)
-                || is_trailer(seen)
-                || has_interest_fronts(seen)
-                || has_property_fronts(seen)
+                || is_said_of_land(seen)
                 || (has_column_names(seen) && has_no_digit(seen))
         }
         _ => false,
@@ -121,14 +119,16 @@ fn may_be_left_out(rule: Rule, seen: &[u8]) -> bool
 }
 
 /// Whether a text says something of land, without naming any.
-fn is_trailer(seen: &[u8]) -> bool
-    ensures { result ≡ is_trailer seen.now }
+fn is_said_of_land(seen: &[u8]) -> bool
+    ensures { result ≡ is_said_of_land seen.now }
 {
     (has_rights(seen)
         || has_terms(seen)
         || has_depths(seen)
         || has_estates(seen)
-        || has_number_fronts(seen))
+        || has_number_fronts(seen)
+        || has_interest_fronts(seen)
+        || has_property_fronts(seen))
         && has_no_land(seen)
 }
 

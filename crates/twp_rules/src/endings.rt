@@ -2,7 +2,7 @@
 ghost use Rattle.std.specs.Prelude.{◌≡◌};
 ghost use Rattle.std.specs.Str.{str_to_ascii_lowercase};
 ghost use Rattle.twp_rules.specs.Rules.{begins_with, begins_with_one, ends_with, ends_with_one};
-ghost use Rattle.twp_rules.specs.Endings.{acre_letters, acreage_ends, acreage_fronts, being_fronts};
+ghost use Rattle.twp_rules.specs.Endings.{acreage_ends, acreage_fronts, being_fronts};
 ghost use Rattle.twp_rules.specs.Endings.{column_names, corners, depths, digits, estates, heading_ends};
 ghost use Rattle.twp_rules.specs.Endings.{interest_fronts, meridian_ends, meridian_fronts, meridian_labels};
 ghost use Rattle.twp_rules.specs.Endings.{more_states, number_fronts, parenthesis_ends, property_fronts};
@@ -12,7 +12,7 @@ ghost use Rattle.twp_rules.specs.Endings.{terms, worn_section_ends};
 use crate::same::is_text;
 
 /// Whether a text ends with another, which is in lowercase.
-fn ends_with(seen: &[u8], end: &[u8]) -> bool
+pub(crate) fn ends_with(seen: &[u8], end: &[u8]) -> bool
     requires { str_to_ascii_lowercase end.now ≡ end.now }
     ensures { result ≡ ends_with seen.now end.now }
 {
@@ -54,22 +54,6 @@ pub(crate) fn has_acreage_ends(seen: &[u8]) -> bool
         || ends_with(seen, b"/-")
         || ends_with(seen, b"acs")
         || ends_with(seen, b"acs.")
-}
-
-/// The texts `acre_letters` of the specification.
-pub(crate) fn has_acre_letters(seen: &[u8]) -> bool
-    ensures { result ≡ ends_with_one seen.now acre_letters }
-{
-    ends_with(seen, b"0a")
-        || ends_with(seen, b"1a")
-        || ends_with(seen, b"2a")
-        || ends_with(seen, b"3a")
-        || ends_with(seen, b"4a")
-        || ends_with(seen, b"5a")
-        || ends_with(seen, b"6a")
-        || ends_with(seen, b"7a")
-        || ends_with(seen, b"8a")
-        || ends_with(seen, b"9a")
 }
 
 /// The texts `acreage_fronts` of the specification.
@@ -156,6 +140,7 @@ pub(crate) fn has_meridian_ends(seen: &[u8]) -> bool
     ensures { result ≡ ends_with_one seen.now meridian_ends }
 {
     ends_with(seen, b"meridian")
+        || ends_with(seen, b"meridan")
         || ends_with(seen, b"mer")
         || ends_with(seen, b"mer.")
         || ends_with(seen, b"m")
@@ -313,7 +298,7 @@ pub(crate) fn has_states(seen: &[u8]) -> bool
 pub(crate) fn has_rights(seen: &[u8]) -> bool
     ensures { result ≡ begins_with_one seen.now rights }
 {
-    begins_with(seen, b"subject")
+    begins_with(seen, b"subj")
         || begins_with(seen, b"according")
         || begins_with(seen, b"together with")
         || begins_with(seen, b"reserving")

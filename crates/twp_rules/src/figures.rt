@@ -1,8 +1,10 @@
 //! Figures of acreage, texts without digits, and white space before a text.
 ghost use Rattle.std.specs.Prelude.{◌≡◌, ◌≤◌, drop, length};
 ghost use Rattle.twp_grammar.specs.Tokens.{is_white};
-ghost use Rattle.twp_rules.specs.Rules.{has_no_digit, is_figure, is_of_figure};
+ghost use Rattle.twp_rules.specs.Rules.{has_no_digit, is_figure, is_figure_of_acres, is_of_figure};
 ghost use Rattle.twp_rules.specs.Rules.{without_white};
+
+use crate::endings::ends_with;
 
 /// Whether a text has only digits, commas, points, and white space.
 pub(crate) fn is_figure(seen: &[u8]) -> bool
@@ -14,6 +16,21 @@ pub(crate) fn is_figure(seen: &[u8]) -> bool
         }
     }
     true
+}
+
+/// Whether a text is a figure, and the letter for acres.
+pub(crate) fn is_figure_of_acres(seen: &[u8]) -> bool
+    ensures { result ≡ is_figure_of_acres seen.now }
+{
+    if ends_with(seen, b"a") {
+        let (figure, _) = seen.split_at(seen.len() - 1);
+        return is_figure(figure);
+    }
+    if ends_with(seen, b"a.") {
+        let (figure, _) = seen.split_at(seen.len() - 2);
+        return is_figure(figure);
+    }
+    false
 }
 
 /// Whether a byte is a digit, a comma, a point, or white space.

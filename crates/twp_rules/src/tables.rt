@@ -173,6 +173,8 @@ pub(crate) fn is_in_joining_words(seen: &[u8], written: &[u8]) -> bool
         || is_row(seen, written, b"exception", b"")
         || is_row(seen, written, b"inclusive", b"")
         || is_row(seen, written, b"incl", b"")
+        || is_row(seen, written, b"both", b"")
+        || is_row(seen, written, b"numbered", b"")
 }
 
 /// The table `heading_words` of the specification.
@@ -191,6 +193,7 @@ pub(crate) fn is_in_heading_words(seen: &[u8], written: &[u8]) -> bool
         || is_row(seen, written, b"of", b"")
         || is_row(seen, written, b"0sn", b", sec. ")
         || is_row(seen, written, b"a", b"")
+        || is_row(seen, written, b"numbered", b"")
 }
 
 /// The table `headings` of the specification.
@@ -244,6 +247,7 @@ pub(crate) fn is_in_lot_marks(seen: &[u8], written: &[u8]) -> bool
         || is_row(seen, written, b"\xE2\x80\x99", b"")
         || is_row(seen, written, b".", b"")
         || is_row(seen, written, b"#", b"")
+        || is_row(seen, written, b":", b"")
 }
 
 /// The table `lot_words` of the specification.
@@ -373,6 +377,7 @@ pub(crate) fn is_in_quarter_abbreviations(seen: &[u8], written: &[u8]) -> bool
         || is_row(seen, written, b".", b"1/4")
         || is_row(seen, written, b"qtr", b"1/4")
         || is_row(seen, written, b"qtr.", b"1/4")
+        || is_row(seen, written, b"quater", b"1/4")
 }
 
 /// The table `section_words` of the specification.
