@@ -85,7 +85,12 @@ impl<'a> Draft<'a> {
         if let Some(end) = self.end_of_figure(index) {
             return Some((Rule::Acreage, end));
         }
-        if self.names_land {
+        // After all of a section, or after acreage, the dash may be a minus.
+        let may_be_minus = matches!(
+            self.last_names(),
+            Some(Names::All | Names::Nothing(Rule::Acreage))
+        );
+        if self.names_land && !may_be_minus {
             if let Some(end) = self.pieces.end_of_dashed_acreage(index) {
                 return Some((Rule::Acreage, end));
             }
@@ -93,13 +98,17 @@ impl<'a> Draft<'a> {
         if let Some(end) = self.pieces.end_of_file_number(index) {
             return Some((Rule::Label, end));
         }
+        let is_after_dash = self.pieces.is_dash(index.saturating_sub(1))
+            && self.pieces.number(index).is_some();
         if let Some(end) = self.pieces.end_of_acreage(index) {
-            return Some((Rule::Acreage, end));
+            return if may_be_minus && is_after_dash {
+                None
+            } else {
+                Some((Rule::Acreage, end))
+            };
         }
-        if self.pieces.begins_line(index) && self.pieces.is_dash(plus(index, 1)) {
-            if let Some(end) = self.pieces.end_of_serial(index) {
-                return Some((Rule::Label, end));
-            }
+        if let Some(end) = self.pieces.end_of_first_serial(index) {
+            return Some((Rule::Label, end));
         }
         if let Some(end) = self.pieces.end_of_meridian(index) {
             return Some((Rule::Meridian, end));

@@ -122,6 +122,10 @@ impl<'a> Draft<'a> {
         if !is_letter {
             self.replace(index, letter, Rule::Heading)?;
         }
+        if self.pieces.is(next, b"numbered") {
+            self.leave_out(next, plus(next, 1), Rule::Heading)?;
+            return Ok(plus(next, 1));
+        }
         match self.pieces.kind(next) {
             Kind::Stop if is_letter => Ok(plus(next, 1)),
             Kind::Stop | Kind::Colon | Kind::Comma => {
@@ -248,14 +252,14 @@ impl<'a> Draft<'a> {
         Ok(next)
     }
 
-    /// Whether a township and range are at an index.
-    pub fn has_heading(&mut self, index: usize) -> Result<bool, AllocError> {
+    /// Where the township and range at an index end, if they are there.
+    pub fn end_of_heading(&mut self, index: usize) -> Result<Option<usize>, AllocError> {
         let from = self.extent();
         let is_unsure = self.is_unsure;
-        let found = self.heading(index)?.is_some();
+        let found = self.heading(index)?;
         self.shrink(from);
         self.is_unsure = is_unsure;
-        Ok(found)
+        Ok(found.map(|heading| heading.end))
     }
 
     /// Writes a township and range at a place where they aren't.

@@ -61,6 +61,9 @@ impl<'a> Draft<'a> {
             }
         }
         if word > index {
+            if self.pieces.is(index, b"both") && self.count_of_parts() != 2 {
+                self.doubt();
+            }
             self.leave_out_each(index, word, Rule::Word)?;
         }
         if is_worn {
@@ -77,6 +80,19 @@ impl<'a> Draft<'a> {
         let phrase = self.phrase(Names::Sections, index, end, from);
         let form = if is_plural { Form::Plural } else { Form::Plain };
         Ok(Some(Phrase { form, ..phrase }))
+    }
+
+    /// How many parts and lots follow the last section so far.
+    fn count_of_parts(&self) -> usize {
+        let mut count: usize = 0;
+        for phrase in &self.phrases {
+            count = match phrase.names {
+                Names::Part | Names::Lots => plus(count, 1),
+                Names::Sections | Names::All => 0,
+                _ => count,
+            };
+        }
+        count
     }
 
     /// The section that was named before, if words for it at an index have no number.
@@ -107,10 +123,14 @@ impl<'a> Draft<'a> {
         Ok(Some(self.phrase(Names::Sections, index, number.end, from)))
     }
 
-    /// The index after the marks that follow the word for sections at an index: a period, a second one, or a comma in its
+    /// The index after what follows the word for sections at an index: `numbered`, a period, a second one, or a comma in its
     /// place.
     fn after_section_word(&mut self, word: usize) -> Result<usize, AllocError> {
         let next = plus(word, 1);
+        if self.pieces.is(next, b"numbered") {
+            self.leave_out(next, plus(next, 1), Rule::Word)?;
+            return Ok(plus(next, 1));
+        }
         if matches!(self.pieces.kind(next), Kind::Colon) {
             self.leave_out(next, plus(next, 1), Rule::Mark)?;
             return Ok(plus(next, 1));
@@ -217,6 +237,9 @@ impl<'a> Draft<'a> {
             if self.pieces.is_figure_with_decimals(next)
                 || self.pieces.end_of_acreage(next).is_some()
             {
+                if is_list && !self.pieces.is_figure_with_decimals(next) {
+                    self.doubt();
+                }
                 break;
             }
             if !self.continues(more, join, names, is_plural) {
@@ -427,6 +450,7 @@ impl<'a> Draft<'a> {
                     || self.pieces.is(place, b".")
                     || self.pieces.is(place, b"no")
                     || self.pieces.is(place, b"nos")
+                    || self.pieces.is(place, b":")
                     || self.pieces.is(place, b"#"))
             {
                 self.replace(place, b"", Rule::LotWord)?;
@@ -437,7 +461,7 @@ impl<'a> Draft<'a> {
     }
 
     /// The index after the words for the government at an index.
-    fn after_government(&self, index: usize) -> usize {
+    pub fn after_government(&self, index: usize) -> usize {
         let mut next = index;
         if self.pieces.is(next, b"u") && self.pieces.is(plus(next, 2), b"s") {
             next = plus(next, 3);

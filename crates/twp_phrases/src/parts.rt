@@ -3,7 +3,7 @@
 use crate::draft::{Draft, Form, Names, Phrase, PlacedStep};
 use std::alloc::AllocError;
 use twp_grammar::Kind;
-use twp_pieces::{is_same, letters_of, plus};
+use twp_pieces::{are_corners, is_same, letters_of, plus};
 use twp_rules::Rule;
 
 /// The most steps of a part: each halves a side of the section, which can be halved five times each way.
@@ -48,7 +48,8 @@ impl Size {
             Size::Quarter => is_same(word, b"quarter")
                 || is_same(word, b"qr")
                 || is_same(word, b"qtr")
-                || is_same(word, b"quar"),
+                || is_same(word, b"quar")
+                || is_same(word, b"quater"),
         }
     }
 
@@ -75,19 +76,6 @@ impl Size {
             Size::Quarter => matches!(kind, Kind::Quarter),
         }
     }
-}
-
-/// Whether letters in lowercase are those of corners, one after another.
-fn are_corners(letters: &[u8]) -> bool {
-    if letters.is_empty() || letters.len() % 2 != 0 {
-        return false;
-    }
-    for corner in letters.chunks(2) {
-        if !matches!(corner, [b'n' | b's', b'e' | b'w']) {
-            return false;
-        }
-    }
-    true
 }
 
 /// The step with these letters, as it is written in a description.

@@ -3,7 +3,7 @@
 use crate::draft::{Claim, Claimed, Draft, Form, Names, Phrase};
 use std::alloc::AllocError;
 use twp_grammar::Kind;
-use twp_pieces::{Position, plus};
+use twp_pieces::{Position, begins_terms, plus};
 use twp_rules::Rule;
 
 /// The most pieces that join two phrases.
@@ -38,24 +38,38 @@ impl<'a> Draft<'a> {
                 None => self.doubt(),
             }
         }
-        // A word that isn't known may be what was meant by the land of a section: with remarks, each section has some.
+        // A word that isn't known may be what was meant by the land of a section: with remarks, or with a status as `open`,
+        // each section has some. After the label of each tract is land.
         let mut sections: usize = 0;
         let mut lands: usize = 0;
         let mut is_land = false;
+        let mut has_status = false;
+        let mut is_labelled = false;
+        let mut has_empty = false;
         for phrase in &self.phrases {
             match phrase.names {
                 Names::Sections => {
                     sections = plus(sections, 1);
                     is_land = false;
+                    is_labelled = false;
                 }
                 Names::Part | Names::Lots | Names::All => {
                     lands = plus(lands, usize::from(!is_land));
                     is_land = true;
+                    is_labelled = false;
+                }
+                Names::Nothing(Rule::Label) => {
+                    let is_label = self.pieces.is_label_of_tract(phrase.first);
+                    has_empty = has_empty || (is_label && is_labelled);
+                    is_labelled = is_labelled || is_label;
+                    has_status = has_status
+                        || (sections > 0 && begins_terms(self.pieces.lower(phrase.first)));
                 }
                 _ => {}
             }
         }
-        if self.has_remark && sections != lands {
+        let is_partial = (self.has_remark || has_status) && sections != lands;
+        if is_partial || has_empty || is_labelled {
             self.doubt();
         }
         Ok(())
@@ -112,9 +126,8 @@ impl<'a> Draft<'a> {
     fn phrase_at(&mut self, index: usize) -> Result<Option<Phrase>, AllocError> {
         let from = self.extent();
         let found = match self.pieces.kind(index) {
-            Kind::Comma | Kind::Semicolon | Kind::Stop | Kind::Colon | Kind::And => {
-                return Ok(None);
-            }
+            Kind::Comma | Kind::Semicolon | Kind::Stop | Kind::Colon => return Ok(None),
+            Kind::And if !self.pieces.is(plus(index, 1), b"containing") => return Ok(None),
             Kind::Half | Kind::Quarter if index > 0 => return Ok(None),
             Kind::BadByte if !self.pieces.may_begin_phrase(index) => return Ok(None),
             Kind::Sec => self.sections(index)?,
@@ -209,7 +222,8 @@ impl<'a> Draft<'a> {
             Position::BeforeLand
         };
         let end = self.pieces.end_of_remark(index, position);
-        self.has_remark = self.has_remark || end.is_some();
+        let is_label = self.pieces.is_label_of_tract(index);
+        self.has_remark = self.has_remark || (end.is_some() && !is_label);
         Ok(end.map(|end| self.phrase(Names::Nothing(Rule::Label), index, end, from)))
     }
 
@@ -249,7 +263,13 @@ impl<'a> Draft<'a> {
             next = plus(next, 2);
         }
         next = self.after_lands(next)?;
-        Ok(Some(self.phrase(Names::All, index, next, from)))
+        // Sections from one to another are whole, and so they stay where they are.
+        let names = if self.pieces.is_before_range(next) {
+            Names::Nothing(Rule::Word)
+        } else {
+            Names::All
+        };
+        Ok(Some(self.phrase(names, index, next, from)))
     }
 
     /// The index after `public domain lands`, or words like it, before `in` or `of`, which are left out.
@@ -337,15 +357,18 @@ impl<'a> Draft<'a> {
         None
     }
 
-    /// Doubts a part that may be something else: `S2` at the beginning, a half after lots, a corner, a part with a
+    /// Doubts a part that may be something else: `S2` before any other land, a half after lots, a corner, a part with a
     /// slash.
     fn doubt_part(&mut self, part: Phrase) {
         let digit = plus(part.first, 1);
         let is_digit = part.end == plus(part.first, 2) && self.pieces.has_digits(digit, 1);
-        let is_south = is_digit && part.first == 0 && self.pieces.is(0, b"s");
+        let is_south = is_digit && !self.names_land && self.pieces.is(part.first, b"s");
         let is_location = self.pieces.number(part.end).is_some()
             && self.pieces.is_dash(plus(part.end, 1));
-        if is_south && !is_location && !self.pieces.is(part.end, b"of") {
+        let is_sure = is_location
+            || self.pieces.is(part.end, b"of")
+            || self.pieces.leads_to_section(part.end);
+        if is_south && !is_sure {
             self.doubt();
         }
         let is_half = is_digit && self.pieces.number(digit) == Some(2);
@@ -400,7 +423,20 @@ impl<'a> Draft<'a> {
         } else {
             next
         };
-        if !is_after && !self.has_heading(place)? {
+        let heading = self.end_of_heading(place)?;
+        if !is_after && heading.is_none() {
+            return Ok(None);
+        }
+        // Before a township, `S2` may be the half of a section that was named, or of one that is missing, unless land follows.
+        let is_before_land = match heading {
+            Some(end) => self.pieces.is(end, b":"),
+            None => false,
+        };
+        let is_half = self.pieces.is(digits, b"2") || self.pieces.is(digits, b"4");
+        if !is_after && is_half && !is_before_land {
+            if self.last_section.is_none() || self.pieces.is(index.saturating_sub(1), b";") {
+                self.doubt();
+            }
             return Ok(None);
         }
         self.replace(index, b"sec. ", Rule::SectionWord)?;
@@ -424,6 +460,9 @@ impl<'a> Draft<'a> {
             return Ok(None);
         }
         let place = self.pieces.start(index);
+        if self.pieces.is_joined(index) {
+            self.write(place, place, b" ", Rule::Heading)?;
+        }
         self.write(place, place, b"sec. ", Rule::SectionWord)?;
         self.write_numeral(number)?;
         let end = if is_list {
@@ -468,7 +507,7 @@ impl<'a> Draft<'a> {
         if self.pieces.is(label, b"frstdivno") || self.pieces.is(label, b"frstdivlab") {
             return Ok(true);
         }
-        if self.pieces.is_dash(next) && self.has_heading(plus(next, 1))? {
+        if self.pieces.is_dash(next) && self.end_of_heading(plus(next, 1))?.is_some() {
             return Ok(true);
         }
         if self.pieces.is_before_dash_and_land(next) && self.pieces.begins_line(index) {
@@ -479,7 +518,7 @@ impl<'a> Draft<'a> {
         }
         let is_cell = self.pieces.is(next, b",") || self.pieces.is(next, b"|");
         let place = if is_cell { plus(next, 1) } else { next };
-        if self.pieces.begins_cell(index) && self.has_heading(place)? {
+        if self.pieces.begins_cell(index) && self.end_of_heading(place)?.is_some() {
             return Ok(true);
         }
         let is_first = last.is_none() || matches!(last, Some(Names::Heading | Names::Nothing(_)));
@@ -509,9 +548,11 @@ impl<'a> Draft<'a> {
         if last == Some(Names::Heading) && !follows_comma {
             return Ok(true);
         }
+        let cell = plus(next, 1);
+        let land = self.after_government(plus(cell, usize::from(self.pieces.is(cell, b"\""))));
         if last == Some(Names::Heading)
             && self.pieces.is(next, b",")
-            && self.pieces.begins_land(plus(next, 1))
+            && self.pieces.begins_land(land)
         {
             return Ok(true);
         }
@@ -535,6 +576,6 @@ impl<'a> Draft<'a> {
                 || self.pieces.is(next, b",")
                 || self.pieces.is(next, b"and")
                 || self.pieces.is(next, b"&"));
-        Ok(is_end || self.has_heading(next)?)
+        Ok(is_end || self.end_of_heading(next)?.is_some())
     }
 }

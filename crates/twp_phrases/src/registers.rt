@@ -29,10 +29,11 @@ impl<'a> Draft<'a> {
         } else {
             next
         };
-        let is_row = (self.pieces.begins_line(index) || is_after_label)
+        let is_after_row = self.pieces.is(index.saturating_sub(1), b";");
+        let is_row = (self.pieces.begins_line(index) || is_after_label || is_after_row)
             && self.pieces.has_digits(tier, 4);
         let is_after_state = self.last_names() == Some(Names::Nothing(Rule::Meridian));
-        if !is_code || !(is_row || is_after_state) || !self.has_heading(next)? {
+        if !is_code || !(is_row || is_after_state) || !self.end_of_heading(next)?.is_some() {
             return Ok(None);
         }
         let names = Names::Nothing(Rule::Meridian);

@@ -65,19 +65,29 @@ impl<'a> Pieces<'a> {
     fn end_of_figure_and_unit(&self, index: usize) -> Option<usize> {
         let Lead { end, has_unit } = self.lead_of_acreage(index);
         let mut next = match self.end_of_decimal(end) {
+            // A few acres may be less than the land.
+            Some(next)
+                if end == index
+                    && next == plus(end, 1)
+                    && self.has_digits(end, 1)
+                    && !self.is(index.saturating_sub(1), b"(") => {
+                return None;
+            }
             Some(next) => next,
             None if end > index || self.is(index.saturating_sub(1), b",") => {
                 self.end_of_count(end)?
             }
             None => return None,
         };
-        if self.is(next, b"and") {
-            if let Some(count) = self.end_of_count(plus(next, 1)) {
-                let dash = plus(count, usize::from(self.is_dash(count)));
-                if self.is(dash, b"hundredths") && is_acres(self.lower(plus(dash, 1))) {
-                    next = plus(dash, 1);
-                }
-            }
+        if self.number(next).is_some()
+            && self.is(plus(next, 1), b"/")
+            && self.is(plus(next, 2), b"100")
+        {
+            next = plus(next, 3);
+        }
+        let hundredths = self.end_of_count(next).unwrap_or(next);
+        if self.is(hundredths, b"hundredths") && is_acres(self.lower(plus(hundredths, 1))) {
+            next = plus(hundredths, 1);
         }
         if is_net_or_gross(self.lower(next)) && is_acres(self.lower(plus(next, 1))) {
             next = plus(next, 1);
@@ -108,7 +118,7 @@ impl<'a> Pieces<'a> {
             end: index,
             has_unit: false,
         };
-        if !matches!(self.kind(index), Kind::Other | Kind::The) {
+        if !matches!(self.kind(index), Kind::Other | Kind::The | Kind::And) {
             return lead;
         }
         let mut has_word = false;
@@ -154,13 +164,15 @@ impl<'a> Pieces<'a> {
                         || is_same(word, b"unit")
                         || is_same(word, b"spacing")
                         || is_same(word, b"drilling")
+                        || is_same(word, b"thereof")
+                        || is_same(word, b"therein")
                         || self.begins_step(index))
             }
         }
     }
 
-    /// Where the acreage at an index ends that stands alone at the end of a text or of a row: with two decimals, or
-    /// after a tab.
+    /// Where the acreage at an index ends that stands alone at the end of a text or of a row, or before a comma after a
+    /// part: with decimals, or after a tab.
     pub fn end_of_last_figure(&self, index: usize) -> Option<usize> {
         let end = self.end_of_decimal(index)?;
         let has_decimals = end > plus(index, 2) && self.is(end.saturating_sub(2), b".");
@@ -169,7 +181,8 @@ impl<'a> Pieces<'a> {
             && number > SECTIONS
             && number <= SECTION_ACRES;
         let is_apart = self.begins_column(index) || self.is_after_part(index);
-        let is_last = end == self.len() || (is_apart && self.begins_column(end));
+        let is_listed = self.is(end, b",") && has_decimals && self.is_after_part(index);
+        let is_last = end == self.len() || (is_apart && self.begins_column(end)) || is_listed;
         if is_last && index > 0 && (has_decimals || is_cell) {
             Some(end)
         } else {

@@ -3,7 +3,8 @@
 use crate::pieces::{Pieces, plus};
 use twp_grammar::Kind;
 use twp_words::{
-    are_meridian_letters, is_beyond_label, is_boundary, is_meridian, is_partial, is_state,
+    are_meridian_letters, is_beyond_label, is_boundary, is_meridian, is_meridian_of_two,
+    is_partial, is_state, is_state_of_two,
 };
 
 /// The most letters for a meridian.
@@ -94,25 +95,28 @@ impl<'a> Pieces<'a> {
         None
     }
 
-    /// Where a meridian with a number at an index ends, as `6th P.M.`, `08 PM`, or `6th Principal Meridian`.
+    /// Where a meridian with a number at an index ends, as `6th P.M.`, `08 MER`, or `6th Principal Meridian`.
     fn end_of_numbered(&self, index: usize) -> Option<usize> {
         let second = plus(index, 1);
         let is_ordinal = self.is_ordinal(index) && self.is_joined(second);
-        if is_ordinal && self.is(plus(second, 1), b"principal") {
-            return self.end_of_meridian_word(plus(second, 1));
+        let word = if is_ordinal { plus(second, 1) } else { second };
+        if let Some(end) = self.end_of_meridian_word(word) {
+            return Some(end);
         }
-        self.end_of_letters(if is_ordinal { plus(second, 1) } else { second })
+        self.end_of_letters(word)
     }
 
     /// Where the name of a meridian at an index ends, with the word for it.
     fn end_of_named(&self, index: usize) -> Option<usize> {
-        if self.is_meridian_of_two(index) {
+        if is_meridian_of_two(self.lower(index), self.lower(plus(index, 1))) {
             if let Some(end) = self.end_of_meridian_word(plus(index, 2)) {
                 return Some(end);
             }
         }
         if is_meridian(self.lower(index)) {
-            return self.end_of_meridian_word(plus(index, 1));
+            let next = plus(index, 1);
+            let is_hyphenated = self.is_dash(next) && self.is_joined(next);
+            return self.end_of_meridian_word(plus(next, usize::from(is_hyphenated)));
         }
         None
     }
@@ -186,7 +190,7 @@ impl<'a> Pieces<'a> {
             }
         }
         let point = plus(index, 1);
-        if self.is(index, b"meridian") {
+        if self.is(index, b"meridian") || self.is(index, b"meridan") {
             return Some(point);
         }
         if self.is(index, b"mer") {
@@ -215,7 +219,7 @@ impl<'a> Pieces<'a> {
                 None
             };
         }
-        if self.is_state_of_two(index) {
+        if is_state_of_two(self.lower(index), self.lower(second)) {
             return Some(third);
         }
         if matches!(self.kind(index), Kind::Other) && self.may_name_county(index) {
@@ -280,30 +284,5 @@ impl<'a> Pieces<'a> {
         self.is(bar, b"|")
             && self.is(plus(index, 1), b"|")
             && is_state(self.lower(bar.saturating_sub(1)))
-    }
-
-    /// Whether the pieces at an index are a meridian's name of two words.
-    fn is_meridian_of_two(&self, index: usize) -> bool {
-        let second: &'static [u8] = match self.lower(index) {
-            b"salt" => b"lake",
-            b"mount" | b"mt" => b"diablo",
-            b"new" => b"mexico",
-            b"black" => b"hills",
-            b"san" => b"bernardino",
-            b"wind" | b"copper" => b"river",
-            b"sixth" | b"fifth" | b"fourth" | b"third" | b"second" | b"first" => b"principal",
-            _ => return false,
-        };
-        self.lower(plus(index, 1)) == second
-    }
-
-    /// Whether the pieces at an index are a state's name of two words.
-    fn is_state_of_two(&self, index: usize) -> bool {
-        let second: &'static [u8] = match self.lower(index) {
-            b"new" => b"mexico",
-            b"north" | b"south" => b"dakota",
-            _ => return false,
-        };
-        self.lower(plus(index, 1)) == second
     }
 }

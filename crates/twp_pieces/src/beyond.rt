@@ -3,6 +3,7 @@
 use crate::pieces::{Pieces, plus};
 use std::alloc::{AllocError, Global};
 use twp_grammar::Kind;
+use twp_words::is_one_of;
 
 /// A phrase that says that lots and aliquot parts can't describe the land: from one place of the text up to another, and
 /// the reason, as in `a portion needs a survey`.
@@ -148,35 +149,5 @@ impl<'a> Pieces<'a> {
         self.is_one_of(of, "of")
             && (matches!(self.kind(fraction), Kind::Half | Kind::Quarter)
                 || self.is_one_of(fraction, "2 4 half quarter"))
-    }
-}
-
-/// Whether bytes are one of these texts, which are separated by spaces, in letters of either case.
-fn is_one_of(bytes: &[u8], texts: &str) -> bool {
-    if bytes.is_empty() {
-        return false;
-    }
-    let mut count: usize = 0;
-    let mut fits = true;
-    for byte in texts.as_bytes() {
-        if *byte == b' ' {
-            if fits && count == bytes.len() {
-                return true;
-            }
-            count = 0;
-            fits = true;
-        } else if fits {
-            fits = is_letter(bytes, count, *byte);
-            count = count.saturating_add(1);
-        }
-    }
-    fits && count == bytes.len()
-}
-
-/// Whether the byte at an index is this one, in either case.
-fn is_letter(bytes: &[u8], index: usize, letter: u8) -> bool {
-    match bytes.get(index) {
-        Some(byte) => byte.eq_ignore_ascii_case(&letter),
-        None => false,
     }
 }

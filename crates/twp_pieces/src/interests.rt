@@ -126,7 +126,9 @@ impl<'a> Pieces<'a> {
                 || (is_same(word, b"follows") && !(self.is(after, b":") || self.is(after, b",")))
                 || (is_same(word, b"wit") && !(self.is(after, b":") || self.is(after, b",")));
             if ends && has_property {
-                return Some(after);
+                let is_within = self.is(after, b"in")
+                    && self.end_of_state_after_in(after).is_none();
+                return if is_within { None } else { Some(after) };
             }
             has_property = has_property
                 || is_same(word, b"property")

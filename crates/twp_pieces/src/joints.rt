@@ -4,6 +4,9 @@
 use crate::pieces::{Pieces, plus};
 use twp_grammar::Kind;
 
+/// The most pieces of the aliquot parts after which a section is looked for.
+const STEPS_MOST: usize = 16;
+
 impl<'a> Pieces<'a> {
     /// Whether land may begin at an index.
     pub fn begins_land(&self, index: usize) -> bool {
@@ -37,20 +40,22 @@ impl<'a> Pieces<'a> {
             && (self.begins_land(plus(first, 2)) || self.begins_land(plus(first, 3)))
     }
 
-    /// Whether a mark at an index may begin a phrase: parentheses, brackets, a section sign, the number of a file, or a
-    /// dash before acreage.
+    /// Whether a mark at an index may begin a phrase: parentheses, brackets, a section sign, the number of a file, a dash
+    /// before acreage, or a question mark after a request.
     pub fn may_begin_phrase(&self, index: usize) -> bool {
         (self.is(index, b"(") || self.is(index, b"[") || self.is(index, b"\xC2\xA7"))
             || self.is(index, b"#")
             || self.is_dash(index)
+            || self.is_question_mark(index)
     }
 
-    /// The index after `all in` at an index, after a comma and before the word for a section.
+    /// The index after `all in`, or `both in`, at an index, after a mark and before the word for a section.
     pub fn after_all_in(&self, index: usize) -> usize {
         let next = plus(index, 2);
-        let is_all = self.is(index.saturating_sub(1), b",")
-            && matches!(self.kind(index), Kind::All)
-            && self.is(plus(index, 1), b"in");
+        let before = index.saturating_sub(1);
+        let is_all = (self.is(before, b",") && matches!(self.kind(index), Kind::All))
+            || self.is(index, b"both");
+        let is_all = is_all && self.is(plus(index, 1), b"in");
         if is_all && matches!(self.kind(next), Kind::Sec) {
             next
         } else {
@@ -82,6 +87,35 @@ impl<'a> Pieces<'a> {
             && !self.is_joined(next)
     }
 
+    /// Whether a section follows at an index, after aliquot parts without marks.
+    pub fn leads_to_section(&self, index: usize) -> bool {
+        for place in index..plus(index, STEPS_MOST) {
+            if matches!(self.kind(place), Kind::Sec) {
+                return true;
+            }
+            let is_part = self.begins_part(place)
+                || self.is(place, b"2")
+                || self.is(place, b"4")
+                || self.is(place, b"/")
+                || matches!(self.kind(place), Kind::Half | Kind::Quarter);
+            if !is_part {
+                return false;
+            }
+        }
+        false
+    }
+
+    /// Whether a range of sections follows `of` or `in` at an index, as in `of Sections 22-24`.
+    pub fn is_before_range(&self, index: usize) -> bool {
+        let mark = plus(index, 3);
+        let first = self.number(plus(index, 2));
+        (self.is(index, b"of") || self.is(index, b"in"))
+            && matches!(self.kind(plus(index, 1)), Kind::Sec)
+            && (matches!(self.kind(mark), Kind::To) || self.is_dash(mark))
+            && first.is_some()
+            && self.number(plus(mark, 1)).unwrap_or(0) > first.unwrap_or(0)
+    }
+
     /// Whether a slash with a space on each side is at an index.
     pub fn is_spaced_slash(&self, index: usize) -> bool {
         self.is(index, b"/")
@@ -104,15 +138,12 @@ impl<'a> Pieces<'a> {
         self.is_dash(index)
             && !self.is_joined(index)
             && !self.is_joined(land)
-            && matches!(
-                self.kind(land),
-                Kind::NorthSouth(_) | Kind::EastWest(_) | Kind::Corner(_) | Kind::All | Kind::Lot
-            )
+            && self.begins_land(land)
     }
 
     /// Whether a hyphen that divides a part is at an index, at the end of its line.
     pub fn is_hyphen_at_line_end(&self, index: usize) -> bool {
-        self.is(index, b"-") && self.is_joined(index) && self.has_line_feed_before(plus(index, 1))
+        self.is(index, b"-") && self.is_joined(index) && self.has_before(plus(index, 1), b'\n')
     }
 
     /// Whether the second word for a corner is at an index.

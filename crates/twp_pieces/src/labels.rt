@@ -2,7 +2,7 @@
 
 use crate::pieces::{Pieces, plus};
 use twp_grammar::Kind;
-use twp_words::{is_acres, is_column, is_same};
+use twp_words::{begins_request, is_acres, is_column, is_field, is_of_request, is_same};
 
 /// The most pieces of a label.
 const PIECES_MOST: usize = 24;
@@ -19,6 +19,9 @@ pub enum Position {
 impl<'a> Pieces<'a> {
     /// Where the label at an index ends.
     pub fn end_of_label(&self, index: usize) -> Option<usize> {
+        if self.is_question_mark(index) {
+            return Some(plus(index, 1));
+        }
         if let Some(end) = self.end_of_interest(index) {
             return Some(end);
         }
@@ -26,6 +29,9 @@ impl<'a> Pieces<'a> {
         let is_after_mark = self.is(before, b".") || self.is(before, b";") || self.is(before, b":");
         if !self.begins_line(index) && !is_after_mark {
             return None;
+        }
+        if let Some(end) = self.end_of_request(index) {
+            return Some(end);
         }
         if let Some(end) = self.end_of_property(index) {
             return Some(end);
@@ -37,6 +43,9 @@ impl<'a> Pieces<'a> {
             return None;
         }
         if let Some(end) = self.end_of_columns(index) {
+            return Some(end);
+        }
+        if let Some(end) = self.end_of_row_number(index) {
             return Some(end);
         }
         if let Some(end) = self.end_of_well(index) {
@@ -61,11 +70,7 @@ impl<'a> Pieces<'a> {
                 || is_same(word, b"subdivision")
                 || is_same(word, b"subdiv")
                 || (is_same(word, b"legal") && index > 0);
-            let is_before_colon = (is_same(word, b"type")
-                || is_same(word, b"legal")
-                || is_same(word, b"desc")
-                || is_same(word, b"description"))
-                && self.is(after, b":");
+            let is_before_colon = is_field(word) && self.is(after, b":");
             if !is_name && !is_before_colon {
                 break;
             }
@@ -90,9 +95,60 @@ impl<'a> Pieces<'a> {
             || matches!(self.kind(index), Kind::All)
             || is_same(word, b"und")
             || is_same(word, b"undivided")
+            || self.begins_register(index)
             || (self.number(index).is_some()
                 && (self.is_dash(plus(index, 1)) || self.is_north_south(plus(index, 1)))
                 && self.is_joined(plus(index, 1)))
+    }
+
+    /// Whether the township of a register begins at an index, as `0020N 0030W`, or `08 0020N 0030W` with its meridian.
+    pub(crate) fn begins_register(&self, index: usize) -> bool {
+        let is_code = self.has_digits(index, 1) || self.has_digits(index, 2);
+        let tier = plus(index, usize::from(is_code));
+        let range = plus(tier, 2);
+        self.has_digits(tier, 4) && self.is_north_south(plus(tier, 1)) && self.has_digits(range, 4)
+    }
+
+    /// Where a request ends that a text begins with, as `can you run`: its words say nothing of land, which follows them.
+    fn end_of_request(&self, index: usize) -> Option<usize> {
+        if index > 0 || !begins_request(self.lower(index)) {
+            return None;
+        }
+        for place in plus(index, 1)..plus(index, PIECES_MOST) {
+            if self.begins_place(place) || self.begins_part(place) {
+                return Some(place);
+            }
+            if !is_of_request(self.lower(place)) {
+                return None;
+            }
+        }
+        None
+    }
+
+    /// Whether the question mark at the end of a request is at an index.
+    pub(crate) fn is_question_mark(&self, index: usize) -> bool {
+        self.is(index, b"?") && plus(index, 1) == self.len() && self.end_of_request(0).is_some()
+    }
+
+    /// Where the number of a row ends, which is alone in the first cell: the row names a section with a word for it.
+    fn end_of_row_number(&self, index: usize) -> Option<usize> {
+        let next = plus(index, 1);
+        let is_cell = self.has_before(next, b'\t') || self.is(next, b"|");
+        let after = plus(next, usize::from(self.is(next, b"|")));
+        let is_list = self.is(after, b"and") || self.is(after, b"&");
+        if index > 0 || self.number(index).is_none() || !is_cell || is_list {
+            return None;
+        }
+        for place in next..self.len() {
+            if matches!(self.kind(place), Kind::Sec) {
+                return Some(next);
+            }
+            let is_tier = self.is_joined(place) && self.number(place.saturating_sub(1)).is_some();
+            if self.may_be_land(place) && !is_tier {
+                return None;
+            }
+        }
+        None
     }
 
     /// Whether the word for a township or a range is at an index.
@@ -111,7 +167,7 @@ impl<'a> Pieces<'a> {
     fn end_of_columns(&self, index: usize) -> Option<usize> {
         let mut count: usize = 0;
         for place in index..plus(index, PIECES_MOST) {
-            if place > index && self.has_line_feed_before(place) {
+            if place > index && self.has_before(place, b'\n') {
                 return if count > 1 { Some(place) } else { None };
             }
             let word = self.lower(place);
@@ -139,7 +195,7 @@ impl<'a> Pieces<'a> {
             return plus(index, 1);
         }
         if self.is(index, b"also")
-            && self.is(plus(index, 1), b"described")
+            && (self.is(plus(index, 1), b"described") || self.is(plus(index, 1), b"known"))
             && self.is(plus(index, 2), b"as")
         {
             return plus(index, 3);

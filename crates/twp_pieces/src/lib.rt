@@ -16,4 +16,6 @@ mod trailers;
 pub use beyond::{Beyond, beyond_of};
 pub use labels::Position;
 pub use pieces::{Pieces, plus};
-pub use twp_words::{is_same, is_worn_section, letters_of, tens_of, value_of};
+pub use twp_words::{
+    are_corners, begins_terms, is_same, is_worn_section, letters_of, tens_of, value_of,
+};

@@ -2,7 +2,10 @@
 
 use std::alloc::{AllocError, Global};
 use twp_grammar::{Kind, Token, Tokens};
-use twp_words::is_same;
+use twp_words::{is_damaged_corner, is_damaged_half, is_same, size_of_character};
+
+/// The most characters, one after another, that begin no token: a text with more has no reading, and isn't cut further.
+const UNKNOWN_MOST: usize = 1_000;
 
 /// The pieces of a text, from left to right.
 #[derive(Drop)]
@@ -43,12 +46,20 @@ impl<'a> Pieces<'a> {
         let lower = text.to_ascii_lowercase(alloc)?;
         let mut list = Vec::with_capacity(alloc, text.len())?;
         let mut end = 0;
+        let mut unknown: usize = 0;
         for token in Tokens::new(text) {
             if token.at < end {
                 continue;
             }
+            unknown = match token.kind {
+                Kind::BadByte => plus(unknown, 1),
+                _ => 0,
+            };
+            if unknown > UNKNOWN_MOST {
+                break;
+            }
             let size = match token.kind {
-                Kind::BadByte => size_of_character(text, &token),
+                Kind::BadByte => size_of_character(token.text, text.len().saturating_sub(token.at)),
                 _ => token.text.len(),
             };
             end = plus(token.at, size);
@@ -165,16 +176,10 @@ impl<'a> Pieces<'a> {
         false
     }
 
-    /// Whether a line feed is between the piece at an index and the one before it.
-    pub fn has_line_feed_before(&self, index: usize) -> bool {
+    /// Whether a byte of white space, as a tab, is between the piece at an index and the one before it.
+    pub fn has_before(&self, index: usize, byte: u8) -> bool {
         let white = self.text.get(self.end_before(index)..self.start(index));
-        white.unwrap_or(b"").contains(&b'\n')
-    }
-
-    /// Whether a tab is between the piece at an index and the one before it.
-    pub fn has_tab_before(&self, index: usize) -> bool {
-        let white = self.text.get(self.end_before(index)..self.start(index));
-        white.unwrap_or(b"").contains(&b'\t')
+        white.unwrap_or(b"").contains(&byte)
     }
 
     /// Whether the piece at an index is a hyphen or a dash.
@@ -215,38 +220,11 @@ fn size_of_first(token: &Token<'_>, lower: &[u8], before: &[Piece]) -> Option<us
     let bytes = token.text;
     match token.kind {
         Kind::BadNumber if bytes.len() == 6 => Some(2),
-        Kind::Other if begins_aliquots(bytes) && is_after_section(lower, before) => Some(1),
+        Kind::Other if matches!(bytes, [b'A', _, ..]) && is_after_section(lower, before) => Some(1),
         Kind::Other if is_damaged_corner(bytes) => Some(2),
         Kind::Other if is_damaged_half(bytes, lower.get(plus(token.at, 2)..)) => Some(1),
         _ => None,
     }
-}
-
-/// Whether a word is a corner and a letter that scanning makes of a `1`, as in `NEl/4`.
-fn is_damaged_corner(bytes: &[u8]) -> bool {
-    matches!(
-        bytes,
-        [
-            b'N' | b'n' | b'S' | b's',
-            b'E' | b'e' | b'W' | b'w',
-            b'l' | b'I' | b'i' | b'V' | b'v' | b'Y' | b'y'
-        ]
-    )
-}
-
-/// Whether a word is a side and a letter that scanning makes of a `1`, before a slash, as in `Wl/2`, or of `1/`, as in
-/// `WY2`.
-fn is_damaged_half(bytes: &[u8], rest: Option<&[u8]>) -> bool {
-    match bytes {
-        [b'N' | b'S' | b'E' | b'W', b'l' | b'I' | b'i'] => matches!(rest, Some([b'/', ..])),
-        [b'N' | b'S' | b'E' | b'W', b'Y'] => matches!(rest, Some([b'2', ..])),
-        _ => false,
-    }
-}
-
-/// Whether a word may be the A before aliquot parts, and their letters.
-fn begins_aliquots(bytes: &[u8]) -> bool {
-    matches!(bytes, [b'A', _, ..])
 }
 
 /// Whether pieces of a text in lowercase end with a section of a register: SN, and its number.
@@ -262,20 +240,5 @@ fn kind_of(bytes: &[u8], kind: Kind) -> Kind {
     match Tokens::new(bytes).next() {
         Some(token) if token.text.len() == bytes.len() => token.kind,
         _ => kind,
-    }
-}
-
-/// How many bytes the character has that begins no token.
-fn size_of_character(text: &[u8], token: &Token<'_>) -> usize {
-    let size: usize = match token.text.first() {
-        Some(0xC2..=0xDF) => 2,
-        Some(0xE0..=0xEF) => 3,
-        Some(0xF0..=0xF4) => 4,
-        _ => 1,
-    };
-    if plus(token.at, size) <= text.len() {
-        size
-    } else {
-        1
     }
 }

@@ -4,9 +4,9 @@ use crate::labels::Position;
 use crate::pieces::{Pieces, plus};
 use twp_grammar::Kind;
 use twp_words::{
-    adds_land, begins_reference, begins_terms, is_beyond_label, is_instrument, is_of_covering,
-    is_of_label, is_of_record, is_of_share, is_of_time, is_of_water, is_partial, may_be_corners,
-    names_parcel, points_into,
+    adds_land, begins_reference, begins_terms, is_acres, is_beyond_label, is_boundary,
+    is_instrument, is_numeral, is_of_count, is_of_covering, is_of_label, is_of_record, is_of_share,
+    is_of_time, is_of_water, is_partial, may_be_corners, names_parcel, points_into,
 };
 
 /// The most pieces of a remark.
@@ -57,11 +57,19 @@ impl<'a> Pieces<'a> {
             let is_name = position == Position::BeforeLand
                 && is_of_water(self.lower(place))
                 && self.begins_column(plus(place, 1));
+            let is_price = self.is(place.saturating_sub(1), b"/");
             let is_parcel = names_parcel(self.lower(place))
                 && place > index
-                && !self.is(index, b"total");
+                && !self.is(index, b"total")
+                && !is_price;
+            // Less than 100 acres may be less than the land that follows.
+            let figure = place.saturating_sub(1);
+            let is_area = position == Position::BeforeLand
+                && is_acres(self.lower(place))
+                && place > index
+                && !(self.number(figure).is_some() && self.bytes(figure).len() >= 3);
             let is_after = position == Position::AfterLand
-                && (is_parcel || matches!(self.kind(place), Kind::Colon));
+                && (is_parcel || is_boundary(self.lower(place)) || self.may_end_label(place));
             // The name of a well may have the numbers of two sections.
             let is_of_well = position == Position::BeforeLand
                 && matches!(self.kind(place.saturating_sub(1)), Kind::Other)
@@ -71,6 +79,7 @@ impl<'a> Pieces<'a> {
                 && self.is_joined(plus(place, 2));
             if (self.is_beyond_remark(place) && !is_name)
                 || is_after
+                || is_area
                 || (self.may_be_section(place) && !is_of_well)
             {
                 return None;
@@ -78,6 +87,22 @@ impl<'a> Pieces<'a> {
             has_word = has_word || self.says_something(place);
         }
         None
+    }
+
+    /// Whether a percentage is at an index, as `12.5%`.
+    fn is_percentage(&self, index: usize) -> bool {
+        match self.end_of_decimal(index) {
+            Some(end) => self.is(end, b"%"),
+            None => false,
+        }
+    }
+
+    /// Whether a colon at an index may end the label of other land: no word of two letters or more, and no price, follows.
+    fn may_end_label(&self, index: usize) -> bool {
+        let next = plus(index, 1);
+        let is_word = matches!(self.kind(next), Kind::Other)
+            && matches!(self.lower(next), [b'a'..=b'z', _, ..]);
+        matches!(self.kind(index), Kind::Colon) && !(is_word || self.is(next, b"$"))
     }
 
     /// Where parentheses end with a reference, terms, or a status, as `(see Comment 4)`, or `(pending)`.
@@ -90,7 +115,8 @@ impl<'a> Pieces<'a> {
             if self.is(place, b")") {
                 return Some(plus(place, 1));
             }
-            if self.is_beyond_remark(place) || self.may_be_section(place) {
+            let is_beyond = self.is_beyond_remark(place) || names_parcel(self.lower(place));
+            if is_beyond || self.may_be_section(place) {
                 return None;
             }
         }
@@ -98,7 +124,7 @@ impl<'a> Pieces<'a> {
     }
 
     /// Whether the label of a tract is at an index: first on its line, or after a sentence, as in `Tract 2:`.
-    fn is_label_of_tract(&self, index: usize) -> bool {
+    pub fn is_label_of_tract(&self, index: usize) -> bool {
         let before = index.saturating_sub(1);
         let is_apart = self.begins_line(index) || self.is(before, b".") || self.is(before, b";");
         let number = self.number(plus(index, 1)).unwrap_or(0);
@@ -115,13 +141,27 @@ impl<'a> Pieces<'a> {
         let is_after_colon = position == Position::BeforeLand
             && matches!(self.kind(before), Kind::Colon)
             && !self.is_joined(index);
-        let is_apart = self.begins_column(index) || is_after_colon;
+        let is_after_comma = position == Position::BeforeLand && self.is(before, b",");
+        let is_after_stop = position == Position::AfterLand
+            && self.is(before, b".")
+            && self.is_joined(before)
+            && !self.is_joined(index);
+        let is_after_acreage = position == Position::AfterLand
+            && is_acres(self.lower(before))
+            && self.is(index.saturating_sub(3), b".")
+            && self.bytes(index.saturating_sub(2)).len() >= 2;
+        let is_apart = self.begins_column(index)
+            || is_after_colon
+            || is_after_comma
+            || is_after_stop
+            || is_after_acreage;
         let is_new = position == Position::AfterLand
             && adds_land(self.lower(index))
-            && !(self.has_line_feed_before(index) && self.begins_column(plus(index, 2)));
+            && !(self.has_before(index, b'\n') && self.begins_column(plus(index, 2)));
         let is_first = match self.kind(index) {
             Kind::Number(number) => {
                 number > SECTIONS
+                    || number == 0
                     || self.is_date(index)
                     || self.end_of_code(index).is_some()
                     || is_of_time(self.lower(plus(index, 1)))
@@ -168,6 +208,9 @@ impl<'a> Pieces<'a> {
             if !is_part || (place > index && !self.is_joined(place)) {
                 break;
             }
+            if self.begins_register(place) {
+                return None;
+            }
             let is_long = matches!(self.kind(place), Kind::BadNumber)
                 || (self.number(place).is_some() && self.bytes(place).len() >= 4 && place > index);
             has_long = has_long || is_long;
@@ -187,6 +230,7 @@ impl<'a> Pieces<'a> {
                         && !matches!(self.kind(next), Kind::All))
                     || is_of_covering(self.lower(index.saturating_sub(1)))
                     || matches!(self.kind(index), Kind::Semicolon)
+                    || self.begins_register(index)
             }
             Position::AfterLand => matches!(self.kind(index), Kind::Semicolon),
         };
@@ -199,6 +243,7 @@ impl<'a> Pieces<'a> {
         (self.may_be_land(index) && !self.is_share(index))
             || self.is_township_word(index)
             || self.is(index, b"?")
+            || (self.is(index, b"'") && self.number(index.saturating_sub(1)).is_some())
             || may_be_corners(self.lower(index))
             || is_partial(self.lower(index))
             || (self.is(index, b"/")
@@ -251,10 +296,18 @@ impl<'a> Pieces<'a> {
                 || self.is(before, b",")
                 || self.is_dash(before));
         let number = self.number(index).unwrap_or(0);
-        number >= 1
-            && number <= SECTIONS
+        let is_in_digits = number >= 1 && number <= SECTIONS;
+        let is_followed = matches!(self.lower(next), [b'a'..=b'z', ..]) || self.is_dash(next);
+        let is_last_word = self.begins_column(next) || !is_followed;
+        let is_in_words = is_numeral(self.lower(index)) && is_last_word;
+        let is_first = self.is_joined(next)
+            && matches!(self.kind(next), Kind::Number(_) | Kind::BadNumber);
+        (is_in_digits || is_in_words)
+            && !is_first
             && !(is_record || is_end || self.is_date(index) || self.is_share(index))
             && !is_of_time(self.lower(next))
+            && !self.is(before, b"$")
+            && !self.is_percentage(index)
             && !(self.is(next, b",") && self.has_digits(plus(index, 2), 3))
     }
 
@@ -271,13 +324,18 @@ impl<'a> Pieces<'a> {
         match self.kind(index) {
             Kind::Other => is_word || is_instrument(self.lower(index)),
             Kind::BadNumber | Kind::To => true,
-            Kind::Number(_) => { self.is_date(index) || is_of_time(self.lower(plus(index, 1))) }
+            Kind::Number(_) => {
+                self.is_date(index)
+                    || is_of_time(self.lower(plus(index, 1)))
+                    || self.is_percentage(index)
+                    || self.bytes(index).len() >= 3
+            }
             _ => false,
         }
     }
 
     /// Whether the piece at an index is the first on its line, in its cell, or after a bar or wide white space.
-    pub(crate) fn begins_column(&self, index: usize) -> bool {
+    pub fn begins_column(&self, index: usize) -> bool {
         self.begins_cell(index) || self.start(index) > plus(self.end_before(index), 1)
     }
 }

@@ -3,8 +3,8 @@
 use crate::pieces::{Pieces, plus};
 use twp_grammar::Kind;
 use twp_words::{
-    are_corners, begins_exception, begins_terms, is_boundary, is_of_depth, is_of_right, is_of_town,
-    is_partial, is_same, is_worn_corner, names_parcel,
+    are_corners, begins_exception, begins_terms, is_beyond_terms, is_boundary, is_of_depth,
+    is_of_right, is_of_town, is_partial, is_same, is_worn_corner, names_parcel,
 };
 
 /// What is said after land.
@@ -12,10 +12,8 @@ use twp_words::{
 enum Trailer {
     /// Terms, interests, and records, which end at a semicolon, or with the line.
     Terms,
-    /// Depths: what follows could be other land at other depths.
+    /// Depths, of which some word must be a word for depths: what follows could be other land at other depths.
     Depths,
-    /// Depths without a word that says so, of which some word must be a word for depths.
-    DepthsAlone,
     /// Rights and reservations, which may name ways and waters.
     Rights,
     /// The land office in whose district the land is.
@@ -29,7 +27,7 @@ impl<'a> Pieces<'a> {
         let mut has_depth = false;
         for place in index..self.len() {
             let is_apart = matches!(self.kind(place), Kind::Semicolon)
-                || (self.has_line_feed_before(place) && place > index);
+                || (self.has_before(place, b'\n') && place > index);
             if is_apart && trailer == Trailer::Terms {
                 return Some(place);
             }
@@ -42,11 +40,12 @@ impl<'a> Pieces<'a> {
             };
             let is_part = trailer != Trailer::Office
                 && (names_parcel(word) || is_partial(word) || self.may_be_section(place));
-            if is_limit || is_part || is_of_town(word) {
+            let is_beyond = trailer == Trailer::Terms && is_beyond_terms(word);
+            if is_limit || is_part || is_beyond || is_of_town(word) {
                 return None;
             }
         }
-        if trailer == Trailer::DepthsAlone && !has_depth {
+        if trailer == Trailer::Depths && !has_depth {
             return None;
         }
         Some(self.len())
@@ -67,7 +66,11 @@ impl<'a> Pieces<'a> {
                 None
             };
         }
-        if is_same(word, b"subject") || is_same(word, b"reserving") || is_same(word, b"according") {
+        if is_same(word, b"subject")
+            || is_same(word, b"subj")
+            || is_same(word, b"reserving")
+            || is_same(word, b"according")
+        {
             return Some(Trailer::Rights);
         }
         if is_same(word, b"excepting") {
@@ -92,8 +95,10 @@ impl<'a> Pieces<'a> {
             };
         }
         if is_same(word, b"as") {
-            return if self.is(next, b"to") || self.is(next, b"shown") {
+            return if self.is(next, b"to") {
                 Some(Trailer::Depths)
+            } else if self.is(next, b"shown") {
+                Some(Trailer::Terms)
             } else {
                 None
             };
@@ -123,7 +128,7 @@ impl<'a> Pieces<'a> {
                 || self.is(next, b"to")
                 || self.is(next, b"surface");
             return if is_known {
-                Some(Trailer::DepthsAlone)
+                Some(Trailer::Depths)
             } else {
                 None
             };
@@ -135,7 +140,7 @@ impl<'a> Pieces<'a> {
             || is_same(word, b"mineral")
             || is_same(word, b"oil")
         {
-            return Some(Trailer::DepthsAlone);
+            return Some(Trailer::Depths);
         }
         if begins_terms(word) {
             Some(Trailer::Terms)
@@ -175,6 +180,13 @@ impl<'a> Pieces<'a> {
                 ) || self.begins_step(next)
             }
             Kind::All => false,
+            Kind::Other if self.is(index, b"land") || self.is(index, b"lands") => {
+                let before = index.saturating_sub(2);
+                self.is(plus(before, 1), b"the")
+                    && !(self.is(before, b"in")
+                        || self.is(before, b"of")
+                        || self.is(before, b"under"))
+            }
             Kind::Other if self.is(index, b"excepting") => !self.is(plus(next, 1), b"reserving"),
             _ => self.may_be_land(index),
         }
@@ -193,13 +205,16 @@ impl<'a> Pieces<'a> {
         }
     }
 
-    /// Whether the fraction at an index is of a date, as in `6/1/2027`.
+    /// Whether the fraction at an index is of a date, as in `6/1/2027`, or `1/4/82`.
     fn is_in_date(&self, index: usize) -> bool {
         let next = plus(index, 1);
-        self.is_joined(index)
-            && self.is(index.saturating_sub(1), b"/")
+        let is_last = self.is_joined(index) && self.is(index.saturating_sub(1), b"/");
+        let is_first = self.is(next, b"/") && !self.is_joined(index);
+        let year = plus(next, usize::from(is_first));
+        (is_last || is_first)
             && self.is_joined(next)
-            && self.number(next).is_some()
+            && self.is_joined(year)
+            && self.number(year).is_some()
     }
 
     /// Whether the letter at an index begins the number of a lease, as `E-70112`.

@@ -221,7 +221,7 @@ impl<'a> Plan<'a> {
                     let is_shared = self.count_of(phrase) > 1
                         && !self.has_range(phrase)
                         && (matches!(self.draft.pieces.kind(phrase.end), Kind::Colon)
-                            || self.draft.pieces.has_tab_before(phrase.end));
+                            || self.draft.pieces.has_before(phrase.end, b'\t'));
                     shared = if is_shared { Some(index) } else { None };
                 }
                 Names::Nothing(_) | Names::Heading => {}

@@ -78,12 +78,24 @@ impl<'a> Plan<'a> {
             Joining::Nothing if are_parts && left_out.is_empty() => self.are_bare_cells(
                 before, after,
             ),
-            Joining::Nothing if are_lots_and_part(before, after) => false,
+            // A part of two steps or more is no part of a lot.
+            Joining::Nothing
+                if before.names == Names::Lots
+                    && after.names == Names::Part
+                    && after.steps.end > plus(after.steps.first, 1) => false,
+            Joining::Nothing if are_parts && is_left_out_after(before, left_out, Rule::Acreage) => {
+                !self.draft.pieces.begins_column(after.first)
+            }
+            Joining::Nothing if are_parts && is_left_out_after(before, left_out, Rule::Label) => {
+                !self.are_tracts(before)
+            }
             Joining::Nothing => !has_section(left_out),
             Joining::Stop => !(are_parts && left_out.is_empty()),
             Joining::Colon => !has_section(left_out),
             Joining::And => {
-                are_parts && before.form != after.form && !is_repeated_after(before, left_out)
+                are_parts
+                    && before.form != after.form
+                    && !is_left_out_after(before, left_out, Rule::Repeated)
             }
             Joining::Comma => are_parts && self.are_comma_cells(before, after),
             Joining::Other => self.is_unsure_list(before, after, left_out),
@@ -91,9 +103,22 @@ impl<'a> Plan<'a> {
         }
     }
 
+    /// Whether the label of a tract follows a part of a section that was named before the first label, and not after one.
+    fn are_tracts(&self, part: Phrase) -> bool {
+        let pieces = &self.draft.pieces;
+        let is_before = match self.draft.last_section {
+            Some(section) => {
+                section.first < part.first
+                    && !pieces.is_label_of_tract(section.first.saturating_sub(3))
+            }
+            None => false,
+        };
+        is_before && pieces.is_label_of_tract(part.end)
+    }
+
     /// Whether two corners without a fraction are in cells of their own: the second may be a part of the first.
     fn are_bare_cells(&self, before: Phrase, after: Phrase) -> bool {
-        self.draft.pieces.has_tab_before(after.first)
+        self.draft.pieces.has_before(after.first, b'\t')
             && matches!(
                 self.draft.pieces.kind(before.end.saturating_sub(1)),
                 Kind::Corner(_)
@@ -149,19 +174,12 @@ impl<'a> Plan<'a> {
     }
 }
 
-/// Whether a part of two steps or more follows lots, with white space alone between them: it is no part of a lot.
-fn are_lots_and_part(before: Phrase, after: Phrase) -> bool {
-    before.names == Names::Lots
-        && after.names == Names::Part
-        && after.steps.end > plus(after.steps.first, 1)
-}
-
-/// Whether parentheses after a part repeat it, as in `the East Half (E/2)`.
-fn is_repeated_after(before: Phrase, left_out: &[Placed]) -> bool {
+/// Whether one phrase is left out by a rule after a part, as the parentheses in `the East Half (E/2)`, or the acreage in
+/// `NENE 40.00`.
+fn is_left_out_after(before: Phrase, left_out: &[Placed], rule: Rule) -> bool {
     match left_out {
         [placed] => {
-            placed.phrase.first == before.end
-                && placed.phrase.names == Names::Nothing(Rule::Repeated)
+            placed.phrase.first == before.end && placed.phrase.names == Names::Nothing(rule)
         }
         _ => false,
     }

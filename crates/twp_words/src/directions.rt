@@ -108,3 +108,25 @@ pub fn value_of(digits: &[u8]) -> u16 {
     }
     value
 }
+
+/// Whether a word is a corner and a letter that scanning makes of a `1`, as in `NEl/4`.
+pub fn is_damaged_corner(bytes: &[u8]) -> bool {
+    matches!(
+        bytes,
+        [
+            b'N' | b'n' | b'S' | b's',
+            b'E' | b'e' | b'W' | b'w',
+            b'l' | b'I' | b'i' | b'V' | b'v' | b'Y' | b'y'
+        ]
+    )
+}
+
+/// Whether a word is a side and a letter that scanning makes of a `1`, before a slash, as in `Wl/2`, or of `1/`, as in
+/// `WY2`.
+pub fn is_damaged_half(bytes: &[u8], rest: Option<&[u8]>) -> bool {
+    match bytes {
+        [b'N' | b'S' | b'E' | b'W', b'l' | b'I' | b'i'] => matches!(rest, Some([b'/', ..])),
+        [b'N' | b'S' | b'E' | b'W', b'Y'] => matches!(rest, Some([b'2', ..])),
+        _ => false,
+    }
+}

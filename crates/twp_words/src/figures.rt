@@ -19,6 +19,7 @@ pub fn is_acreage_lead(word: &[u8]) -> bool {
         || is_same(word, b"aggregating")
         || is_same(word, b"aggregate")
         || is_same(word, b"total")
+        || is_same(word, b"tot")
         || is_same(word, b"totaling")
         || is_same(word, b"gross")
         || is_same(word, b"net")
@@ -41,6 +42,16 @@ pub fn is_area_word(word: &[u8]) -> bool {
         || is_same(word, b"approximately")
         || is_same(word, b"about")
         || is_same(word, b"mineral")
+        || is_same(word, b"and")
+}
+
+/// Words for a number that a section may have.
+pub fn is_numeral(word: &[u8]) -> bool {
+    is_of_count(word)
+        && !(is_same(word, b"hundred")
+            || is_same(word, b"thousand")
+            || is_same(word, b"and")
+            || is_same(word, b"-"))
 }
 
 /// The words of a number.

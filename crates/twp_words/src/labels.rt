@@ -17,6 +17,9 @@ pub fn is_of_label(word: &[u8]) -> bool {
         || is_same(word, b"number")
         || is_same(word, b"premises")
         || is_same(word, b"areas")
+        || is_same(word, b"cat")
+        || is_same(word, b"category")
+        || is_same(word, b"class")
 }
 
 /// Words for instruments and where they are recorded, with which such a label begins, too.
@@ -77,6 +80,28 @@ pub fn is_column(word: &[u8]) -> bool {
         || is_same(word, b"surtype")
         || is_same(word, b"survey")
         || is_same(word, b"state")
+        || is_same(word, b"district")
+        || is_same(word, b"field")
+        || is_same(word, b"office")
+        || is_same(word, b"mgmt")
+        || is_same(word, b"agency")
+        || is_same(word, b"gross")
+        || is_same(word, b"net")
+        || is_same(word, b"meridian")
+        || is_same(word, b"owner")
+}
+
+/// The names of fields of a record, before a colon.
+pub fn is_field(word: &[u8]) -> bool {
+    is_same(word, b"type")
+        || is_same(word, b"legal")
+        || is_same(word, b"desc")
+        || is_same(word, b"description")
+        || is_same(word, b"twnshplab")
+        || is_same(word, b"frstdivno")
+        || is_same(word, b"frstdivlab")
+        || is_same(word, b"secdivno")
+        || is_same(word, b"secdivlab")
 }
 
 /// Words in whose company a label may be of land, or limit it: no label has them.
@@ -227,6 +252,31 @@ pub fn is_beyond_label(word: &[u8]) -> bool {
         || is_same(word, b"remainder")
         || is_same(word, b"rest")
         || is_same(word, b"additional")
+        || is_same(word, b"roads")
+        || is_same(word, b"canals")
+        || is_same(word, b"pipelines")
+        || is_same(word, b"esmt")
+        || is_same(word, b"esmts")
+        || is_same(word, b"easements")
+        || is_same(word, b"hwy")
+        || is_same(word, b"highways")
+        || is_same(word, b"pad")
+        || is_same(word, b"pads")
+        || is_same(word, b"pond")
+        || is_same(word, b"ponds")
+        || is_same(word, b"tower")
+        || is_same(word, b"towers")
+        || is_same(word, b"islands")
+        || is_same(word, b"accretions")
+        || is_same(word, b"estates")
+        || is_same(word, b"ros")
+        || is_same(word, b"ditches")
+        || is_same(word, b"lanes")
+        || is_same(word, b"campground")
+        || is_same(word, b"reservoir")
+        || is_same(word, b"reservoirs")
+        || is_same(word, b"site")
+        || is_same(word, b"sites")
 }
 
 /// The words of `all that certain real property being`.
@@ -296,8 +346,10 @@ pub fn adds_land(word: &[u8]) -> bool {
         || is_same(word, b"parcel")
         || is_same(word, b"site")
         || is_same(word, b"subject")
+        || is_same(word, b"subj")
         || is_same(word, b"according")
         || is_same(word, b"grantor")
+        || is_same(word, b"as")
 }
 
 /// Words with which the name of a water ends.

@@ -82,3 +82,28 @@ pub fn is_state(word: &[u8]) -> bool {
         || is_same(word, b"florida")
         || is_same(word, b"michigan")
 }
+
+/// Whether two words are a meridian's name.
+pub fn is_meridian_of_two(first: &[u8], second: &[u8]) -> bool {
+    let last: &'static [u8] = match first {
+        b"salt" => b"lake",
+        b"mount" | b"mt" => b"diablo",
+        b"new" => b"mexico",
+        b"black" => b"hills",
+        b"san" => b"bernardino",
+        b"wind" | b"copper" => b"river",
+        b"sixth" | b"fifth" | b"fourth" | b"third" | b"second" | b"first" => b"principal",
+        _ => return false,
+    };
+    is_same(second, last)
+}
+
+/// Whether two words are a state's name.
+pub fn is_state_of_two(first: &[u8], second: &[u8]) -> bool {
+    let last: &'static [u8] = match first {
+        b"new" => b"mexico",
+        b"north" | b"south" => b"dakota",
+        _ => return false,
+    };
+    is_same(second, last)
+}

@@ -44,7 +44,7 @@ pub fn may_be_corners(word: &[u8]) -> bool {
     match word {
         [b'n' | b's', b'e' | b'w'] => true,
         [b'n' | b's', b'e' | b'w', third, ..] => {
-            matches!(*third, b'n' | b's' | b'0'..=b'9') || word.len() == 4
+            matches!(*third, b'n' | b's' | b'q' | b'h' | b'0'..=b'9') || word.len() == 4
         }
         _ => false,
     }
@@ -110,6 +110,8 @@ pub fn is_of_record(word: &[u8]) -> bool {
 /// Words that tell of a part of the land, of other land, or of a correction: no remark has them.
 pub fn is_partial(word: &[u8]) -> bool {
     is_side_with_more(word)
+        || is_like_exception(word)
+        || is_like_section(word)
         || is_same(word, b"forty")
         || is_same(word, b"eighty")
         || is_same(word, b"thirty")
@@ -181,6 +183,95 @@ pub fn is_partial(word: &[u8]) -> bool {
         || is_same(word, b"should")
         || is_same(word, b"meaning")
         || is_same(word, b"never")
+        || is_same(word, b"add")
+        || is_same(word, b"added")
+        || is_same(word, b"drop")
+        || is_same(word, b"exclude")
+        || is_same(word, b"excludes")
+        || is_same(word, b"excluded")
+        || is_same(word, b"exclusion")
+        || is_same(word, b"exclusions")
+        || is_same(word, b"correct")
+        || is_same(word, b"incorrect")
+        || is_same(word, b"orig")
+        || is_same(word, b"original")
+        || is_same(word, b"revised")
+        || is_same(word, b"denied")
+        || is_same(word, b"taken")
+        || is_same(word, b"shld")
+        || is_same(word, b"ff")
+        || is_same(word, b"tr")
+        || is_same(word, b"pb")
+        || is_same(word, b"ms")
+        || is_same(word, b"sur")
+        || is_same(word, b"protracted")
+        || is_same(word, b"meets")
+        || is_same(word, b"don")
+        || is_same(word, b"doesn")
+        || is_same(word, b"isn")
+        || is_same(word, b"aren")
+        || is_same(word, b"didn")
+        || is_same(word, b"haven")
+        || is_same(word, b"hasn")
+        || is_same(word, b"wasn")
+        || is_same(word, b"weren")
+        || is_same(word, b"cannot")
+        || is_same(word, b"retained")
+        || is_same(word, b"deduct")
+        || is_same(word, b"deducted")
+        || is_same(word, b"withheld")
+        || is_same(word, b"conveyed")
+        || is_same(word, b"deeded")
+        || is_same(word, b"kept")
+        || is_same(word, b"condemned")
+        || is_same(word, b"segregated")
+        || is_same(word, b"vacated")
+        || is_same(word, b"too")
+        || is_same(word, b"another")
+        || is_same(word, b"more")
+        || is_same(word, b"continued")
+        || is_same(word, b"cont")
+        || is_same(word, b"superseded")
+        || is_same(word, b"amended")
+        || is_same(word, b"scratch")
+        || is_same(word, b"maybe")
+        || is_same(word, b"illegible")
+        || is_same(word, b"stricken")
+        || is_same(word, b"rescinded")
+        || is_same(word, b"canceled")
+        || is_same(word, b"mistake")
+        || is_same(word, b"misdescribed")
+        || is_same(word, b"erroneous")
+        || is_same(word, b"sic")
+        || is_same(word, b"unsure")
+        || is_same(word, b"instead")
+        || is_same(word, b"back")
+        || is_same(word, b"bottom")
+        || is_same(word, b"top")
+        || is_same(word, b"center")
+        || is_same(word, b"piece")
+        || is_same(word, b"sliver")
+        || is_same(word, b"bench")
+        || is_same(word, b"partially")
+        || is_same(word, b"mostly")
+        || is_same(word, b"eastside")
+        || is_same(word, b"westside")
+        || is_same(word, b"nly")
+        || is_same(word, b"sly")
+        || is_same(word, b"ely")
+        || is_same(word, b"wly")
+        || is_same(word, b"owned")
+        || is_same(word, b"yds")
+        || is_same(word, b"yd")
+        || is_same(word, b"sct")
+        || is_same(word, b"sctn")
+        || is_same(word, b"apart")
+        || is_same(word, b"longer")
+        || is_same(word, b"rejected")
+        || is_same(word, b"terminated")
+        || is_same(word, b"instead")
+        || is_same(word, b"retain")
+        || is_same(word, b"retains")
 }
 
 /// Whether a word is made of that for a side, as `northerly`, `eastern`, or `Southhalf`.
@@ -192,4 +283,23 @@ fn is_side_with_more(word: &[u8]) -> bool {
             || word.starts_with(b"wester")
             || word.starts_with(b"easth")
             || word.starts_with(b"westh"))
+}
+
+/// Whether a word is like one for an exception, with a slip, or as no list has it.
+fn is_like_exception(word: &[u8]) -> bool {
+    let is_front = word.starts_with(b"exc")
+        || word.starts_with(b"exep")
+        || word.starts_with(b"exemp")
+        || word.starts_with(b"exlu")
+        || word.starts_with(b"expt")
+        || word.starts_with(b"xc");
+    is_front && !begins_exception(word) && !word.starts_with(b"exchang")
+}
+
+/// Whether a word is like `section`, with a slip.
+fn is_like_section(word: &[u8]) -> bool {
+    word.len() <= 8
+        && word.starts_with(b"s")
+        && word.ends_with(b"tion")
+        && !is_same(word, b"station")
 }

@@ -1,4 +1,4 @@
-//! Whether two texts are the same, and whether letters are those of corners.
+//! Whether two texts are the same, whether a text is one of several, and whether letters are those of corners.
 
 /// Whether two texts are the same. A pattern of bytes would be proved byte by byte, which takes several times as long.
 pub fn is_same(word: &[u8], text: &[u8]) -> bool {
@@ -16,4 +16,45 @@ pub fn are_corners(letters: &[u8]) -> bool {
         }
     }
     true
+}
+
+/// Whether bytes are one of these texts, which are separated by spaces, in letters of either case.
+pub fn is_one_of(bytes: &[u8], texts: &str) -> bool {
+    if bytes.is_empty() {
+        return false;
+    }
+    let mut count: usize = 0;
+    let mut fits = true;
+    for byte in texts.as_bytes() {
+        if *byte == b' ' {
+            if fits && count == bytes.len() {
+                return true;
+            }
+            count = 0;
+            fits = true;
+        } else if fits {
+            fits = is_letter(bytes, count, *byte);
+            count = count.saturating_add(1);
+        }
+    }
+    fits && count == bytes.len()
+}
+
+/// Whether the byte at an index is this one, in either case.
+fn is_letter(bytes: &[u8], index: usize, letter: u8) -> bool {
+    match bytes.get(index) {
+        Some(byte) => byte.eq_ignore_ascii_case(&letter),
+        None => false,
+    }
+}
+
+/// How many bytes a character has by its first byte, if no fewer are left of its text.
+pub fn size_of_character(first: &[u8], left: usize) -> usize {
+    let size: usize = match first.first() {
+        Some(0xC2..=0xDF) => 2,
+        Some(0xE0..=0xEF) => 3,
+        Some(0xF0..=0xF4) => 4,
+        _ => 1,
+    };
+    if size <= left { size } else { 1 }
 }

@@ -15,6 +15,7 @@ pub fn begins_terms(word: &[u8]) -> bool {
         || is_same(word, b"expires")
         || is_same(word, b"rental")
         || is_same(word, b"decimal")
+        || is_same(word, b"dec")
         || is_same(word, b"royalty")
         || is_same(word, b"open")
         || is_same(word, b"leased")
@@ -33,6 +34,24 @@ pub fn begins_terms(word: &[u8]) -> bool {
         || is_same(word, b"blm")
         || is_same(word, b"usa")
         || is_same(word, b"private")
+        || is_same(word, b"interest")
+        || is_same(word, b"int")
+        || is_same(word, b"pls")
+        || is_same(word, b"please")
+        || is_same(word, b"thx")
+        || is_same(word, b"thanks")
+}
+
+/// Words with which what looks like a term takes land away, or limits it, as in `lease excludes the barn`.
+pub fn is_beyond_terms(word: &[u8]) -> bool {
+    is_same(word, b"not")
+        || is_same(word, b"but")
+        || is_same(word, b"rest")
+        || is_same(word, b"remainder")
+        || is_same(word, b"void")
+        || is_same(word, b"remove")
+        || is_same(word, b"cancel")
+        || is_same(word, b"feet")
 }
 
 /// Words of which terms after land are of depths.
@@ -90,6 +109,14 @@ pub fn is_boundary(word: &[u8]) -> bool {
         || is_same(word, b"water")
         || is_same(word, b"mark")
         || is_same(word, b"shoreline")
+        || is_same(word, b"hill")
+        || is_same(word, b"hills")
+        || is_same(word, b"pit")
+        || is_same(word, b"dune")
+        || is_same(word, b"dunes")
+        || is_same(word, b"bar")
+        || is_same(word, b"ground")
+        || is_same(word, b"orchard")
 }
 
 /// What a share is of, as in `50% fee min`, or `1/3 int only`.
@@ -138,6 +165,17 @@ pub fn names_parcel(word: &[u8]) -> bool {
         || is_same(word, b"portion")
         || is_same(word, b"part")
         || is_same(word, b"adjoining")
+        || is_same(word, b"pasture")
+        || is_same(word, b"island")
+        || is_same(word, b"orchard")
+        || is_same(word, b"barn")
+        || is_same(word, b"house")
+        || is_same(word, b"rods")
+        || is_same(word, b"rod")
+        || is_same(word, b"millsite")
+        || is_same(word, b"homestead")
+        || is_same(word, b"adjacent")
+        || is_same(word, b"abutting")
 }
 
 /// What `all` may be of, if it isn't of land.
