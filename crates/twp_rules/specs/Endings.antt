@@ -49,8 +49,8 @@ section_again = codes "section" ∷ codes "sec" ∷ codes "sec." ∷ []
 
 -- what a meridian or a county ends with, if not with a digit, or a cell after a state
 abbrev pub meridian_ends : List (List ℕ)
-meridian_ends = codes "meridian" ∷ codes "meridan" ∷ codes "mer" ∷ codes "mer." ∷ codes "m" ∷ codes "m." ∷ codes "county"
-    ∷ codes "co" ∷ codes "co." ∷ codes "|" ∷ []
+meridian_ends = codes "meridian" ∷ codes "meridan" ∷ codes "mer" ∷ codes "mer." ∷ codes "m" ∷ codes "m."
+    ∷ codes "county" ∷ codes "co" ∷ codes "co." ∷ codes "|" ∷ []
 
 -- what a county or a state begins with, if not with its name, after white space
 abbrev pub meridian_fronts : List (List ℕ)

@@ -169,8 +169,8 @@ is_place_name seen =
 abbrev pub are_columns : List ℕ → Bool
 are_columns seen = begins_with_one seen column_names && has_no_digit seen
 
--- what is said of land, without naming any: terms, records, depths, rights, numbers of leases and parcels, interests,
--- and properties
+-- what is said of land, without naming any: terms, records, depths, rights, numbers of leases and parcels,
+-- interests, and properties
 abbrev pub is_said_of_land : List ℕ → Bool
 is_said_of_land seen =
     (begins_with_one seen rights || begins_with_one seen terms || begins_with_one seen depths
