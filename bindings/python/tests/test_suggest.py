@@ -260,7 +260,7 @@ class Batch(BatchCase):
 
     def test_columns(self):
         data = f'description\n"{MANY}"\n{TWO}\n"sec. 14, NE1/4."\nthe old mill\n"N2 Sec 14-3N-3W"\n"TRACT 1: sec. 14, all."\n' \
-            '"TRACT 1: sec. 14."\n'
+            '"TRACT 1: sec. 14."\n"RABBIT CREEK: sec. 14."\n'
         status, (heading, *rows) = self.answers("--suggest", data=data)
         self.assertEqual((status, heading), (1, ["description", *ADDED, *SUGGESTED]))
         self.assertEqual([row[-4:] for row in rows], [
@@ -270,6 +270,7 @@ class Batch(BatchCase):
             ["", "0", "", ""],
             ["T. 3 N., R. 3 W., sec. 14, N1/2.", "1", "", ""],
             ["sec. 14, all.", "1", "without `TRACT 1:`: this is not land", "640.00"],
+            ["sec. 14.", "1", "without `TRACT 1:`: this is not land", "640.00"],
             # A section without land beside a remark: the land may be in the remark.
             ["", "0", "", ""],
         ])
