@@ -2,8 +2,8 @@
 """Tries the wrong bodies that are kept for releases: `bugs.py [--lanes N] [NAME..]`, for these crates or for all.
 
 They are in crates/NAME/must-fail-release, in the form of those in must-fail, which every run of the tests tries.
-This copies the repository to a temporary folder, puts them in place of the others there, and has `rt must-fail` try
-them. An edit that was tried on this machine before isn't tried again while nothing that it depends on changes. A
+This copies the repository to a temporary folder, puts them in place of the others there, proves the libraries that the
+crates depend on, several at a time, and has `rt must-fail` try the edits. An edit that was tried on this machine before isn't tried again while nothing that it depends on changes. A
 name may also be that of one edit, such as twp_grid/lot_count_of_section_six.
 
 Some wrong bodies can't be refused by any contract, such as one that answers that memory ran out. Those are listed,
@@ -31,8 +31,8 @@ import threading
 ROOT = pathlib.Path(__file__).resolve().parent.parent
 FOLDER = "must-fail-release"
 LIST = "let-through"
-# What rt reads beside the crates.
-TOP = ("crates.txt", "HANDLES")
+# What rt reads beside the crates, and what proves several crates at a time.
+TOP = ("crates.txt", "HANDLES", "tools")
 # The most memory that a check takes, in bytes; for some crates it is half as much.
 MEMORY = 3_000_000_000
 ENDED = re.compile(r"must-fail (\w+)/(\S+)\.edit: (refused|NOT REFUSED|BAD EDIT|NOT TRIED)")
@@ -113,6 +113,14 @@ def copy_to(folder, edits, of=FOLDER):
             shutil.copy2(ROOT / "crates" / crate / of / f"{name}.edit", place)
 
 
+def prove_below(folder, names):
+    """Proves the libraries that crates depend on: rt would prove one after another, and each crate would wait for it."""
+    for name in names:
+        command = [sys.executable, str(folder / "tools" / "prove.py"), name]
+        if subprocess.run(command, cwd=folder, stdout=subprocess.DEVNULL, check=False).returncode:
+            sys.exit(f"bugs.py: a library below {name} is not proved")
+
+
 def lanes():
     """How many checks can run at a time."""
     with open("/proc/meminfo", encoding="ascii") as it:
@@ -158,6 +166,7 @@ def main(words):
         return check(edits)
     with tempfile.TemporaryDirectory(prefix="township-bugs-") as folder:
         copy_to(pathlib.Path(folder), edits)
+        prove_below(pathlib.Path(folder), edits)
         results = tried(folder, edits, options.lanes or lanes())
     every = [f"{crate}/{edit}" for crate, names in edits.items() for edit in names]
     refused = [it for it in every if results.get(it) == "refused" and it not in known]
