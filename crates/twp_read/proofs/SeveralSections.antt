@@ -50,7 +50,7 @@ word_by text at state its is spelled within =
     by_token word.Usual word.Sections text at state its (made Sec (codes "secs") at) (at + 4) past.SectionWord
     starts refl (omega arith) is refl refl
 
--- a space after the full stop
+-- a space after the period
 space_by : (text : List ℕ) (at : ℕ) (its : List Item)
     → drop at text ≡ codes " " ++ drop (at + 1) text → at + 1 ≤ length text
     → LeadsBy word.Sections word.Sections text at past.SectionStop its (at + 1) past.SectionStop its
@@ -65,7 +65,7 @@ space_by text at its spelled within = record {
   within = within;
 }
 
--- a full stop after the word
+-- a period after the word
 stop_by : (text : List ℕ) (at : ℕ) (its : List Item)
     → drop at text ≡ codes ". " ++ drop (at + 2) text → at + 2 ≤ length text
     → LeadsBy word.Sections word.Sections text at past.SectionWord its (at + 1) past.SectionStop its

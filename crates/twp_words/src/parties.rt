@@ -107,7 +107,7 @@ pub fn is_of_record(word: &[u8]) -> bool {
         || is_same(word, b"dec")
 }
 
-/// Words that tell of a part of the land, of other land, or of a correction: no remark has them.
+/// Words for a part of the land, for other land, or for a correction: no remark has them.
 pub fn is_partial(word: &[u8]) -> bool {
     is_side_with_more(word)
         || is_like_exception(word)

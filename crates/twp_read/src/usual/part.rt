@@ -1,4 +1,4 @@
-//! Parts in their usual spelling: their steps, what comes between them, and the full stop after the last.
+//! Parts in their usual spelling: their steps, what comes between them, and the period after the last.
 ghost use Rattle.std.specs.Prelude.{◌≡◌, ◌≤◌, ◌<◌, ◌∷◌, ◌+◌, [], true, List, length, IfOk, IfSome};
 ghost use Rattle.twp_grammar.specs.declared.item.Item.{Item as TakenItem};
 ghost use Rattle.twp_grammar.specs.Machine.{is_in_chain};
@@ -28,7 +28,7 @@ const COMMA_SPACE: usize = 2;
 /// How many bytes `and` has, with a space after it.
 const AND: usize = 4;
 
-/// How many bytes a full stop has.
+/// How many bytes a period has.
 const STOP: usize = 1;
 
 impl Items {
@@ -194,7 +194,7 @@ pub fn after_and(text: &[u8], comma: Reached) -> Option<Reached>
     }
 }
 
-/// Passes over the full stop that usually ends a description, where one may follow the tokens so far.
+/// Passes over the period that usually ends a description, where one may follow the tokens so far.
 #[inline(always)]
 pub fn after_stop(text: &[u8], from: Reached) -> Reached
     requires { from.at ≤ length text.now }
