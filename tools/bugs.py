@@ -3,8 +3,9 @@
 
 They are in crates/NAME/must-fail-release, in the form of those in must-fail, which every run of the tests tries.
 This copies the repository to a temporary folder, puts them in place of the others there, proves the libraries that the
-crates depend on, several at a time, and has `rt must-fail` try the edits. An edit that was tried on this machine before isn't tried again while nothing that it depends on changes. A
-name may also be that of one edit, such as twp_grid/lot_count_of_section_six.
+crates depend on, several at a time, and has `rt must-fail` try the edits. An edit that was tried on this machine before
+isn't tried again while nothing that it depends on changes. A name may also be that of one edit, such as
+twp_grid/lot_count_of_section_six.
 
 Some wrong bodies can't be refused by any contract, such as one that answers that memory ran out. Those are listed,
 as lines `EDIT: REASON`, in the file let-through beside them. They must still be let through, and don't count.
