@@ -3,13 +3,13 @@ from __future__ import annotations
 
 import csv
 import io
-import os
 import xml.etree.ElementTree as ET
 from pathlib import Path
 
 import township
 
 from page import Page
+from strain import Strain
 
 TOP = Path(__file__).resolve().parents[2]
 NOTES = TOP / "samples" / "b1.csv"
@@ -242,22 +242,25 @@ def test_long_texts_are_answered_at_once(page: Page) -> None:
     text = f"{'; '.join(groups)}; sec. 10."
     text += " " * (65_536 - len(text) - TRIES)
     listed = "name,description\n" + "".join(f'{k},"sec. 8, {part}."\n' for k, part in enumerate(parts))
+    strain = Strain()
     page.tab("land")
     pasted = [time_of_paste(page, "#description", "#land-answer", text, "acres") for _ in range(TRIES)]
     page.settle()
+    strain.look()
     typed = [time_of_key(page, "#description", "#land-answer", 0) for _ in range(TRIES)]
+    strain.look()
     assert len(page.value("#description")) == 65_536 and "acres" in page.text("#land-answer")
     page.tab("tracts")
     pasted_lists = [time_of_paste(page, "#tracts", "#tracts-answer", listed, "1000 tracts") for _ in range(TRIES)]
     page.settle()
+    strain.look()
     # In the last description, before the quotation mark that ends it.
     typed_lists = [time_of_key(page, "#tracts", "#tracts-answer", len('"\n')) for _ in range(TRIES)]
     assert "1000 tracts" in page.text("#tracts-answer") and len(page.all("#tracts-table tbody tr")) == 1000
-    print("milliseconds to the answer:", typed, typed_lists, "after a paste:", pasted, pasted_lists)
-    # A machine that does other work takes longer: as many times as there are processes for each processor.
-    load = max(1.0, os.getloadavg()[0] / (os.cpu_count() or 1))
-    assert max(min(typed), min(typed_lists)) < 200 * load
-    assert max(min(pasted), min(pasted_lists)) < 300 * load
+    longer = strain.factor()
+    print("milliseconds to the answer:", typed, typed_lists, "after a paste:", pasted, pasted_lists, "times", longer)
+    assert max(min(typed), min(typed_lists)) < 200 * longer
+    assert max(min(pasted), min(pasted_lists)) < 300 * longer
 
 
 def time_of_paste(page: Page, area: str, answer: str, text: str, wanted: str) -> float:
