@@ -13,6 +13,9 @@ const LETTERS_MOST: usize = 5;
 impl<'a> Pieces<'a> {
     /// Where the meridian, the state, or the county at an index ends.
     pub fn end_of_meridian(&self, index: usize) -> Option<usize> {
+        if self.number(index).is_some() {
+            return self.end_of_numbered(index);
+        }
         let mut next = index;
         if self.is(next, b"situated") || self.is(next, b"situate") || self.is(next, b"located") {
             next = plus(next, 1);

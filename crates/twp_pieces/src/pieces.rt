@@ -129,9 +129,17 @@ impl<'a> Pieces<'a> {
         }
     }
 
-    /// Whether the piece at an index is this text, which is in lowercase.
+    /// Whether the piece at an index is this text, which is in lowercase. Most pieces have another length, which is
+    /// compared first.
+    #[inline(always)]
     pub fn is(&self, index: usize, text: &[u8]) -> bool {
-        self.lower(index) == text
+        match self.list.get(index) {
+            Some(piece) => {
+                piece.end.saturating_sub(piece.start) == text.len()
+                    && self.lower.get(piece.start..piece.end).unwrap_or(b"") == text
+            }
+            None => text.is_empty(),
+        }
     }
 
     /// Whether nothing separates the piece at an index from the one before it.

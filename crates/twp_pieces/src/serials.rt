@@ -2,6 +2,7 @@
 
 use crate::pieces::{Pieces, plus};
 use twp_grammar::Kind;
+use twp_words::limits_land;
 
 impl<'a> Pieces<'a> {
     /// Where the serial number first on its line ends, whose letters may be those of a state: after a hyphen, or in a cell
@@ -28,6 +29,7 @@ impl<'a> Pieces<'a> {
             }
         }
         let is_letters = matches!(self.kind(index), Kind::Other)
+            && !limits_land(self.lower(index))
             && self.bytes(index).len() >= 2
             && self.bytes(index).len() <= 8;
         if !is_letters {

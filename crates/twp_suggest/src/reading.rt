@@ -9,6 +9,7 @@ use crate::manner::Manner;
 use crate::on_plat::{land_on, township_of};
 use crate::unread::Unread;
 use std::alloc::{AllocError, Global};
+use twp_grammar::{State, first_token};
 use twp_land::{Land, Lanes};
 use twp_read::{Clarity, Description, doubts_in};
 use twp_rules::{Change, are_changes, changed};
@@ -33,7 +34,7 @@ pub fn readings_of<'a>(alloc: Global, text: &'a [u8]) -> Result<Vec<Reading<'a>>
     if is_clear(alloc, text)? {
         return itself(alloc, text);
     }
-    let Some(outline) = outline_of(alloc, text)? else {
+    let Some(mut outline) = outline_of(alloc, text)? else {
         return Ok(Vec::new(alloc));
     };
     let mut land = Lanes::empty();
@@ -92,10 +93,13 @@ fn itself<'a>(alloc: Global, text: &'a [u8]) -> Result<Vec<Reading<'a>>, AllocEr
 }
 
 /// Whether the reader accepts a text, and it has no doubtful place.
-#[tactic(auto, using(crate::proofs::ClearFacts::if_refused))]
+#[tactic(auto, using(crate::proofs::ClearFacts::if_refused, crate::proofs::ClearFacts::if_wrong))]
 fn is_clear(alloc: Global, text: &[u8]) -> Result<bool, AllocError>
     ensures { IfOk result (λ it. IsTrue it ↔ IsClear text.now) }
 {
+    if goes_wrong(text) {
+        return Ok(false);
+    }
     match Description::read_noting(alloc, text) {
         Ok(noted) => match noted.clarity {
             Clarity::Clear => Ok(true),
@@ -106,6 +110,23 @@ fn is_clear(alloc: Global, text: &[u8]) -> Result<bool, AllocError>
             None => Err(AllocError),
         },
     }
+}
+
+/// Whether a token of a text can't follow those before it in any description, or the text ends too early. Most texts
+/// go wrong at one of their first tokens, which takes much less time than to say how.
+fn goes_wrong(text: &[u8]) -> bool
+    ensures { IsTrue result → ¬ IsAccepted text.now }
+{
+    let mut at = 0;
+    let mut state = State::Start;
+    while let Some(token) = first_token(text, at) {
+        let Some(after) = state.next(token.kind) else {
+            return true;
+        };
+        at = token.at + token.text.len();
+        state = after;
+    }
+    !state.is_final()
 }
 
 /// Whether a text that the reader accepts has no doubtful place.

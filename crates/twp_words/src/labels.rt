@@ -279,6 +279,30 @@ pub fn is_beyond_label(word: &[u8]) -> bool {
         || is_same(word, b"sites")
 }
 
+/// Words for what lies in land: at the end of a label before land, such a word may say what is meant there.
+pub fn is_feature(word: &[u8]) -> bool {
+    is_same(word, b"barn")
+        || is_same(word, b"bridge")
+        || is_same(word, b"cabin")
+        || is_same(word, b"cemetery")
+        || is_same(word, b"church")
+        || is_same(word, b"dam")
+        || is_same(word, b"house")
+        || is_same(word, b"island")
+        || is_same(word, b"graveyard")
+        || is_same(word, b"levee")
+        || is_same(word, b"line")
+        || is_same(word, b"lode")
+        || is_same(word, b"lodes")
+        || is_same(word, b"meadow")
+        || is_same(word, b"mill")
+        || is_same(word, b"mine")
+        || is_same(word, b"orchard")
+        || is_same(word, b"school")
+        || is_same(word, b"substation")
+        || is_same(word, b"wellsite")
+}
+
 /// The words of `all that certain real property being`.
 pub fn is_of_property(word: &[u8]) -> bool {
     is_same(word, b"all")
