@@ -260,8 +260,9 @@ def test_long_texts_are_answered_at_once(page: Page) -> None:
     longer = strain.factor()
     print("milliseconds to the answer:", typed, typed_lists, "after a paste:", pasted, pasted_lists, "times", longer)
     assert max(min(typed), min(typed_lists)) < 200 * longer
-    # A paste of all tracts draws their whole table anew: 190 to 230 milliseconds, and more on a slower machine.
-    assert max(min(pasted), min(pasted_lists)) < 500 * longer
+    # A paste of all tracts draws their whole table anew: 190 to 230 milliseconds on an idle machine, and 680 beside the
+    # packages and PostgreSQL.
+    assert max(min(pasted), min(pasted_lists)) < 1_000 * longer
 
 
 def time_of_paste(page: Page, area: str, answer: str, text: str, wanted: str) -> float:
