@@ -33,10 +33,11 @@ try:
 	@cd crates/twp_cmd && rt try < stdin
 
 ## test           prove everything from nothing, and test it; the last line is N passed, 0 failed
-# What takes a second is tested before the proofs, too, since they take most of an hour.
+# What takes a second is tested before the proofs, too, since they take most of an hour. tools/gate.py is `rt ci`, which
+# tries wrong bodies many at a time.
 test:
 	@sh tests/quick.sh
-	rt ci
+	@python3 tools/gate.py
 	@sh tests/proved.sh
 
 ## e2e            build the program, and test it on files, pipes, and devices
@@ -49,7 +50,7 @@ e2e: township
 descriptions: township
 	@cd crates/twp_readings && rt run > /dev/null
 	@python3 tests/descriptions/suggested.py
-	@for author in practice landman recorder clerk paralegal analyst examiner abstractor traps; do \
+	@for author in practice landman recorder clerk paralegal analyst examiner abstractor counsel traps; do \
 		python3 tests/descriptions/suggested.py ./township crates/twp_readings/out/twp_readings \
 			tests/descriptions/$$author.tsv || exit 1; \
 	done

@@ -1,10 +1,9 @@
 #!/usr/bin/env python3
 """Tries the wrong bodies that are kept for releases: `bugs.py [--lanes N] [NAME..]`, for these crates or for all.
 
-They are in crates/NAME/must-fail-release, in the form of those in must-fail, which every run of the tests tries.
-This copies the repository to a temporary folder, puts them in place of the others there, proves the libraries that the
-crates depend on, several at a time, and has `rt must-fail` try the edits. An edit that was tried on this machine before
-isn't tried again while nothing that it depends on changes. A name may also be that of one edit, such as
+They are in crates/NAME/must-fail-release, in the form of those in must-fail, which every run of the tests tries. This
+proves the libraries that the crates depend on, several at a time, and tries the edits over what was proved of their
+crates, many in one check (tools/wrong_bodies.py). A name may also be that of one edit, such as
 twp_grid/lot_count_of_section_six.
 
 Some wrong bodies can't be refused by any contract, such as one that answers that memory ran out. Those are listed,
@@ -23,24 +22,23 @@ import concurrent.futures
 import os
 import pathlib
 import re
-import shutil
 import subprocess
 import sys
-import tempfile
 import threading
+
+import wrong_bodies
+from kit import loaded_rt
 
 ROOT = pathlib.Path(__file__).resolve().parent.parent
 FOLDER = "must-fail-release"
 LIST = "let-through"
-# What rt reads beside the crates, and what proves several crates at a time.
-TOP = ("crates.txt", "HANDLES", "tools")
 # The most memory that a check takes, in bytes; for some crates it is half as much.
 MEMORY = 3_000_000_000
 ENDED = re.compile(r"must-fail (\w+)/(\S+)\.edit: (refused|NOT REFUSED|BAD EDIT|NOT TRIED)")
 
 
-def edits_of(crate, folder=FOLDER):
-    return sorted(it.stem for it in (ROOT / "crates" / crate / folder).glob("*.edit"))
+def edits_of(crate):
+    return sorted(it.stem for it in (ROOT / "crates" / crate / FOLDER).glob("*.edit"))
 
 
 def crates():
@@ -74,20 +72,12 @@ def listed():
 
 def misfit(crate, edit):
     """Why the edit can't be applied, or None."""
-    texts, path, old = {}, None, None
-    for line in (ROOT / "crates" / crate / FOLDER / f"{edit}.edit").read_text().splitlines():
-        word, _, text = line.partition(": ")
-        if word == "file":
-            path = ROOT / "crates" / crate / text
-            if path not in texts:
-                texts[path] = path.read_text() if path.is_file() else ""
-        elif word == "old":
-            old = text
-        elif word in ("new", "new:"):
-            if texts[path].count(old) != 1:
-                return f"{path.relative_to(ROOT)} has {texts[path].count(old)} times: {old}"
-            texts[path] = texts[path].replace(old, text)
-    return None
+    folder = ROOT / "crates" / crate
+
+    def text_of(path):
+        return (folder / path).read_text() if (folder / path).is_file() else ""
+
+    return wrong_bodies.Edit(folder / FOLDER / f"{edit}.edit").misfit(text_of)
 
 
 def check(edits):
@@ -98,27 +88,11 @@ def check(edits):
     return 1 if any(found.values()) else 0
 
 
-def copy_to(folder, edits, of=FOLDER):
-    """Copies the repository's files, with these edits in place of those that the tests try."""
-    command = ["git", "ls-files", "-z", "--cached", "--others", "--exclude-standard", "crates", *TOP]
-    names = subprocess.run(command, cwd=ROOT, stdout=subprocess.PIPE, check=True).stdout.decode()
-    for name in names.split("\0")[:-1]:
-        if not name.startswith("crates/") or name.split("/")[2] not in ("must-fail", FOLDER):
-            if (ROOT / name).is_file():
-                (folder / name).parent.mkdir(parents=True, exist_ok=True)
-                shutil.copy2(ROOT / name, folder / name)
-    for crate, names in edits.items():
-        place = folder / "crates" / crate / "must-fail"
-        place.mkdir()
-        for name in names:
-            shutil.copy2(ROOT / "crates" / crate / of / f"{name}.edit", place)
-
-
-def prove_below(folder, names):
-    """Proves the libraries that crates depend on: rt would prove one after another, and each crate would wait for it."""
+def prove_below(names):
+    """Proves the libraries that crates depend on."""
     for name in names:
-        command = [sys.executable, str(folder / "tools" / "prove.py"), name]
-        if subprocess.run(command, cwd=folder, stdout=subprocess.DEVNULL, check=False).returncode:
+        command = [sys.executable, str(ROOT / "tools" / "prove.py"), name]
+        if subprocess.run(command, stdout=subprocess.DEVNULL, check=False).returncode:
             sys.exit(f"bugs.py: a library below {name} is not proved")
 
 
@@ -129,21 +103,29 @@ def lanes():
     return max(1, min(os.cpu_count() or 1, free // MEMORY))
 
 
-def tried(folder, edits, many):
-    """Lets rt try the edits in the copy, several at a time, and returns the result of each, by CRATE/EDIT."""
-    at_once = min(len(edits), max(1, many // 2))
+def tried(edits, many):
+    """Tries the edits, several crates at a time, and returns the result of each, by CRATE/EDIT."""
+    rt = loaded_rt("rtlib.guarded", "rtlib.crates_below", *wrong_bodies.NEEDED)
+    if rt is None:
+        sys.exit("bugs.py: this kit's rt can't be used for that; `rt must-fail` tries edits that are in must-fail/")
+    # Only the main thread may start the kit's guard.
+    rt.rtlib.guarded()
+    found = {it.name: it for it in rt.rtlib.crates_below(str(ROOT))}
     alone, results = threading.Lock(), {}
 
-    def one(crate):
-        environment = {**os.environ, "RT_JOBS": str(max(1, many // at_once))}
-        how = {"stdin": subprocess.DEVNULL, "stdout": subprocess.PIPE, "stderr": subprocess.STDOUT, "errors": "replace"}
-        ran = subprocess.run(["rt", "must-fail", crate], cwd=folder, env=environment, **how)
+    def one(name):
+        crate = found[name]
+        folder = ROOT / "crates" / name
+        files = [str(folder / FOLDER / f"{it}.edit") for it in edits[name]]
+        kept = folder / "out" / "incremental"
+        tried = wrong_bodies.must_fail_all(rt, crate, files, ["--jobs", "1"], kept if kept.is_dir() else None)
         with alone:
-            print(ran.stdout, end="", flush=True)
-            results.update({f"{it[1]}/{it[2]}": it[3] for it in ENDED.finditer(ran.stdout)})
+            for _, said in tried:
+                print(said, flush=True)
+                results.update({f"{it[1]}/{it[2]}": it[3] for it in ENDED.finditer(said)})
 
     # Crates with the most edits come first, so that none of them runs alone at the end.
-    with concurrent.futures.ThreadPoolExecutor(at_once) as pool:
+    with concurrent.futures.ThreadPoolExecutor(many) as pool:
         list(pool.map(one, sorted(edits, key=lambda it: -len(edits[it]))))
     return results
 
@@ -165,10 +147,8 @@ def main(words):
     edits, known = chosen(options.names), listed()
     if options.check:
         return check(edits)
-    with tempfile.TemporaryDirectory(prefix="township-bugs-") as folder:
-        copy_to(pathlib.Path(folder), edits)
-        prove_below(pathlib.Path(folder), edits)
-        results = tried(folder, edits, options.lanes or lanes())
+    prove_below(edits)
+    results = tried(edits, options.lanes or lanes())
     every = [f"{crate}/{edit}" for crate, names in edits.items() for edit in names]
     refused = [it for it in every if results.get(it) == "refused" and it not in known]
     through = [it for it in every if results.get(it) == "NOT REFUSED" and it not in known]

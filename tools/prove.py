@@ -14,16 +14,15 @@ of that crate, starts no other one, and ends with status 1.
 """
 
 import copy
-import importlib.machinery
-import importlib.util
 import os
-import shutil
 import signal
 import sys
 import tempfile
 import time
 from concurrent.futures import FIRST_COMPLETED, ThreadPoolExecutor, wait
 from pathlib import Path
+
+from kit import loaded_rt
 
 ROOT = Path(__file__).resolve().parent.parent
 # The most memory that a proof of one of the crates was seen to take in one process, in bytes. Each additional process
@@ -36,20 +35,6 @@ PROCESSES_MOST = 4
 # How many more processes run than there are processors. A crate can't be given more processes once it has begun, so
 # without these, processors idle when the crates beside it end.
 SPARE = 2
-
-
-def kit_rt():
-    """The kit's rt as a module, or None if it lacks what is used of it here. Kits differ in it: some let the proofs of
-    several crates share their work, which is used if it is there."""
-    path = os.path.realpath(shutil.which("rt") or sys.exit("there is no rt on the path: install the Rattle kit"))
-    spec = importlib.util.spec_from_loader("rt", importlib.machinery.SourceFileLoader("rt", path))
-    rt = importlib.util.module_from_spec(spec)
-    try:
-        spec.loader.exec_module(rt)
-        rt.rtlib.guarded, rt.rtlib.crates_below, rt.rtlib.lock, rt.rtlib.Crate.build_rlib
-    except (AttributeError, SyntaxError):
-        return None
-    return rt
 
 
 def free_memory():
@@ -139,13 +124,14 @@ class Turns:
 def main():
     if len(sys.argv) != 2:
         sys.exit("usage: python3 tools/prove.py CRATE")
-    rt = kit_rt()
+    rt = loaded_rt("rtlib.guarded", "rtlib.crates_below", "rtlib.lock", "rtlib.Crate.build_rlib")
     if rt is None:
         print("this kit's rt can't be used for that, so one crate is proved after another", flush=True)
         return 0
     # Ctrl-C ends this process at once, and the kit's guard then ends the proofs.
     signal.signal(signal.SIGINT, signal.SIG_DFL)
     rt.rtlib.guarded()
+    # Some kits let the proofs of several crates share their work.
     if hasattr(rt, "share_work"):
         rt.share_work(True)
     libraries = rt.rtlib.crates_below(str(ROOT / "crates" / sys.argv[1]))[:-1]
