@@ -1,9 +1,10 @@
 #!/bin/sh
-# Counts the instructions that a reading takes: what the program of crates/twp_readings counts for 40 lines with a
-# description, less what it counts for 20, divided by 20. Reading and printing the lines is counted, too. Then, for
-# 65,536 bytes of one thing, the instructions for each byte, and the most memory in KiB. The counts are compared with
-# bench/expected-readings: the status is 1 if one is more than 1.02 times the expected one, or if memory is more than
-# 8 MiB. `--write` writes the file.
+# Counts the instructions that a reading takes: what callgrind counts within readings_of, when the program of
+# crates/twp_readings reads a line. Reading and printing the lines isn't counted. First seven texts, each as the mean of
+# ten lines, since the allocator takes more for the first; then the mean of each set of descriptions in
+# tests/descriptions; then 65,536 bytes of one thing, the instructions for each byte, and the most memory in KiB. The
+# counts are compared with bench/expected-readings: the status is 1 if one is more than 1.02 times the expected one, or
+# if memory is more than 8 MiB. `--write` writes the file.
 set -eu
 cd "$(dirname "$0")/.."
 program=crates/twp_readings/out/twp_readings
@@ -12,9 +13,12 @@ work=$(mktemp -d)
 trap 'rm -rf "$work"' EXIT
 # The C library clears and copies by wide stores, so that each instruction counts once.
 once=glibc.cpu.x86_rep_stosb_threshold=1000000:glibc.cpu.x86_rep_movsb_threshold=1000000
+# The instructions of each line of a file, on average.
 count() {
-    env -i PATH="$PATH" GLIBC_TUNABLES="$once" valgrind --tool=callgrind --callgrind-out-file=/dev/null "$program" \
-        < "$1" 2>&1 >/dev/null | sed -n 's/.*Collected : *//p'
+    env -i PATH="$PATH" GLIBC_TUNABLES="$once" valgrind --tool=callgrind --callgrind-out-file=/dev/null \
+        --toggle-collect=twp_readings::read_text "$program" < "$1" 2>&1 >/dev/null |
+        sed -n 's/.*Collected : *//p' > "$work/count"
+    echo $(($(cat "$work/count") / $(wc -l < "$1")))
 }
 # The program is started by a small one: what starts it counts as its memory until then.
 cat > "$work/memory.c" <<'C'
@@ -41,8 +45,8 @@ memory() {
 }
 : > "$work/counts"
 while IFS= read -r text; do
-    for lines in 20 40; do yes "$text" | head -n "$lines" > "$work/$lines" || true; done
-    printf '%s\t%s\n' "$((($(count "$work/40") - $(count "$work/20")) / 20))" "$text" >> "$work/counts"
+    for _ in 1 2 3 4 5 6 7 8 9 10; do printf '%s\n' "$text"; done > "$work/text"
+    printf '%s\t%s\n' "$(count "$work/text")" "$text" >> "$work/counts"
 done <<'TEXTS'
 sec. 14, NE1/4.
 Sec 14: N/2
@@ -52,13 +56,15 @@ T. 2 N., R. 3 W., Boise Meridian, Idaho\nSec. 14: NE¼
 Section 14: The South Half of the Northeast Quarter (S½NE¼)
 Sec. 14: W2 less the NENW
 TEXTS
-: > "$work/nothing"
-nothing=$(count "$work/nothing")
+for set in written practice landman recorder clerk paralegal analyst examiner abstractor counsel; do
+    sed 1d "tests/descriptions/$set.tsv" | cut -f 4 > "$work/set"
+    printf '%s\tthe mean of %s.tsv, %s bytes\n' "$(count "$work/set")" "$set" \
+        "$(($(wc -c < "$work/set") / $(wc -l < "$work/set") - 1))" >> "$work/counts"
+done
 for part in NE '(' -; do
     awk -v part="$part" 'BEGIN { while (length(text) + length(part) <= 65536) text = text part; print text }' \
         > "$work/large"
-    printf '%s\t65,536 bytes of %s, each byte\n' "$((($(count "$work/large") - nothing) / 65536))" "$part" \
-        >> "$work/counts"
+    printf '%s\t65,536 bytes of %s, each byte\n' "$(($(count "$work/large") / 65536))" "$part" >> "$work/counts"
     printf '%s\t65,536 bytes of %s, KiB of memory\n' "$(memory "$work/large")" "$part" >> "$work/counts"
 done
 if [ "${1-}" = --write ]; then

@@ -4,6 +4,7 @@ use crate::draft::{Claim, Claimed, Draft, Form, Names, Phrase, PlacedStep, Span}
 use std::alloc::AllocError;
 use twp_grammar::Kind;
 use twp_pieces::plus;
+use twp_remarks::end_of_trailer;
 use twp_rules::Rule;
 
 /// The number of a township's last section: a number up to this in parentheses isn't acreage.
@@ -15,6 +16,9 @@ impl<'a> Draft<'a> {
         let from = self.extent();
         if let Some((rule, end)) = self.end_of_aside(index) {
             return Ok(Some(self.phrase(Names::Nothing(rule), index, end, from)));
+        }
+        if matches!(self.pieces.kind(index), Kind::Number(_)) {
+            return Ok(None);
         }
         if self.pieces.is(index, b"(") || self.pieces.is(index, b"[") {
             if let Some(phrase) = self.repeated(index)? {
@@ -79,29 +83,28 @@ impl<'a> Draft<'a> {
 
     /// What is left out at an index, if it doesn't repeat land: its rule, and where it ends.
     fn end_of_aside(&self, index: usize) -> Option<(Rule, usize)> {
-        if let Some(end) = self.pieces.end_of_column_label(index) {
-            return Some((Rule::Label, end));
-        }
-        if let Some(end) = self.end_of_figure(index) {
-            return Some((Rule::Acreage, end));
-        }
         // After all of a section, or after acreage, the dash may be a minus.
         let may_be_minus = matches!(
             self.last_names(),
             Some(Names::All | Names::Nothing(Rule::Acreage))
         );
-        if self.names_land && !may_be_minus {
-            if let Some(end) = self.pieces.end_of_dashed_acreage(index) {
-                return Some((Rule::Acreage, end));
+        let is_figure = self.pieces.number(index).is_some();
+        if !is_figure {
+            if let Some(found) = self.end_of_marked(index, may_be_minus) {
+                return Some(found);
             }
         }
-        if let Some(end) = self.pieces.end_of_file_number(index) {
-            return Some((Rule::Label, end));
-        }
-        let is_after_dash = self.pieces.is_dash(index.saturating_sub(1))
-            && self.pieces.number(index).is_some();
+        let before = index.saturating_sub(1);
+        let is_after_dash = self.pieces.is_dash(before) && is_figure;
+        // After `also`, it may be of other land.
+        let is_added = is_figure
+            && (self.pieces.is(before, b"also")
+                || self.pieces.is(before, b"and")
+                || self.pieces.is(before, b"&")
+                || self.pieces.is(before, b"+")
+                || self.pieces.is(before, b"plus"));
         if let Some(end) = self.pieces.end_of_acreage(index) {
-            return if may_be_minus && is_after_dash {
+            return if is_added || (may_be_minus && is_after_dash) {
                 None
             } else {
                 Some((Rule::Acreage, end))
@@ -113,19 +116,43 @@ impl<'a> Draft<'a> {
         if let Some(end) = self.pieces.end_of_meridian(index) {
             return Some((Rule::Meridian, end));
         }
+        if self.last_names() == Some(Names::Heading) {
+            if let Some(end) = self.pieces.end_of_bare_meridian(index) {
+                return Some((Rule::Meridian, end));
+            }
+        }
         if self.names_land {
+            if let Some(end) = self.pieces.end_of_share_in_cell(index) {
+                return Some((Rule::Label, end));
+            }
             if let Some(end) = self.pieces.end_of_last_figure(index) {
                 return Some((Rule::Acreage, end));
             }
-            if let Some(end) = self.pieces.end_of_trailer(index) {
+            if let Some(end) = end_of_trailer(&self.pieces, index) {
                 return Some((Rule::Label, end));
             }
         }
-        let is_number = matches!(self.pieces.kind(index), Kind::Number(_));
-        if is_number && !self.pieces.begins_line(index) {
+        if is_figure && !self.pieces.begins_line(index) {
             return None;
         }
         let end = self.pieces.end_of_label(index)?;
+        Some((Rule::Label, end))
+    }
+
+    /// The same, of what begins with a word for a column, or with a mark.
+    fn end_of_marked(&self, index: usize, may_be_minus: bool) -> Option<(Rule, usize)> {
+        if let Some(end) = self.pieces.end_of_column_label(index) {
+            return Some((Rule::Label, end));
+        }
+        if let Some(end) = self.end_of_figure(index) {
+            return Some((Rule::Acreage, end));
+        }
+        if self.names_land && !may_be_minus {
+            if let Some(end) = self.pieces.end_of_dashed_acreage(index) {
+                return Some((Rule::Acreage, end));
+            }
+        }
+        let end = self.pieces.end_of_file_number(index)?;
         Some((Rule::Label, end))
     }
 

@@ -70,6 +70,13 @@ impl<'a> Draft<'a> {
             return Ok(None);
         }
         let end = self.side(after)?;
+        // A digit that is joined to a side may be of a half, as in `R3 W2`.
+        if self.pieces.is_joined(end)
+            && (self.pieces.is(end, b"2")
+                || (self.pieces.number(end).unwrap_or(0) > 0 && self.last_section.is_some()))
+        {
+            self.doubt();
+        }
         let end = self.after_same_tier(end)?;
         Ok(Some(self.phrase(Names::Heading, index, end, from)))
     }
@@ -77,10 +84,12 @@ impl<'a> Draft<'a> {
     /// The index after the township or the range that is repeated in parentheses at an index, as in `Township Two North
     /// (T2N)`, which are left out.
     fn after_same_tier(&mut self, index: usize) -> Result<usize, AllocError> {
+        if !self.pieces.is(index, b"(") {
+            return Ok(index);
+        }
         let number = plus(index, 2);
         let close = plus(index, 4);
-        let is_tier = self.pieces.is(index, b"(")
-            && (self.pieces.is(plus(index, 1), b"t") || self.pieces.is(plus(index, 1), b"r"))
+        let is_tier = (self.pieces.is(plus(index, 1), b"t") || self.pieces.is(plus(index, 1), b"r"))
             && self.pieces.is(close, b")");
         let value = self.numbers.last().map(|last| last.value);
         let side = plus(index, 3);
@@ -165,7 +174,10 @@ impl<'a> Draft<'a> {
         let is_side = self.pieces.is_north_south(side)
             || self.pieces.is_east_west(side)
             || (has_word && (self.pieces.is(side, b"nr") || self.pieces.is(side, b"sr")));
-        let is_joined = self.pieces.is_joined(side) && side == next;
+        // A cell may have the number and the side apart, and nothing else.
+        let is_joined = side == next
+            && (self.pieces.is_joined(side)
+                || (self.pieces.begins_line(index) && self.pieces.begins_line(plus(side, 1))));
         if !is_side || (!has_word && !is_joined) || number.value == 0 || number.value > 99 {
             return Ok(None);
         }

@@ -3,12 +3,20 @@
 #![tactic(auto)]
 
 mod asides;
+mod bare;
+mod dotted;
 mod draft;
+mod exceptions;
+mod fractions;
 mod headings;
+mod lots;
 mod numbered;
 mod numerals;
 mod parts;
 mod phrases;
 mod registers;
+mod sections;
+mod whole;
+mod worded;
 
 pub use draft::{Claim, Claimed, Draft, Extent, Form, Names, Numeral, Phrase, PlacedStep, Span};

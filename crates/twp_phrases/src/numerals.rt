@@ -79,9 +79,9 @@ impl<'a> Draft<'a> {
     /// A number of one digit with another after it, one of which is a letter.
     fn with_damaged_digit(&self, number: Numeral) -> Numeral {
         let next = number.end;
-        if !self.pieces.is_joined(next)
-            || number.value > 9
+        if number.value > 9
             || self.pieces.bytes(number.first).len() != 1
+            || !self.pieces.is_joined(next)
         {
             return number;
         }

@@ -41,7 +41,7 @@ impl<'a> Draft<'a> {
     }
 
     /// The A before aliquot parts, after a section.
-    fn letter_of_register(&self, index: usize) -> Option<Phrase> {
+    pub(crate) fn letter_of_register(&self, index: usize) -> Option<Phrase> {
         let next = plus(index, 1);
         let is_before_part = match self.pieces.kind(next) {
             Kind::NorthSouth(_) | Kind::EastWest(_) | Kind::Corner(_) | Kind::Other => true,

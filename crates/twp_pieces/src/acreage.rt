@@ -79,6 +79,13 @@ impl<'a> Pieces<'a> {
             }
             None => return None,
         };
+        let may_be_unit = matches!(
+            self.kind(next),
+            Kind::Other | Kind::And | Kind::Number(_) | Kind::BadByte
+        );
+        if !has_unit && !may_be_unit {
+            return None;
+        }
         if self.number(next).is_some()
             && self.is(plus(next, 1), b"/")
             && self.is(plus(next, 2), b"100")
@@ -181,9 +188,29 @@ impl<'a> Pieces<'a> {
             && number > SECTIONS
             && number <= SECTION_ACRES;
         let is_apart = self.begins_column(index) || self.is_after_part(index);
+        // After a mark, a number up to that of the last section may be of one, with a point for a comma.
+        let before = index.saturating_sub(1);
+        let is_marked = self.is(before, b",")
+            || self.is(before, b";")
+            || self.is(before, b".")
+            || self.is_dash(before);
+        if is_marked && number <= SECTIONS && !self.begins_column(index) {
+            return None;
+        }
         let is_listed = self.is(end, b",") && has_decimals && self.is_after_part(index);
         let is_last = end == self.len() || (is_apart && self.begins_column(end)) || is_listed;
         if is_last && index > 0 && (has_decimals || is_cell) {
+            Some(end)
+        } else {
+            None
+        }
+    }
+
+    /// Where a share ends that is alone in a cell, as `0.125`.
+    pub fn end_of_share_in_cell(&self, index: usize) -> Option<usize> {
+        let end = self.end_of_decimal(index)?;
+        let is_share = self.is(index, b"0") && self.is_figure_with_decimals(index);
+        if is_share && self.begins_line(index) && self.begins_column(end) {
             Some(end)
         } else {
             None

@@ -3,8 +3,8 @@
 use crate::pieces::{Pieces, plus};
 use twp_grammar::Kind;
 use twp_words::{
-    are_meridian_letters, is_beyond_label, is_boundary, is_meridian, is_meridian_of_two,
-    is_partial, is_state, is_state_of_two,
+    are_meridian_letters, is_bare_meridian, is_beyond_label, is_boundary, is_meridian,
+    is_meridian_of_two, is_partial, is_state, is_state_of_two,
 };
 
 /// The most letters for a meridian.
@@ -13,6 +13,9 @@ const LETTERS_MOST: usize = 5;
 impl<'a> Pieces<'a> {
     /// Where the meridian, the state, or the county at an index ends.
     pub fn end_of_meridian(&self, index: usize) -> Option<usize> {
+        if self.number(index).is_some() {
+            return self.end_of_numbered(index);
+        }
         let mut next = index;
         if self.is(next, b"situated") || self.is(next, b"situate") || self.is(next, b"located") {
             next = plus(next, 1);
@@ -28,7 +31,8 @@ impl<'a> Pieces<'a> {
             if self.is(next, b"the") {
                 next = plus(next, 1);
             }
-            if !is_meridian(self.lower(next)) && !self.is_ordinal(next) {
+            let is_of_two = is_meridian_of_two(self.lower(next), self.lower(plus(next, 1)));
+            if !is_of_two && !is_meridian(self.lower(next)) && !self.is_ordinal(next) {
                 return None;
             }
         }
@@ -45,6 +49,17 @@ impl<'a> Pieces<'a> {
             return Some(end);
         }
         self.end_of_state(next)
+    }
+
+    /// Where a meridian ends whose name is written without the word for it, as after a township and range.
+    pub fn end_of_bare_meridian(&self, index: usize) -> Option<usize> {
+        let next = plus(index, 1);
+        let goes_on = matches!(self.kind(next), Kind::Other);
+        if is_bare_meridian(self.lower(index)) && !goes_on {
+            Some(next)
+        } else {
+            None
+        }
     }
 
     /// Whether an ordinal is at an index, as `6th`.
@@ -113,8 +128,15 @@ impl<'a> Pieces<'a> {
                 return Some(end);
             }
         }
+        if self.is(index, b"gila")
+            && (self.is(plus(index, 1), b"and") || self.is(plus(index, 1), b"&"))
+            && self.is(plus(index, 2), b"salt")
+            && self.is(plus(index, 3), b"river")
+        {
+            return self.end_of_meridian_word(plus(index, 4));
+        }
         if is_meridian(self.lower(index)) {
-            let next = plus(index, 1);
+            let next = self.after_point(plus(index, 1));
             let is_hyphenated = self.is_dash(next) && self.is_joined(next);
             return self.end_of_meridian_word(plus(next, usize::from(is_hyphenated)));
         }
@@ -127,10 +149,14 @@ impl<'a> Pieces<'a> {
         let mut count: usize = 0;
         let mut next = index;
         for place in index..plus(index, 2 * LETTERS_MOST) {
-            if place == index && are_meridian_letters(self.lower(place)) {
-                return Some(self.after_point(plus(place, 1)));
-            }
             let bytes = self.lower(place);
+            if place == index && bytes.len() > 1 {
+                return if bytes.len() <= LETTERS_MOST && are_meridian_letters(bytes) {
+                    Some(self.after_point(plus(place, 1)))
+                } else {
+                    None
+                };
+            }
             let is_mark = self.is(place, b".") || self.is(place, b"&");
             if is_mark && place > index {
                 continue;
@@ -183,8 +209,12 @@ impl<'a> Pieces<'a> {
     /// Where the word for a meridian at an index ends.
     fn end_of_meridian_word(&self, index: usize) -> Option<usize> {
         let mut index = index;
-        if self.is(index, b"principal") || self.is(index, b"base") {
-            index = plus(index, 1);
+        if self.is(index, b"principal")
+            || self.is(index, b"prin")
+            || self.is(index, b"base")
+            || self.is(index, b"special")
+        {
+            index = self.after_point(plus(index, 1));
             if self.is(index, b"and") || self.is(index, b"&") {
                 index = plus(index, 1);
             }
@@ -222,24 +252,49 @@ impl<'a> Pieces<'a> {
         if is_state_of_two(self.lower(index), self.lower(second)) {
             return Some(third);
         }
-        if matches!(self.kind(index), Kind::Other) && self.may_name_county(index) {
-            if let Some(end) = self.end_of_county_word(second) {
+        if matches!(self.kind(index), Kind::Other) {
+            if let Some(end) = self.end_of_county(index) {
                 return Some(end);
-            }
-            if matches!(self.kind(second), Kind::Other) && self.may_name_county(second) {
-                if let Some(end) = self.end_of_county_word(third) {
-                    return Some(end);
-                }
-            }
-            if self.is_county_cell(index) {
-                return Some(third.min(self.len()));
-            }
-            if self.is_county_and_state(index) {
-                return Some(plus(third, 1));
             }
         }
         if is_state(self.lower(index)) {
             Some(second)
+        } else {
+            None
+        }
+    }
+
+    /// Where the county at an index ends, with the word for it, in its cell, or with its state. The marks around it are
+    /// looked at first, since its name has to be in none of several lists.
+    fn end_of_county(&self, index: usize) -> Option<usize> {
+        let second = plus(index, 1);
+        let third = plus(index, 2);
+        let end = if let Some(end) = self.end_of_county_word(second) {
+            end
+        } else if let Some(end) = self.end_of_longer_county(second) {
+            end
+        } else if self.is_county_cell(index) {
+            third.min(self.len())
+        } else if self.is_county_and_state(index) {
+            plus(third, 1)
+        } else {
+            return None;
+        };
+        if self.may_name_county(index) {
+            Some(end)
+        } else {
+            None
+        }
+    }
+
+    /// Where the second word of a county's name ends, with the word for it.
+    fn end_of_longer_county(&self, index: usize) -> Option<usize> {
+        if !matches!(self.kind(index), Kind::Other) {
+            return None;
+        }
+        let end = self.end_of_county_word(plus(index, 1))?;
+        if self.may_name_county(index) {
+            Some(end)
         } else {
             None
         }

@@ -3,7 +3,7 @@
 
 use crate::pieces::{Pieces, plus};
 use twp_grammar::Kind;
-use twp_words::{is_of_interest, is_of_property, is_owner, is_same, is_whose};
+use twp_words::{is_of_interest, is_of_property, is_owner, is_same, is_whose, points_into};
 
 /// The most pieces of an interest, or of words for a property.
 const PIECES_MOST: usize = 48;
@@ -125,6 +125,9 @@ impl<'a> Pieces<'a> {
                     && !(self.is(after, b"as") || self.is(after, b"described")))
                 || (is_same(word, b"follows") && !(self.is(after, b":") || self.is(after, b",")))
                 || (is_same(word, b"wit") && !(self.is(after, b":") || self.is(after, b",")));
+            if ends && has_property && points_into(self.lower(place.saturating_sub(1))) {
+                return None;
+            }
             if ends && has_property {
                 let is_within = self.is(after, b"in")
                     && self.end_of_state_after_in(after).is_none();
@@ -136,9 +139,11 @@ impl<'a> Pieces<'a> {
                 || is_same(word, b"lands")
                 || is_same(word, b"estate")
                 || is_same(word, b"premises");
-            if let (true, Some(end)) = (has_property, self.end_of_meridian(place)) {
-                next = end;
-                continue;
+            if has_property {
+                if let Some(end) = self.end_of_meridian(place).or(self.end_of_code(place)) {
+                    next = end;
+                    continue;
+                }
             }
             if !is_of_property(word) {
                 return None;

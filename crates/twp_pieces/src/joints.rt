@@ -8,6 +8,11 @@ use twp_grammar::Kind;
 const STEPS_MOST: usize = 16;
 
 impl<'a> Pieces<'a> {
+    /// Whether three periods are at an index, which may stand for land that was left out.
+    pub fn is_ellipsis(&self, index: usize) -> bool {
+        self.is(plus(index, 1), b".") && self.is(plus(index, 2), b".")
+    }
+
     /// Whether land may begin at an index.
     pub fn begins_land(&self, index: usize) -> bool {
         match self.kind(index) {
@@ -41,11 +46,14 @@ impl<'a> Pieces<'a> {
     }
 
     /// Whether a mark at an index may begin a phrase: parentheses, brackets, a section sign, the number of a file, a dash
-    /// before acreage, or a question mark after a request.
+    /// before acreage or a long number, or a question mark after a request.
     pub fn may_begin_phrase(&self, index: usize) -> bool {
+        let next = plus(index, 1);
+        let is_number = matches!(self.kind(next), Kind::Number(_) | Kind::BadNumber)
+            && (!self.is_joined(next) || self.bytes(next).len() >= 4);
         (self.is(index, b"(") || self.is(index, b"[") || self.is(index, b"\xC2\xA7"))
             || self.is(index, b"#")
-            || self.is_dash(index)
+            || (is_number && self.is_dash(index))
             || self.is_question_mark(index)
     }
 

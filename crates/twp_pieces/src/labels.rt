@@ -7,15 +7,6 @@ use twp_words::{begins_request, is_acres, is_column, is_field, is_of_request, is
 /// The most pieces of a label.
 const PIECES_MOST: usize = 24;
 
-/// Where a label is.
-#[derive(Clone, Copy, PartialEq, Eq)]
-pub enum Position {
-    /// Before any land: it may have more words.
-    BeforeLand,
-    /// After some land.
-    AfterLand,
-}
-
 impl<'a> Pieces<'a> {
     /// Where the label at an index ends.
     pub fn end_of_label(&self, index: usize) -> Option<usize> {
@@ -51,7 +42,12 @@ impl<'a> Pieces<'a> {
         if let Some(end) = self.end_of_well(index) {
             return Some(end);
         }
-        self.end_of_serial(index)
+        let end = self.end_of_serial(index)?;
+        // A word may follow of a longer label, as in `Prop 10233 Schmidt 7-22`.
+        let is_whole = !matches!(self.kind(end), Kind::Other)
+            || self.begins_column(end)
+            || self.begins_place(end);
+        if is_whole { Some(end) } else { None }
     }
 
     /// Where the name of the column for aliquot parts at an index ends, as `ALIQ`, or `Type: ALIQ Subdiv:`.
@@ -88,7 +84,7 @@ impl<'a> Pieces<'a> {
     }
 
     /// Whether a section, a township, or land begins at an index.
-    pub(crate) fn begins_place(&self, index: usize) -> bool {
+    pub fn begins_place(&self, index: usize) -> bool {
         let word = self.lower(index);
         self.may_be_land(index)
             || self.is_township_word(index)
@@ -102,7 +98,7 @@ impl<'a> Pieces<'a> {
     }
 
     /// Whether the township of a register begins at an index, as `0020N 0030W`, or `08 0020N 0030W` with its meridian.
-    pub(crate) fn begins_register(&self, index: usize) -> bool {
+    pub fn begins_register(&self, index: usize) -> bool {
         let is_code = self.has_digits(index, 1) || self.has_digits(index, 2);
         let tier = plus(index, usize::from(is_code));
         let range = plus(tier, 2);
@@ -126,7 +122,7 @@ impl<'a> Pieces<'a> {
     }
 
     /// Whether the question mark at the end of a request is at an index.
-    pub(crate) fn is_question_mark(&self, index: usize) -> bool {
+    pub fn is_question_mark(&self, index: usize) -> bool {
         self.is(index, b"?") && plus(index, 1) == self.len() && self.end_of_request(0).is_some()
     }
 
@@ -152,7 +148,7 @@ impl<'a> Pieces<'a> {
     }
 
     /// Whether the word for a township or a range is at an index.
-    pub(crate) fn is_township_word(&self, index: usize) -> bool {
+    pub fn is_township_word(&self, index: usize) -> bool {
         let word = self.lower(index);
         (matches!(self.kind(index), Kind::T | Kind::R) && self.number(plus(index, 1)).is_some())
             || is_same(word, b"township")
@@ -161,6 +157,18 @@ impl<'a> Pieces<'a> {
             || is_same(word, b"rng")
             || is_same(word, b"rge")
             || is_same(word, b"rg")
+    }
+
+    /// Whether the text begins with the names of columns, of which one is for lots: a date below it may be the numbers of
+    /// lots, as spreadsheets change them.
+    pub fn has_column_of_lots(&self) -> bool {
+        let end = self.end_of_columns(0).unwrap_or(0);
+        for place in 0..end {
+            if matches!(self.kind(place), Kind::Lot) {
+                return true;
+            }
+        }
+        false
     }
 
     /// Where a line ends that names columns.
@@ -176,6 +184,8 @@ impl<'a> Pieces<'a> {
             } else if !(is_same(word, b",")
                 || is_same(word, b"|")
                 || is_same(word, b"/")
+                || is_same(word, b"-")
+                || is_same(word, b"#")
                 || is_acres(word))
             {
                 return None;

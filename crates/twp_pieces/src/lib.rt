@@ -5,17 +5,16 @@
 mod acreage;
 mod asides;
 mod beyond;
+mod figures;
 mod interests;
 mod joints;
 mod labels;
+mod lands;
 mod pieces;
-mod remarks;
 mod serials;
-mod trailers;
 
 pub use beyond::{Beyond, beyond_of};
-pub use labels::Position;
 pub use pieces::{Pieces, plus};
 pub use twp_words::{
-    are_corners, begins_terms, is_same, is_worn_section, letters_of, tens_of, value_of,
+    are_corners, begins_terms, is_of_count, is_same, is_worn_section, letters_of, tens_of, value_of,
 };

@@ -7,6 +7,9 @@ use twp_words::{is_damaged_corner, is_damaged_half, is_same, size_of_character};
 /// The most characters, one after another, that begin no token: a text with more has no reading, and isn't cut further.
 const UNKNOWN_MOST: usize = 1_000;
 
+/// There is room from the start for this many pieces, and one more for each two bytes.
+const PIECES_FIRST: usize = 8;
+
 /// The pieces of a text, from left to right.
 #[derive(Drop)]
 pub struct Pieces<'a> {
@@ -44,7 +47,8 @@ impl<'a> Pieces<'a> {
     /// The pieces of a text.
     pub fn of(alloc: Global, text: &'a [u8]) -> Result<Pieces<'a>, AllocError> {
         let lower = text.to_ascii_lowercase(alloc)?;
-        let mut list = Vec::with_capacity(alloc, text.len())?;
+        // Most pieces have two bytes or more.
+        let mut list = Vec::with_capacity(alloc, plus(text.len() / 2, PIECES_FIRST))?;
         let mut end = 0;
         let mut unknown: usize = 0;
         for token in Tokens::new(text) {
@@ -129,9 +133,17 @@ impl<'a> Pieces<'a> {
         }
     }
 
-    /// Whether the piece at an index is this text, which is in lowercase.
+    /// Whether the piece at an index is this text, which is in lowercase. Most pieces have another length, which is
+    /// compared first.
+    #[inline(always)]
     pub fn is(&self, index: usize, text: &[u8]) -> bool {
-        self.lower(index) == text
+        match self.list.get(index) {
+            Some(piece) => {
+                piece.end.saturating_sub(piece.start) == text.len()
+                    && self.lower.get(piece.start..piece.end).unwrap_or(b"") == text
+            }
+            None => text.is_empty(),
+        }
     }
 
     /// Whether nothing separates the piece at an index from the one before it.

@@ -2,6 +2,7 @@
 
 use crate::pieces::{Pieces, plus};
 use twp_grammar::Kind;
+use twp_words::limits_land;
 
 impl<'a> Pieces<'a> {
     /// Where the serial number first on its line ends, whose letters may be those of a state: after a hyphen, or in a cell
@@ -46,7 +47,11 @@ impl<'a> Pieces<'a> {
             has_long = is_number && (self.bytes(place).len() >= least || has_long);
             end = plus(place, 1);
         }
-        if has_long { Some(end) } else { None }
+        if has_long && !limits_land(self.lower(index)) {
+            Some(end)
+        } else {
+            None
+        }
     }
 
     /// Where the number of a file at an index ends, as `#30988`: a shorter one may be of a lot.

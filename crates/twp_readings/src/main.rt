@@ -7,7 +7,7 @@ use bstr::ByteSlice;
 use std::alloc::{AllocError, Global};
 use std::io::{self, Read};
 use twp_excerpt::write_escaped;
-use twp_suggest::{Change, Rule, readings_of};
+use twp_suggest::{Change, Reading, Rule, readings_of};
 
 fn main(rt: HostRuntime) -> io::Result<()> {
     let input = read_input(&rt)?;
@@ -60,9 +60,15 @@ fn read_input(rt: &HostRuntime) -> io::Result<Vec<u8>> {
     Ok(input)
 }
 
+/// The readings of a description: a function of its own, so that bench/readings.sh can count what it takes.
+#[inline(never)]
+fn read_text(alloc: Global, text: &[u8]) -> Result<Vec<Reading<'_>>, AllocError> {
+    readings_of(alloc, text)
+}
+
 /// Prints the readings of a description.
 fn print_readings(rt: &HostRuntime, text: &[u8]) -> io::Result<()> {
-    let readings = readings_of(rt.alloc(), text)?;
+    let readings = read_text(rt.alloc(), text)?;
     rt.println(readings.len())?;
     for reading in readings.as_slice() {
         print_escaped(rt, reading.text.as_slice().trim_ascii())?;

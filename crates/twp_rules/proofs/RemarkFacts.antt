@@ -1,5 +1,5 @@
 -- The word at a place decides, over plain values.
-use Rattle.std.proofs.Common.{◌≡◌, ◌&&◌, ◌||◌, Bool, true, false, not, List, [], ◌∷◌, ℕ, refl, sym, subst, ap}
+use Rattle.std.proofs.Common.{◌≡◌, Bool, true, false, List, [], ◌∷◌, ℕ, refl}
 use Rattle.twp_rules.specs.Remarks.{has_no_land, has_no_limit, limits_land, names_land, word_of}
 
 -- a word that names land is in the text

@@ -1,5 +1,5 @@
 -- What the texts that the rules look at, or leave out, begin and end with, in lowercase.
-use Rattle.std.specs.Prelude.{ℕ, List, [], ◌∷◌, ◌++◌, codes}
+use Rattle.std.specs.Prelude.{ℕ, List, [], ◌∷◌, codes}
 use Rattle.twp_rules.specs.Tables.{half_sign, quarter_sign}
 
 -- what the land is before of which HALF is written
@@ -47,10 +47,12 @@ worn_section_ends = codes "1l" ∷ codes "1i" ∷ codes "1o" ∷ codes "2l" ∷ 
 abbrev pub section_again : List (List ℕ)
 section_again = codes "section" ∷ codes "sec" ∷ codes "sec." ∷ []
 
--- what a meridian or a county ends with, if not with a digit, or a cell after a state
+-- what a meridian or a county ends with, if not with a digit, or a cell after a state: the word for it, or a
+-- meridian's name
 abbrev pub meridian_ends : List (List ℕ)
 meridian_ends = codes "meridian" ∷ codes "meridan" ∷ codes "mer" ∷ codes "mer." ∷ codes "m" ∷ codes "m."
-    ∷ codes "county" ∷ codes "co" ∷ codes "co." ∷ codes "|" ∷ []
+    ∷ codes "county" ∷ codes "co" ∷ codes "co." ∷ codes "|" ∷ codes "boise" ∷ codes "willamette"
+    ∷ codes "humboldt" ∷ codes "uintah" ∷ []
 
 -- what a county or a state begins with, if not with its name, after white space
 abbrev pub meridian_fronts : List (List ℕ)
@@ -66,8 +68,11 @@ states = codes "idaho" ∷ codes "wyoming" ∷ codes "nevada" ∷ codes "califor
     ∷ codes "montana" ∷ codes "oregon" ∷ codes "colorado" ∷ codes "mexico" ∷ codes "arizona"
     ∷ codes "dakota" ∷ codes "alaska" ∷ codes "washington" ∷ []
 
+-- and more of them, with abbreviations
 abbrev pub more_states : List (List ℕ)
-more_states = codes "nebraska" ∷ codes "kansas" ∷ codes "oklahoma" ∷ codes "minnesota" ∷ codes "michigan" ∷ []
+more_states = codes "nebraska" ∷ codes "kansas" ∷ codes "oklahoma" ∷ codes "minnesota" ∷ codes "michigan"
+    ∷ codes "nebr" ∷ codes "kans" ∷ codes "okla" ∷ codes "minn" ∷ codes "wyo" ∷ codes "colo" ∷ codes "mont"
+    ∷ codes "ariz" ∷ codes "calif" ∷ codes "nev" ∷ []
 
 -- and the letters for them
 abbrev pub state_letters : List (List ℕ)
@@ -114,7 +119,8 @@ interest_fronts = codes "an und" ∷ codes "und" ∷ codes "one-half" ∷ codes 
 
 -- or a property
 abbrev pub property_fronts : List (List ℕ)
-property_fronts = codes "all that" ∷ codes "that certain" ∷ codes "all those" ∷ codes "the lands" ∷ []
+property_fronts = codes "all that" ∷ codes "that certain" ∷ codes "all those" ∷ codes "the lands"
+    ∷ codes "lands remaining" ∷ []
 
 -- the names of columns
 abbrev pub column_names : List (List ℕ)

@@ -1,6 +1,6 @@
 -- The rules by which a text that people write is changed into a description: what each looks at, what it
 -- writes instead, and what is before and after it. Letters of either case are the same.
-use Rattle.std.specs.Prelude.{◌==◌, ◌||◌, ◌&&◌, ℕ, ◌-◌, Bool, true, false, List, [], ◌∷◌, ◌++◌, length}
+use Rattle.std.specs.Prelude.{◌==◌, ◌||◌, ◌&&◌, ℕ, ◌-◌, Bool, true, false, List, [], ◌∷◌, length}
 use Rattle.std.specs.Prelude.{drop, take}
 use Rattle.std.specs.Prelude.{if◌then◌else◌, codes, nat_le, slice_index, slice_range, not}
 use Rattle.std.specs.Char.{is_ascii_alphabetic, is_ascii_digit}

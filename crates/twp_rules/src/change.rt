@@ -24,7 +24,7 @@ pub fn changed(alloc: Global, text: &[u8], changes: &[Change<'_>]) -> Result<Vec
     requires { AreChangesFrom 0 text.now (map seen changes.now) }
     ensures { IfOk result (λ made. made.items ≡ changed_from 0 text.now (map seen changes.now)) }
 {
-    let mut made = Vec::with_capacity(alloc, text.len())?;
+    let mut made = Vec::with_capacity(alloc, text.len().saturating_mul(2))?;
     let mut at = 0;
     for change in changes {
         made.extend_from_slice(between(text, at, change.start))?;

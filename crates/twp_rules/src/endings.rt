@@ -149,6 +149,10 @@ pub(crate) fn has_meridian_ends(seen: &[u8]) -> bool
         || ends_with(seen, b"co")
         || ends_with(seen, b"co.")
         || ends_with(seen, b"|")
+        || ends_with(seen, b"boise")
+        || ends_with(seen, b"willamette")
+        || ends_with(seen, b"humboldt")
+        || ends_with(seen, b"uintah")
 }
 
 /// The texts `meridian_fronts` of the specification.
@@ -180,6 +184,16 @@ pub(crate) fn has_more_states(seen: &[u8]) -> bool
         || ends_with(seen, b"oklahoma")
         || ends_with(seen, b"minnesota")
         || ends_with(seen, b"michigan")
+        || ends_with(seen, b"nebr")
+        || ends_with(seen, b"kans")
+        || ends_with(seen, b"okla")
+        || ends_with(seen, b"minn")
+        || ends_with(seen, b"wyo")
+        || ends_with(seen, b"colo")
+        || ends_with(seen, b"mont")
+        || ends_with(seen, b"ariz")
+        || ends_with(seen, b"calif")
+        || ends_with(seen, b"nev")
 }
 
 /// The texts `parenthesis_ends` of the specification.
@@ -369,4 +383,5 @@ pub(crate) fn has_property_fronts(seen: &[u8]) -> bool
         || begins_with(seen, b"that certain")
         || begins_with(seen, b"all those")
         || begins_with(seen, b"the lands")
+        || begins_with(seen, b"lands remaining")
 }

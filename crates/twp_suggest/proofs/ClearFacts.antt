@@ -5,12 +5,15 @@ use Rattle.twp_grammar.specs.declared.item.Item.{Item}
 use Rattle.twp_grammar.specs.Sentences.{IsReadAs}
 use Rattle.twp_read.specs.TextFaults.{refusal_of}
 use Rattle.twp_read.specs.declared.fault.TextFault.{TextFault}
-use Rattle.twp_read.specs.declared.fault.TextFault.TheVariants.{Memory}
+use Rattle.twp_read.specs.declared.fault.TextFault.TheVariants.{Memory, Syntax}
 use Rattle.twp_grammar.proofs.TokenFacts.{one_token_list}
 use Rattle.twp_read.specs.declared.doubt.DoubtfulPlace.{DoubtfulPlace}
 use Rattle.twp_read.specs.declared.doubt.Doubts.{Doubts}
 use Rattle.twp_read.specs.Doubts.{AreDoubts, HasDoubts, doubts}
-use Rattle.twp_suggest.specs.Readings.{IsClear}
+use Rattle.twp_grammar.specs.declared.expected.Expected.{Expected}
+use Rattle.twp_read.specs.TextFaults.{NamesWhatFollows}
+use Rattle.twp_read.proofs.OneAnswer.{no_fault}
+use Rattle.twp_suggest.specs.Readings.{IsAccepted, IsClear}
 
 none_is_none : (first : DoubtfulPlace) (more : List DoubtfulPlace) → [] ≡ first ∷ more → ⊥
 none_is_none first more same = cc same
@@ -45,3 +48,13 @@ if_refused text fault refusal taken refused = (
       (none_is_some refusal (refusal_of fault)
       (ap refusal_of (taken clear.accepted.items clear.accepted.read)) refused),
 )
+
+-- nor is one that isn't accepted
+pub if_wrong : (text : List ℕ) → ¬ IsAccepted text → IsTrue false ↔ IsClear text
+if_wrong text wrong = (λ no. cc no, λ clear. absurd (wrong clear.accepted))
+
+-- a text that goes wrong isn't accepted
+pub wrong_text : (text : List ℕ) (at : ℕ) (expected : Expected) → NamesWhatFollows text at expected
+    → ¬ IsAccepted text
+wrong_text text at expected wrong accepted =
+    no_fault text accepted.items (Syntax at expected) accepted.read wrong.wrong

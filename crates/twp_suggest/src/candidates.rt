@@ -1,8 +1,9 @@
 //! The candidates for readings: the changes of the whole text, with each joint read in one of its two ways.
 
 use crate::gaps::{Outline, change};
-use crate::plan::Plan;
+use crate::writer::Writer;
 use std::alloc::{AllocError, Global};
+use std::mem;
 use twp_pieces::plus;
 use twp_read::TEXT_LIMIT;
 use twp_rules::{Change, Rule};
@@ -18,16 +19,19 @@ pub(crate) fn outline_of<'a>(
     if text.len() > TEXT_LIMIT {
         return Ok(None);
     }
-    let mut plan = Plan::of(alloc, text)?;
-    if plan.draft.is_unsure {
+    let mut writer = Writer::of(alloc, text)?;
+    if writer.plan.draft.is_unsure {
         return Ok(None);
     }
-    let arranged = plan.arranged(alloc)?;
-    if plan.draft.is_unsure || !plan.claims_hold(alloc, arranged.as_slice())? {
+    let arranged = writer.plan.arranged(alloc)?;
+    if writer.plan.draft.is_unsure
+        || !writer.plan.acreage_fits(arranged.as_slice())
+        || !writer.claims_hold(alloc, arranged.as_slice())?
+    {
         return Ok(None);
     }
-    let outline = plan.outline(alloc, arranged.as_slice())?;
-    if plan.draft.is_unsure {
+    let outline = writer.outline(alloc, arranged.as_slice())?;
+    if writer.plan.draft.is_unsure {
         return Ok(None);
     }
     Ok(Some(outline))
@@ -41,12 +45,15 @@ impl<'a> Outline<'a> {
     }
 
     /// The changes of the candidate with a number, whose binary digits are the ways of the joints. The first way of each
-    /// joint comes before the second.
+    /// joint comes before the second. Without joints, there is one candidate, which takes the changes.
     pub(crate) fn changes_of(
-        &self,
+        &mut self,
         alloc: Global,
         number: usize,
     ) -> Result<Vec<Change<'a>>, AllocError> {
+        if self.joints.is_empty() && !has_white_space(self.changes.as_slice()) {
+            return Ok(mem::replace(&mut self.changes, Vec::new(alloc)));
+        }
         let mut changes = Vec::with_capacity(alloc, self.changes.len())?;
         let mut from: usize = 0;
         let mut digits = number;
@@ -70,6 +77,16 @@ impl<'a> Outline<'a> {
         add_changes(&mut changes, self.changes.get(from..).unwrap_or(&[]))?;
         Ok(changes)
     }
+}
+
+/// Whether several bytes of white space are left out within a part.
+fn has_white_space(changes: &[Change<'_>]) -> bool {
+    for change in changes {
+        if change.rule == Rule::OnePart && change.end > plus(change.start, 1) {
+            return true;
+        }
+    }
+    false
 }
 
 /// Adds changes to others. Each byte of white space within a part is left out by a change of its own.

@@ -1,11 +1,11 @@
 //! What a text says again in parentheses: it has to be the land before them.
 
-use crate::arranging::{Placed, Role};
 use crate::named::land_in;
-use crate::on_plat::{land_on, township_of};
-use crate::plan::Plan;
+use crate::on_plat::{find_land, township_of};
+use crate::writer::Writer;
 use std::alloc::{AllocError, Global};
-use twp_land::Land;
+use twp_arrange::{Placed, Role};
+use twp_land::{Land, Lanes};
 use twp_phrases::{Claim, Claimed, Names, Phrase, Span};
 use twp_pieces::plus;
 
@@ -45,7 +45,7 @@ impl Before {
     }
 }
 
-impl<'a> Plan<'a> {
+impl<'a> Writer<'a> {
     /// Whether the land is what the text says again.
     pub(crate) fn claims_hold(&self, alloc: Global, list: &[Placed]) -> Result<bool, AllocError> {
         let mut before = Before {
@@ -53,7 +53,7 @@ impl<'a> Plan<'a> {
             group: 0,
             last: None,
         };
-        for claim in &self.draft.claims {
+        for claim in &self.plan.draft.claims {
             before = before.moved_to(claim.place, list);
             let group = list.get(before.group..).unwrap_or(&[]);
             if !self.holds(alloc, *claim, before.last, group)? {
@@ -92,14 +92,23 @@ impl<'a> Plan<'a> {
             }
             Claimed::Part(span) => {
                 claimed.extend_from_slice(b", ")?;
-                for step in self.draft.steps.get(span.first..span.end).unwrap_or(&[]) {
+                for step in self
+                    .plan
+                    .draft
+                    .steps
+                    .get(span.first..span.end)
+                    .unwrap_or(&[])
+                {
                     claimed.extend_from_slice(step.written)?;
                 }
             }
         }
+        let Some(land) = land_in(alloc, claimed.as_slice())? else {
+            return Ok(false);
+        };
         let mut alone = section_text(alloc, section)?;
         self.write_phrase(last.phrase, b", ", &mut alone)?;
-        if are_same(alloc, claimed.as_slice(), alone.as_slice())? {
+        if names(alloc, alone.as_slice(), &land)? {
             return Ok(true);
         }
         let mut all = section_text(alloc, section)?;
@@ -117,10 +126,10 @@ impl<'a> Plan<'a> {
                 end = Some(placed.phrase.end);
             }
         }
-        if are_same(alloc, claimed.as_slice(), all.as_slice())? {
+        if names(alloc, all.as_slice(), &land)? {
             return Ok(true);
         }
-        are_same(alloc, claimed.as_slice(), joined.as_slice())
+        names(alloc, joined.as_slice(), &land)
     }
 
     /// The number of the section of a group, with which phrases begin.
@@ -130,10 +139,10 @@ impl<'a> Plan<'a> {
                 continue;
             }
             if placed.phrase.names == Names::Sections {
-                return self.only_number(placed.phrase.numbers);
+                return self.plan.only_number(placed.phrase.numbers);
             }
             if let Some(section) = placed.section {
-                return self.only_number(section);
+                return self.plan.only_number(section);
             }
         }
         None
@@ -161,19 +170,27 @@ impl<'a> Plan<'a> {
         changes: Span,
         text: &mut Vec<u8>,
     ) -> Result<(), AllocError> {
-        let mut at = self.draft.pieces.start(pieces.first);
-        let end = self.draft.pieces.end_before(pieces.end);
+        let mut at = self.plan.draft.pieces.start(pieces.first);
+        let end = self.plan.draft.pieces.end_before(pieces.end);
         for change in self
+            .plan
             .draft
             .changes
             .get(changes.first..changes.end)
             .unwrap_or(&[])
         {
-            text.extend_from_slice(self.draft.pieces.text.get(at..change.start).unwrap_or(b""))?;
+            text.extend_from_slice(
+                self.plan
+                    .draft
+                    .pieces
+                    .text
+                    .get(at..change.start)
+                    .unwrap_or(b""),
+            )?;
             text.extend_from_slice(change.written)?;
             at = change.end;
         }
-        text.extend_from_slice(self.draft.pieces.text.get(at..end).unwrap_or(b""))
+        text.extend_from_slice(self.plan.draft.pieces.text.get(at..end).unwrap_or(b""))
     }
 }
 
@@ -193,13 +210,11 @@ fn section_text(alloc: Global, number: u16) -> Result<Vec<u8>, AllocError> {
     Ok(text)
 }
 
-/// Whether two texts name the same land.
-fn are_same(alloc: Global, one: &[u8], other: &[u8]) -> Result<bool, AllocError> {
-    let first = land_in(alloc, one)?;
-    let second = land_in(alloc, other)?;
-    match (first, second) {
-        (Some(first), Some(second)) => Ok(first.same(&second)),
-        _ => Ok(false),
+/// Whether a text names this land.
+fn names(alloc: Global, text: &[u8], land: &Lanes) -> Result<bool, AllocError> {
+    match land_in(alloc, text)? {
+        Some(named) => Ok(named.same(land)),
+        None => Ok(false),
     }
 }
 
@@ -209,7 +224,11 @@ fn includes_lots(alloc: Global, text: &[u8]) -> Result<bool, AllocError> {
         return Ok(false);
     }
     match township_of(alloc, text)? {
-        Some(township) => Ok(land_on(alloc, text, township)?.is_none()),
+        Some(township) => {
+            let mut land = Lanes::empty();
+            let is_on_plat = find_land(alloc, text, township, &mut land)?;
+            Ok(!is_on_plat)
+        }
         None => Ok(false),
     }
 }

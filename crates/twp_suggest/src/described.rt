@@ -7,7 +7,7 @@ ghost use Rattle.twp_suggest.specs.Readings.{without_first_line};
 
 use crate::manner::Manner;
 use crate::named::{land_with_lots, why_unread};
-use crate::on_plat::{first_township, land_of, land_on, read};
+use crate::on_plat::{find_land, first_township, read};
 use crate::unread::Unread;
 use std::alloc::{AllocError, Global};
 use twp_grammar::Item;
@@ -89,6 +89,7 @@ fn accept(alloc: Global, text: &[u8]) -> Result<(), Unread>
 
 /// The canonical description of the land of a text in which aliquot parts include whole lots.
 #[tactic(auto, using(crate::proofs::NamedFacts::are_lots_named))]
+#[inline(never)]
 fn with_lots_named(alloc: Global, made: &[u8]) -> Result<Vec<u8>, Unread>
     ensures { IfOk result (λ text. AreLotsNamed made.now text.items) }
 {
@@ -145,7 +146,8 @@ fn split_at_except(text: &[u8], at: usize) -> Option<Excepting<'_>>
 }
 
 /// The canonical description of the land of a text without the land of another, which has to be on the plat of the same
-/// township, in the land of the first, and not all of it.
+/// township, in the land of the first, and not all of it. Not inlined, since its sets of land would be cleared for each text.
+#[inline(never)]
 fn remainder(alloc: Global, whole: &[u8], excepted: &[u8]) -> Result<Vec<u8>, Unread>
     ensures { IfOk result (λ text. IsRemainder (whole.now ++ except ++ excepted.now) text.items) }
 {
@@ -155,12 +157,15 @@ fn remainder(alloc: Global, whole: &[u8], excepted: &[u8]) -> Result<Vec<u8>, Un
     let Some(township) = first_township(description.items()) else {
         return Err(Unread::Refused);
     };
-    let Some(mut land) = land_of(&description, township) else {
+    let mut land = Lanes::empty();
+    let Ok(()) = resolve_into(&mut land, &description, township) else {
         return Err(why_unread(&description));
     };
-    let Some(less) = land_on(alloc, excepted, township)? else {
+    let mut less = Lanes::empty();
+    let has_less = find_land(alloc, excepted, township, &mut less)?;
+    if !has_less {
         return Err(why_text_is_unread(alloc, excepted)?);
-    };
+    }
     if !land.holds_land(&less) || land.same(&less) {
         return Err(Unread::Unfit);
     }

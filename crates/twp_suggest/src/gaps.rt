@@ -1,12 +1,13 @@
 //! What is written between phrases: commas, semicolons, and nothing.
 
-use crate::arranging::{Placed, Role};
 use crate::candidates::JOINTS_MOST;
-use crate::joining::{Between, Gap, Joining, is_joint, is_written, mark_between};
-use crate::plan::Plan;
+use crate::writer::Writer;
 use std::alloc::{AllocError, Global};
+use twp_arrange::{
+    Between, Gap, Joining, Placed, Role, has_except, is_joint, is_written, mark_between,
+};
 use twp_grammar::Kind;
-use twp_phrases::{Form, Names, Phrase, Span};
+use twp_phrases::{Form, Names, Phrase, PlacedStep, Span};
 use twp_pieces::plus;
 use twp_rules::{Change, Rule};
 
@@ -41,7 +42,7 @@ pub(crate) struct Outline<'a> {
     pub(crate) has_except: bool,
 }
 
-impl<'a> Plan<'a> {
+impl<'a> Writer<'a> {
     /// The changes of the whole text, from left to right.
     pub(crate) fn outline(
         &mut self,
@@ -49,19 +50,19 @@ impl<'a> Plan<'a> {
         list: &[Placed],
     ) -> Result<Outline<'a>, AllocError> {
         let mut out = Outline {
-            changes: Vec::with_capacity(alloc, plus(self.draft.changes.len(), list.len()))?,
+            changes: Vec::with_capacity(alloc, plus(self.plan.draft.changes.len(), list.len()))?,
             joints: Vec::new(alloc),
             options: Vec::new(alloc),
             has_except: has_except(list),
         };
-        let mut before: Option<Placed> = None;
+        let mut before: Option<&Placed> = None;
         let mut next: usize = 0;
         let heading = self.moved_heading(list);
         for index in 0..list.len() {
-            let Some(placed) = list.get(index).copied() else {
+            let Some(placed) = list.get(index) else {
                 break;
             };
-            if self.draft.is_unsure {
+            if self.plan.draft.is_unsure {
                 break;
             }
             let Role::Kept(_) = placed.role else {
@@ -73,7 +74,7 @@ impl<'a> Plan<'a> {
                 self.write_heading(heading, placed, &mut out)?;
             }
             self.write_section(alloc, placed, list.get(index..).unwrap_or(&[]), &mut out)?;
-            self.copy_changes(placed.phrase, &mut out)?;
+            self.copy_changes(&placed.phrase, &mut out)?;
             before = Some(placed);
             next = plus(index, 1);
         }
@@ -83,24 +84,26 @@ impl<'a> Plan<'a> {
             let is_several = placed.phrase.names == Names::Sections
                 && numbers.end > plus(numbers.first, 1);
             if is_several && !out.joints.is_empty() {
-                self.draft.doubt();
+                self.plan.draft.doubt();
             }
         }
         let left_out = list.get(next..).unwrap_or(&[]);
         if left_out.is_empty() && self.may_be_cut_off(before) {
-            self.draft.doubt();
+            self.plan.draft.doubt();
         }
         self.write_gap(before, None, left_out, &mut out)?;
         Ok(out)
     }
 
     /// Whether a mark after the last phrase says that more follows, which may have been cut off.
-    fn may_be_cut_off(&self, last: Option<Placed>) -> bool {
+    fn may_be_cut_off(&self, last: Option<&Placed>) -> bool {
         let first = last.map_or(0, |placed| placed.phrase.end);
-        for index in first..self.draft.pieces.len() {
-            if matches!(self.draft.pieces.kind(index), Kind::Comma | Kind::Colon)
-                || self.draft.pieces.is(index, b"&")
-                || self.draft.pieces.is_dash(index)
+        for index in first..self.plan.draft.pieces.len() {
+            if matches!(
+                self.plan.draft.pieces.kind(index),
+                Kind::Comma | Kind::Colon
+            ) || self.plan.draft.pieces.is(index, b"&")
+                || self.plan.draft.pieces.is_dash(index)
             {
                 return true;
             }
@@ -109,44 +112,50 @@ impl<'a> Plan<'a> {
     }
 
     /// The changes in a phrase.
-    fn copy_changes(&self, phrase: Phrase, out: &mut Outline<'a>) -> Result<(), AllocError> {
+    fn copy_changes(&self, phrase: &Phrase, out: &mut Outline<'a>) -> Result<(), AllocError> {
         let span = phrase.changes;
-        out.changes.extend_from_slice(self.draft.changes.get(span.first..span.end).unwrap_or(&[]))
+        out.changes.extend_from_slice(
+            self.plan
+                .draft
+                .changes
+                .get(span.first..span.end)
+                .unwrap_or(&[]),
+        )
     }
 
     /// Writes what has to be between two phrases, and leaves out what is between them.
     fn write_gap(
         &mut self,
-        before: Option<Placed>,
-        after: Option<Placed>,
+        before: Option<&Placed>,
+        after: Option<&Placed>,
         left_out: &[Placed],
         out: &mut Outline<'a>,
     ) -> Result<(), AllocError> {
         let gap = Gap {
             first: before.map_or(0, |placed| placed.phrase.end),
-            end: after.map_or(self.draft.pieces.len(), |placed| placed.phrase.first),
+            end: after.map_or(self.plan.draft.pieces.len(), |placed| placed.phrase.first),
             between: mark_between(before, after),
         };
-        let joining = self.joining(gap, left_out);
+        let joining = self.plan.joining(gap, left_out);
         if let (Some(one), Some(other)) = (before, after) {
             if one.phrase.names == Names::Except || other.phrase.names == Names::Except {
                 return self.write_pieces(gap, left_out, Some(gap.end), false, out);
             }
             let shared = self.shared_of(one, other, joining, out);
             match shared {
-                Shared::Nothing if self.is_unsure_gap(one, other, joining, left_out) => {
-                    self.draft.doubt();
+                Shared::Nothing if self.plan.is_unsure_gap(one, other, joining, left_out) => {
+                    self.plan.draft.doubt();
                 }
-                Shared::Tail => self.write_tail(one.phrase, other.phrase, out)?,
+                Shared::Tail => self.write_tail(&one.phrase, &other.phrase, out)?,
                 Shared::Head => {
                     self.write_between(before, after, gap, left_out, joining, out)?;
-                    return self.write_head(one.phrase, other.phrase, out);
+                    return self.write_head(&one.phrase, &other.phrase, out);
                 }
                 _ => {}
             }
             let is_apart = matches!(joining, Joining::Nothing | Joining::Stop);
             if is_joint(one, other) && is_apart && left_out.is_empty() {
-                return self.write_joint(gap, one.phrase, other.phrase, out);
+                return self.write_joint(gap, &one.phrase, &other.phrase, out);
             }
         }
         self.write_between(before, after, gap, left_out, joining, out)
@@ -155,8 +164,8 @@ impl<'a> Plan<'a> {
     /// Writes what has to be between two phrases, if it isn't written so.
     fn write_between(
         &mut self,
-        before: Option<Placed>,
-        after: Option<Placed>,
+        before: Option<&Placed>,
+        after: Option<&Placed>,
         gap: Gap,
         left_out: &[Placed],
         joining: Joining,
@@ -176,22 +185,29 @@ impl<'a> Plan<'a> {
     fn write_joint(
         &mut self,
         gap: Gap,
-        one: Phrase,
-        other: Phrase,
+        one: &Phrase,
+        other: &Phrase,
         out: &mut Outline<'a>,
     ) -> Result<(), AllocError> {
-        let is_half = match self.draft.steps_of(one) {
+        let is_half = match self.plan.draft.steps_of(*one) {
             [step] => step.written.ends_with(b"2"),
             _ => false,
         };
-        if is_half && self.draft.have_same_steps(one, other) {
-            self.draft.doubt();
+        // Nobody writes a quarter of a half so, as in `NE N2`.
+        let quarter = only_step(self.plan.draft.steps_of(*one));
+        let half = only_step(self.plan.draft.steps_of(*other));
+        let side = half.first().copied().unwrap_or(0);
+        let is_quarter_of_half = half.ends_with(b"2")
+            && quarter.ends_with(b"4")
+            && quarter.get(..2).unwrap_or(b"").contains(&side);
+        if is_quarter_of_half || (is_half && self.plan.draft.have_same_steps(*one, *other)) {
+            self.plan.draft.doubt();
         }
-        let start = self.draft.pieces.end_before(gap.first);
-        let end = self.draft.pieces.start(gap.end);
+        let start = self.plan.draft.pieces.end_before(gap.first);
+        let end = self.plan.draft.pieces.start(gap.end);
         let begin = out.options.len();
         let stop = if gap.end > gap.first {
-            self.draft.pieces.start(gap.first)
+            self.plan.draft.pieces.start(gap.first)
         } else {
             start
         };
@@ -217,7 +233,7 @@ impl<'a> Plan<'a> {
         out: &mut Outline<'a>,
     ) -> Result<(), AllocError> {
         if out.joints.len() >= JOINTS_MOST {
-            self.draft.doubt();
+            self.plan.draft.doubt();
         }
         out.joints.push(Joint {
             changes: out.changes.len(),
@@ -234,11 +250,17 @@ impl<'a> Plan<'a> {
     }
 
     /// Which steps of one of two parts with `and` between them may be for both.
-    fn shared_of(&self, one: Placed, other: Placed, joining: Joining, out: &Outline<'a>) -> Shared {
-        let (before, after) = (one.phrase, other.phrase);
-        let has_the = self.draft.pieces.is(plus(before.end, 1), b"the");
-        let is_mark = self.draft.pieces.is(before.end, b"&")
-            || (self.draft.pieces.is(before.end, b"and") && has_the);
+    fn shared_of(
+        &self,
+        one: &Placed,
+        other: &Placed,
+        joining: Joining,
+        out: &Outline<'a>,
+    ) -> Shared {
+        let (before, after) = (&one.phrase, &other.phrase);
+        let has_the = self.plan.draft.pieces.is(plus(before.end, 1), b"the");
+        let is_mark = self.plan.draft.pieces.is(before.end, b"&")
+            || (self.plan.draft.pieces.is(before.end, b"and") && has_the);
         let is_and = joining == Joining::And || (joining == Joining::Other && is_mark);
         let is_close = after.first <= plus(before.end, plus(1, usize::from(has_the)))
             && out.joints.len() <= 1;
@@ -255,12 +277,12 @@ impl<'a> Plan<'a> {
     /// Notes that the `of` of a part may be for the one before it too.
     fn write_tail(
         &mut self,
-        one: Phrase,
-        other: Phrase,
+        one: &Phrase,
+        other: &Phrase,
         out: &mut Outline<'a>,
     ) -> Result<(), AllocError> {
         let begin = out.options.len();
-        let place = self.draft.pieces.end_before(one.end);
+        let place = self.plan.draft.pieces.end_before(one.end);
         self.copy_steps_of(other, true, place, out)?;
         self.note_joint(begin, begin, out)
     }
@@ -268,12 +290,12 @@ impl<'a> Plan<'a> {
     /// Notes that the steps before the `of` of a part may be for the one after it too.
     fn write_head(
         &mut self,
-        one: Phrase,
-        other: Phrase,
+        one: &Phrase,
+        other: &Phrase,
         out: &mut Outline<'a>,
     ) -> Result<(), AllocError> {
         let begin = out.options.len();
-        let place = self.draft.pieces.start(other.first);
+        let place = self.plan.draft.pieces.start(other.first);
         self.copy_steps_of(one, false, place, out)?;
         self.note_joint(begin, begin, out)
     }
@@ -281,13 +303,13 @@ impl<'a> Plan<'a> {
     /// Writes the steps of a part after its first `of`, or those before it, at a place where they aren't.
     fn copy_steps_of(
         &self,
-        part: Phrase,
+        part: &Phrase,
         is_after_of: bool,
         place: usize,
         out: &mut Outline<'a>,
     ) -> Result<(), AllocError> {
         let mut is_after = false;
-        for step in self.draft.steps_of(part) {
+        for step in self.plan.draft.steps_of(*part) {
             is_after = is_after || step.is_after_of;
             if is_after == is_after_of {
                 let rule = Rule::CopiedStep(step.start, step.end);
@@ -314,8 +336,8 @@ impl<'a> Plan<'a> {
                 return self.write_pieces(gap, left_out, Some(index), is_comma, out);
             }
         }
-        let place = self.draft.pieces.end_before(gap.first);
-        let is_apart = self.draft.pieces.start(gap.first) > place;
+        let place = self.plan.draft.pieces.end_before(gap.first);
+        let is_apart = self.plan.draft.pieces.start(gap.first) > place;
         let (written, rule): (&'static [u8], Rule) = match (is_comma, is_apart) {
             (true, true) => (b",", Rule::Comma),
             (true, false) => (b", ", Rule::Comma),
@@ -348,14 +370,14 @@ impl<'a> Plan<'a> {
                 if placed.phrase.first == index {
                     next = placed.phrase.end;
                     rest = more;
-                    self.write_left_out(*placed, out)?;
+                    self.write_left_out(placed, out)?;
                 }
             }
             if index < next {
                 continue;
             }
             if self.is_word(index) && !self.may_leave_out(index, gap, rest) {
-                self.draft.doubt();
+                self.plan.draft.doubt();
             }
             match mark {
                 None => {}
@@ -368,7 +390,7 @@ impl<'a> Plan<'a> {
 
     /// Whether a comma or a semicolon may be written instead of a piece.
     fn may_be_mark(&self, index: usize, is_comma: bool) -> bool {
-        match self.draft.pieces.lower(index) {
+        match self.plan.draft.pieces.lower(index) {
             b"," | b";" | b":" | b"." | b"&" | b"-" | b"|" | b"+" => true,
             b"/" => !is_comma,
             b"\xE2\x80\x93" | b"\xE2\x80\x94" => is_comma,
@@ -378,12 +400,18 @@ impl<'a> Plan<'a> {
 
     /// Whether a piece is a word.
     fn is_word(&self, index: usize) -> bool {
-        (self.draft.pieces.is(index, b"of")
-            || self.draft.pieces.is(index, b"the")
-            || self.draft.pieces.is(index, b"in")
-            || self.draft.pieces.is(index, b"said")
-            || self.draft.pieces.is(index, b"and")
-            || self.draft.pieces.is(index, b"&"))
+        let pieces = &self.plan.draft.pieces;
+        match pieces.kind(index) {
+            Kind::Comma | Kind::Semicolon | Kind::Colon | Kind::Stop => false,
+            _ => {
+                pieces.is(index, b"of")
+                    || pieces.is(index, b"the")
+                    || pieces.is(index, b"in")
+                    || pieces.is(index, b"said")
+                    || pieces.is(index, b"and")
+                    || pieces.is(index, b"&")
+            }
+        }
     }
 
     /// Whether a word between phrases means nothing there: before a section or a township and range that is left out,
@@ -401,22 +429,25 @@ impl<'a> Plan<'a> {
                 let is_moved = matches!(placed.phrase.names, Names::Sections | Names::Heading);
                 is_next
                     && is_moved
-                    && !(self.draft.pieces.is(index, b"and") || self.draft.pieces.is(index, b"&"))
+                    && !(self.plan.draft.pieces.is(index, b"and")
+                        || self.plan.draft.pieces.is(index, b"&"))
             }
             [] => false,
         };
         let is_between = gap.between != Between::Nothing && gap.first > 0;
-        let is_and = (self.draft.pieces.is(index, b"and") || self.draft.pieces.is(index, b"&"))
+        let is_and = (self.plan.draft.pieces.is(index, b"and")
+            || self.plan.draft.pieces.is(index, b"&"))
             && is_between
             && rest.is_empty();
-        let is_the = (self.draft.pieces.is(index, b"the") || self.draft.pieces.is(index, b"said"))
+        let is_the = (self.plan.draft.pieces.is(index, b"the")
+            || self.plan.draft.pieces.is(index, b"said"))
             && gap.end > index
             && rest.is_empty();
         is_before_moved || is_and || is_the || gap.first == 0
     }
 
     /// Leaves out a phrase, with the white space before it, but for words that a rule looks at as a whole.
-    fn write_left_out(&mut self, placed: Placed, out: &mut Outline<'a>) -> Result<(), AllocError> {
+    fn write_left_out(&mut self, placed: &Placed, out: &mut Outline<'a>) -> Result<(), AllocError> {
         let rule = match placed.phrase.names {
             Names::Nothing(rule) => rule,
             Names::Heading => Rule::MovedHeading,
@@ -424,12 +455,12 @@ impl<'a> Plan<'a> {
         };
         let first = placed.phrase.first;
         let start = match rule {
-            Rule::Heading | Rule::Label => self.draft.pieces.start(first),
-            _ => self.draft.pieces.end_before(first),
+            Rule::Heading | Rule::Label => self.plan.draft.pieces.start(first),
+            _ => self.plan.draft.pieces.end_before(first),
         };
         out.changes.push(Change {
             start,
-            end: self.draft.pieces.end_before(placed.phrase.end),
+            end: self.plan.draft.pieces.end_before(placed.phrase.end),
             written: b"",
             rule,
         })?;
@@ -448,7 +479,7 @@ impl<'a> Plan<'a> {
         } else {
             (b";", Rule::Semicolon)
         };
-        if self.draft.pieces.bytes(index) == written {
+        if self.plan.draft.pieces.bytes(index) == written {
             return Ok(());
         }
         self.write_piece(index, written, rule, out)
@@ -457,7 +488,7 @@ impl<'a> Plan<'a> {
     /// Leaves out a piece.
     fn write_nothing(&self, index: usize, out: &mut Outline<'a>) -> Result<(), AllocError> {
         let is_mark = !matches!(
-            self.draft.pieces.kind(index),
+            self.plan.draft.pieces.kind(index),
             Kind::And | Kind::Of | Kind::The | Kind::Other
         );
         let rule = if is_mark { Rule::Mark } else { Rule::Word };
@@ -473,8 +504,8 @@ impl<'a> Plan<'a> {
         out: &mut Outline<'a>,
     ) -> Result<(), AllocError> {
         out.changes.push(Change {
-            start: self.draft.pieces.start(index),
-            end: self.draft.pieces.end(index),
+            start: self.plan.draft.pieces.start(index),
+            end: self.plan.draft.pieces.end(index),
             written,
             rule,
         })?;
@@ -482,14 +513,12 @@ impl<'a> Plan<'a> {
     }
 }
 
-/// Whether a phrase begins an exception.
-fn has_except(list: &[Placed]) -> bool {
-    for placed in list {
-        if placed.phrase.names == Names::Except {
-            return true;
-        }
+/// How the only step of a part is written. Nothing, if it has more.
+fn only_step(steps: &[PlacedStep]) -> &'static [u8] {
+    match steps {
+        [step] => step.written,
+        _ => b"",
     }
-    false
 }
 
 /// A change.

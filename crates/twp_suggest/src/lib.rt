@@ -2,19 +2,17 @@
 //! instead, by which rule, and the description that comes of this.
 #![tactic(auto)]
 
-mod arranging;
 mod candidates;
 mod claims;
 mod described;
 mod gaps;
-mod joining;
 mod manner;
 mod moved;
 mod named;
 mod on_plat;
-mod plan;
 mod reading;
 mod unread;
+mod writer;
 
 pub use manner::Manner;
 pub use reading::{Reading, readings_of};

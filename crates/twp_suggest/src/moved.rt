@@ -1,9 +1,9 @@
 //! What is written before land: the township and range, and the section, where they are after it.
 
-use crate::arranging::{Placed, Role};
 use crate::gaps::Outline;
-use crate::plan::Plan;
+use crate::writer::Writer;
 use std::alloc::{AllocError, Global};
+use twp_arrange::{Placed, Role};
 use twp_phrases::{Names, Phrase};
 use twp_pieces::plus;
 use twp_read::TEXT_LIMIT;
@@ -15,7 +15,7 @@ const EXCEPTING_MOST: usize = 2 * TEXT_LIMIT + 8;
 /// The fewest bytes that are written for a section besides its parts, as in `sec. 1, ; `.
 const SECTION_LEAST: usize = 10;
 
-impl<'a> Plan<'a> {
+impl<'a> Writer<'a> {
     /// The township and range that have to be written first, if they aren't.
     pub(crate) fn moved_heading(&self, list: &[Placed]) -> Option<Phrase> {
         for placed in list {
@@ -33,19 +33,19 @@ impl<'a> Plan<'a> {
     pub(crate) fn write_heading(
         &mut self,
         heading: Option<Phrase>,
-        placed: Placed,
+        placed: &Placed,
         out: &mut Outline<'a>,
     ) -> Result<(), AllocError> {
         let Some(heading) = heading else {
             return Ok(());
         };
-        let from = self.draft.extent();
-        let first = self.draft.changes.len();
-        let place = self.draft.pieces.start(placed.phrase.first);
-        self.draft.copy_heading(place, heading)?;
+        let from = self.plan.draft.extent();
+        let first = self.plan.draft.changes.len();
+        let place = self.plan.draft.pieces.start(placed.phrase.first);
+        self.plan.draft.copy_heading(place, heading)?;
         out.changes
-            .extend_from_slice(self.draft.changes.get(first..).unwrap_or(&[]))?;
-        self.draft.shrink(from);
+            .extend_from_slice(self.plan.draft.changes.get(first..).unwrap_or(&[]))?;
+        self.plan.draft.shrink(from);
         Ok(())
     }
 
@@ -54,16 +54,16 @@ impl<'a> Plan<'a> {
     pub(crate) fn write_section(
         &mut self,
         alloc: Global,
-        placed: Placed,
+        placed: &Placed,
         lands: &[Placed],
         out: &mut Outline<'a>,
     ) -> Result<(), AllocError> {
         let Some(numbers) = placed.section else {
             return Ok(());
         };
-        let from = self.draft.extent();
-        let first = self.draft.changes.len();
-        let place = self.draft.pieces.start(placed.phrase.first);
+        let from = self.plan.draft.extent();
+        let first = self.plan.draft.changes.len();
+        let place = self.plan.draft.pieces.start(placed.phrase.first);
         let count = numbers.end.saturating_sub(numbers.first);
         let is_each = count > 1 && placed.phrase.names == Names::Part;
         let word: &'static [u8] = if count == 1 || is_each {
@@ -71,7 +71,9 @@ impl<'a> Plan<'a> {
         } else {
             b"secs. "
         };
-        self.draft.write(place, place, word, Rule::SectionWord)?;
+        self.plan
+            .draft
+            .write(place, place, word, Rule::SectionWord)?;
         let last = numbers.end.saturating_sub(1);
         let parts = if is_each {
             self.parts_of(alloc, placed.role, lands)?
@@ -85,23 +87,25 @@ impl<'a> Plan<'a> {
         };
         let each = plus(self.size_of(parts.as_slice()), SECTION_LEAST);
         if is_each && each.saturating_mul(count.saturating_sub(1)) > most {
-            self.draft.doubt();
+            self.plan.draft.doubt();
             return Ok(());
         }
         for index in numbers.first..numbers.end {
-            if let Some(number) = self.draft.numbers.get(index).copied() {
-                self.draft.copy_numeral(place, number, 0)?;
-                self.draft.write(place, place, b", ", Rule::Comma)?;
+            if let Some(number) = self.plan.draft.numbers.get(index).copied() {
+                self.plan.draft.copy_numeral(place, number, 0)?;
+                self.plan.draft.write(place, place, b", ", Rule::Comma)?;
             }
             if is_each && index < last {
                 self.copy_parts(parts.as_slice(), place)?;
-                self.draft.write(place, place, b"; ", Rule::Semicolon)?;
-                self.draft.write(place, place, b"sec. ", Rule::SectionWord)?;
+                self.plan.draft.write(place, place, b"; ", Rule::Semicolon)?;
+                self.plan
+                    .draft
+                    .write(place, place, b"sec. ", Rule::SectionWord)?;
             }
         }
         out.changes
-            .extend_from_slice(self.draft.changes.get(first..).unwrap_or(&[]))?;
-        self.draft.shrink(from);
+            .extend_from_slice(self.plan.draft.changes.get(first..).unwrap_or(&[]))?;
+        self.plan.draft.shrink(from);
         Ok(())
     }
 
@@ -118,7 +122,7 @@ impl<'a> Plan<'a> {
                 Role::LeftOut => {}
                 role if role == group => {
                     if land.phrase.names != Names::Part {
-                        self.draft.doubt();
+                        self.plan.draft.doubt();
                     }
                     parts.push(land.phrase)?;
                 }
@@ -133,13 +137,13 @@ impl<'a> Plan<'a> {
         let mut is_first = true;
         for part in parts {
             if !is_first {
-                self.draft.write(place, place, b", ", Rule::Comma)?;
+                self.plan.draft.write(place, place, b", ", Rule::Comma)?;
             }
             is_first = false;
             for index in part.steps.first..part.steps.end {
-                if let Some(step) = self.draft.steps.get(index).copied() {
+                if let Some(step) = self.plan.draft.steps.get(index).copied() {
                     let rule = Rule::CopiedStep(step.start, step.end);
-                    self.draft.write(place, place, step.written, rule)?;
+                    self.plan.draft.write(place, place, step.written, rule)?;
                 }
             }
         }
@@ -150,7 +154,7 @@ impl<'a> Plan<'a> {
     fn size_of(&self, parts: &[Phrase]) -> usize {
         let mut size: usize = 0;
         for part in parts {
-            for step in self.draft.steps_of(*part) {
+            for step in self.plan.draft.steps_of(*part) {
                 size = plus(size, step.written.len());
             }
         }

@@ -1,8 +1,6 @@
 //! The land that a text names on the plat of a township.
-ghost use Rattle.std.specs.Prelude.{◌≡◌, IfOk, IfSome, List};
-ghost use Rattle.twp_grid.specs.Places.{PLACE_DIGITS};
+ghost use Rattle.std.specs.Prelude.{◌≡◌, true, IfOk, IfSome, List};
 ghost use Rattle.twp_grammar.specs.declared.item.Item.{Item as Named};
-ghost use Rattle.twp_grammar.specs.OnPlat.{IsLandOfItems};
 ghost use Rattle.twp_grammar.specs.Sentences.{IsReadAs};
 ghost use Rattle.twp_suggest.specs.Readings.{IsLandOfText, IsOnlyLandOfText, NamesTownship};
 
@@ -11,7 +9,7 @@ use twp_grammar::Item;
 use twp_grid::{EastWest, NorthSouth, Township};
 use twp_land::{Land, Lanes};
 use twp_read::{Description, TextFault};
-use twp_resolve::resolve;
+use twp_resolve::resolve_into;
 
 /// The description that a text is read as. None if the reader refuses it.
 pub(crate) fn read(alloc: Global, text: &[u8]) -> Result<Option<Description>, AllocError>
@@ -26,33 +24,27 @@ pub(crate) fn read(alloc: Global, text: &[u8]) -> Result<Option<Description>, Al
     }
 }
 
-/// The land that a text names on the plat of a township. None if there is none.
+/// Whether a text names land on the plat of a township, which `land` is then. It is filled in place, since a copy takes
+/// longer than to read most texts.
 #[tactic(auto, using(crate::proofs::LandFacts::is_land))]
-pub(crate) fn land_on(
+pub(crate) fn find_land(
     alloc: Global,
     text: &[u8],
     township: Township,
-) -> Result<Option<Lanes>, AllocError>
-    ensures land { IfOk result (λ it. IfSome it (λ land.
-        IsLandOfText township text.now (⟦<Lanes as Land>⟧.places land))) }
-    ensures only { IfOk result (λ it. IfSome it (λ land.
-        IsOnlyLandOfText text.now (⟦<Lanes as Land>⟧.places land))) }
+    land: &mut Lanes,
+) -> Result<bool, AllocError>
+    ensures land { IfOk result (λ it. it ≡ true →
+        IsLandOfText township text.now (⟦<Lanes as Land>⟧.places land.new)) }
+    ensures only { IfOk result (λ it. it ≡ true →
+        IsOnlyLandOfText text.now (⟦<Lanes as Land>⟧.places land.new)) }
 {
     let Some(description) = read(alloc, text)? else {
-        return Ok(None);
+        return Ok(false);
     };
-    match resolve::<Lanes>(&description, township) {
-        Ok(land) => Ok(Some(land)),
-        Err(_) => Ok(None),
+    match resolve_into(land, &description, township) {
+        Ok(()) => Ok(true),
+        Err(_) => Ok(false),
     }
-}
-
-/// The land that a description names on the plat of a township. None if there is none.
-pub(crate) fn land_of(description: &Description, township: Township) -> Option<Lanes>
-    ensures { IfSome result (λ land. IsLandOfItems PLACE_DIGITS township description.now
-        (⟦<Lanes as Land>⟧.places land)) }
-{
-    resolve::<Lanes>(description, township).ok()
 }
 
 /// The township that the first item names, or any if it names none.

@@ -1,14 +1,16 @@
 //! The readings of a text.
 ghost use Rattle.std.specs.Prelude.{◌≡◌, ◌↔◌, true, IsTrue, IfOk, IfSome, All};
 ghost use Rattle.twp_suggest.specs.Readings.{AreReadings, IsReading, IsAccepted, IsClear, AreOther};
-ghost use Rattle.twp_suggest.specs.Readings.{MayBeAdded};
+ghost use Rattle.twp_suggest.specs.Readings.{AreSomeReadings, MayBeAdded};
 
 use crate::candidates::{made_by, outline_of};
 use crate::described::{Wording, described};
+use crate::gaps::Outline;
 use crate::manner::Manner;
-use crate::on_plat::{land_on, township_of};
+use crate::on_plat::{find_land, township_of};
 use crate::unread::Unread;
 use std::alloc::{AllocError, Global};
+use twp_grammar::{State, first_token};
 use twp_land::{Land, Lanes};
 use twp_read::{Clarity, Description, doubts_in};
 use twp_rules::{Change, are_changes, changed};
@@ -36,6 +38,21 @@ pub fn readings_of<'a>(alloc: Global, text: &'a [u8]) -> Result<Vec<Reading<'a>>
     let Some(outline) = outline_of(alloc, text)? else {
         return Ok(Vec::new(alloc));
     };
+    let readings = readings_by(alloc, text, outline)?;
+    Ok(readings)
+}
+
+/// The readings that the candidates lead to, with one set of land for all of them. Not inlined, since that would be cleared
+/// for each text.
+#[tactic(auto, using(crate::proofs::ReadingFacts::no_readings))]
+#[inline(never)]
+fn readings_by<'a>(
+    alloc: Global,
+    text: &'a [u8],
+    mut outline: Outline<'a>,
+) -> Result<Vec<Reading<'a>>, AllocError>
+    ensures { IfOk result (λ readings. AreSomeReadings text.now readings.items) }
+{
     let mut land = Lanes::empty();
     let mut readings = Vec::new(alloc);
     for number in 0..outline.candidates() {
@@ -92,10 +109,13 @@ fn itself<'a>(alloc: Global, text: &'a [u8]) -> Result<Vec<Reading<'a>>, AllocEr
 }
 
 /// Whether the reader accepts a text, and it has no doubtful place.
-#[tactic(auto, using(crate::proofs::ClearFacts::if_refused))]
+#[tactic(auto, using(crate::proofs::ClearFacts::if_refused, crate::proofs::ClearFacts::if_wrong))]
 fn is_clear(alloc: Global, text: &[u8]) -> Result<bool, AllocError>
     ensures { IfOk result (λ it. IsTrue it ↔ IsClear text.now) }
 {
+    if goes_wrong(text) {
+        return Ok(false);
+    }
     match Description::read_noting(alloc, text) {
         Ok(noted) => match noted.clarity {
             Clarity::Clear => Ok(true),
@@ -106,6 +126,23 @@ fn is_clear(alloc: Global, text: &[u8]) -> Result<bool, AllocError>
             None => Err(AllocError),
         },
     }
+}
+
+/// Whether a token of a text can't follow those before it in any description, or the text ends too early. Most texts
+/// go wrong at one of their first tokens, which takes much less time than to say how.
+fn goes_wrong(text: &[u8]) -> bool
+    ensures { IsTrue result → ¬ IsAccepted text.now }
+{
+    let mut at = 0;
+    let mut state = State::Start;
+    while let Some(token) = first_token(text, at) {
+        let Some(after) = state.next(token.kind) else {
+            return true;
+        };
+        at = token.at + token.text.len();
+        state = after;
+    }
+    !state.is_final()
 }
 
 /// Whether a text that the reader accepts has no doubtful place.
@@ -163,6 +200,7 @@ fn is_other(alloc: Global, readings: &[Reading<'_>], new: &Reading<'_>) -> Resul
 }
 
 /// Whether two readings have different texts, which name different land.
+#[inline(never)]
 fn are_other(alloc: Global, one: &Reading<'_>, other: &Reading<'_>) -> Result<bool, AllocError>
     ensures { IfOk result (λ it. it ≡ true → AreOther one.now other.now) }
 {
@@ -173,12 +211,16 @@ fn are_other(alloc: Global, one: &Reading<'_>, other: &Reading<'_>) -> Result<bo
     let Some(township) = township_of(alloc, one.text.as_slice())? else {
         return Ok(false);
     };
-    let Some(land) = land_on(alloc, one.text.as_slice(), township)? else {
+    let mut land = Lanes::empty();
+    let has_land = find_land(alloc, one.text.as_slice(), township, &mut land)?;
+    if !has_land {
         return Ok(false);
-    };
-    let Some(more) = land_on(alloc, other.text.as_slice(), township)? else {
+    }
+    let mut more = Lanes::empty();
+    let has_more = find_land(alloc, other.text.as_slice(), township, &mut more)?;
+    if !has_more {
         return Ok(false);
-    };
+    }
     Ok(!land.same(&more))
 }
 

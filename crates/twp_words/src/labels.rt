@@ -62,6 +62,9 @@ pub fn is_column(word: &[u8]) -> bool {
         || is_same(word, b"subdiv")
         || is_same(word, b"aliquot")
         || is_same(word, b"aliq")
+        || is_same(word, b"aliquots")
+        || is_same(word, b"no")
+        || is_same(word, b"number")
         || is_same(word, b"tract")
         || is_same(word, b"t")
         || is_same(word, b"r")
@@ -279,6 +282,30 @@ pub fn is_beyond_label(word: &[u8]) -> bool {
         || is_same(word, b"sites")
 }
 
+/// Words for what lies in land: at the end of a label before land, such a word may say what is meant there.
+pub fn is_feature(word: &[u8]) -> bool {
+    is_same(word, b"barn")
+        || is_same(word, b"bridge")
+        || is_same(word, b"cabin")
+        || is_same(word, b"cemetery")
+        || is_same(word, b"church")
+        || is_same(word, b"dam")
+        || is_same(word, b"house")
+        || is_same(word, b"island")
+        || is_same(word, b"graveyard")
+        || is_same(word, b"levee")
+        || is_same(word, b"line")
+        || is_same(word, b"lode")
+        || is_same(word, b"lodes")
+        || is_same(word, b"meadow")
+        || is_same(word, b"mill")
+        || is_same(word, b"mine")
+        || is_same(word, b"orchard")
+        || is_same(word, b"school")
+        || is_same(word, b"substation")
+        || is_same(word, b"wellsite")
+}
+
 /// The words of `all that certain real property being`.
 pub fn is_of_property(word: &[u8]) -> bool {
     is_same(word, b"all")
@@ -323,6 +350,10 @@ pub fn is_of_property(word: &[u8]) -> bool {
         || is_same(word, b"opinion")
         || is_same(word, b"report")
         || is_same(word, b"lease")
+        || is_same(word, b"included")
+        || is_same(word, b"segregated")
+        || is_same(word, b"remaining")
+        || is_same(word, b"into")
         || is_same(word, b"is")
         || is_same(word, b"are")
 }

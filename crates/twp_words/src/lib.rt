@@ -2,6 +2,7 @@
 //! sides and corners. Each list says what its words are in a text.
 #![tactic(auto)]
 
+mod changes;
 mod directions;
 mod figures;
 mod labels;
@@ -9,26 +10,33 @@ mod meridians;
 mod parties;
 mod requests;
 mod same;
+mod steps;
 mod terms;
 
+pub use changes::{
+    alters_land, has_side, is_of_appurtenance, is_of_estate, is_of_survey, is_round_acreage,
+    is_site, limits_land,
+};
 pub use directions::{
     is_damaged_corner, is_damaged_half, is_worn_corner, is_worn_section, letters_of, tens_of,
     value_of,
 };
 pub use figures::{is_acreage_lead, is_acres, is_area_word, is_numeral, is_of_count};
 pub use labels::{
-    adds_land, is_beyond_label, is_column, is_field, is_instrument, is_of_covering, is_of_label,
-    is_of_property, is_of_water, points_into,
+    adds_land, is_beyond_label, is_column, is_feature, is_field, is_instrument, is_of_covering,
+    is_of_label, is_of_property, is_of_water, points_into,
 };
 pub use meridians::{
-    are_meridian_letters, is_meridian, is_meridian_of_two, is_state, is_state_of_two,
+    are_meridian_letters, is_bare_meridian, is_meridian, is_meridian_of_two, is_state,
+    is_state_of_two,
 };
 pub use parties::{
-    begins_exception, begins_reference, is_net_or_gross, is_of_record, is_of_time, is_owner,
-    is_partial, is_whose, may_be_corners,
+    begins_exception, begins_reference, is_month, is_net_or_gross, is_of_record, is_of_time,
+    is_owner, is_partial, is_whose, may_be_corners,
 };
 pub use requests::{begins_request, is_of_request};
 pub use same::{are_corners, is_one_of, is_same, size_of_character};
+pub use steps::{Size, written_step};
 pub use terms::{
     begins_terms, is_beyond_terms, is_boundary, is_of_depth, is_of_interest, is_of_right,
     is_of_share, is_of_town, names_parcel,

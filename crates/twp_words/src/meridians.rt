@@ -17,6 +17,9 @@ pub fn is_meridian(word: &[u8]) -> bool {
         || is_same(word, b"tallahassee")
         || is_same(word, b"uintah")
         || is_same(word, b"navajo")
+        || is_same(word, b"montana")
+        || is_same(word, b"mont")
+        || is_same(word, b"ute")
         || is_same(word, b"principal")
         || is_same(word, b"sixth")
         || is_same(word, b"fifth")
@@ -26,9 +29,18 @@ pub fn is_meridian(word: &[u8]) -> bool {
         || is_same(word, b"first")
 }
 
+/// Names of meridians that are written without the word for it after a township and range.
+pub fn is_bare_meridian(word: &[u8]) -> bool {
+    is_same(word, b"boise")
+        || is_same(word, b"willamette")
+        || is_same(word, b"humboldt")
+        || is_same(word, b"uintah")
+}
+
 /// Letters for a meridian.
 pub fn are_meridian_letters(word: &[u8]) -> bool {
     is_same(word, b"bm")
+        || is_same(word, b"bhm")
         || is_same(word, b"pm")
         || is_same(word, b"nmpm")
         || is_same(word, b"mdm")
@@ -81,6 +93,16 @@ pub fn is_state(word: &[u8]) -> bool {
         || is_same(word, b"alabama")
         || is_same(word, b"florida")
         || is_same(word, b"michigan")
+        || is_same(word, b"nebr")
+        || is_same(word, b"kans")
+        || is_same(word, b"okla")
+        || is_same(word, b"minn")
+        || is_same(word, b"wyo")
+        || is_same(word, b"colo")
+        || is_same(word, b"mont")
+        || is_same(word, b"ariz")
+        || is_same(word, b"calif")
+        || is_same(word, b"nev")
 }
 
 /// Whether two words are a meridian's name.

@@ -75,14 +75,19 @@ pub fn begins_reference(word: &[u8]) -> bool {
 
 /// Words before the number of a paragraph, a day of a month, or the like.
 pub fn is_of_record(word: &[u8]) -> bool {
-    is_same(word, b"paragraph")
+    is_month(word)
+        || is_same(word, b"paragraph")
         || is_same(word, b"comment")
         || is_same(word, b"note")
         || is_same(word, b"addendum")
         || is_same(word, b"par")
         || is_same(word, b"vol")
         || is_same(word, b"misc")
-        || is_same(word, b"january")
+}
+
+/// The months.
+pub fn is_month(word: &[u8]) -> bool {
+    is_same(word, b"january")
         || is_same(word, b"february")
         || is_same(word, b"march")
         || is_same(word, b"april")
@@ -102,6 +107,7 @@ pub fn is_of_record(word: &[u8]) -> bool {
         || is_same(word, b"jul")
         || is_same(word, b"aug")
         || is_same(word, b"sept")
+        || is_same(word, b"sep")
         || is_same(word, b"oct")
         || is_same(word, b"nov")
         || is_same(word, b"dec")

@@ -1,5 +1,5 @@
 use Rattle.twp_suggest.specs.Readings.{AreSomeReadings}
-use Rattle.twp_suggest.proofs.reading.readings_of.Given as goal
+use Rattle.twp_suggest.proofs.reading.readings_by.Given as goal
 
 -- these are readings so far
 abbrev pub invariant-loop-number : goal.invariant-loop-number

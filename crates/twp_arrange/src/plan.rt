@@ -5,15 +5,17 @@ use twp_phrases::Draft;
 
 /// The phrases of a text, which are arranged.
 #[derive(Drop)]
-pub(crate) struct Plan<'a> {
-    pub(crate) draft: Draft<'a>,
+pub struct Plan<'a> {
+    pub draft: Draft<'a>,
 }
 
 impl<'a> Plan<'a> {
     /// The phrases of a text.
-    pub(crate) fn of(alloc: Global, text: &'a [u8]) -> Result<Plan<'a>, AllocError> {
+    pub fn of(alloc: Global, text: &'a [u8]) -> Result<Plan<'a>, AllocError> {
         let mut draft = Draft::new(alloc, text)?;
         draft.find_phrases()?;
-        Ok(Plan { draft })
+        let mut plan = Plan { draft };
+        plan.doubt_together();
+        Ok(plan)
     }
 }

@@ -9,7 +9,7 @@ use twp_rules::Rule;
 
 /// What has to be between two phrases.
 #[derive(Clone, Copy, PartialEq, Eq)]
-pub(crate) enum Between {
+pub enum Between {
     /// Nothing: one of them is the text's beginning or its end.
     Nothing,
     Comma,
@@ -18,15 +18,15 @@ pub(crate) enum Between {
 
 /// The pieces between two phrases that are kept.
 #[derive(Clone, Copy)]
-pub(crate) struct Gap {
-    pub(crate) first: usize,
-    pub(crate) end: usize,
-    pub(crate) between: Between,
+pub struct Gap {
+    pub first: usize,
+    pub end: usize,
+    pub between: Between,
 }
 
 /// What joins two phrases, in a few words.
 #[derive(Clone, Copy, PartialEq, Eq)]
-pub(crate) enum Joining {
+pub enum Joining {
     Nothing,
     Comma,
     And,
@@ -40,7 +40,7 @@ pub(crate) enum Joining {
 
 impl<'a> Plan<'a> {
     /// What joins the phrases before a gap and after it.
-    pub(crate) fn joining(&self, gap: Gap, left_out: &[Placed]) -> Joining {
+    pub fn joining(&self, gap: Gap, left_out: &[Placed]) -> Joining {
         let mut joining = Joining::Nothing;
         let mut next: usize = gap.first;
         let mut rest = left_out;
@@ -59,16 +59,21 @@ impl<'a> Plan<'a> {
     }
 
     /// Whether it isn't sure what the pieces between two phrases mean.
-    pub(crate) fn is_unsure_gap(
+    pub fn is_unsure_gap(
         &self,
-        one: Placed,
-        other: Placed,
+        one: &Placed,
+        other: &Placed,
         joining: Joining,
         left_out: &[Placed],
     ) -> bool {
-        let (before, after) = (one.phrase, other.phrase);
-        if before.names == Names::Heading || before.names == Names::Sections {
+        let (before, after) = (&one.phrase, &other.phrase);
+        if before.names == Names::Heading {
             return false;
+        }
+        if before.names == Names::Sections {
+            // All of the section, and land of another, may be meant.
+            let is_land = matches!(after.names, Names::Part | Names::Lots | Names::All);
+            return is_land && self.has_and(before.end, after.first, left_out);
         }
         if one.role != other.role {
             return false;
@@ -103,8 +108,28 @@ impl<'a> Plan<'a> {
         }
     }
 
+    /// Whether `and`, or an ampersand, is among some pieces, but for what is left out.
+    fn has_and(&self, first: usize, end: usize, left_out: &[Placed]) -> bool {
+        let mut next = first;
+        let mut rest = left_out;
+        for index in first..end {
+            if let [placed, more @ ..] = rest {
+                if placed.phrase.first == index {
+                    next = placed.phrase.end;
+                    rest = more;
+                }
+            }
+            let is_and = matches!(self.draft.pieces.kind(index), Kind::And)
+                || self.draft.pieces.is(index, b"&");
+            if index >= next && is_and {
+                return true;
+            }
+        }
+        false
+    }
+
     /// Whether the label of a tract follows a part of a section that was named before the first label, and not after one.
-    fn are_tracts(&self, part: Phrase) -> bool {
+    fn are_tracts(&self, part: &Phrase) -> bool {
         let pieces = &self.draft.pieces;
         let is_before = match self.draft.last_section {
             Some(section) => {
@@ -117,7 +142,7 @@ impl<'a> Plan<'a> {
     }
 
     /// Whether two corners without a fraction are in cells of their own: the second may be a part of the first.
-    fn are_bare_cells(&self, before: Phrase, after: Phrase) -> bool {
+    fn are_bare_cells(&self, before: &Phrase, after: &Phrase) -> bool {
         self.draft.pieces.has_before(after.first, b'\t')
             && matches!(
                 self.draft.pieces.kind(before.end.saturating_sub(1)),
@@ -131,7 +156,7 @@ impl<'a> Plan<'a> {
 
     /// Whether two corners without a fraction are in cells of their own, with commas between the cells of their row, as in
     /// `2N,3W,14,NE,SE`: the second may be a part of the first.
-    fn are_comma_cells(&self, before: Phrase, after: Phrase) -> bool {
+    fn are_comma_cells(&self, before: &Phrase, after: &Phrase) -> bool {
         let pieces = &self.draft.pieces;
         let comma = before.first.saturating_sub(1);
         let number = before.first.saturating_sub(2);
@@ -150,7 +175,7 @@ impl<'a> Plan<'a> {
 
     /// Whether other pieces than commas and semicolons between two lands may mean something else: only an ampersand
     /// doesn't, between parts that both have an `of`, or none, nor a colon after a section that is named again.
-    fn is_unsure_list(&self, before: Phrase, after: Phrase, left_out: &[Placed]) -> bool {
+    fn is_unsure_list(&self, before: &Phrase, after: &Phrase, left_out: &[Placed]) -> bool {
         let mut next = before.end;
         let mut rest = left_out;
         for index in before.end..after.first {
@@ -176,7 +201,7 @@ impl<'a> Plan<'a> {
 
 /// Whether one phrase is left out by a rule after a part, as the parentheses in `the East Half (E/2)`, or the acreage in
 /// `NENE 40.00`.
-fn is_left_out_after(before: Phrase, left_out: &[Placed], rule: Rule) -> bool {
+fn is_left_out_after(before: &Phrase, left_out: &[Placed], rule: Rule) -> bool {
     match left_out {
         [placed] => {
             placed.phrase.first == before.end && placed.phrase.names == Names::Nothing(rule)
@@ -186,7 +211,7 @@ fn is_left_out_after(before: Phrase, left_out: &[Placed], rule: Rule) -> bool {
 }
 
 /// Whether a section is among phrases.
-pub(crate) fn has_section(list: &[Placed]) -> bool {
+pub fn has_section(list: &[Placed]) -> bool {
     for placed in list {
         if placed.phrase.names == Names::Sections {
             return true;
@@ -196,7 +221,7 @@ pub(crate) fn has_section(list: &[Placed]) -> bool {
 }
 
 /// What has to be between two phrases.
-pub(crate) fn mark_between(before: Option<Placed>, after: Option<Placed>) -> Between {
+pub fn mark_between(before: Option<&Placed>, after: Option<&Placed>) -> Between {
     let (Some(before), Some(after)) = (before, after) else {
         return Between::Nothing;
     };
@@ -207,14 +232,14 @@ pub(crate) fn mark_between(before: Option<Placed>, after: Option<Placed>) -> Bet
 }
 
 /// Whether two phrases are parts of one section.
-pub(crate) fn is_joint(one: Placed, other: Placed) -> bool {
+pub fn is_joint(one: &Placed, other: &Placed) -> bool {
     one.phrase.names == Names::Part && other.phrase.names == Names::Part && one.role == other.role
 }
 
 /// Whether what joins two phrases is written so in a description.
-pub(crate) fn is_written(
-    before: Option<Placed>,
-    after: Option<Placed>,
+pub fn is_written(
+    before: Option<&Placed>,
+    after: Option<&Placed>,
     between: Between,
     joining: Joining,
 ) -> bool {
@@ -236,7 +261,7 @@ pub(crate) fn is_written(
 }
 
 /// What joins phrases with one more piece.
-pub(crate) fn joined_with(joining: Joining, kind: Kind) -> Joining {
+pub fn joined_with(joining: Joining, kind: Kind) -> Joining {
     match (joining, kind) {
         (Joining::Nothing, Kind::Comma) => Joining::Comma,
         (Joining::Nothing, Kind::And) => Joining::And,

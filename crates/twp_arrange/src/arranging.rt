@@ -9,7 +9,7 @@ use twp_pieces::plus;
 
 /// What becomes of a phrase.
 #[derive(Clone, Copy, PartialEq, Eq)]
-pub(crate) enum Role {
+pub enum Role {
     /// It stays, in the group of a section, which is counted.
     Kept(usize),
     /// It is left out.
@@ -18,11 +18,21 @@ pub(crate) enum Role {
 
 /// A phrase with what becomes of it.
 #[derive(Clone, Copy)]
-pub(crate) struct Placed {
-    pub(crate) phrase: Phrase,
-    pub(crate) role: Role,
+pub struct Placed {
+    pub phrase: Phrase,
+    pub role: Role,
     /// The numbers of its section, which is written before it: it is left out where it is, or the land is excepted.
-    pub(crate) section: Option<Span>,
+    pub section: Option<Span>,
+}
+
+/// Whether a phrase begins an exception.
+pub fn has_except(list: &[Placed]) -> bool {
+    for placed in list {
+        if placed.phrase.names == Names::Except {
+            return true;
+        }
+    }
+    false
 }
 
 /// A group of land: the section, and what is known of its land so far.
@@ -39,7 +49,7 @@ struct Group {
 
 impl<'a> Plan<'a> {
     /// The phrases with what becomes of them. They are no longer in the draft.
-    pub(crate) fn arranged(&mut self, alloc: Global) -> Result<Vec<Placed>, AllocError> {
+    pub fn arranged(&mut self, alloc: Global) -> Result<Vec<Placed>, AllocError> {
         let mut list = Vec::with_capacity(alloc, self.draft.phrases.len())?;
         let first = self.first_of_land();
         let phrases = mem::replace(&mut self.draft.phrases, Vec::new(alloc));
@@ -56,7 +66,9 @@ impl<'a> Plan<'a> {
         }
         self.place_headings(&mut list);
         self.share_sections(&mut list);
-        self.doubt_exceptions(list.as_slice());
+        if has_except(list.as_slice()) {
+            self.doubt_exceptions(list.as_slice());
+        }
         match first {
             Some(Names::Sections) => self.place_land_after(&mut list),
             Some(_) => self.place_land_before(&mut list),
@@ -106,7 +118,7 @@ impl<'a> Plan<'a> {
     }
 
     /// A number of a township and range, and the first letter of its side.
-    pub(crate) fn tier_of(&self, heading: Phrase, index: usize) -> Option<(u16, u8)> {
+    pub fn tier_of(&self, heading: Phrase, index: usize) -> Option<(u16, u8)> {
         let number = self.draft.numbers.get(plus(heading.numbers.first, index))?;
         let side = self.draft.pieces.bytes(number.end).first()?;
         Some((number.value, side.to_ascii_uppercase()))
@@ -118,7 +130,7 @@ impl<'a> Plan<'a> {
     }
 
     /// The number of a phrase, if it has only one.
-    pub(crate) fn only_number(&self, numbers: Span) -> Option<u16> {
+    pub fn only_number(&self, numbers: Span) -> Option<u16> {
         match self.draft.numbers.get(numbers.first..numbers.end) {
             Some([number]) => Some(number.value),
             _ => None,
@@ -144,12 +156,20 @@ impl<'a> Plan<'a> {
         let mut is_first_excepted = false;
         let mut landless: usize = 0;
         let mut unsure = false;
+        let is_landless = |group: Option<Group>| group.map_or(false, |group| !group.has_land);
         for placed in list.iter_mut() {
             let phrase = placed.phrase;
             if let Some(before) = self.excepting(group, phrase) {
                 placed.role = Role::Kept(count);
                 if phrase.names == Names::Except {
-                    unsure = unsure || is_excepting(group) || self.count_of(before.section) > 1;
+                    // Set apart, it may be from the land of each section.
+                    let pieces = &self.draft.pieces;
+                    let is_apart = pieces.is(phrase.first.saturating_sub(1), b";")
+                        || pieces.has_before(phrase.first, b'\n');
+                    unsure = unsure
+                        || is_excepting(group)
+                        || self.count_of(before.section) > 1
+                        || (count > 1 && is_apart);
                 } else if is_first_excepted {
                     placed.section = Some(before.section.numbers);
                 }
@@ -165,7 +185,7 @@ impl<'a> Plan<'a> {
                 }
                 (Names::Sections, before) => {
                     unsure = unsure || !self.is_sure_group(before) || is_excepting(before);
-                    landless = landless.saturating_add(usize::from(is_landless(before)));
+                    landless = plus(landless, usize::from(is_landless(before)));
                     count = count.saturating_add(1);
                     if placed.role == Role::Kept(0) {
                         placed.role = Role::Kept(count);
@@ -194,7 +214,7 @@ impl<'a> Plan<'a> {
             }
         }
         unsure = unsure || !self.is_sure_group(group) || is_first_excepted;
-        landless = landless.saturating_add(usize::from(is_landless(group)));
+        landless = plus(landless, usize::from(is_landless(group)));
         if unsure || (landless > 0 && landless < count && !self.are_set_apart(list)) {
             self.draft.doubt();
         }
@@ -213,11 +233,12 @@ impl<'a> Plan<'a> {
     fn share_sections(&mut self, list: &mut Vec<Placed>) {
         let mut shared: Option<usize> = None;
         for index in 0..list.len() {
-            let Some(phrase) = list.get(index).map(|placed| placed.phrase) else {
+            let Some(placed) = list.get(index) else {
                 break;
             };
-            match phrase.names {
+            match placed.phrase.names {
                 Names::Sections => {
+                    let phrase = placed.phrase;
                     let is_shared = self.count_of(phrase) > 1
                         && !self.has_range(phrase)
                         && (matches!(self.draft.pieces.kind(phrase.end), Kind::Colon)
@@ -374,11 +395,12 @@ impl<'a> Plan<'a> {
                     last = phrase.first;
                     let is_several = self.count_of(phrase) > 1;
                     let is_again = is_excepting && lands == 0 && self.is_again(section, phrase);
+                    let names = first
+                        .and_then(|index| list.get(index))
+                        .map(|land| land.phrase.names);
                     let land = first.and_then(|index| list.get_mut(index));
-                    let is_all = lands == 1 && land_names(&land) == Some(Names::All);
-                    let is_each = lands == 1
-                        && !is_excepting
-                        && land_names(&land) == Some(Names::Part);
+                    let is_all = lands == 1 && names == Some(Names::All);
+                    let is_each = lands == 1 && !is_excepting && names == Some(Names::Part);
                     let is_one_word = is_each && phrase.form != Form::Plural;
                     unsure = unsure
                         || (is_several && is_one_word)
@@ -448,22 +470,6 @@ fn goes_on(list: &[Placed], index: usize) -> bool {
             other.phrase.names == Names::Part && other.phrase.first == one.phrase.end
         }
         _ => false,
-    }
-}
-
-/// What a placed phrase names.
-fn land_names(land: &Option<&mut Placed>) -> Option<Names> {
-    match land {
-        Some(land) => Some(land.phrase.names),
-        None => None,
-    }
-}
-
-/// Whether a group has no land.
-fn is_landless(group: Option<Group>) -> bool {
-    match group {
-        Some(group) => !group.has_land,
-        None => false,
     }
 }
 

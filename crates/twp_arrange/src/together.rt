@@ -1,0 +1,131 @@
+//! What the phrases of a text say together, if that isn't sure: each of them may be, and what they make isn't.
+
+use crate::plan::Plan;
+use twp_grammar::Kind;
+use twp_phrases::{Names, Phrase};
+use twp_pieces::{begins_terms, plus};
+use twp_rules::Rule;
+
+impl<'a> Plan<'a> {
+    /// Doubts phrases that aren't sure together.
+    pub(crate) fn doubt_together(&mut self) {
+        if self.has_land_missing() || self.has_loose_section() || self.has_other_tract() {
+            self.draft.doubt();
+        }
+    }
+
+    /// Whether some land may be missing. A word that isn't known may be what was meant by it: with remarks, or with a status
+    /// as `open`, each section has some. After the label of each tract is land.
+    fn has_land_missing(&self) -> bool {
+        let mut sections: usize = 0;
+        let mut lands: usize = 0;
+        let mut is_land = false;
+        let mut has_status = false;
+        let mut is_labelled = false;
+        for phrase in &self.draft.phrases {
+            match phrase.names {
+                Names::Sections => {
+                    sections = plus(sections, 1);
+                    is_land = false;
+                    is_labelled = false;
+                }
+                Names::Part | Names::Lots | Names::All => {
+                    lands = plus(lands, usize::from(!is_land));
+                    is_land = true;
+                    is_labelled = false;
+                }
+                Names::Nothing(Rule::Label) => {
+                    let is_label = self.draft.pieces.is_label_of_tract(phrase.first);
+                    if is_label && is_labelled {
+                        return true;
+                    }
+                    is_labelled = is_labelled || is_label;
+                    has_status = has_status
+                        || (sections > 0 && begins_terms(self.draft.pieces.lower(phrase.first)));
+                }
+                _ => {}
+            }
+        }
+        is_labelled || ((self.draft.has_remark || has_status) && sections != lands)
+    }
+
+    /// Whether a number that was taken for a section may be another one, since no land is beside it: where another section has
+    /// a word for it, as in `1 T2N R3W Sec 9`, or on both sides of a township, as in `8-2N-3W-9`.
+    fn has_loose_section(&self) -> bool {
+        let mut has_word = false;
+        let mut has_loose = false;
+        // The last section or land, and whether that is such a number.
+        let mut before: Option<Names> = None;
+        let mut is_loose = false;
+        // Whether a township was next to such a number, and another one followed it.
+        let mut is_beside = false;
+        let mut is_twice = false;
+        for phrase in &self.draft.phrases {
+            match phrase.names {
+                Names::Sections => {
+                    let is_bare = matches!(self.draft.pieces.kind(phrase.first), Kind::Number(_));
+                    has_word = has_word || !is_bare;
+                    has_loose = has_loose || is_loose;
+                    if is_twice {
+                        return true;
+                    }
+                    is_loose = is_bare && !is_land(before);
+                    is_twice = is_loose && is_beside;
+                    is_beside = false;
+                    before = Some(phrase.names);
+                }
+                Names::Part | Names::Lots | Names::All => {
+                    is_loose = false;
+                    is_twice = false;
+                    is_beside = false;
+                    before = Some(phrase.names);
+                }
+                Names::Heading => {
+                    is_beside = is_loose && !self.is_row(*phrase);
+                    is_twice = false;
+                }
+                _ => {}
+            }
+        }
+        is_twice || (has_word && (has_loose || is_loose))
+    }
+
+    /// Whether a township begins a line, or follows a semicolon.
+    fn is_row(&self, heading: Phrase) -> bool {
+        let first = heading.first;
+        first == 0
+            || self.draft.pieces.has_before(first, b'\n')
+            || self.draft.pieces.is(first.saturating_sub(1), b";")
+    }
+
+    /// Whether a tract has a label, and no section of its own, though land before it has no label: it may be in another
+    /// section, as in `Sec. 9: NE; Tract 2: SE`.
+    fn has_other_tract(&self) -> bool {
+        let mut has_label = false;
+        let mut is_first = false;
+        let mut is_other = false;
+        for phrase in &self.draft.phrases {
+            match phrase.names {
+                Names::Sections => is_other = false,
+                Names::Part | Names::Lots | Names::All => {
+                    if is_other {
+                        return true;
+                    }
+                    is_first = is_first || !has_label;
+                }
+                Names::Nothing(Rule::Label) if self.draft.pieces.is_label_of_tract(phrase.first) =>
+                    {
+                        has_label = true;
+                        is_other = is_first;
+                    }
+                _ => {}
+            }
+        }
+        false
+    }
+}
+
+/// Whether a phrase names land.
+fn is_land(names: Option<Names>) -> bool {
+    matches!(names, Some(Names::Part | Names::Lots | Names::All))
+}

@@ -1,0 +1,115 @@
+//! Sides and corners with periods after their letters, or whose letters are apart: `N. 1/2`, `N.E. 1/4`, `S W 1/4`.
+
+use crate::draft::Draft;
+use crate::fractions::{is_written, rule_of};
+use std::alloc::AllocError;
+use twp_grammar::Kind;
+use twp_pieces::plus;
+use twp_rules::Rule;
+use twp_words::{Size, written_step};
+
+impl<'a> Draft<'a> {
+    /// The corner at an index whose letters are apart, or the side, with periods after them, and the fraction.
+    pub(crate) fn dotted(&mut self, index: usize) -> Result<Option<usize>, AllocError> {
+        let pieces = &self.pieces;
+        let second = if self.pieces.is_hyphen_at_line_end(plus(index, 1)) {
+            plus(index, 2)
+        } else {
+            self.after_stop(plus(index, 1))
+        };
+        let extent = self.extent();
+        let begin = pieces.start(index);
+        if !matches!(pieces.kind(index), Kind::NorthSouth(_))
+            || !matches!(pieces.kind(second), Kind::EastWest(_))
+        {
+            return self.dotted_half(index);
+        }
+        let is_one = pieces.bytes(index).len() == 1 && pieces.bytes(second).len() == 1;
+        let is_north = pieces.is(index, b"n");
+        let is_east = pieces.is(second, b"e");
+        let corner: &'static [u8] = match (is_north, is_east) {
+            (true, true) => b"NE1/4",
+            (true, false) => b"NW1/4",
+            (false, true) => b"SE1/4",
+            (false, false) => b"SW1/4",
+        };
+        let has_stop = second > plus(index, 1);
+        let (end, start) = (pieces.end(index), pieces.start(second));
+        if start > end {
+            self.leave_out_bytes(end, start)?;
+        }
+        let fraction = self.after_stop(plus(second, 1));
+        if fraction > plus(second, 1) {
+            self.leave_out(plus(second, 1), fraction, Rule::OnePart)?;
+        }
+        if let Some(after) = self.dotted_fraction(fraction, Size::Quarter)? {
+            if is_one {
+                self.push_step(begin, after, corner)?;
+                return Ok(Some(after));
+            }
+        }
+        self.shrink(extent);
+        let is_dotted = has_stop && fraction > plus(second, 1) && is_one;
+        if !is_dotted || !self.pieces.is_joined(second) {
+            return Ok(None);
+        }
+        self.leave_out_bytes(end, start)?;
+        let place = self.pieces.end_before(fraction);
+        let dot = self.pieces.end(second);
+        self.write(dot, place, b"1/4", Rule::Quarter)?;
+        self.push_step_to(begin, place, corner)?;
+        Ok(Some(fraction))
+    }
+
+    /// The half at an index, with a period after its letter.
+    fn dotted_half(&mut self, index: usize) -> Result<Option<usize>, AllocError> {
+        let next = plus(index, 1);
+        if !matches!(self.pieces.kind(next), Kind::Stop) || !self.pieces.is_joined(next) {
+            return Ok(None);
+        }
+        let begin = self.pieces.start(index);
+        let written = written_step(self.pieces.bytes(index));
+        let extent = self.extent();
+        self.leave_out(next, plus(next, 1), Rule::OnePart)?;
+        if let Some(after) = self.dotted_fraction(plus(next, 1), Size::Half)? {
+            self.push_step(begin, after, written)?;
+            return Ok(Some(after));
+        }
+        self.shrink(extent);
+        Ok(None)
+    }
+
+    /// The fraction after letters with periods: as it is in a description, or an old abbreviation, `Qr.` or `H.`
+    fn dotted_fraction(&mut self, index: usize, size: Size) -> Result<Option<usize>, AllocError> {
+        if is_written(size, self.pieces.kind(index)) {
+            return Ok(Some(plus(index, 1)));
+        }
+        if let Some(end) = self.fraction(index, size)? {
+            return Ok(Some(end));
+        }
+        if size.is_word(self.pieces.lower(index)) {
+            let after = self.after_stop(plus(index, 1));
+            let start = self.pieces.end_before(index);
+            let end = self.pieces.end_before(after);
+            self.write(start, end, size.fraction(), rule_of(size))?;
+            return Ok(Some(after));
+        }
+        Ok(None)
+    }
+
+    /// Leaves out bytes within a part.
+    pub(crate) fn leave_out_bytes(&mut self, start: usize, end: usize) -> Result<(), AllocError> {
+        if start < end {
+            self.write(start, end, b"", Rule::OnePart)?;
+        }
+        Ok(())
+    }
+
+    /// The index after a period at an index, if there is one.
+    fn after_stop(&self, index: usize) -> usize {
+        match self.pieces.kind(index) {
+            Kind::Stop => plus(index, 1),
+            _ => index,
+        }
+    }
+}

@@ -1,0 +1,182 @@
+//! The fractions of halves and quarters: `1/2`, `/2`, `2`, `half`, and what scanning makes of them.
+
+use crate::draft::Draft;
+use std::alloc::AllocError;
+use twp_grammar::Kind;
+use twp_pieces::plus;
+use twp_rules::Rule;
+use twp_words::Size;
+
+impl<'a> Draft<'a> {
+    /// The fraction at an index, after letters: the index after it.
+    pub(crate) fn fraction(
+        &mut self,
+        index: usize,
+        size: Size,
+    ) -> Result<Option<usize>, AllocError> {
+        let next = plus(index, 1);
+        let kind = self.pieces.kind(index);
+        if is_written(size, kind) {
+            return Ok(Some(next));
+        }
+        if !matches!(
+            kind,
+            Kind::Stop | Kind::BadByte | Kind::Number(_) | Kind::Other
+        ) {
+            return Ok(None);
+        }
+        if matches!(kind, Kind::Stop)
+            && self.pieces.is_joined(index)
+            && is_written(size, self.pieces.kind(next))
+        {
+            self.leave_out(index, next, Rule::OnePart)?;
+            return Ok(Some(plus(index, 2)));
+        }
+        if self.pieces.is(index, b"\\")
+            && self.pieces.is_joined(index)
+            && is_written(size, self.pieces.kind(next))
+        {
+            self.leave_out(index, next, Rule::Mark)?;
+            return Ok(Some(plus(index, 2)));
+        }
+        if let Some(after) = self.end_of_fraction(index, size) {
+            let start = if self.pieces.is_joined(index) {
+                self.pieces.start(index)
+            } else {
+                self.pieces.end_before(index)
+            };
+            let end = self.pieces.end_before(after);
+            self.write(start, end, size.fraction(), rule_of(size))?;
+            return Ok(Some(after));
+        }
+        Ok(None)
+    }
+
+    /// Where the fraction at an index ends that isn't written as in a description: a digit, a slash and a digit, a word
+    /// for a part, or what scanning makes of it.
+    fn end_of_fraction(&self, index: usize, size: Size) -> Option<usize> {
+        let pieces = &self.pieces;
+        let next = plus(index, 1);
+        let is_joined = pieces.is_joined(index);
+        if is_joined && pieces.is(index, b"/") && self.is_digit(next, size) {
+            return Some(plus(next, 1));
+        }
+        if pieces.is_spaced_slash(index)
+            && pieces.number(next) == Some(size.digit())
+            && pieces.has_digits(next, 1)
+        {
+            return Some(plus(next, 1));
+        }
+        if is_joined && pieces.is(index, b"^") && size == Size::Quarter {
+            return Some(next);
+        }
+        if self.is_hyphenated(index, size) {
+            return Some(plus(index, 3));
+        }
+        if size.is_whole_word(pieces.lower(index)) {
+            return Some(next);
+        }
+        if is_joined && self.is_digit(index, size) && !self.goes_on(next) {
+            return Some(next);
+        }
+        let is_slash = (pieces.is(next, b"/") || pieces.is(next, b"\xE2\x81\x84"))
+            && pieces.is_joined(next);
+        let digit = plus(next, 1);
+        if is_slash
+            && (pieces.is(index, b"1")
+                || pieces.is(index, b"l")
+                || pieces.is(index, b"i")
+                || pieces.is(index, b"'")
+                || pieces.is(index, b"\xE2\x80\x99")
+                || pieces.is(index, b"]")
+                || pieces.is(index, b"!")
+                || pieces.is(index, b"|")
+                || pieces.is(index, b"\xC2\xB9"))
+        {
+            let is_lower = size.is_lowered(pieces.lower(digit)) && pieces.is_joined(digit);
+            let is_z = size == Size::Half && pieces.is(digit, b"z") && pieces.is_joined(digit);
+            if self.is_digit(digit, size) || is_lower || (is_z && pieces.is(index, b"1")) {
+                return Some(plus(digit, 1));
+            }
+        }
+        if is_slash
+            && pieces.number(index) == Some(2)
+            && self.is_digit(digit, size)
+            && size == Size::Half
+        {
+            return Some(plus(digit, 1));
+        }
+        let is_worn = pieces.is(index, b"v") || pieces.is(index, b"y");
+        if is_joined && is_worn && self.is_digit(next, size) {
+            return Some(plus(next, 1));
+        }
+        if is_joined && pieces.is(index, b"%") {
+            return Some(next);
+        }
+        if is_joined
+            && pieces.has_digits(index, 1)
+            && pieces.is(index, b"1")
+            && is_slash
+            && self.is_end(digit)
+        {
+            return Some(digit);
+        }
+        None
+    }
+
+    /// Whether a fraction with a hyphen is at an index, as in `W 1-2 of SE 1-4`: with an `of` before or after its letters,
+    /// since `SE 1-4` may be of four sections.
+    fn is_hyphenated(&self, index: usize, size: Size) -> bool {
+        let next = plus(index, 1);
+        let digit = plus(index, 2);
+        let is_of = self.pieces.is(plus(index, 3), b"of")
+            || self.pieces.is(index.saturating_sub(2), b"of")
+            || self.pieces.is(index.saturating_sub(3), b"of");
+        is_of
+            && self.pieces.is(index, b"1")
+            && self.pieces.is(next, b"-")
+            && self.pieces.is_joined(next)
+            && self.is_digit(digit, size)
+    }
+
+    /// Whether the piece at an index is the digit that people write for a half or a quarter, joined to what is before it.
+    fn is_digit(&self, index: usize, size: Size) -> bool {
+        self.pieces.number(index) == Some(size.digit())
+            && self.pieces.has_digits(index, 1)
+            && self.pieces.is_joined(index)
+    }
+
+    /// Whether the piece at an index continues a number.
+    fn goes_on(&self, index: usize) -> bool {
+        self.pieces.is_joined(index)
+            && ((self.pieces.is(index, b"/") || self.pieces.is(index, b"-"))
+                || (self.pieces.is(index, b".")
+                    && self.pieces.is_joined(plus(index, 1))
+                    && self.pieces.number(plus(index, 1)).is_some()))
+    }
+
+    /// Whether an item ends before an index.
+    fn is_end(&self, index: usize) -> bool {
+        index >= self.pieces.len()
+            || (self.pieces.is(index, b",")
+                || self.pieces.is(index, b";")
+                || self.pieces.is(index, b"."))
+            || self.pieces.begins_line(index)
+    }
+}
+
+/// The rule by which the fraction of a step is written.
+pub(crate) fn rule_of(size: Size) -> Rule {
+    match size {
+        Size::Half => Rule::Half,
+        Size::Quarter => Rule::Quarter,
+    }
+}
+
+/// Whether a piece of a kind is the fraction of a step, as it is in a description.
+pub(crate) fn is_written(size: Size, kind: Kind) -> bool {
+    match size {
+        Size::Half => matches!(kind, Kind::Half),
+        Size::Quarter => matches!(kind, Kind::Quarter),
+    }
+}

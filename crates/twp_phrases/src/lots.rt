@@ -1,0 +1,152 @@
+//! Lots, with their numbers: `Lots 1-4`, `L2`, `Gov't Lots 3 & 4`.
+
+use crate::draft::{Draft, Names, Numeral, Phrase};
+use crate::numbered::{Join, Joined};
+use std::alloc::AllocError;
+use twp_grammar::Kind;
+use twp_pieces::plus;
+use twp_rules::Rule;
+
+impl<'a> Draft<'a> {
+    /// The lots at an index.
+    pub fn lots(&mut self, index: usize) -> Result<Option<Phrase>, AllocError> {
+        let from = self.extent();
+        let Some(next) = self.lot_word(index)? else {
+            return Ok(None);
+        };
+        let Some(number) = self.numeral(next) else {
+            return Ok(None);
+        };
+        if number.value == 0
+            || (self.pieces.is_joined(number.end) && self.pieces.kind(number.end) == Kind::Other)
+        {
+            return Ok(None);
+        }
+        self.write_numeral(number)?;
+        let before = next.saturating_sub(1);
+        let is_plural = self.pieces.is(before, b"lots") || self.pieces.is(before, b"lts");
+        let end = self.numbers_after(number, Names::Lots, is_plural)?;
+        Ok(Some(self.phrase(Names::Lots, index, end, from)))
+    }
+
+    /// Writes the word for lots at an index: the index after it.
+    fn lot_word(&mut self, index: usize) -> Result<Option<usize>, AllocError> {
+        let mut word = index;
+        if self.pieces.is(word, b"the") {
+            word = plus(word, 1);
+        }
+        word = self.after_government(word);
+        if !matches!(self.pieces.kind(word), Kind::Lot)
+            && !(self.pieces.is(word, b"l")
+                || self.pieces.is(word, b"lt")
+                || self.pieces.is(word, b"gl")
+                || self.pieces.is(word, b"lts"))
+        {
+            return Ok(None);
+        }
+        self.leave_out_each(index, word, Rule::LotWord)?;
+        let mut next = plus(word, 1);
+        if self.pieces.is(word, b"l")
+            || self.pieces.is(word, b"lt")
+            || self.pieces.is(word, b"gl")
+        {
+            self.replace(word, b"lot ", Rule::LotWord)?;
+        } else if self.pieces.is(word, b"lts") {
+            self.replace(word, b"lots ", Rule::LotWord)?;
+        }
+        for place in next..plus(next, 3) {
+            if place == next
+                && (self.pieces.is(place, b"numbered")
+                    || self.pieces.is(place, b".")
+                    || self.pieces.is(place, b"no")
+                    || self.pieces.is(place, b"nos")
+                    || self.pieces.is(place, b":")
+                    || self.pieces.is(place, b"#"))
+            {
+                self.replace(place, b"", Rule::LotWord)?;
+                next = plus(place, 1);
+            }
+        }
+        Ok(Some(next))
+    }
+
+    /// The index after the words for the government at an index.
+    pub fn after_government(&self, index: usize) -> usize {
+        let mut next = index;
+        if self.pieces.is(next, b"u") && self.pieces.is(plus(next, 2), b"s") {
+            next = plus(next, 3);
+            if self.pieces.is(next, b".") {
+                next = plus(next, 1);
+            }
+        }
+        if matches!(self.pieces.kind(next), Kind::Lot) {
+            return next;
+        }
+        if self.pieces.is(next, b"government") || self.pieces.is(next, b"govt") {
+            let mark = plus(next, 1);
+            return if self.pieces.is(mark, b".") {
+                plus(mark, 1)
+            } else {
+                mark
+            };
+        }
+        if self.pieces.is(next, b"gov") {
+            let mark = plus(next, 1);
+            if self.pieces.is(mark, b"'") || self.pieces.is(mark, b"\xE2\x80\x99") {
+                return plus(mark, 2);
+            }
+            return if self.pieces.is(mark, b".") {
+                plus(mark, 1)
+            } else {
+                mark
+            };
+        }
+        index
+    }
+
+    /// The index after the acreage of a lot in parentheses, which is left out.
+    pub(crate) fn after_acreage(
+        &mut self,
+        index: usize,
+        names: Names,
+    ) -> Result<usize, AllocError> {
+        if names != Names::Lots || !self.pieces.is(index, b"(") {
+            return Ok(index);
+        }
+        let point = plus(index, 2);
+        let has_point = self.pieces.number(plus(index, 1)).is_some()
+            && matches!(self.pieces.kind(point), Kind::Stop)
+            && self.pieces.number(plus(index, 3)).is_some();
+        let unit = plus(index, 4);
+        let close = if self.pieces.is(unit, b"acres") || self.pieces.is(unit, b"ac") {
+            plus(unit, 1)
+        } else {
+            unit
+        };
+        if !has_point || !self.pieces.is(close, b")") {
+            return Ok(index);
+        }
+        self.leave_out(index, plus(close, 1), Rule::Acreage)?;
+        Ok(plus(close, 1))
+    }
+
+    /// White space between the number of a lot and that of the next one, after a word in the plural, as in `LTS 2 3`. Other
+    /// lots may be the first and the last of several.
+    pub(crate) fn join_of_lots(&self, index: usize, last: Numeral) -> Option<Joined> {
+        let is_list = self.pieces.has_digits(index.saturating_sub(1), 1)
+            && self.pieces.has_digits(index, 1)
+            && self.pieces.number(index) == Some(last.value.saturating_add(1))
+            && !self.pieces.has_break_before(index)
+            && !self.pieces.is_joined(index)
+            && !self.pieces.is_dash(plus(index, 1))
+            && !self.pieces.is(plus(index, 1), b"/");
+        if is_list {
+            Some(Joined {
+                join: Join::Nothing,
+                end: index,
+            })
+        } else {
+            None
+        }
+    }
+}

@@ -1,0 +1,137 @@
+//! Numbers that aren't of land: dates, percentages, shares, codes; and those that may be of a section or a tract.
+
+use crate::pieces::{Pieces, plus};
+use twp_grammar::Kind;
+use twp_words::{
+    is_instrument, is_month, is_numeral, is_of_label, is_of_record, is_of_share, is_of_time,
+};
+
+/// The most pieces of letters and digits without white space.
+const CODE_MOST: usize = 24;
+
+/// The number of a township's last section: a remark doesn't begin or end with a number up to this.
+const SECTIONS: u16 = 36;
+
+impl<'a> Pieces<'a> {
+    /// Whether a percentage is at an index, as `12.5%`.
+    pub fn is_percentage(&self, index: usize) -> bool {
+        match self.end_of_decimal(index) {
+            Some(end) => self.is(end, b"%"),
+            None => false,
+        }
+    }
+
+    /// Whether the label of a tract is at an index: first on its line, or after a sentence, as in `Tract 2:`.
+    pub fn is_label_of_tract(&self, index: usize) -> bool {
+        let before = index.saturating_sub(1);
+        let is_apart = self.begins_line(index) || self.is(before, b".") || self.is(before, b";");
+        let number = self.number(plus(index, 1)).unwrap_or(0);
+        is_apart
+            && number <= SECTIONS
+            && (self.is(index, b"tract") || self.is(index, b"parcel") || self.is(index, b"unit"))
+            && self.is(plus(index, 2), b":")
+    }
+
+    /// Whether a date is at an index, or the volume and the page of a record, as `3/14/1919`, `06-02-1948`, or `61/204`.
+    pub fn is_date(&self, index: usize) -> bool {
+        let mark = plus(index, 1);
+        let second = plus(index, 2);
+        let is_mark = (self.is(mark, b"/") || self.is_dash(mark)) && self.is_joined(mark);
+        let last = plus(index, 4);
+        is_mark
+            && self.is_joined(second)
+            && (self.number(second).unwrap_or(0) > SECTIONS
+                || (self.number(last).is_some() && self.is_joined(last)))
+    }
+
+    /// Whether a day and a month are at an index without a year, as `4-Jan`, or `Jan-4`: spreadsheets write so what was
+    /// `1-4`.
+    pub fn is_day_of_month(&self, index: usize) -> bool {
+        let dash = plus(index, 1);
+        let last = plus(index, 2);
+        let year = plus(index, 3);
+        let is_joined = self.is_dash(dash) && self.is_joined(dash) && self.is_joined(last);
+        let is_day = |place: usize| {
+            self.number(place).is_some() && self.bytes(place).len() <= 2
+        };
+        let has_month = (is_day(index) && is_month(self.lower(last)))
+            || (is_day(last) && is_month(self.lower(index)));
+        is_joined
+            && has_month
+            && !(self.is_joined(year) && (self.is_dash(year) || self.is(year, b",")))
+    }
+
+    /// Where letters and digits without white space end that have a number of four digits or more, as `G700284`, `M-50391`,
+    /// or `RP02N03W092400`: no land is written so, but for a township of a register, which begins with its four digits.
+    pub fn end_of_code(&self, index: usize) -> Option<usize> {
+        let mut has_long = false;
+        let mut end = index;
+        for place in index..plus(index, CODE_MOST) {
+            let is_number = matches!(self.kind(place), Kind::Number(_) | Kind::BadNumber);
+            let is_part = is_number
+                || self.is_dash(place)
+                || matches!(self.lower(place), [b'a'..=b'z', ..]);
+            if !is_part || (place > index && !self.is_joined(place)) {
+                break;
+            }
+            if self.begins_register(place) {
+                return None;
+            }
+            let is_long = matches!(self.kind(place), Kind::BadNumber)
+                || (self.number(place).is_some() && self.bytes(place).len() >= 4 && place > index);
+            has_long = has_long || is_long;
+            end = plus(place, 1);
+        }
+        if has_long { Some(end) } else { None }
+    }
+
+    /// Whether a share of an interest is at an index, as in `1/2 min.`, `1/3 int only`, or `0.01562500 RI`.
+    pub fn is_share(&self, index: usize) -> bool {
+        let mut after = index;
+        let mut has_mark = false;
+        for place in index..plus(index, 5) {
+            let is_number = matches!(self.kind(place), Kind::Number(_) | Kind::BadNumber);
+            let is_mark = matches!(self.kind(place), Kind::Half | Kind::Quarter)
+                || self.is(place, b"%")
+                || (place > index && (self.is(place, b"/") || self.is(place, b".")));
+            if place == after && (is_number || is_mark) {
+                has_mark = has_mark || is_mark;
+                after = plus(place, 1);
+            }
+        }
+        has_mark && is_of_share(self.lower(after))
+    }
+
+    /// Whether the number at an index may be that of a section, or of a lot: not in a date, after the word for a record or
+    /// a tract, in a code, or in a share.
+    pub fn may_be_section(&self, index: usize) -> bool {
+        let before = index.saturating_sub(1);
+        let next = plus(index, 1);
+        let word = self.lower(before);
+        let is_record = is_of_label(word) || is_instrument(word) || is_of_record(word);
+        let is_end = self.is_joined(index)
+            && (self.is(before, b"/")
+                || self.is(before, b".")
+                || self.is(before, b",")
+                || self.is_dash(before));
+        let number = self.number(index).unwrap_or(0);
+        let is_in_digits = number >= 1 && number <= SECTIONS;
+        let is_followed = matches!(self.lower(next), [b'a'..=b'z', ..]) || self.is_dash(next);
+        let is_last_word = self.begins_column(next) || !is_followed;
+        let is_in_words = is_numeral(self.lower(index)) && is_last_word;
+        let is_first = self.is_joined(next)
+            && matches!(self.kind(next), Kind::Number(_) | Kind::BadNumber);
+        (is_in_digits || is_in_words)
+            && !is_first
+            && !(is_record || is_end || self.is_date(index) || self.is_share(index))
+            && !is_of_time(self.lower(next))
+            && !self.is(before, b"$")
+            && !self.is_percentage(index)
+            && !(self.is(next, b",") && self.has_digits(plus(index, 2), 3))
+    }
+
+    /// Whether the piece at an index is the first on its line, in its cell, or after a bar or wide white space.
+    pub fn begins_column(&self, index: usize) -> bool {
+        self.begins_cell(index) || self.start(index) > plus(self.end_before(index), 1)
+    }
+}

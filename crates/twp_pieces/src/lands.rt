@@ -1,0 +1,60 @@
+//! What may be of land: a section, a lot, a fraction, a side, or a corner.
+
+use crate::pieces::{Pieces, plus};
+use twp_grammar::Kind;
+use twp_words::{are_corners, begins_exception, is_of_right, is_same, is_worn_corner};
+
+impl<'a> Pieces<'a> {
+    /// Whether the piece at an index may be of land.
+    pub fn may_be_land(&self, index: usize) -> bool {
+        match self.kind(index) {
+            Kind::Sec | Kind::Lot | Kind::Corner(_) => true,
+            Kind::Half | Kind::Quarter => !self.is_in_date(index),
+            Kind::NorthSouth(_) => !self.is_possessive(index) && !self.begins_number(index),
+            Kind::EastWest(_) => !self.begins_number(index),
+            Kind::All => !is_of_right(self.lower(plus(index, 1))),
+            Kind::Other => self.begins_step(index) || begins_exception(self.lower(index)),
+            _ => false,
+        }
+    }
+
+    /// Whether the fraction at an index is of a date, as in `6/1/2027`, or `1/4/82`.
+    fn is_in_date(&self, index: usize) -> bool {
+        let next = plus(index, 1);
+        let is_last = self.is_joined(index) && self.is(index.saturating_sub(1), b"/");
+        let is_first = self.is(next, b"/") && !self.is_joined(index);
+        let year = plus(next, usize::from(is_first));
+        (is_last || is_first)
+            && self.is_joined(next)
+            && self.is_joined(year)
+            && self.number(year).is_some()
+    }
+
+    /// Whether the letter at an index begins the number of a lease, as `E-70112`.
+    fn begins_number(&self, index: usize) -> bool {
+        let next = plus(index, 1);
+        let digits = plus(index, 2);
+        self.is(next, b"-")
+            && self.is_joined(next)
+            && self.is_joined(digits)
+            && matches!(self.kind(digits), Kind::Number(_) | Kind::BadNumber)
+            && self.bytes(digits).len() >= 3
+    }
+
+    /// Whether the word at an index is a side or a corner, or a run of corners.
+    pub fn begins_step(&self, index: usize) -> bool {
+        let word = self.lower(index);
+        is_same(word, b"north")
+            || is_same(word, b"south")
+            || is_same(word, b"east")
+            || is_same(word, b"west")
+            || is_same(word, b"northeast")
+            || is_same(word, b"northwest")
+            || is_same(word, b"southeast")
+            || is_same(word, b"southwest")
+            || is_same(word, b"half")
+            || is_same(word, b"quarter")
+            || is_worn_corner(word)
+            || are_corners(word)
+    }
+}

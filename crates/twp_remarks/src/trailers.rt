@@ -1,0 +1,248 @@
+//! What is said after land, and isn't land: `limited to the Lance formation`, `recorded in Book 3`, `HBP`.
+
+use crate::remarks::is_size_or_acreage;
+use twp_grammar::Kind;
+use twp_pieces::{Pieces, plus};
+use twp_words::{
+    alters_land, begins_terms, is_beyond_terms, is_boundary, is_of_appurtenance, is_of_depth,
+    is_of_estate, is_of_survey, is_of_town, is_partial, is_same, is_site, limits_land,
+    names_parcel,
+};
+
+/// The most pieces of depths in parentheses.
+const DEPTHS_MOST: usize = 24;
+
+/// What is said after land.
+#[derive(Clone, Copy, PartialEq, Eq)]
+enum Trailer {
+    /// Terms, interests, and records, which end at a semicolon, or with the line.
+    Terms,
+    /// Depths, of which some word must be a word for depths: what follows could be other land at other depths.
+    Depths,
+    /// Rights, which may name ways and waters.
+    Rights,
+    /// What is reserved: minerals, or the like.
+    Reserved,
+    /// What is granted with the land: improvements, or the like.
+    Granted,
+    /// The survey of the land.
+    Survey,
+    /// The land office in whose district the land is.
+    Office,
+}
+
+/// Where what is said after land ends: at the end of the text, or where terms end, if it has no land.
+pub fn end_of_trailer(pieces: &Pieces<'_>, index: usize) -> Option<usize> {
+    let trailer = trailer_at(pieces, index)?;
+    let mut has_word = false;
+    for place in index..pieces.len() {
+        let is_apart = matches!(pieces.kind(place), Kind::Semicolon)
+            || (pieces.has_before(place, b'\n') && place > index);
+        if is_apart && trailer == Trailer::Terms {
+            return Some(place);
+        }
+        has_word = has_word || is_word_of(pieces, trailer, place);
+        if is_beyond_trailer(pieces, trailer, place) {
+            return None;
+        }
+    }
+    if has_word { Some(pieces.len()) } else { None }
+}
+
+/// Where depths end in parentheses, as in `(surface to the base of the Niobrara only)`: at what isn't of depths.
+pub(crate) fn end_of_depths(pieces: &Pieces<'_>, index: usize) -> Option<usize> {
+    if trailer_at(pieces, index) != Some(Trailer::Depths) {
+        return None;
+    }
+    let mut has_word = false;
+    for place in index..plus(index, DEPTHS_MOST) {
+        if pieces.is(place, b")") || is_beyond_trailer(pieces, Trailer::Depths, place) {
+            return if has_word { Some(place) } else { None };
+        }
+        has_word = has_word || is_word_of(pieces, Trailer::Depths, place);
+    }
+    None
+}
+
+/// Whether the word at an index is one of which what is said after land has some: otherwise it may be of other land.
+fn is_word_of(pieces: &Pieces<'_>, trailer: Trailer, index: usize) -> bool {
+    let word = pieces.lower(index);
+    match trailer {
+        Trailer::Depths => is_of_depth(word),
+        Trailer::Reserved => is_of_estate(word),
+        Trailer::Granted => is_of_appurtenance(word),
+        Trailer::Terms | Trailer::Rights | Trailer::Office | Trailer::Survey => true,
+    }
+}
+
+/// Whether the piece at an index isn't of what is said after land: it may be of land, or change which is meant.
+fn is_beyond_trailer(pieces: &Pieces<'_>, trailer: Trailer, index: usize) -> bool {
+    let word = pieces.lower(index);
+    let is_limit = match trailer {
+        Trailer::Rights | Trailer::Granted => may_be_land_beside_rights(pieces, index),
+        Trailer::Reserved => may_be_land_beside_rights(pieces, index) || is_site(word),
+        Trailer::Office => pieces.may_be_land(index),
+        Trailer::Survey => !is_of_survey(word),
+        _ => pieces.may_be_land(index) || is_boundary(word),
+    };
+    // `$2.00/acre` is a price.
+    let is_parcel = names_parcel(word) && !pieces.is(index.saturating_sub(1), b"/");
+    let is_part = trailer != Trailer::Office
+        && (is_parcel || is_partial(word) || pieces.may_be_section(index));
+    let is_beyond = match trailer {
+        Trailer::Terms => is_beyond_terms(word) || is_size_or_acreage(pieces, index),
+        Trailer::Depths => limits_land(word) || is_site(word),
+        Trailer::Granted => {
+            is_same(word, b"lands")
+                || is_same(word, b"place")
+                || is_same(word, b"street")
+                || is_same(word, b"bed")
+                || is_same(word, b"ground")
+        }
+        _ => false,
+    };
+    is_limit || is_part || is_beyond || is_of_town(word) || alters_land(word)
+}
+
+/// What is said at an index.
+fn trailer_at(pieces: &Pieces<'_>, index: usize) -> Option<Trailer> {
+    let next = plus(index, 1);
+    if !matches!(pieces.kind(index), Kind::Other | Kind::All) {
+        return None;
+    }
+    let word = pieces.lower(index);
+    if is_same(word, b"in") {
+        let is_district = pieces.is(next, b"the") && pieces.is(plus(next, 1), b"district");
+        return if is_district {
+            Some(Trailer::Office)
+        } else {
+            None
+        };
+    }
+    if is_same(word, b"subject") || is_same(word, b"subj") {
+        return Some(Trailer::Rights);
+    }
+    if is_same(word, b"reserving") {
+        return Some(Trailer::Reserved);
+    }
+    if is_same(word, b"according") {
+        return Some(Trailer::Survey);
+    }
+    if is_same(word, b"excepting") {
+        return if pieces.is(next, b"and") && pieces.is(plus(next, 1), b"reserving") {
+            Some(Trailer::Reserved)
+        } else {
+            None
+        };
+    }
+    if is_same(word, b"grantor") {
+        return if reserves(pieces, next) {
+            Some(Trailer::Reserved)
+        } else {
+            None
+        };
+    }
+    if is_same(word, b"together") {
+        return if pieces.is(next, b"with") {
+            Some(Trailer::Granted)
+        } else {
+            None
+        };
+    }
+    if is_same(word, b"as") {
+        return if pieces.is(next, b"to") {
+            Some(Trailer::Depths)
+        } else if pieces.is(next, b"shown") {
+            Some(Trailer::Terms)
+        } else {
+            None
+        };
+    }
+    if is_same(word, b"all") {
+        return if pieces.is(next, b"depths") {
+            Some(Trailer::Depths)
+        } else {
+            None
+        };
+    }
+    if is_same(word, b"insofar") || is_same(word, b"limited") || is_same(word, b"depths") {
+        return Some(Trailer::Depths);
+    }
+    if is_same(word, b"only") && matches!(pieces.kind(next), Kind::Stop | Kind::Semicolon) {
+        return Some(Trailer::Terms);
+    }
+    if is_same(word, b"only") {
+        return if pieces.is(next, b"as") || pieces.is(next, b"insofar") {
+            Some(Trailer::Depths)
+        } else {
+            None
+        };
+    }
+    if is_same(word, b"from") || is_same(word, b"down") {
+        let is_known = pieces.is(next, b"the")
+            || pieces.is(next, b"to")
+            || pieces.is(next, b"surface");
+        return if is_known {
+            Some(Trailer::Depths)
+        } else {
+            None
+        };
+    }
+    if is_same(word, b"below")
+        || is_same(word, b"above")
+        || is_same(word, b"surface")
+        || is_same(word, b"minerals")
+        || is_same(word, b"mineral")
+        || is_same(word, b"oil")
+    {
+        return Some(Trailer::Depths);
+    }
+    if begins_terms(word) {
+        Some(Trailer::Terms)
+    } else {
+        None
+    }
+}
+
+/// Whether the grantor before an index reserves something, as in `Grantor herein excepting and reserving`.
+fn reserves(pieces: &Pieces<'_>, index: usize) -> bool {
+    for place in index..plus(index, 5) {
+        if pieces.is(place, b"reserving") || pieces.is(place, b"reserves") {
+            return true;
+        }
+    }
+    false
+}
+
+/// Whether the piece at an index may be of land where rights are named: sides alone, and shares, are not.
+fn may_be_land_beside_rights(pieces: &Pieces<'_>, index: usize) -> bool {
+    let next = plus(index, 1);
+    match pieces.kind(index) {
+        Kind::Half | Kind::Quarter => {
+            let before = index.saturating_sub(1);
+            pieces.is_north_south(before) || pieces.is_east_west(before)
+        }
+        Kind::Other if pieces.is(index, b"half") || pieces.is(index, b"quarter") => {
+            let first = index.saturating_sub(4);
+            !(pieces.is(first, b"undivided")
+                || pieces.is(plus(first, 1), b"undivided")
+                || pieces.is(plus(first, 2), b"undivided"))
+        }
+        Kind::Other if pieces.is_north_south(index) || pieces.is_east_west(index) => {
+            matches!(
+                pieces.kind(next),
+                Kind::Half | Kind::Quarter | Kind::Number(_)
+            ) || pieces.begins_step(next)
+        }
+        Kind::All => false,
+        Kind::Other if pieces.is(index, b"land") || pieces.is(index, b"lands") => {
+            let before = index.saturating_sub(2);
+            pieces.is(plus(before, 1), b"the")
+                && !(pieces.is(before, b"in")
+                    || pieces.is(before, b"of")
+                    || pieces.is(before, b"under"))
+        }
+        Kind::Other if pieces.is(index, b"excepting") => !pieces.is(plus(next, 1), b"reserving"),
+        _ => pieces.may_be_land(index),
+    }
+}
