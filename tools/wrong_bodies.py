@@ -14,6 +14,7 @@ A wrong body counts as refused here only if
   count.
 
 All others, such as an edit of a constant, or one that breaks a goal of a caller, are tried by rt itself, one at a time.
+So are all of a check that finds an error in a definition or a lemma, which functions share.
 """
 import re
 import shutil
@@ -29,6 +30,8 @@ OWNER = re.compile(r"(?:pub )?(?:unsafe )?(?:impl(?:<.*?>)? (?:.* for )?|trait )
 OF_CODE = re.compile(r"note: (src/\S+\.rt):(\d+):\d+: it is not proved ")
 OF_ANSWER = re.compile(r"(?:\./)?proofs/(\S+)/(?:Answers|Invariants|Proof)\.antt:\d+:\d+: error: ")
 LACKS_NAME = re.compile(r"has no field|is not in scope|has no `|was not admitted")
+# An error in a definition or a lemma, which several functions may rest on.
+OF_LEMMA = re.compile(r"(?:\./)?(?:specs|proofs)/(?!.*/(?:Answers|Invariants|Proof)\.antt)\S+\.antt:\d+:\d+: error: ")
 
 # What is used of the kit's rt.
 NEEDED = ("checked", "must_fail", "unread", "rtlib.STALE")
@@ -50,11 +53,15 @@ class Function:
     def has_answers(self, folder):
         """Whether its answers are in this folder of proofs/, such as line/Line/index for `Line::index` of src/line.rt.
         The folder of a trait's method also names the trait, as in lanes/LaneRowsPlot/meets."""
-        module = self.path.removeprefix("src/").removesuffix(".rt").removesuffix("lib").split("/")
+        module = [it for it in self.path.removeprefix("src/").removesuffix(".rt").split("/") if it != "lib"]
         *around, name = folder.split("/")
-        owner = around[len([it for it in module if it]) :]
+        owner = around[len(module) :]
         is_owner = len(owner) == 1 and owner[0].startswith(self.owner) if self.owner else not owner
-        return name == self.name and around[: len(around) - len(owner)] == [it for it in module if it] and is_owner
+        return name == self.name and around[: len(module)] == module and is_owner
+
+    def may_share_answers(self, other):
+        """Whether the folder of its answers may be that of another function: both may be a type's `fmt`, of two traits."""
+        return (self.path, self.owner, self.name) == (other.path, other.owner, other.name)
 
 
 def functions_of(path, text):
@@ -140,8 +147,9 @@ class Together:
         self.text_of, self.texts, self.edits = text_of, {}, {}
 
     def takes(self, edit, functions):
-        """Adds a wrong body, unless one of the others changes the same function or text. Returns whether it did."""
-        if any(functions & others for others in self.edits.values()):
+        """Adds a wrong body, unless one of the others changes the same function or text. Returns whether it was added."""
+        taken = [it for others in self.edits.values() for it in others]
+        if any(it.may_share_answers(other) for it in functions for other in taken):
             return False
         texts, misfit = edit.made(lambda path: self.texts[path] if path in self.texts else self.text_of(path))
         if misfit:
@@ -198,7 +206,7 @@ class Trying:
         ran = self.rt.checked(self.crate, these.texts, self.flags, kept)
         lines = ran.stdout.rstrip("\n").split("\n")
         is_judged = ran.returncode == 1 and lines[-1].startswith("logic=not-proved")
-        is_read = not any(self.rt.unread(it, these.texts) for it in lines)
+        is_read = not any(self.rt.unread(it, these.texts) or OF_LEMMA.match(it) for it in lines)
         return these.refused(ran.stdout) if is_judged and is_read and not self.rt.rtlib.STALE.search(ran.stdout) else {}
 
     def results(self, files, kept):
