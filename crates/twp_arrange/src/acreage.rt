@@ -5,7 +5,7 @@ use crate::arranging::{Placed, Role};
 use crate::plan::Plan;
 use twp_grammar::Kind;
 use twp_phrases::{Names, Phrase};
-use twp_pieces::{is_of_count, plus};
+use twp_pieces::{is_of_count, plus, value_of_count};
 use twp_rules::Rule;
 
 /// The nominal area of a section, in hundredths of an acre.
@@ -28,8 +28,13 @@ impl<'a> Plan<'a> {
                 self.stated(placed.phrase),
                 self.land_beside(list, index),
             ) {
+                // A whole section, or what is after a dash, may be meant to be less.
                 let is_minus = self.draft.pieces.is_dash(placed.phrase.first);
-                let least = if is_minus { land / 4 * 3 } else { land / 4 };
+                let least = if is_minus || land == SECTION {
+                    land / 4 * 3
+                } else {
+                    land / 4
+                };
                 if acreage <= least {
                     return false;
                 }
@@ -100,15 +105,25 @@ impl<'a> Plan<'a> {
         let mut found: Option<u64> = None;
         let mut next = phrase.first;
         for index in phrase.first..phrase.end {
+            if index < next {
+                continue;
+            }
             let word = pieces.lower(index);
-            if (matches!(pieces.kind(index), Kind::Other) && is_of_count(word))
-                || pieces.is(index, b"net")
+            if matches!(pieces.kind(index), Kind::Other) && is_of_count(word) {
+                if found.is_none() {
+                    let (value, end) = self.count_at(index, phrase.end)?;
+                    found = Some(value);
+                    next = end;
+                }
+                continue;
+            }
+            if pieces.is(index, b"net")
                 || pieces.is(index, b"mineral")
                 || pieces.is(index, b"spacing")
             {
                 return None;
             }
-            if index < next || !matches!(pieces.kind(index), Kind::Number(_)) {
+            if !matches!(pieces.kind(index), Kind::Number(_)) {
                 continue;
             }
             if found.is_some() {
@@ -119,6 +134,27 @@ impl<'a> Plan<'a> {
             next = end;
         }
         found
+    }
+
+    /// The number in words at an index, in hundredths, and the index after it. Its hundredths aren't counted.
+    fn count_at(&self, first: usize, end: usize) -> Option<(u64, usize)> {
+        let mut whole: u64 = 0;
+        let mut next = first;
+        for index in first..end {
+            let word = self.draft.pieces.lower(index);
+            if !is_of_count(word) {
+                break;
+            }
+            if let Some(value) = value_of_count(word) {
+                whole = whole.saturating_add(value);
+            } else if self.draft.pieces.is(index, b"hundred") {
+                whole = whole.saturating_mul(100);
+            } else if self.draft.pieces.is(index, b"thousand") {
+                return None;
+            }
+            next = plus(index, 1);
+        }
+        Some((whole.saturating_mul(100), next))
     }
 
     /// The figure at an index, in hundredths, and the index after it.

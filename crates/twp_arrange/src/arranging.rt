@@ -164,7 +164,9 @@ impl<'a> Plan<'a> {
                 if phrase.names == Names::Except {
                     // Set apart, it may be from the land of each section.
                     let pieces = &self.draft.pieces;
-                    let is_apart = pieces.is(phrase.first.saturating_sub(1), b";")
+                    let before_it = phrase.first.saturating_sub(1);
+                    let is_apart = pieces.is(before_it, b";")
+                        || pieces.is(before_it, b",")
                         || pieces.has_before(phrase.first, b'\n');
                     unsure = unsure
                         || is_excepting(group)

@@ -4,6 +4,7 @@
 
 mod acreage;
 mod arranging;
+mod beside;
 mod joining;
 mod plan;
 mod together;

@@ -9,7 +9,11 @@ use twp_rules::Rule;
 impl<'a> Plan<'a> {
     /// Doubts phrases that aren't sure together.
     pub(crate) fn doubt_together(&mut self) {
-        if self.has_land_missing() || self.has_loose_section() || self.has_other_tract() {
+        if self.has_land_missing()
+            || self.has_loose_section()
+            || self.has_other_tract()
+            || self.has_unsure_neighbors()
+        {
             self.draft.doubt();
         }
     }

@@ -122,8 +122,10 @@ impl<'a> Draft<'a> {
             }
         }
         if self.names_land {
-            if let Some(end) = self.pieces.end_of_share_in_cell(index) {
-                return Some((Rule::Label, end));
+            if self.last_names() != Some(Names::Sections) {
+                if let Some(end) = self.pieces.end_of_share_in_cell(index) {
+                    return Some((Rule::Label, end));
+                }
             }
             if let Some(end) = self.pieces.end_of_last_figure(index) {
                 return Some((Rule::Acreage, end));

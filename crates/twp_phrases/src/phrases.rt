@@ -265,6 +265,12 @@ impl<'a> Draft<'a> {
             Position::BeforeLand
         };
         let end = end_of_remark(&self.pieces, index, position)?;
+        // Numbers may be those of lots, beside a section also as a spreadsheet changes them.
+        let is_beside = self.last_names() == Some(Names::Sections);
+        let has_lots = is_beside && !self.pieces.has_word(index, end);
+        if has_lots || self.pieces.are_small_numbers(index, end) {
+            return None;
+        }
         let is_label = self.pieces.is_label_of_tract(index);
         self.has_remark = self.has_remark || !is_label;
         Some(self.phrase(Names::Nothing(Rule::Label), index, end, self.extent()))

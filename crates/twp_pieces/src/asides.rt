@@ -229,6 +229,11 @@ impl<'a> Pieces<'a> {
         None
     }
 
+    /// Whether a state or a county is at an index.
+    pub fn names_state(&self, index: usize) -> bool {
+        self.end_of_state(index).is_some()
+    }
+
     /// Where the state or the county at an index ends.
     fn end_of_state(&self, index: usize) -> Option<usize> {
         let second = plus(index, 1);

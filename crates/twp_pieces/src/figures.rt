@@ -134,4 +134,30 @@ impl<'a> Pieces<'a> {
     pub fn begins_column(&self, index: usize) -> bool {
         self.begins_cell(index) || self.start(index) > plus(self.end_before(index), 1)
     }
+
+    /// Whether some pieces begin with a number, and have no letters, and no number that is too large for a lot or a section.
+    pub fn are_small_numbers(&self, first: usize, end: usize) -> bool {
+        for index in first..end {
+            let is_other = match self.kind(index) {
+                Kind::Number(number) => number > SECTIONS,
+                Kind::BadNumber => true,
+                _ => matches!(self.lower(index), [b'a'..=b'z', ..]),
+            };
+            if is_other {
+                return false;
+            }
+        }
+        self.number(first).is_some()
+    }
+
+    /// Whether a word of two letters or more is among some pieces, which is no month.
+    pub fn has_word(&self, first: usize, end: usize) -> bool {
+        for index in first..end {
+            let word = self.lower(index);
+            if matches!(word, [b'a'..=b'z', _, ..]) && !is_month(word) {
+                return true;
+            }
+        }
+        false
+    }
 }

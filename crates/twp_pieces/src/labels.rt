@@ -63,8 +63,8 @@ impl<'a> Pieces<'a> {
             let is_name = is_same(word, b"aliq")
                 || is_same(word, b"aliquot")
                 || is_same(word, b"aliquots")
-                || is_same(word, b"subdivision")
-                || is_same(word, b"subdiv")
+                || ((is_same(word, b"subdivision") || is_same(word, b"subdiv"))
+                    && self.is_before_column(after))
                 || (is_same(word, b"legal") && index > 0);
             let is_before_colon = is_field(word) && self.is(after, b":");
             if !is_name && !is_before_colon {
@@ -81,6 +81,14 @@ impl<'a> Pieces<'a> {
             end = Some(next);
         }
         end
+    }
+
+    /// Whether land follows the name of its column at an index. After lots, `Subdivision` may be that of a town.
+    fn is_before_column(&self, index: usize) -> bool {
+        let next = plus(index, usize::from(self.is(index, b":")));
+        self.begins_part(next)
+            || matches!(self.kind(next), Kind::Lot | Kind::All)
+            || is_column(self.lower(next))
     }
 
     /// Whether a section, a township, or land begins at an index.

@@ -4,9 +4,9 @@ use crate::remarks::is_size_or_acreage;
 use twp_grammar::Kind;
 use twp_pieces::{Pieces, plus};
 use twp_words::{
-    alters_land, begins_terms, is_beyond_terms, is_boundary, is_of_appurtenance, is_of_depth,
-    is_of_estate, is_of_survey, is_of_town, is_partial, is_same, is_site, limits_land,
-    names_parcel,
+    alters_land, begins_terms, is_beyond_depths, is_beyond_terms, is_boundary, is_conveyance,
+    is_of_appurtenance, is_of_depth, is_of_estate, is_of_survey, is_of_town, is_partial, is_same,
+    is_site, limits_land, names_parcel,
 };
 
 /// The most pieces of depths in parentheses.
@@ -91,7 +91,8 @@ fn is_beyond_trailer(pieces: &Pieces<'_>, trailer: Trailer, index: usize) -> boo
         && (is_parcel || is_partial(word) || pieces.may_be_section(index));
     let is_beyond = match trailer {
         Trailer::Terms => is_beyond_terms(word) || is_size_or_acreage(pieces, index),
-        Trailer::Depths => limits_land(word) || is_site(word),
+        Trailer::Depths => limits_land(word) || is_site(word) || is_beyond_depths(word),
+        Trailer::Rights => is_conveyance(word),
         Trailer::Granted => {
             is_same(word, b"lands")
                 || is_same(word, b"place")

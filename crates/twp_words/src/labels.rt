@@ -280,6 +280,18 @@ pub fn is_beyond_label(word: &[u8]) -> bool {
         || is_same(word, b"reservoirs")
         || is_same(word, b"site")
         || is_same(word, b"sites")
+        || is_same(word, b"powerline")
+        || is_same(word, b"powerlines")
+        || is_same(word, b"drillsite")
+        || is_same(word, b"trail")
+        || is_same(word, b"tunnel")
+        || is_same(word, b"headgate")
+        || is_same(word, b"pob")
+        || is_same(word, b"edge")
+        || is_same(word, b"limited")
+        || is_same(word, b"ranchettes")
+        || is_same(word, b"heights")
+        || is_same(word, b"subdivision")
 }
 
 /// Words for what lies in land: at the end of a label before land, such a word may say what is meant there.

@@ -21,7 +21,9 @@ pub use directions::{
     is_damaged_corner, is_damaged_half, is_worn_corner, is_worn_section, letters_of, tens_of,
     value_of,
 };
-pub use figures::{is_acreage_lead, is_acres, is_area_word, is_numeral, is_of_count};
+pub use figures::{
+    is_acreage_lead, is_acres, is_area_word, is_numeral, is_of_count, value_of_count,
+};
 pub use labels::{
     adds_land, is_beyond_label, is_column, is_feature, is_field, is_instrument, is_of_covering,
     is_of_label, is_of_property, is_of_water, points_into,
@@ -38,6 +40,6 @@ pub use requests::{begins_request, is_of_request};
 pub use same::{are_corners, is_one_of, is_same, size_of_character};
 pub use steps::{Size, written_step};
 pub use terms::{
-    begins_terms, is_beyond_terms, is_boundary, is_of_depth, is_of_interest, is_of_right,
-    is_of_share, is_of_town, names_parcel,
+    begins_terms, is_beyond_depths, is_beyond_terms, is_boundary, is_conveyance, is_of_depth,
+    is_of_interest, is_of_right, is_of_share, is_of_town, names_parcel,
 };

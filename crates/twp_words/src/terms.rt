@@ -54,6 +54,39 @@ pub fn is_beyond_terms(word: &[u8]) -> bool {
         || is_same(word, b"feet")
 }
 
+/// Words with which what looks like depths limits land, as in `only as to lands in Book 5`.
+pub fn is_beyond_depths(word: &[u8]) -> bool {
+    is_same(word, b"land")
+        || is_same(word, b"lands")
+        || is_same(word, b"tracts")
+        || is_same(word, b"unit")
+        || is_same(word, b"units")
+        || is_same(word, b"pa")
+        || is_same(word, b"spacing")
+        || is_same(word, b"pipeline")
+        || is_same(word, b"pad")
+        || is_same(word, b"reservoir")
+        || is_same(word, b"row")
+        || is_same(word, b"exhibit")
+        || is_same(word, b"county")
+        || is_same(word, b"located")
+        || is_same(word, b"lies")
+        || is_same(word, b"lie")
+        || is_same(word, b"sea")
+}
+
+/// Words for what takes land away that rights are said of, as in `subject to prior sales`.
+pub fn is_conveyance(word: &[u8]) -> bool {
+    is_same(word, b"conveyance")
+        || is_same(word, b"conveyances")
+        || is_same(word, b"sale")
+        || is_same(word, b"sales")
+        || is_same(word, b"outsale")
+        || is_same(word, b"outsales")
+        || is_same(word, b"deed")
+        || is_same(word, b"deeds")
+}
+
 /// Words of which terms after land are of depths.
 pub fn is_of_depth(word: &[u8]) -> bool {
     is_same(word, b"depth")

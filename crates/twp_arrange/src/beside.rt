@@ -1,0 +1,116 @@
+//! What is beside a part, a list, or a meridian that makes it unsure: `Kimball County, NE`, `SE Wyoming`, `Lots 1-4, 6 PM`.
+
+use crate::plan::Plan;
+use twp_grammar::Kind;
+use twp_phrases::{Names, Phrase};
+use twp_pieces::plus;
+use twp_rules::Rule;
+
+/// The most lots of a section.
+const LOTS_MOST: u16 = 7;
+
+impl<'a> Plan<'a> {
+    /// Whether a phrase isn't sure for what is beside it.
+    pub(crate) fn has_unsure_neighbors(&self) -> bool {
+        let mut before: Option<Phrase> = None;
+        let mut meridian: Option<u16> = None;
+        for phrase in &self.draft.phrases {
+            if let Some(before) = before {
+                if self.are_unsure_neighbors(&before, phrase) {
+                    return true;
+                }
+            }
+            if let Some(number) = self.number_of_meridian(phrase) {
+                if meridian.map_or(false, |other| other != number) {
+                    return true;
+                }
+                meridian = Some(number);
+            }
+            before = Some(*phrase);
+        }
+        false
+    }
+
+    /// Whether two phrases that follow each other aren't sure.
+    fn are_unsure_neighbors(&self, one: &Phrase, other: &Phrase) -> bool {
+        match (one.names, other.names) {
+            (Names::Part, Names::Nothing(rule)) => self.may_be_of_name(one, other, rule),
+            (Names::Nothing(rule), Names::Part) => self.may_be_state(one, other, rule),
+            (Names::Sections | Names::Lots, Names::Nothing(Rule::Meridian)) => {
+                one.end == other.first && self.is_bare_word_of_meridian(other.first)
+            }
+            (Names::Lots, Names::Sections) => self.may_be_lot(one, other),
+            _ => false,
+        }
+    }
+
+    /// Whether a part is one step, written by two letters, as `NE`, or by a letter and a digit, as `W2`.
+    fn is_bare(&self, part: &Phrase) -> bool {
+        let size = self.draft.pieces.bytes(part.first).len();
+        (plus(part.first, 1) == part.end && size == 2)
+            || (plus(part.first, 2) == part.end && size == 1)
+    }
+
+    /// Whether a bare part may be of a region, or of somebody's name, which follows it, as in `SE Wyoming`, `NW Land Co.`,
+    /// or `W2 Royalty`.
+    fn may_be_of_name(&self, part: &Phrase, after: &Phrase, rule: Rule) -> bool {
+        if part.end != after.first || !self.is_bare(part) {
+            return false;
+        }
+        let pieces = &self.draft.pieces;
+        let is_word = matches!(pieces.kind(after.first), Kind::Other)
+            && !pieces.begins_line(after.first);
+        match rule {
+            Rule::Meridian => is_word && pieces.names_state(after.first),
+            Rule::Label => {
+                pieces.is(after.first, b"lease")
+                    || pieces.is(after.first, b"royalty")
+                    || pieces.is(after.first, b"minerals")
+                    || pieces.is(after.first, b"oil")
+            }
+            _ => false,
+        }
+    }
+
+    /// Whether a bare `NE` may be Nebraska: after a meridian or a county and a comma, or after another name and a comma, at
+    /// the end of a line.
+    fn may_be_state(&self, before: &Phrase, part: &Phrase, rule: Rule) -> bool {
+        let pieces = &self.draft.pieces;
+        let is_after_comma = pieces.is(before.end, b",") && plus(before.end, 1) == part.first;
+        let is_alone = part.end >= pieces.len() || pieces.begins_line(part.end);
+        let follows = match rule {
+            Rule::Meridian => true,
+            Rule::Label => is_alone,
+            _ => false,
+        };
+        is_after_comma && follows && pieces.is(part.first, b"ne") && self.is_bare(part)
+    }
+
+    /// Whether the word for a meridian is at an index without its number or name, so that the number before it may be that.
+    fn is_bare_word_of_meridian(&self, index: usize) -> bool {
+        let pieces = &self.draft.pieces;
+        pieces.is(index, b"pm")
+            || pieces.is(index, b"p")
+            || pieces.is(index, b"principal")
+            || pieces.is(index, b"prin")
+    }
+
+    /// Whether the number of a section, after a comma and before a colon, may be that of another lot.
+    fn may_be_lot(&self, lots: &Phrase, section: &Phrase) -> bool {
+        let pieces = &self.draft.pieces;
+        let number = pieces.number(section.first);
+        let is_lot = number.map_or(false, |number| number <= LOTS_MOST);
+        is_lot
+            && pieces.is(lots.end, b",")
+            && plus(lots.end, 1) == section.first
+            && !pieces.begins_line(section.first)
+    }
+
+    /// The number that a meridian is known by, as that of a register, or of the 6th Principal Meridian.
+    fn number_of_meridian(&self, phrase: &Phrase) -> Option<u16> {
+        match phrase.names {
+            Names::Nothing(Rule::Meridian) => self.draft.pieces.number(phrase.first),
+            _ => None,
+        }
+    }
+}
