@@ -1,5 +1,5 @@
 #!/usr/bin/env python3
-"""Does what `rt ci` does, in a third less time: the wrong bodies of a crate are tried many at a time.
+"""Does what `rt ci` does, in half the processor time: the wrong bodies of a crate are tried many at a time.
 
     python3 tools/gate.py
 

@@ -10,23 +10,25 @@ use twp_rules::Rule;
 const LOTS_MOST: u16 = 7;
 
 impl<'a> Plan<'a> {
-    /// Whether a phrase isn't sure for what is beside it.
+    /// Whether a phrase isn't sure for what is beside it, or there are two meridians.
     pub(crate) fn has_unsure_neighbors(&self) -> bool {
-        let mut before: Option<Phrase> = None;
+        let phrases = self.draft.phrases.as_slice();
         let mut meridian: Option<u16> = None;
-        for phrase in &self.draft.phrases {
-            if let Some(before) = before {
-                if self.are_unsure_neighbors(&before, phrase) {
+        for index in 0..phrases.len() {
+            let Some(phrase) = phrases.get(index) else {
+                break;
+            };
+            if let Some(before) = index.checked_sub(1).and_then(|before| phrases.get(before)) {
+                if self.are_unsure_neighbors(before, phrase) {
                     return true;
                 }
             }
             if let Some(number) = self.number_of_meridian(phrase) {
-                if meridian.map_or(false, |other| other != number) {
+                if meridian.is_some() && meridian != Some(number) {
                     return true;
                 }
                 meridian = Some(number);
             }
-            before = Some(*phrase);
         }
         false
     }
@@ -98,9 +100,8 @@ impl<'a> Plan<'a> {
     /// Whether the number of a section, after a comma and before a colon, may be that of another lot.
     fn may_be_lot(&self, lots: &Phrase, section: &Phrase) -> bool {
         let pieces = &self.draft.pieces;
-        let number = pieces.number(section.first);
-        let is_lot = number.map_or(false, |number| number <= LOTS_MOST);
-        is_lot
+        let number = pieces.number(section.first).unwrap_or(u16::MAX);
+        number <= LOTS_MOST
             && pieces.is(lots.end, b",")
             && plus(lots.end, 1) == section.first
             && !pieces.begins_line(section.first)

@@ -4,100 +4,124 @@ use crate::same::is_same;
 
 /// Words by which land isn't meant any more, or other land is: no remark, label, or term has them.
 pub fn alters_land(word: &[u8]) -> bool {
-    is_same(word, b"abuts")
-        || is_same(word, b"alternate")
-        || is_same(word, b"bal")
-        || is_same(word, b"balance")
-        || is_same(word, b"becomes")
-        || is_same(word, b"besides")
-        || is_same(word, b"borders")
-        || is_same(word, b"canc")
-        || is_same(word, b"canceled")
-        || is_same(word, b"cancellation")
-        || is_same(word, b"cancelled")
-        || is_same(word, b"carve")
-        || is_same(word, b"carveout")
-        || is_same(word, b"conflict")
-        || is_same(word, b"corr")
-        || is_same(word, b"corrected")
-        || is_same(word, b"correction")
-        || is_same(word, b"corrections")
-        || is_same(word, b"cutout")
-        || is_same(word, b"del")
-        || is_same(word, b"delete")
-        || is_same(word, b"deleted")
-        || is_same(word, b"deletion")
-        || is_same(word, b"deletions")
-        || is_same(word, b"disclaimed")
-        || is_same(word, b"disputed")
-        || is_same(word, b"disregard")
-        || is_same(word, b"dump")
-        || is_same(word, b"eliminated")
-        || is_same(word, b"err")
-        || is_same(word, b"errata")
-        || is_same(word, b"erroneously")
-        || is_same(word, b"error")
-        || is_same(word, b"everything")
-        || is_same(word, b"exchanged")
-        || is_same(word, b"exempt")
-        || is_same(word, b"expunged")
-        || is_same(word, b"facing")
-        || is_same(word, b"failed")
-        || is_same(word, b"failure")
-        || is_same(word, b"false")
-        || is_same(word, b"gap")
-        || is_same(word, b"ignore")
-        || is_same(word, b"incomplete")
-        || is_same(word, b"ineligible")
-        || is_same(word, b"inholding")
-        || is_same(word, b"inholdings")
-        || is_same(word, b"invalid")
-        || is_same(word, b"keep")
-        || is_same(word, b"keeps")
-        || is_same(word, b"lost")
-        || is_same(word, b"majority")
-        || is_same(word, b"meant")
-        || is_same(word, b"minus")
-        || is_same(word, b"most")
-        || is_same(word, b"nearby")
-        || is_same(word, b"neither")
-        || is_same(word, b"oops")
-        || is_same(word, b"opposite")
-        || is_same(word, b"outparcel")
-        || is_same(word, b"outsale")
-        || is_same(word, b"outsales")
-        || is_same(word, b"perhaps")
-        || is_same(word, b"rather")
-        || is_same(word, b"rej")
-        || is_same(word, b"rejected")
-        || is_same(word, b"release")
-        || is_same(word, b"released")
-        || is_same(word, b"relinq")
-        || is_same(word, b"relinquished")
-        || is_same(word, b"relinquishment")
-        || is_same(word, b"replaced")
-        || is_same(word, b"replacing")
-        || is_same(word, b"rescinded")
-        || is_same(word, b"rescission")
-        || is_same(word, b"residue")
-        || is_same(word, b"revoked")
-        || is_same(word, b"sans")
-        || is_same(word, b"servient")
-        || is_same(word, b"strike")
-        || is_same(word, b"struck")
-        || is_same(word, b"surrendered")
-        || is_same(word, b"touching")
-        || is_same(word, b"true")
-        || is_same(word, b"typo")
-        || is_same(word, b"uncommitted")
-        || is_same(word, b"unreadable")
-        || is_same(word, b"unsurveyed")
-        || is_same(word, b"updated")
-        || is_same(word, b"verify")
-        || is_same(word, b"versus")
-        || is_same(word, b"void")
-        || is_same(word, b"voided")
-        || is_same(word, b"without")
+    match word {
+        [b'a', ..] => { is_same(word, b"abuts") || is_same(word, b"alternate") }
+        [b'b', ..] => {
+            is_same(word, b"bal")
+                || is_same(word, b"balance")
+                || is_same(word, b"becomes")
+                || is_same(word, b"besides")
+                || is_same(word, b"borders")
+        }
+        [b'c', ..] => {
+            is_same(word, b"canc")
+                || is_same(word, b"canceled")
+                || is_same(word, b"cancellation")
+                || is_same(word, b"cancelled")
+                || is_same(word, b"carve")
+                || is_same(word, b"carveout")
+                || is_same(word, b"conflict")
+                || is_same(word, b"corr")
+                || is_same(word, b"corrected")
+                || is_same(word, b"correction")
+                || is_same(word, b"corrections")
+                || is_same(word, b"cutout")
+        }
+        [b'd', ..] => {
+            is_same(word, b"del")
+                || is_same(word, b"delete")
+                || is_same(word, b"deleted")
+                || is_same(word, b"deletion")
+                || is_same(word, b"deletions")
+                || is_same(word, b"disclaimed")
+                || is_same(word, b"disputed")
+                || is_same(word, b"disregard")
+                || is_same(word, b"dump")
+        }
+        [b'e', ..] => {
+            is_same(word, b"eliminated")
+                || is_same(word, b"err")
+                || is_same(word, b"errata")
+                || is_same(word, b"erroneously")
+                || is_same(word, b"error")
+                || is_same(word, b"everything")
+                || is_same(word, b"exchanged")
+                || is_same(word, b"exempt")
+                || is_same(word, b"expunged")
+        }
+        [b'f', ..] => {
+            is_same(word, b"facing")
+                || is_same(word, b"failed")
+                || is_same(word, b"failure")
+                || is_same(word, b"false")
+        }
+        [b'g', ..] => { is_same(word, b"gap") }
+        [b'i', ..] => {
+            is_same(word, b"ignore")
+                || is_same(word, b"incomplete")
+                || is_same(word, b"ineligible")
+                || is_same(word, b"inholding")
+                || is_same(word, b"inholdings")
+                || is_same(word, b"invalid")
+        }
+        [b'k', ..] => { is_same(word, b"keep") || is_same(word, b"keeps") }
+        [b'l', ..] => { is_same(word, b"lost") }
+        [b'm', ..] => {
+            is_same(word, b"majority")
+                || is_same(word, b"meant")
+                || is_same(word, b"minus")
+                || is_same(word, b"most")
+        }
+        [b'n', ..] => { is_same(word, b"nearby") || is_same(word, b"neither") }
+        [b'o', ..] => {
+            is_same(word, b"oops")
+                || is_same(word, b"opposite")
+                || is_same(word, b"outparcel")
+                || is_same(word, b"outsale")
+                || is_same(word, b"outsales")
+        }
+        [b'p', ..] => { is_same(word, b"perhaps") }
+        [b'r', ..] => {
+            is_same(word, b"rather")
+                || is_same(word, b"rej")
+                || is_same(word, b"rejected")
+                || is_same(word, b"release")
+                || is_same(word, b"released")
+                || is_same(word, b"relinq")
+                || is_same(word, b"relinquished")
+                || is_same(word, b"relinquishment")
+                || is_same(word, b"replaced")
+                || is_same(word, b"replacing")
+                || is_same(word, b"rescinded")
+                || is_same(word, b"rescission")
+                || is_same(word, b"residue")
+                || is_same(word, b"revoked")
+        }
+        [b's', ..] => {
+            is_same(word, b"sans")
+                || is_same(word, b"servient")
+                || is_same(word, b"strike")
+                || is_same(word, b"struck")
+                || is_same(word, b"surrendered")
+        }
+        [b't', ..] => {
+            is_same(word, b"touching") || is_same(word, b"true") || is_same(word, b"typo")
+        }
+        [b'u', ..] => {
+            is_same(word, b"uncommitted")
+                || is_same(word, b"unreadable")
+                || is_same(word, b"unsurveyed")
+                || is_same(word, b"updated")
+        }
+        [b'v', ..] => {
+            is_same(word, b"verify")
+                || is_same(word, b"versus")
+                || is_same(word, b"void")
+                || is_same(word, b"voided")
+        }
+        [b'w', ..] => { is_same(word, b"without") }
+        _ => false,
+    }
 }
 
 /// Words for sizes, places, and parts: after land, no remark has them, and no limit to depths.
