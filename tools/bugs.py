@@ -103,7 +103,7 @@ def lanes():
     return max(1, min(os.cpu_count() or 1, free // MEMORY))
 
 
-def tried(edits, many):
+def tried(edits, known, many):
     """Tries the edits, several crates at a time, and returns the result of each, by CRATE/EDIT."""
     rt = loaded_rt("rtlib.guarded", "rtlib.crates_below", *wrong_bodies.NEEDED)
     if rt is None:
@@ -116,9 +116,11 @@ def tried(edits, many):
     def one(name):
         crate = found[name]
         folder = ROOT / "crates" / name
-        files = [str(folder / FOLDER / f"{it}.edit") for it in edits[name]]
+        files = {it: str(folder / FOLDER / f"{it}.edit") for it in edits[name]}
+        through = [file for it, file in files.items() if f"{name}/{it}" in known]
         kept = folder / "out" / "incremental"
-        tried = wrong_bodies.must_fail_all(rt, crate, files, ["--jobs", "1"], kept if kept.is_dir() else None)
+        over = kept if kept.is_dir() else None
+        tried = wrong_bodies.must_fail_all(rt, crate, list(files.values()), ["--jobs", "1"], over, through)
         with alone:
             for _, said in tried:
                 print(said, flush=True)
@@ -148,7 +150,7 @@ def main(words):
     if options.check:
         return check(edits)
     prove_below(edits)
-    results = tried(edits, options.lanes or lanes())
+    results = tried(edits, known, options.lanes or lanes())
     every = [f"{crate}/{edit}" for crate, names in edits.items() for edit in names]
     refused = [it for it in every if results.get(it) == "refused" and it not in known]
     through = [it for it in every if results.get(it) == "NOT REFUSED" and it not in known]

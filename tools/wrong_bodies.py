@@ -221,10 +221,11 @@ class Trying:
         return self.rt.must_fail(self.crate, edit.file, self.flags, kept)
 
 
-def must_fail_all(rt, crate, files, flags, over=None):
+def must_fail_all(rt, crate, files, flags, over=None, known=()):
     """What rt's function of this name returns: of each wrong body, whether it is refused, and what to say. `over` is a
     folder with the work of earlier checks of the crate, which is copied. As rt does, this tries those again from nothing
-    that weren't refused, and all of them if the crate itself isn't proved over the work that was kept."""
+    that weren't refused, unless they are known to be let through, and all of them if the crate itself isn't proved over
+    the work that was kept."""
     if not files:
         return []
     with tempfile.TemporaryDirectory(prefix="rt-edits-") as kept:
@@ -232,4 +233,7 @@ def must_fail_all(rt, crate, files, flags, over=None):
             shutil.copytree(over, kept, dirs_exist_ok=True)
         tried = Trying(rt, crate, flags).results(files, kept)
         is_sound = not rt.checked(crate, {}, flags, kept).returncode
-    return [it if is_sound and it[0] else rt.must_fail(crate, file, flags) for file, it in zip(files, tried)]
+    return [
+        it if is_sound and (it[0] or file in known) else rt.must_fail(crate, file, flags)
+        for file, it in zip(files, tried)
+    ]
