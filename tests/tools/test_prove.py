@@ -1,0 +1,86 @@
+#!/usr/bin/env python3
+"""Tests what tools/prove.py shows of what rt prints, and when it takes a crate as built."""
+import contextlib
+import io
+import pathlib
+import sys
+import tempfile
+import types
+import unittest
+
+sys.dont_write_bytecode = True
+sys.path.insert(0, str(pathlib.Path(__file__).resolve().parent.parent.parent / "tools"))
+
+from prove import Progress, is_built, remove_built  # noqa: E402
+
+
+def crate(folder, name, is_program=False):
+    """A crate whose sources have the stamp `now`."""
+    folder = pathlib.Path(folder, name)
+    (folder / "out").mkdir(parents=True)
+    rlib = str(folder / "out" / "rlib" / f"{name}.rlib")
+    return types.SimpleNamespace(
+        name=name, folder=str(folder), rlib=rlib, is_program=is_program, stamp=lambda: "now"
+    )
+
+
+def build(it):
+    """Leaves what rt leaves of a crate that it proved."""
+    made = pathlib.Path(it.folder, "out", it.name) if it.is_program else pathlib.Path(it.rlib, "format")
+    made.parent.mkdir(parents=True, exist_ok=True)
+    made.write_text("")
+
+
+class Proving(unittest.TestCase):
+    def setUp(self):
+        room = tempfile.TemporaryDirectory()
+        self.addCleanup(room.cleanup)
+        self.library, self.program = crate(room.name, "twp_grid"), crate(room.name, "twp_cmd", True)
+        for it in (self.library, self.program):
+            build(it)
+
+    def shown(self, *texts):
+        """What is shown, and what is said of failures, where rt prints these texts."""
+        out, failures = io.StringIO(), io.StringIO()
+        with contextlib.redirect_stdout(out):
+            progress = Progress([self.library, self.program])
+        with contextlib.redirect_stderr(failures):
+            for text in texts:
+                progress.write(text)
+        return out.getvalue(), failures.getvalue()
+
+    def test_a_crate_that_is_proved_is_counted_and_built(self):
+        shown, failures = self.shown("== twp_grid\nlogic=proved functions=79\nrt: twp_grid pro", "ved\n")
+        self.assertEqual((shown, failures), ("1 of 2 crates proved, 0 min so far\n", ""))
+        self.assertTrue(is_built(self.library))
+        self.assertFalse(is_built(self.program))
+
+    def test_so_is_one_that_is_kept(self):
+        shown, _ = self.shown("rt: twp_cmd is kept: an earlier run on this machine proved the same files\n")
+        self.assertEqual(shown, "1 of 2 crates proved, 0 min so far\n")
+        self.assertTrue(is_built(self.program))
+
+    def test_a_crate_that_is_not_proved_is_shown_whole_and_alone(self):
+        texts = "== twp_grid\nlogic=proved\nrt: twp_grid proved\n", "== twp_cmd\nan open goal\nrt: twp_cmd NOT PROVED\n"
+        shown, failures = self.shown(*texts)
+        self.assertEqual(shown, "1 of 2 crates proved, 0 min so far\n")
+        self.assertEqual(failures, "== twp_cmd\nan open goal\nrt: twp_cmd NOT PROVED\n")
+        self.assertFalse(is_built(self.program))
+
+    def test_what_other_sources_made_is_not_taken(self):
+        self.shown("rt: twp_grid proved\n")
+        self.library.stamp = lambda: "other"
+        self.assertFalse(is_built(self.library))
+
+    def test_what_was_built_is_removed_and_what_checks_kept_is_not(self):
+        kept = pathlib.Path(self.library.folder, "out", "incremental")
+        kept.mkdir()
+        self.shown("rt: twp_grid proved\n", "rt: twp_cmd proved\n")
+        for it in (self.library, self.program):
+            remove_built(it)
+        self.assertFalse(is_built(self.library) or is_built(self.program))
+        self.assertTrue(kept.is_dir())
+
+
+if __name__ == "__main__":
+    unittest.main()
