@@ -23,6 +23,7 @@ use twp_excerpt::Spot;
 use twp_explain::{
     Note, explain_description, explain_notes, explain_tracts, note_description, note_tracts,
 };
+use twp_perhaps::OnlyReading;
 
 /// What a text is called that has no name of its own.
 const UNNAMED: &str = "input";
@@ -87,7 +88,7 @@ pub fn township_explain_description_parts(
         Err(Stop::Failed(_)) => return TownshipAnswer::bare(NO_MEMORY),
         Err(Stop::Refused(refusal)) => TownshipAnswer::of_refusal(refusal),
     };
-    match explain_description(alloc, plat.township(), &file) {
+    match explain_description::<OnlyReading>(alloc, plat.township(), &file) {
         Ok(Some(explained)) => put_explained(alloc, refused, &explained, text, explanation),
         Ok(None) => TownshipAnswer::bare(NO_MEMORY),
         Err(_) => TownshipAnswer::bare(NO_MEMORY),
@@ -126,7 +127,7 @@ pub fn township_explain_list_parts(
         return TownshipAnswer::bare(NO_MEMORY);
     };
     let refused = TownshipAnswer::of_fault(fault);
-    match explain_tracts(alloc, &plat, &file) {
+    match explain_tracts::<OnlyReading>(alloc, &plat, &file) {
         Ok(Some(explained)) => put_explained(
             alloc,
             refused,

@@ -1,5 +1,5 @@
 -- In which file what is explained is shown, over plain values.
-use Rattle.std.proofs.Common.{ℕ, List, Option, Some, None, Result, Ok, Err}
+use Rattle.std.proofs.Common.{Option, Some, None, Result, Ok, Err}
 use Rattle.std.specs.Prelude.{IfOk, IfSome}
 use Rattle.twp_acres.specs.Answers.{MakePlat, IsNoPlat}
 use Rattle.twp_diagnose.specs.declared.given.Given.{Given}

@@ -1,8 +1,7 @@
 -- A note is of the first doubtful place of a text, or of the texts of a list.
-use Rattle.std.proofs.Common.{◌≡◌, ◌≤◌, ◌<◌, ◌+◌, ◌-◌, ℕ, List, length, Option, Some, None, Result, Ok, Err}
-use Rattle.std.proofs.Common.{IfOk, MatchOption, min, refl, sym, ap, ◌∙◌, subst, inl, inr, arith}
-use Rattle.std.specs.Prelude.{IfSome}
-use Rattle.twp_notes.specs.Records.{Fields, records_of}
+use Rattle.std.proofs.Common.{◌≡◌, ◌≤◌, ◌+◌, ℕ, List, length, Option, Some, None, Result, Ok, Err}
+use Rattle.std.proofs.Common.{IfOk, MatchOption, sym, ap, ◌∙◌, subst, inl, inr, arith}
+use Rattle.twp_notes.specs.Records.{records_of}
 use Rattle.twp_acres.proofs.TractLands.{earlier_or_last}
 use Rattle.twp_read.specs.Doubts.{AreDoubts, HasNoDoubtfulPlace}
 use Rattle.twp_read.specs.declared.doubt.DoubtfulPlace.{DoubtfulPlace}
@@ -14,7 +13,7 @@ use Rattle.twp_diagnose.specs.declared.given.Given.{Given}
 use Rattle.twp_diagnose.specs.declared.listed.Listed.{Listed}
 use Rattle.twp_diagnose.specs.declared.origin.Origin.{Origin}
 use Rattle.twp_excerpt.specs.declared.spot.Spot.{Spot}
-use Rattle.twp_explain.specs.ShownNotes.{AreClear, AreClearBefore, IsNoteOf, IsNoteOfList, IsOfFirst}
+use Rattle.twp_explain.specs.ShownNotes.{AreClear, AreClearBefore, IsNoteOf, IsNoteOfList}
 use Rattle.twp_explain.specs.ShownNotes.{IsOfFirstTract, IsSpotOfNote, description_of}
 use Rattle.twp_explain.specs.declared.note.Note.{Note}
 use Rattle.twp_explain.specs.declared.note.ListDoubts.{ListDoubts}

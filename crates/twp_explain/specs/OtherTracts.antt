@@ -1,5 +1,5 @@
 -- The other place that an explanation of a list names: the tract that had the name, or the land, before.
-use Rattle.std.specs.Prelude.{◌≡◌, ℕ, Bool, List, Option, None, IfSome, length, ◌<◌}
+use Rattle.std.specs.Prelude.{◌≡◌, ℕ, Bool, Option, None, IfSome, length, ◌<◌}
 use Rattle.twp_grid.specs.Townships.{Designation}
 use Rattle.twp_notes.specs.Records.{records_of}
 use Rattle.twp_acres.specs.Tracts.{name_in}

@@ -14,7 +14,7 @@ use std::alloc::{AllocError, Global};
 use twp_acres::Verdict;
 use twp_diagnose::{Explanation, Failure, Given, Origin};
 use twp_explain_notes::{stop_of_notes, stop_of_plat};
-use twp_explain_text::{stop_of_places, stop_of_text};
+use twp_explain_text::{Suggests, stop_of_places, stop_of_text};
 use twp_grid::{Bytes, Township};
 use twp_land::Lanes;
 use twp_notes::Notes;
@@ -45,7 +45,7 @@ pub fn explain_plat(
 
 /// The explanation of field notes and a description that a run refused. None where they don't have the
 /// verdict's fault.
-pub fn explain_land(
+pub fn explain_land<S: Suggests>(
     alloc: Global,
     notes: &Given<'_>,
     description: &Given<'_>,
@@ -66,7 +66,7 @@ pub fn explain_land(
         Err(stop) => return explain(alloc, notes, stop, verdict),
     };
     let origin = Origin::of_file(*description);
-    match describe(alloc, &origin, description.bytes, plat.township()) {
+    match describe::<S>(alloc, &origin, description.bytes, plat.township()) {
         Ok(()) => Ok(None),
         Err(stop) => explain(alloc, description, stop, verdict),
     }
@@ -114,9 +114,9 @@ pub(crate) fn plat_of(alloc: Global, file: &Given<'_>) -> Result<Plat, Failure>
 }
 
 /// Goes through a text that describes land of a township, or gives what is wrong with it.
-#[tactic(auto, using(crate::proofs::FindingFacts::text_refused, crate::proofs::FindingFacts::items_refused, crate::proofs::FindingFacts::text_shows, crate::proofs::FindingFacts::items_show))]
+#[tactic(auto, using(crate::proofs::FindingFacts::text_refused, crate::proofs::FindingFacts::items_refused))]
 #[inline(never)]
-pub(crate) fn describe(
+pub(crate) fn describe<S: Suggests>(
     alloc: Global,
     origin: &Origin<'_>,
     bytes: &[u8],
@@ -128,7 +128,7 @@ pub(crate) fn describe(
 {
     let description = match Description::read(alloc, bytes) {
         Ok(description) => description,
-        Err(fault) => return Err(stop_of_text(alloc, origin, bytes, fault)),
+        Err(fault) => return Err(stop_of_text::<S>(alloc, origin, bytes, fault)),
     };
     match resolve::<Lanes>(&description, township) {
         Ok(_) => Ok(()),

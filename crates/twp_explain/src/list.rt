@@ -10,13 +10,14 @@ use crate::tracts;
 use std::alloc::{AllocError, Global};
 use twp_acres::{TRACTS_LIMIT, TractFault, Verdict, account_of_tracts};
 use twp_diagnose::{Explanation, Given};
+use twp_explain_text::Suggests;
 use twp_grid::{Refusal, Township};
 use twp_plat::Plat;
 
 /// The explanation of field notes and a list of tracts that a run refused. None where they don't have
 /// the verdict's fault.
 #[tactic(auto, using(crate::proofs::ListFacts::same_refusal, crate::proofs::ListFacts::told_of_notes, crate::proofs::ListFacts::told_of_list))]
-pub fn explain_list(
+pub fn explain_list<S: Suggests>(
     alloc: Global,
     notes: &Given<'_>,
     tracts: &Given<'_>,
@@ -38,7 +39,7 @@ pub fn explain_list(
     let Some(refusal) = refusal_by(fault, verdict) else {
         return Ok(None);
     };
-    let explanation = explain_fault(alloc, tracts, plat.township(), fault, refusal)?;
+    let explanation = explain_fault::<S>(alloc, tracts, plat.township(), fault, refusal)?;
     Ok(Some(explanation))
 }
 
@@ -55,7 +56,7 @@ fn refusal_by(fault: TractFault, verdict: Verdict) -> Option<Refusal>
 
 /// The message of a list's fault.
 #[inline(never)]
-pub(crate) fn explain_fault(
+pub(crate) fn explain_fault<S: Suggests>(
     alloc: Global,
     tracts: &Given<'_>,
     township: Township,
@@ -65,7 +66,7 @@ pub(crate) fn explain_fault(
     ensures refusal { IfOk result (λ explanation. explanation.refusal ≡ refusal) }
     ensures shows { IfOk result (ShowsIn tracts.now) }
 {
-    let finding = tracts::find(alloc, tracts, township, fault, refusal)?;
+    let finding = tracts::find::<S>(alloc, tracts, township, fault, refusal)?;
     finding.explain(alloc, tracts)
 }
 

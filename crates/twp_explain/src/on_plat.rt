@@ -14,6 +14,7 @@ use crate::list::{explain_fault, fault_of};
 use std::alloc::{AllocError, Global};
 use twp_acres::TractFault;
 use twp_diagnose::{Explanation, Failure, Given, Origin};
+use twp_explain_text::Suggests;
 use twp_grid::Township;
 use twp_plat::Plat;
 
@@ -31,7 +32,7 @@ pub fn explain_notes(alloc: Global, notes: &Given<'_>) -> Result<Option<Explanat
 }
 
 /// The explanation of the bytes of a description that describe no land on the plat of a township.
-pub fn explain_description(
+pub fn explain_description<S: Suggests>(
     alloc: Global,
     township: Township,
     description: &Given<'_>,
@@ -45,7 +46,7 @@ pub fn explain_description(
     ensures place { IfOk result (λ explained. IfSome explained (ShowsLandIn township description.now)) }
 {
     let origin = Origin::of_file(*description);
-    match describe(alloc, &origin, description.bytes, township) {
+    match describe::<S>(alloc, &origin, description.bytes, township) {
         Ok(()) => Ok(None),
         Err(stop) => Ok(Some(explain_stop(alloc, description, stop)?)),
     }
@@ -61,7 +62,7 @@ pub struct ToldFault {
 }
 
 /// The explanation of a list of tracts that has no account on a plat.
-pub fn explain_tracts(
+pub fn explain_tracts<S: Suggests>(
     alloc: Global,
     plat: &Plat,
     tracts: &Given<'_>,
@@ -79,7 +80,7 @@ pub fn explain_tracts(
     let Some(refusal) = fault.refusal() else {
         return Err(AllocError);
     };
-    let explanation = explain_fault(alloc, tracts, plat.township(), fault, refusal)?;
+    let explanation = explain_fault::<S>(alloc, tracts, plat.township(), fault, refusal)?;
     Ok(Some(ToldFault { fault, explanation }))
 }
 

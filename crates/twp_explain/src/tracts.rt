@@ -22,7 +22,7 @@ use std::alloc::{AllocError, Global};
 use twp_acres::TractFault;
 use twp_diagnose::{Failure, Finding, Given, Listed, Location, Origin, OtherPlace, text_in};
 use twp_excerpt::write_escaped;
-use twp_explain_text::write_land;
+use twp_explain_text::{Suggests, write_land};
 use twp_grid::{Refusal, Township};
 use twp_land::{Land, Lanes};
 use twp_notes::Records;
@@ -30,7 +30,7 @@ use twp_spell::spell;
 
 /// The explanation of a list of tracts that has a fault, on the plat of a township.
 #[inline(never)]
-pub(crate) fn find(
+pub(crate) fn find<S: Suggests>(
     alloc: Global,
     tracts: &Given<'_>,
     township: Township,
@@ -54,12 +54,12 @@ pub(crate) fn find(
         other: None,
         corrected: None,
     };
-    explain(alloc, &listed, township, fault, &mut finding)?;
+    explain::<S>(alloc, &listed, township, fault, &mut finding)?;
     Ok(finding)
 }
 
 /// Tells of the fault of a record, which is shown as a line where nothing else is said.
-fn explain(
+fn explain<S: Suggests>(
     alloc: Global,
     listed: &Listed<'_>,
     township: Township,
@@ -77,7 +77,7 @@ fn explain(
     match fault {
         TractFault::TractRow(_) => rows::explain(alloc, listed, finding),
         TractFault::NameRepeated(_) => explain_name(alloc, listed, finding),
-        TractFault::TractRefused { .. } => explain_tract(alloc, listed, township, finding),
+        TractFault::TractRefused { .. } => explain_tract::<S>(alloc, listed, township, finding),
         TractFault::TractsOverlap(_) => explain_overlap(alloc, listed, township, finding),
         _ => explain_many(listed, finding),
     }
@@ -187,7 +187,7 @@ fn are_same(first: &[u8], second: &[u8]) -> bool
 
 /// Tells of a tract whose description is refused.
 #[inline(never)]
-fn explain_tract(
+fn explain_tract<S: Suggests>(
     alloc: Global,
     listed: &Listed<'_>,
     township: Township,
@@ -198,7 +198,7 @@ fn explain_tract(
         → OnOk result (ShowsTract township listed.now finding.new.place finding.new.other) }
 {
     write_tract(listed, &mut finding.sentence)?;
-    let inner = match describe_tract(alloc, listed, township) {
+    let inner = match describe_tract::<S>(alloc, listed, township) {
         Err(Failure::Found(inner)) => inner,
         Err(Failure::Memory) => return Err(AllocError),
         Ok(()) => return finding.sentence.push_str(" has an invalid description"),
@@ -232,12 +232,16 @@ fn is_quoted(inner: &Finding, listed: &Listed<'_>) -> bool {
 }
 
 /// Goes through the description of a tract, or gives what is wrong with it.
-fn describe_tract(alloc: Global, listed: &Listed<'_>, township: Township) -> Result<(), Failure>
+fn describe_tract<S: Suggests>(
+    alloc: Global,
+    listed: &Listed<'_>,
+    township: Township,
+) -> Result<(), Failure>
     ensures land { IfOk result (λ _. DescribeLand township (description_listed listed.now)) }
     ensures shown { IfErr result (λ stop. IfFinds stop (IsRefusedTract township listed.now)) }
 {
     let origin = Origin::of_field(listed.file, listed.span(1).start);
-    describe(alloc, &origin, listed.field(1), township)
+    describe::<S>(alloc, &origin, listed.field(1), township)
 }
 
 /// Tells of a tract that shares land with an earlier one.

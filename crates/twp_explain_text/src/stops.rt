@@ -8,6 +8,7 @@ ghost use Rattle.twp_explain_text.specs.OtherPlaces.{IsOtherPlace};
 ghost use Rattle.twp_explain_text.specs.ShownPlaces.{IfShown};
 ghost use Rattle.twp_explain_text.specs.Underlined.{EndsWithFault, EndsWithSign};
 
+use crate::suggests::Suggests;
 use crate::{places, text};
 use std::alloc::Global;
 use twp_diagnose::{Failure, Origin};
@@ -18,7 +19,12 @@ use twp_resolve::PlaceFault;
 /// What is wrong with a text that isn't read.
 #[tactic(auto, using(twp_diagnose::proofs::FindingFacts::of_fault, twp_diagnose::proofs::FindingFacts::of_found, crate::proofs::ShownFacts::text_shown))]
 #[inline(never)]
-pub fn stop_of_text(alloc: Global, origin: &Origin<'_>, bytes: &[u8], fault: TextFault) -> Failure
+pub fn stop_of_text<S: Suggests>(
+    alloc: Global,
+    origin: &Origin<'_>,
+    bytes: &[u8],
+    fault: TextFault,
+) -> Failure
     ensures refusal { IfFound result (λ refusal. refusal_of_text fault ≡ Some refusal) }
     ensures shown { IfShown origin.now bytes.now result }
     ensures ends { fault ≢ TooLarge → IfFinds result (λ finding.
@@ -28,7 +34,10 @@ pub fn stop_of_text(alloc: Global, origin: &Origin<'_>, bytes: &[u8], fault: Tex
     let Some(refusal) = fault.refusal() else {
         return Failure::Memory;
     };
-    Failure::of(refusal, text::find(alloc, origin, bytes, fault, refusal))
+    Failure::of(
+        refusal,
+        text::find::<S>(alloc, origin, bytes, fault, refusal),
+    )
 }
 
 /// What is wrong with a description that names no land on the plat of the township.

@@ -6,10 +6,9 @@ ghost use Rattle.twp_explain_text.specs.ShownPlaces.{ShowsAt};
 ghost use Rattle.twp_explain_text.specs.Underlined.{EndsAt, EndsWithSign};
 
 mod character;
-mod perhaps;
 
+use crate::suggests::Suggests;
 use crate::text::character::write_not_allowed;
-use crate::text::perhaps::write_perhaps;
 use std::alloc::{AllocError, Global};
 use twp_diagnose::{Finding, Location, Origin, Surroundings};
 use twp_excerpt::{Span, write_escaped};
@@ -22,7 +21,7 @@ use twp_repairs::advice_on;
 const QUOTED_LIMIT: usize = 20;
 
 /// The explanation of a text, which is the whole of its file or a field of it, that has a fault.
-pub(crate) fn find(
+pub(crate) fn find<S: Suggests>(
     alloc: Global,
     origin: &Origin<'_>,
     text: &[u8],
@@ -43,7 +42,7 @@ pub(crate) fn find(
     let advice = advice_on(alloc, text, refusal, expected)?;
     let mut help = advice.text;
     if advice.corrected.is_none() {
-        write_perhaps(alloc, text, &mut help)?;
+        S::suggest(alloc, text, &mut help)?;
     }
     Ok(Finding {
         refusal,

@@ -17,6 +17,7 @@ use std::alloc::Global;
 use twp_acres::{Account, Verdict};
 use twp_diagnose::{Explanation, Given};
 use twp_explain::{Note, explain_land, explain_list, explain_plat, note_land, note_list};
+use twp_perhaps::OnlyReading;
 use twp_read::Clarity;
 
 /// The name of standard input in messages.
@@ -154,7 +155,7 @@ fn of_land<N, D>(
         (ShowsEither (IsFile notes.now.name (copy_of notes.now.source))
         (IsFile description.now.name (copy_of description.now.source))) }
 {
-    explain_land(alloc, &notes.given()?, &description.given()?, verdict).ok()?
+    explain_land::<OnlyReading>(alloc, &notes.given()?, &description.given()?, verdict).ok()?
 }
 
 /// The explanation for field notes and a list of tracts.
@@ -170,7 +171,7 @@ fn of_list<N, T>(
         (ShowsEither (IsFile notes.now.name (copy_of notes.now.source))
         (IsFile tracts.now.name (copy_of tracts.now.source))) }
 {
-    explain_list(alloc, &notes.given()?, &tracts.given()?, verdict).ok()?
+    explain_list::<OnlyReading>(alloc, &notes.given()?, &tracts.given()?, verdict).ok()?
 }
 
 /// The explanation for joined input.
@@ -180,7 +181,7 @@ fn of_joined<S>(alloc: Global, input: &Kept<S>, verdict: Verdict) -> Option<Expl
         (IsJoinedDescription (copy_of input.now))) }
 {
     let JoinedTexts { description, notes } = joined_texts(input)?;
-    explain_land(alloc, &notes, &description, verdict).ok()?
+    explain_land::<OnlyReading>(alloc, &notes, &description, verdict).ok()?
 }
 
 /// The texts of joined input.

@@ -1,5 +1,5 @@
 -- One more record was searched, or all were.
-use Rattle.std.proofs.Common.{◌≡◌, ◌+◌, ◌-◌, drop, sym, ap, ◌∙◌, arith}
+use Rattle.std.proofs.Common.{◌-◌, drop, sym, ap, ◌∙◌, arith}
 use Rattle.twp_notes.specs.Records.{records_of}
 use Rattle.twp_notes.proofs.Taking.{next_record_is, no_record_left}
 use Rattle.twp_acres.specs.Tracts.{description_in}

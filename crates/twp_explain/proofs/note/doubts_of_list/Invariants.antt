@@ -1,4 +1,4 @@
-use Rattle.std.proofs.Common.{◌≡◌, ◌≤◌, ◌-◌, drop, length}
+use Rattle.std.proofs.Common.{◌≡◌, ◌-◌, drop}
 use Rattle.twp_notes.specs.Records.{records_left, records_of, IsReading}
 use Rattle.twp_explain.specs.steps.ListDoubts.{AreFoundBefore}
 use Rattle.twp_explain.proofs.note.doubts_of_list.Given as goal

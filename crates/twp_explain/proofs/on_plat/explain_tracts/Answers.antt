@@ -4,10 +4,10 @@ use Rattle.twp_acres.specs.TractFaults.{IsFirstTractFault}
 use Rattle.twp_explain.proofs.on_plat.explain_tracts.Goals as goal
 
 pub returns-in_default-clause-none : goal.returns-in_default-clause-none
-returns-in_default-clause-none c = λ none. c.in_ok-fault.ensures.none c.in_default.is
+returns-in_default-clause-none g c = λ none. c.in_ok-fault.ensures.none c.in_default.is
 
 pub returns-clause-first : goal.returns-clause-first
-returns-clause-first c =
+returns-clause-first g c =
     subst
     (λ found. IfSome found (IsFirstTractFault c.args.plat.now.township c.args.tracts.now.bytes.now))
     c.in-Some.is c.in_ok-fault.ensures.first

@@ -6,7 +6,7 @@ use Rattle.twp_explain.proofs.TractFacts.{refused_tract}
 use Rattle.twp_explain.proofs.tracts.describe_tract.Goals as goal
 
 pub returns-clause-shown : goal.returns-clause-shown
-returns-clause-shown c =
+returns-clause-shown g c =
     refused_tract c.describe.result c.of_field-origin.result c.args.township c.args.listed.now
     c.field.result.now
     (record {

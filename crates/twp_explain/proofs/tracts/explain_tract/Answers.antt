@@ -5,7 +5,7 @@ use Rattle.twp_explain.proofs.TractFacts.{holds_on_ok}
 use Rattle.twp_explain.proofs.tracts.explain_tract.Goals as goal
 
 pub returns-then-is_quoted-clause-shows : goal.returns-then-is_quoted-clause-shows
-returns-then-is_quoted-clause-shows c = λ line none. holds_on_ok c.push_str-then-is_quoted.result
+returns-then-is_quoted-clause-shows g c = λ line none. holds_on_ok c.push_str-then-is_quoted.result
     (refused (record {
       finding = c.in-Err-Found.inner;
       is = rw c.in-Err-Found.field-0-is at c.in-Err-Found.ensures.shown;
@@ -14,7 +14,7 @@ returns-then-is_quoted-clause-shows c = λ line none. holds_on_ok c.push_str-the
     }))
 
 pub returns-clause-shows : goal.returns-clause-shows
-returns-clause-shows c = λ line none. holds_on_ok c.push_str-4.result
+returns-clause-shows g c = λ line none. holds_on_ok c.push_str-4.result
     (refused (record {
       finding = c.in-Err-Found.inner;
       is = rw c.in-Err-Found.field-0-is at c.in-Err-Found.ensures.shown;

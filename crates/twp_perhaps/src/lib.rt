@@ -1,20 +1,27 @@
-//! The reading of a refused text that has only one.
+//! What explanations suggest for a text that is not read: its reading, if it has only one.
+#![tactic(auto)]
 
 use std::alloc::{AllocError, Global};
 use twp_excerpt::{columns_of, write_escaped};
+use twp_explain_text::Suggests;
 use twp_repairs::{ADVICE_ROOM, TEXT_WIDTH};
 use twp_suggest::{Reading, Rule, readings_of};
 
 /// The most bytes of a text whose reading is shown: that of a longer one hardly fits on a line.
 const SHORT: usize = 1_000;
 
+/// Suggests the reading of a text that has only one.
+pub struct OnlyReading;
+
+impl Suggests for OnlyReading {
+    fn suggest(alloc: Global, text: &[u8], advice: &mut String) -> Result<(), AllocError> {
+        write_perhaps(alloc, text, advice)
+    }
+}
+
 /// Appends the reading of a text to the advice on it, on a line of its own, with what it assumes before it. Appends
 /// nothing if the text is long, if it has no reading or several, or if there is no room.
-pub(crate) fn write_perhaps(
-    alloc: Global,
-    text: &[u8],
-    advice: &mut String,
-) -> Result<(), AllocError> {
+fn write_perhaps(alloc: Global, text: &[u8], advice: &mut String) -> Result<(), AllocError> {
     if text.len() > SHORT {
         return Ok(());
     }
