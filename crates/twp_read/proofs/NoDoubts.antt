@@ -1,26 +1,25 @@
 -- Tokens that cloud no text have no doubtful place.
-use Rattle.std.proofs.Common.{◌≡◌, ℕ, ◌&&◌, ◌||◌, not, Bool, true, false, List, [], ◌∷◌, Option, Some, None}
-use Rattle.std.proofs.Common.{refl, sym, ap, subst, ◌∙◌, ltb, if◌then◌else◌}
+use Rattle.std.proofs.Common.{◌≡◌, ℕ, ◌&&◌, ◌||◌, Bool, true, false, List, [], ◌∷◌, Option, Some, None}
+use Rattle.std.proofs.Common.{refl, ap, ◌∙◌, ltb, if◌then◌else◌}
 use Rattle.twp_grammar.specs.declared.kind.Kind.{Kind}
-use Rattle.twp_grammar.specs.declared.kind.Kind.TheVariants.{Sec, Lot, And, To, Of, T, R, NorthSouth}
-use Rattle.twp_grammar.specs.declared.kind.Kind.TheVariants.{EastWest}
+use Rattle.twp_grammar.specs.declared.kind.Kind.TheVariants.{Sec, Lot, And, Of, The, T, R}
+use Rattle.twp_grammar.specs.declared.kind.Kind.TheVariants.{NorthSouth, EastWest}
 use Rattle.twp_grammar.specs.declared.kind.Kind.TheVariants.{Corner, Half, Quarter, Number, Comma, Colon}
 use Rattle.twp_grammar.specs.declared.kind.Kind.TheVariants.{Stop}
 use Rattle.twp_grammar.specs.declared.state.State.{State}
 use Rattle.twp_grammar.specs.declared.state.State.TheVariants as past
 use Rattle.twp_grammar.specs.Tokens.{Token}
-use Rattle.twp_grammar.specs.Grammar.{class_of, sec, lot, t, r, half, quarter}
+use Rattle.twp_grammar.specs.Grammar.{class_of, t, r, half, quarter}
 use Rattle.twp_grammar.specs.Machine.{next}
 use Rattle.twp_read.specs.declared.watch.ListWord.{ListWord}
-use Rattle.twp_read.specs.declared.watch.ListWord.TheVariants as word
 use Rattle.twp_read.specs.declared.doubt.DoubtfulPlace.{DoubtfulPlace}
 use Rattle.twp_read.specs.Doubts.{end_of, begins_step, is_of_step, is_number, is_and, is_of, joined_at}
 use Rattle.twp_read.specs.Doubts.{after_steps, begin_with_of, begin_with_part_of, joins_part, shared_at}
-use Rattle.twp_read.specs.Doubts.{is_singular, begin_with_number, begin_with_and_number, joins_number}
-use Rattle.twp_read.specs.Doubts.{begin_several, are_several_after, are_several, several_at, is_padded}
+use Rattle.twp_read.specs.Doubts.{is_of_part, after_part, adds_part, spread_at, first_place, part_at}
+use Rattle.twp_read.specs.Doubts.{begin_with_lone_part}
+use Rattle.twp_read.specs.Doubts.{is_padded}
 use Rattle.twp_read.specs.Doubts.{padded_number, padded_after, padded_at, doubt_after, with_place, doubts}
-use Rattle.twp_read.specs.steps.Watching.{begins_list, clouds, word_after, Unclouded, is_heading}
-use Rattle.twp_read.specs.steps.Watching.{is_lot_join}
+use Rattle.twp_read.specs.steps.Watching.{clouds, word_after, Unclouded, is_heading}
 use Rattle.twp_read.proofs.NoSeveral.{none_if_false, none_of_word, no_sections, no_lots}
 
 -- no token is `of`
@@ -112,21 +111,23 @@ none_of_range ands it end (token ∷ more) u = by_kind token.kind u.1
     by_kind Stop v = none_padded ands _ (end_of token) past.RangeStop more refl v
     by_kind _ v = none_padded ands it end past.Range (token ∷ more) refl u
 
--- SHARED
-abbrev in_steps : State → Bool
-in_steps past.Side = true
-in_steps past.Corner = true
-in_steps past.Step = true
-in_steps past.TownshipSide = true
-in_steps past.RangeSide = true
-in_steps _ = false
+-- SHARED and SPREAD
+abbrev in_part : State → Bool
+in_part past.Side = true
+in_part past.Corner = true
+in_part past.Step = true
+in_part past.Of = true
+in_part past.OfThe = true
+in_part past.TownshipSide = true
+in_part past.RangeSide = true
+in_part _ = false
 
-abbrev in_steps_at : Option State → Bool
-in_steps_at None = true
-in_steps_at (Some state) = in_steps state
+abbrev in_part_at : Option State → Bool
+in_part_at None = true
+in_part_at (Some state) = in_part state
 
 letters_lead : (state : State) (kind : Kind) → begins_step kind ≡ true
-    → in_steps_at (next state (class_of kind)) ≡ true
+    → in_part_at (next state (class_of kind)) ≡ true
 letters_lead past.Start (NorthSouth which) h = refl
 letters_lead _ (NorthSouth which) h = refl
 letters_lead _ (EastWest which) h = refl
@@ -134,7 +135,7 @@ letters_lead _ (Corner which) h = refl
 letters_lead state _ h = cc h
 
 steps_lead : (state : State) (kind : Kind) → is_of_step kind ≡ true
-    → in_steps_at (next state (class_of kind)) ≡ true
+    → in_part_at (next state (class_of kind)) ≡ true
 steps_lead past.Start Half h = refl
 steps_lead _ Half h = refl
 steps_lead _ Quarter h = refl
@@ -143,19 +144,29 @@ steps_lead _ (EastWest which) h = refl
 steps_lead _ (Corner which) h = refl
 steps_lead state _ h = cc h
 
-no_and : (it word_more : ListWord) (end : ℕ) (state : State) (token : Token) (more : List Token) (kind : Kind)
-    → in_steps state ≡ true → clouds false it state end token kind ≡ false
-    → Unclouded false word_more (end_of token) (next state (class_of kind)) more
-    → (is_and kind && begin_with_part_of more) ≡ false
-no_and it word_more end past.Step token more And h c u = cc c
-no_and it word_more end past.Side token more And h c u = absurd u
-no_and it word_more end past.Corner token more And h c u = absurd u
-no_and it word_more end past.TownshipSide token more And h c u = absurd u
-no_and it word_more end past.RangeSide token more And h c u = absurd u
-no_and it word_more end _ token more And h c u = cc h
-no_and it word_more end _ token more _ h c u = refl
+part_leads : (state : State) (kind : Kind) → is_of_part kind ≡ true
+    → in_part_at (next state (class_of kind)) ≡ true
+part_leads past.Start Of h = refl
+part_leads _ Of h = refl
+part_leads _ The h = refl
+part_leads state kind h = steps_lead state kind h
 
-no_join : (it : ListWord) (end : ℕ) (o : Option State) (tokens : List Token) → in_steps_at o ≡ true
+no_and : (it word_more : ListWord) (end : ℕ) (state : State) (token : Token) (more : List Token) (kind : Kind)
+    (follows : Bool)
+    → in_part state ≡ true → clouds false it state end token kind ≡ false
+    → Unclouded false word_more (end_of token) (next state (class_of kind)) more
+    → (is_and kind && follows) ≡ false
+no_and it word_more end past.Step token more And follows h c u = cc c
+no_and it word_more end past.Side token more And follows h c u = absurd u
+no_and it word_more end past.Corner token more And follows h c u = absurd u
+no_and it word_more end past.Of token more And follows h c u = absurd u
+no_and it word_more end past.OfThe token more And follows h c u = absurd u
+no_and it word_more end past.TownshipSide token more And follows h c u = absurd u
+no_and it word_more end past.RangeSide token more And follows h c u = absurd u
+no_and it word_more end _ token more And follows h c u = cc h
+no_and it word_more end _ token more _ follows h c u = refl
+
+no_join : (it : ListWord) (end : ℕ) (o : Option State) (tokens : List Token) → in_part_at o ≡ true
     → Unclouded false it end o tokens → joins_part (after_steps tokens) ≡ false
 no_join it end None tokens h u = absurd u
 no_join it end (Some state) [] h u = refl
@@ -166,12 +177,30 @@ no_join it end (Some state) (token ∷ more) h u =
     (next state (class_of token.kind)) more lead u.1)
   where
     by_step : (b : Bool) → is_of_step token.kind ≡ b
-        → (in_steps_at (next state (class_of token.kind)) ≡ true → joins_part (after_steps more) ≡ false)
+        → (in_part_at (next state (class_of token.kind)) ≡ true → joins_part (after_steps more) ≡ false)
         → joins_part (if b then after_steps more else token ∷ more) ≡ false
     by_step true is go_on = go_on (steps_lead state token.kind is)
     by_step false is go_on =
         no_and it (word_after token.kind token.text (next state (class_of token.kind)) it) end state token
-        more token.kind h u.0 u.1
+        more token.kind (begin_with_part_of more) h u.0 u.1
+
+no_added : (it : ListWord) (end : ℕ) (o : Option State) (tokens : List Token) → in_part_at o ≡ true
+    → Unclouded false it end o tokens → adds_part (after_part tokens) ≡ false
+no_added it end None tokens h u = absurd u
+no_added it end (Some state) [] h u = refl
+no_added it end (Some state) (token ∷ more) h u =
+    by_part (is_of_part token.kind) refl
+    (λ lead.
+    no_added (word_after token.kind token.text (next state (class_of token.kind)) it) (end_of token)
+    (next state (class_of token.kind)) more lead u.1)
+  where
+    by_part : (b : Bool) → is_of_part token.kind ≡ b
+        → (in_part_at (next state (class_of token.kind)) ≡ true → adds_part (after_part more) ≡ false)
+        → adds_part (if b then after_part more else token ∷ more) ≡ false
+    by_part true is go_on = go_on (part_leads state token.kind is)
+    by_part false is go_on =
+        no_and it (word_after token.kind token.text (next state (class_of token.kind)) it) end state token
+        more token.kind (begin_with_lone_part more) h u.0 u.1
 
 -- without `of`
 no_of_after : (tokens : List Token) → NoOf tokens → NoOf (after_steps tokens)
@@ -219,6 +248,37 @@ none_shared false it end (Some state) (letters ∷ more) u none =
         no_join (word_after letters.kind letters.text (next state (class_of letters.kind)) it)
         (end_of letters) (next state (class_of letters.kind)) more (letters_lead state letters.kind is) u.1
 
+false_and : (b c : Bool) → b ≡ false → (b && c) ≡ false
+false_and true c h = cc h
+false_and false c h = refl
+
+none_spread : (ands : Bool) (it : ListWord) (end : ℕ) (o : Option State) (tokens : List Token)
+    → Unclouded ands it end o tokens → (ands ≡ true → NoOf tokens) → spread_at tokens ≡ None
+none_spread ands it end None tokens u none = absurd u
+none_spread ands it end (Some state) [] u none = refl
+none_spread true it end (Some state) (letters ∷ more) u none =
+    none_if_false (begin_with_part_of (letters ∷ more) && adds_part (after_part more)) _
+    (false_and (begin_with_part_of (letters ∷ more)) (adds_part (after_part more))
+    (no_part_of (letters ∷ more) (none refl)))
+none_spread false it end (Some state) (letters ∷ more) u none =
+    none_if_false (begin_with_part_of (letters ∷ more) && adds_part (after_part more)) _
+    (by_letters (begins_step letters.kind) refl)
+  where
+    by_letters : (b : Bool) → begins_step letters.kind ≡ b
+        → ((b && begin_with_of (after_steps more)) && adds_part (after_part more)) ≡ false
+    by_letters false is = refl
+    by_letters true is =
+        and_false (begin_with_of (after_steps more)) (adds_part (after_part more))
+        (no_added (word_after letters.kind letters.text (next state (class_of letters.kind)) it)
+        (end_of letters) (next state (class_of letters.kind)) more (letters_lead state letters.kind is) u.1)
+
+none_of_part : (ands : Bool) (it : ListWord) (end : ℕ) (o : Option State) (tokens : List Token)
+    → Unclouded ands it end o tokens → (ands ≡ true → NoOf tokens) → part_at tokens ≡ None
+none_of_part ands it end o tokens u none =
+    ap (λ (first : Option DoubtfulPlace). first_place first (spread_at tokens))
+    (none_shared ands it end o tokens u none)
+    ∙ none_spread ands it end o tokens u none
+
 -- all of them
 none_after : (ands : Bool) (it : ListWord) (state : State) (token : Token) (tokens : List Token)
     (kind : Kind)
@@ -238,13 +298,13 @@ none_after ands it state token tokens T u none =
 none_after ands it state token tokens R u none =
     none_of_range ands _ (end_of token) tokens (after_r ands _ (end_of token) state tokens u)
 none_after ands it state token tokens (Number value) u none =
-    none_shared ands _ (end_of token) (next state (class_of (Number value))) tokens u none
+    none_of_part ands _ (end_of token) (next state (class_of (Number value))) tokens u none
 none_after ands it state token tokens Comma u none =
-    none_shared ands _ (end_of token) (next state (class_of Comma)) tokens u none
+    none_of_part ands _ (end_of token) (next state (class_of Comma)) tokens u none
 none_after ands it state token tokens Colon u none =
-    none_shared ands _ (end_of token) (next state (class_of Colon)) tokens u none
+    none_of_part ands _ (end_of token) (next state (class_of Colon)) tokens u none
 none_after ands it state token tokens And u none =
-    none_shared ands _ (end_of token) (next state (class_of And)) tokens u none
+    none_of_part ands _ (end_of token) (next state (class_of And)) tokens u none
 none_after ands it state token tokens _ u none = refl
 
 pub no_doubts : (ands : Bool) (it : ListWord) (end : ℕ) (o : Option State) (tokens : List Token)

@@ -1,25 +1,22 @@
 -- A word in the singular and several numbers cloud a text.
-use Rattle.std.proofs.Common.{◌≡◌, ℕ, ◌&&◌, ◌||◌, not, Bool, true, false, List, [], ◌∷◌, Option, Some, None}
-use Rattle.std.proofs.Common.{refl, sym, ap, subst, ◌∙◌, ltb, if◌then◌else◌}
+use Rattle.std.proofs.Common.{◌≡◌, ℕ, ◌&&◌, ◌||◌, Bool, true, false, List, [], ◌∷◌, Option, Some, None}
+use Rattle.std.proofs.Common.{refl, if◌then◌else◌}
 use Rattle.twp_grammar.specs.declared.kind.Kind.{Kind}
-use Rattle.twp_grammar.specs.declared.kind.Kind.TheVariants.{Sec, Lot, And, To, Of, T, R, NorthSouth}
-use Rattle.twp_grammar.specs.declared.kind.Kind.TheVariants.{EastWest}
-use Rattle.twp_grammar.specs.declared.kind.Kind.TheVariants.{Corner, Half, Quarter, Number, Comma, Colon}
+use Rattle.twp_grammar.specs.declared.kind.Kind.TheVariants.{Sec, Lot, And, To}
+use Rattle.twp_grammar.specs.declared.kind.Kind.TheVariants.{Number, Comma}
 use Rattle.twp_grammar.specs.declared.kind.Kind.TheVariants.{Stop}
 use Rattle.twp_grammar.specs.declared.state.State.{State}
 use Rattle.twp_grammar.specs.declared.state.State.TheVariants as past
 use Rattle.twp_grammar.specs.Tokens.{Token}
-use Rattle.twp_grammar.specs.Grammar.{class_of, sec, lot, t, r, half, quarter}
+use Rattle.twp_grammar.specs.Grammar.{class_of, sec, lot}
 use Rattle.twp_grammar.specs.Machine.{next}
 use Rattle.twp_read.specs.declared.watch.ListWord.{ListWord}
 use Rattle.twp_read.specs.declared.watch.ListWord.TheVariants as word
 use Rattle.twp_read.specs.declared.doubt.DoubtfulPlace.{DoubtfulPlace}
-use Rattle.twp_read.specs.Doubts.{end_of, begins_step, is_of_step, is_number, is_and, is_of, joined_at}
-use Rattle.twp_read.specs.Doubts.{after_steps, begin_with_of, begin_with_part_of, joins_part, shared_at}
+use Rattle.twp_read.specs.Doubts.{end_of, is_number, is_and}
 use Rattle.twp_read.specs.Doubts.{is_singular, begin_with_number, begin_with_and_number, joins_number}
-use Rattle.twp_read.specs.Doubts.{begin_several, are_several_after, are_several, several_at, is_padded}
-use Rattle.twp_read.specs.Doubts.{padded_number, padded_after, padded_at, doubt_after, with_place, doubts}
-use Rattle.twp_read.specs.steps.Watching.{begins_list, clouds, word_after, Unclouded, is_heading}
+use Rattle.twp_read.specs.Doubts.{begin_several, are_several_after, are_several, several_at}
+use Rattle.twp_read.specs.steps.Watching.{clouds, word_after, Unclouded}
 use Rattle.twp_read.specs.steps.Watching.{is_lot_join}
 
 pub none_if_false : (b : Bool) (some : DoubtfulPlace) → b ≡ false

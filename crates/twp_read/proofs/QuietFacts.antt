@@ -1,5 +1,5 @@
 -- What a quiet token leaves as it was.
-use Rattle.std.proofs.Common.{◌≡◌, ℕ, ◌&&◌, ◌||◌, not, Bool, true, false, Some, refl, sym, ap, subst}
+use Rattle.std.proofs.Common.{◌≡◌, ℕ, ◌&&◌, ◌||◌, not, Bool, true, false, Some, refl, sym}
 use Rattle.std.proofs.Common.{if◌then◌else◌}
 use Rattle.twp_grammar.specs.declared.kind.Kind.{Kind}
 use Rattle.twp_grammar.specs.declared.kind.Kind.TheVariants.{Sec, Lot, And, To, NorthSouth, EastWest, Corner}

@@ -10,7 +10,7 @@ use Rattle.twp_grammar.specs.declared.state.State.{State}
 use Rattle.twp_grammar.specs.declared.state.State.TheVariants.{Start}
 use Rattle.twp_grammar.specs.Tokens.{Token, StartsWith, HasTokens, is_white}
 use Rattle.twp_grammar.specs.Grammar.{Class, class_of, bad_byte, bad_number}
-use Rattle.twp_grammar.specs.Items.{after, BeginWithSections}
+use Rattle.twp_grammar.specs.Items.{BeginWithSections}
 use Rattle.twp_grammar.specs.Sentences.{IsSentence, HasItems, MayFollow}
 use Rattle.twp_grammar.specs.Machine.{next, is_final}
 use Rattle.twp_read.specs.steps.TokenSteps.{take_token, run}

@@ -1,10 +1,10 @@
 -- Places of a description that can be read in two ways, though the grammar reads them in one. Each kind is a
 -- pattern over tokens in a row.
-use Rattle.std.specs.Prelude.{◌≡◌, ◌==◌, ◌||◌, ◌&&◌, ℕ, ◌+◌, nat_lt, Bool, true, false, List, [], ◌∷◌}
+use Rattle.std.specs.Prelude.{◌≡◌, ◌==◌, ◌||◌, ◌&&◌, not, ℕ, ◌+◌, nat_lt, Bool, true, false, List, [], ◌∷◌}
 use Rattle.std.specs.Prelude.{if◌then◌else◌, Option, Some, None, length}
 use Rattle.twp_grammar.specs.declared.kind.Kind.{Kind}
-use Rattle.twp_grammar.specs.declared.kind.Kind.TheVariants.{Sec, Lot, And, To, Of, T, R, NorthSouth}
-use Rattle.twp_grammar.specs.declared.kind.Kind.TheVariants.{EastWest}
+use Rattle.twp_grammar.specs.declared.kind.Kind.TheVariants.{Sec, Lot, And, To, Of, The, T, R}
+use Rattle.twp_grammar.specs.declared.kind.Kind.TheVariants.{NorthSouth, EastWest}
 use Rattle.twp_grammar.specs.declared.kind.Kind.TheVariants.{Corner, Half, Quarter, Number, Comma, Colon}
 use Rattle.twp_grammar.specs.declared.kind.Kind.TheVariants.{Stop}
 use Rattle.twp_grammar.specs.Tokens.{Token, HasTokens}
@@ -81,6 +81,44 @@ shared_at (letters ∷ more) =
     then Some (place doubt.Shared letters.at)
     else None
 
+-- the letters or the fraction of a step, `of`, or `the`
+abbrev pub is_of_part : Kind → Bool
+is_of_part Of = true
+is_of_part The = true
+is_of_part kind = is_of_step kind
+
+-- what is left after a part
+abbrev pub after_part : List Token → List Token
+after_part [] = []
+after_part (token ∷ more) = if is_of_part token.kind then after_part more else token ∷ more
+
+-- steps, and no `of`
+abbrev pub begin_with_lone_part : List Token → Bool
+begin_with_lone_part [] = false
+begin_with_lone_part (token ∷ more) = begins_step token.kind && not (begin_with_of (after_steps more))
+
+-- `and`, steps, and no `of`
+abbrev pub adds_part : List Token → Bool
+adds_part [] = false
+adds_part (token ∷ more) = is_and token.kind && begin_with_lone_part more
+
+-- SPREAD: a part with `of`, `and`, and a part without `of`
+abbrev pub spread_at : List Token → Option DoubtfulPlace
+spread_at [] = None
+spread_at (letters ∷ more) =
+    if begin_with_part_of (letters ∷ more) && adds_part (after_part more)
+    then Some (place doubt.Spread letters.at)
+    else None
+
+-- the first of two doubtful places, if there is one
+abbrev pub first_place : Option DoubtfulPlace → Option DoubtfulPlace → Option DoubtfulPlace
+first_place None second = second
+first_place (Some first) second = Some first
+
+-- a part that may be of the land of the next one, or part of it
+abbrev pub part_at : List Token → Option DoubtfulPlace
+part_at tokens = first_place (shared_at tokens) (spread_at tokens)
+
 -- a word in the singular: `sec` and `lot` have three letters, and `section` has seven
 abbrev pub is_singular : List ℕ → Bool
 is_singular word = (length word == 3) || (length word == 7)
@@ -150,10 +188,10 @@ doubt_after Sec token more = several_at token more
 doubt_after Lot token more = several_at token more
 doubt_after T token more = padded_at more
 doubt_after R token more = padded_at more
-doubt_after (Number value) token more = shared_at more
-doubt_after Comma token more = shared_at more
-doubt_after Colon token more = shared_at more
-doubt_after And token more = shared_at more
+doubt_after (Number value) token more = part_at more
+doubt_after Comma token more = part_at more
+doubt_after Colon token more = part_at more
+doubt_after And token more = part_at more
 doubt_after _ token more = None
 
 abbrev pub doubt_at : List Token → Option DoubtfulPlace

@@ -13,6 +13,9 @@ pub enum Doubt {
     /// A part without `of`, `and`, and a part with `of`, as in `W1/2 and NE1/4 of SE1/4`: two parts, or both
     /// of the SE1/4.
     Shared,
+    /// A part with `of`, `and`, and a part without `of`, as in `E1/2 of NE1/4 and SE1/4`: the E1/2 of the
+    /// NE1/4 and the whole SE1/4, or the E1/2 of both.
+    Spread,
     /// The word `sec`, `section`, or `lot`, in the singular, and several numbers, as in `Sec 5, 1, 2`: three
     /// sections, or two lots of section 5.
     Several,

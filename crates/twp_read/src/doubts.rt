@@ -2,14 +2,14 @@
 ghost use Rattle.std.specs.Prelude.{◌≡◌, ◌<◌, ◌+◌, nat_lt, [], map, IfOk, IfSome, MatchOption};
 ghost use Rattle.twp_grammar.specs.Tokens.{HasTokens, seen};
 ghost use Rattle.twp_read.specs.Doubts.{AreDoubts, IsFound, HasNoDoubtfulPlace, doubts, doubt_at};
-ghost use Rattle.twp_read.specs.Doubts.{joined_at, several_at, padded_at, padded_number, shared_at};
+ghost use Rattle.twp_read.specs.Doubts.{joined_at, several_at, padded_at, padded_number};
 ghost use Rattle.twp_read.specs.Doubts.{are_several, begin_several, joins_number, begin_with_number};
-ghost use Rattle.twp_read.specs.Doubts.{begin_with_and_number};
-ghost use Rattle.twp_read.specs.Doubts.{joins_part, begin_with_part_of, begin_with_of, after_steps};
-ghost use Rattle.twp_read.specs.Doubts.{is_of_step, begins_step, is_number, is_singular};
-ghost use Rattle.twp_read.specs.Doubts.{is_padded};
+ghost use Rattle.twp_read.specs.Doubts.{begin_with_and_number, is_number};
+
+mod parts;
 
 use crate::doubt::{Doubt, DoubtfulPlace, Doubts, begins_step, is_padded, is_singular};
+use crate::doubts::parts::part_at;
 use std::alloc::{AllocError, Global};
 use twp_grammar::{Kind, Token, Tokens};
 
@@ -78,7 +78,7 @@ fn doubt_at(tokens: &[Token<'_>]) -> Option<DoubtfulPlace>
         Kind::Half | Kind::Quarter => joined_at(first, more),
         Kind::Sec | Kind::Lot => several_at(first, more),
         Kind::T | Kind::R => padded_at(more),
-        Kind::Number(_) | Kind::Comma | Kind::Colon | Kind::And => shared_at(more),
+        Kind::Number(_) | Kind::Comma | Kind::Colon | Kind::And => part_at(more),
         _ => None,
     }
 }
@@ -201,73 +201,6 @@ fn padded_number(tokens: &[Token<'_>]) -> Option<DoubtfulPlace>
         });
     }
     None
-}
-
-/// A part without `of`, `and`, and a part with `of`.
-fn shared_at(more: &[Token<'_>]) -> Option<DoubtfulPlace>
-    ensures { result ≡ shared_at (map seen more.now) }
-{
-    let [first, rest @ ..] = more else {
-        return None;
-    };
-    if begins_step(first.kind) && joins_part(after_steps(rest)) {
-        return Some(DoubtfulPlace {
-            doubt: Doubt::Shared,
-            at: first.at,
-        });
-    }
-    None
-}
-
-/// Whether tokens begin with `and`, and a part that has an `of` follows.
-fn joins_part(tokens: &[Token<'_>]) -> bool
-    ensures { result ≡ joins_part (map seen tokens.now) }
-{
-    let [first, rest @ ..] = tokens else {
-        return false;
-    };
-    first.kind == Kind::And && begin_with_part_of(rest)
-}
-
-/// Whether tokens begin with steps, and `of` follows.
-fn begin_with_part_of(tokens: &[Token<'_>]) -> bool
-    ensures { result ≡ begin_with_part_of (map seen tokens.now) }
-{
-    let [first, rest @ ..] = tokens else {
-        return false;
-    };
-    begins_step(first.kind) && begin_with_of(after_steps(rest))
-}
-
-/// Whether tokens begin with `of`.
-fn begin_with_of(tokens: &[Token<'_>]) -> bool
-    ensures { result ≡ begin_with_of (map seen tokens.now) }
-{
-    let [first, ..] = tokens else {
-        return false;
-    };
-    first.kind == Kind::Of
-}
-
-/// The tokens after the letters and fractions that they begin with.
-fn after_steps<'a, 'b>(tokens: &'b [Token<'a>]) -> &'b [Token<'a>]
-    ensures { map seen result.now ≡ after_steps (map seen tokens.now) }
-{
-    let mut left = tokens;
-    while let [first, rest @ ..] = left {
-        if !is_of_step(first.kind) {
-            break;
-        }
-        left = rest;
-    }
-    left
-}
-
-/// Whether a token is letters or a fraction of a step.
-fn is_of_step(kind: Kind) -> bool
-    ensures { result ≡ is_of_step kind }
-{
-    begins_step(kind) || matches!(kind, Kind::Half | Kind::Quarter)
 }
 
 /// Whether a token is a number.

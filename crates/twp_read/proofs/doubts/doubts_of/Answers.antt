@@ -1,5 +1,5 @@
 -- One more token is looked at.
-use Rattle.std.proofs.Common.{◌<◌, ◌≤◌, ◌-◌, sym, arith, length}
+use Rattle.std.proofs.Common.{◌<◌, ◌≤◌, ◌-◌, arith, length}
 use Rattle.twp_read.proofs.DoubtFacts.{all_from, next_found, next_none, room_left}
 use Rattle.twp_read.proofs.doubts.doubts_of.Goals as goal
 

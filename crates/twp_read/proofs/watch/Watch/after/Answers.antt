@@ -1,5 +1,5 @@
 -- A quiet token says nothing new.
-use Rattle.std.proofs.Common.{sym, refl, ◌∙◌}
+use Rattle.std.proofs.Common.{sym, ◌∙◌}
 use Rattle.twp_grammar.specs.Tokens.{seen}
 use Rattle.twp_read.proofs.QuietFacts.{quiet_is_same}
 use Rattle.twp_read.proofs.watch.Watch.after.Goals as goal
