@@ -26,9 +26,9 @@ pub(crate) struct Joint {
 #[derive(Clone, Copy, PartialEq, Eq)]
 enum Shared {
     Nothing,
-    /// Those after the `of` of the second part.
+    /// Those after the first `of` of the second part.
     Tail,
-    /// Those before the `of` of the first part.
+    /// Those before the last `of` of the first part.
     Head,
 }
 
@@ -283,11 +283,17 @@ impl<'a> Writer<'a> {
     ) -> Result<(), AllocError> {
         let begin = out.options.len();
         let place = self.plan.draft.pieces.end_before(one.end);
-        self.copy_steps_of(other, true, place, out)?;
+        let mut is_after = false;
+        for step in self.plan.draft.steps_of(*other) {
+            is_after = is_after || step.is_after_of;
+            if is_after {
+                out.options.push(copied(step, place))?;
+            }
+        }
         self.note_joint(begin, begin, out)
     }
 
-    /// Notes that the steps before the `of` of a part may be for the one after it too.
+    /// Notes that the steps before the last `of` of a part may be for the one after it too.
     fn write_head(
         &mut self,
         one: &Phrase,
@@ -296,27 +302,12 @@ impl<'a> Writer<'a> {
     ) -> Result<(), AllocError> {
         let begin = out.options.len();
         let place = self.plan.draft.pieces.start(other.first);
-        self.copy_steps_of(one, false, place, out)?;
-        self.note_joint(begin, begin, out)
-    }
-
-    /// Writes the steps of a part after its first `of`, or those before it, at a place where they aren't.
-    fn copy_steps_of(
-        &self,
-        part: &Phrase,
-        is_after_of: bool,
-        place: usize,
-        out: &mut Outline<'a>,
-    ) -> Result<(), AllocError> {
-        let mut is_after = false;
-        for step in self.plan.draft.steps_of(*part) {
-            is_after = is_after || step.is_after_of;
-            if is_after == is_after_of {
-                let rule = Rule::CopiedStep(step.start, step.end);
-                out.options.push(change(place, place, step.written, rule))?;
-            }
+        let steps = self.plan.draft.steps_of(*one);
+        let last = steps.iter().rposition(|step| step.is_after_of);
+        for step in steps.get(..last.unwrap_or(0)).unwrap_or(&[]) {
+            out.options.push(copied(step, place))?;
         }
-        Ok(())
+        self.note_joint(begin, begin, out)
     }
 
     /// Writes a comma or a semicolon between two phrases: instead of the first mark, or after the first phrase.
@@ -529,4 +520,10 @@ pub(crate) fn change<'a>(start: usize, end: usize, written: &'a [u8], rule: Rule
         written,
         rule,
     }
+}
+
+/// The change that writes a step of the text again, at a place.
+fn copied<'a>(step: &PlacedStep, place: usize) -> Change<'a> {
+    let rule = Rule::CopiedStep(step.start, step.end);
+    change(place, place, step.written, rule)
 }

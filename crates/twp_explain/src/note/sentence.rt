@@ -2,7 +2,7 @@
 use crate::note::acres::Reckoner;
 use crate::note::heading::write_heading;
 use crate::note::lists::{write_lots, write_sections};
-use crate::note::parts::{write_joined, write_shared};
+use crate::note::parts::{write_joined, write_shared, write_spread};
 use std::alloc::{AllocError, Global};
 use twp_grammar::{Kind, Tokens};
 use twp_read::{Doubt, DoubtfulPlace};
@@ -32,6 +32,7 @@ pub(crate) fn sentence_of(
     match place.doubt {
         Doubt::Joined => write_joined(alloc, &doubtful, &mut text)?,
         Doubt::Shared => write_shared(alloc, &doubtful, &mut text)?,
+        Doubt::Spread => write_spread(alloc, &doubtful, &mut text)?,
         Doubt::Several => write_several(alloc, &doubtful, &mut text)?,
         Doubt::Padded => write_heading(&doubtful, &mut text)?,
     }

@@ -2,6 +2,9 @@
 use twp_grammar::{Kind, Tokens};
 use twp_read::{Doubt, DoubtfulPlace};
 
+/// How many bytes `and` takes.
+const AND: usize = 3;
+
 /// Tokens in a row of which a note speaks.
 #[derive(Clone, Copy)]
 pub enum Row {
@@ -51,6 +54,7 @@ pub(crate) fn end_of_place(bytes: &[u8], place: DoubtfulPlace) -> usize {
     match place.doubt {
         Doubt::Joined => end_of_row(bytes, place.at, Row::Part),
         Doubt::Shared => end_of_row(bytes, place.at, Row::Parts),
+        Doubt::Spread => end_of_row(bytes, after_and(bytes, place.at), Row::Steps),
         Doubt::Several => end_of_list(bytes, after_word(bytes, place.at)),
         Doubt::Padded => end_of_row(bytes, place.at, Row::Number),
     }
@@ -160,6 +164,27 @@ pub(crate) fn second_number(bytes: &[u8], at: usize) -> usize {
         }
     }
     bytes.len()
+}
+
+/// The place after the first `and` from a place on, or the end.
+pub(crate) fn after_and(bytes: &[u8], at: usize) -> usize {
+    place_of(bytes, at, Kind::And)
+        .saturating_add(AND)
+        .min(bytes.len())
+}
+
+/// The place of the last token of a kind from a place up to another, or the first place.
+pub(crate) fn last_place_of(bytes: &[u8], from: usize, to: usize, kind: Kind) -> usize {
+    let to = to.min(bytes.len());
+    let from = from.min(to);
+    let mut last = from;
+    let mut tokens = Tokens::after(bytes.get(..to).unwrap_or(b""), from);
+    while let Some(token) = tokens.next() {
+        if token.kind == kind {
+            last = token.at.min(to);
+        }
+    }
+    last
 }
 
 /// The place of the first token of a kind from a place on, or the end.
