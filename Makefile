@@ -50,7 +50,7 @@ e2e: township
 descriptions: township
 	@cd crates/twp_readings && rt run > /dev/null
 	@python3 tests/descriptions/suggested.py
-	@for author in practice landman recorder clerk paralegal analyst examiner abstractor counsel traps; do \
+	@for author in practice landman recorder clerk paralegal analyst examiner abstractor counsel advisor traps; do \
 		python3 tests/descriptions/suggested.py ./township crates/twp_readings/out/twp_readings \
 			tests/descriptions/$$author.tsv || exit 1; \
 	done

@@ -56,7 +56,7 @@ T. 2 N., R. 3 W., Boise Meridian, Idaho\nSec. 14: NE¼
 Section 14: The South Half of the Northeast Quarter (S½NE¼)
 Sec. 14: W2 less the NENW
 TEXTS
-for set in written practice landman recorder clerk paralegal analyst examiner abstractor counsel; do
+for set in written practice landman recorder clerk paralegal analyst examiner abstractor counsel advisor; do
     sed 1d "tests/descriptions/$set.tsv" | cut -f 4 > "$work/set"
     printf '%s\tthe mean of %s.tsv, %s bytes\n' "$(count "$work/set")" "$set" \
         "$(($(wc -c < "$work/set") / $(wc -l < "$work/set") - 1))" >> "$work/counts"

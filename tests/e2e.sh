@@ -18,7 +18,7 @@ if python=$(sh "$root/tools/python_with.sh" argparse); then
     begin readings "$python" "$root/tests/descriptions/suggested.py" "$program"
     # The descriptions of other authors.
     reader=$root/crates/twp_readings/out/twp_readings
-    for author in practice landman recorder clerk paralegal analyst examiner abstractor counsel traps; do
+    for author in practice landman recorder clerk paralegal analyst examiner abstractor counsel advisor traps; do
         begin "$author" "$python" "$root/tests/descriptions/suggested.py" "$program" "$reader" \
             "$root/tests/descriptions/$author.tsv"
     done

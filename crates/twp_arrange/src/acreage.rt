@@ -11,12 +11,15 @@ use twp_rules::Rule;
 /// The nominal area of a section, in hundredths of an acre.
 const SECTION: u64 = 64_000;
 
+/// A quarter of the nominal area of a lot, in hundredths of an acre.
+const LOT: u64 = 1_000;
+
 /// The most phrases among which the land is looked for that an acreage is said of.
 const PHRASES_MOST: usize = 8;
 
 impl<'a> Plan<'a> {
     /// Whether each acreage that the text states is more than a quarter of that of the land beside it.
-    pub fn acreage_fits(&self, list: &[Placed]) -> bool {
+    pub fn acreage_fits(&mut self, list: &[Placed]) -> bool {
         for index in 0..list.len() {
             let Some(placed) = list.get(index) else {
                 break;
@@ -28,34 +31,97 @@ impl<'a> Plan<'a> {
                 self.stated(placed.phrase),
                 self.land_beside(list, index),
             ) {
-                // A whole section, or what is after a dash, may be meant to be less.
+                // A whole section, or what is after a dash or before its land, may be meant to be less.
                 let is_minus = self.draft.pieces.is_dash(placed.phrase.first);
-                let least = if is_minus || land == SECTION {
+                let is_first = !self.is_after_land(list, index);
+                let least = if is_minus || is_first || land >= SECTION {
                     land / 4 * 3
                 } else {
                     land / 4
                 };
-                if acreage <= least {
+                let all = self.land_before(list, index);
+                if acreage <= least || acreage <= all / 4 {
                     return false;
                 }
+                self.has_exact_acreage = acreage == all;
             }
         }
         true
     }
 
-    /// The nominal area of the land before an acreage, or after it, in hundredths of an acre. None if lots are there, whose
-    /// areas differ.
+    /// Whether a section or land is before a phrase.
+    fn is_after_land(&self, list: &[Placed], index: usize) -> bool {
+        for placed in list.get(..index).unwrap_or(&[]) {
+            if !matches!(placed.phrase.names, Names::Nothing(_) | Names::Heading) {
+                return true;
+            }
+        }
+        false
+    }
+
+    /// The area of the land before an acreage with a word for what it is of, as in `containing 80 acres`, from the acreage
+    /// before it on.
+    fn land_before(&self, list: &[Placed], index: usize) -> u64 {
+        let mut sum: u64 = 0;
+        let mut last: u64 = 0;
+        let mut end: usize = usize::MAX;
+        let first = list.get(index).map_or(0, |placed| placed.phrase.first);
+        if !(self.draft.pieces.is(first, b"containing")
+            || self.draft.pieces.is(first, b"comprising"))
+        {
+            return 0;
+        }
+        for placed in list.get(..index).unwrap_or(&[]) {
+            let phrase = placed.phrase;
+            match phrase.names {
+                Names::Nothing(Rule::Acreage) => {
+                    sum = 0;
+                    last = 0;
+                }
+                // White space may separate the steps of one part.
+                Names::Part if phrase.first == end => {
+                    last = self.share_of(phrase, last);
+                    end = phrase.end;
+                }
+                Names::Part | Names::All => {
+                    sum = sum.saturating_add(last);
+                    last = self.share_of(phrase, SECTION);
+                    end = phrase.end;
+                }
+                _ => {}
+            }
+        }
+        sum.saturating_add(last)
+    }
+
+    /// The least area of the lots of a phrase, of which a quarter is compared.
+    fn least_of_lots(&self, lots: Phrase) -> u64 {
+        let numbers = self.draft.numbers.get(lots.numbers.first..lots.numbers.end);
+        let count = match numbers {
+            Some([first, last]) if last.value > first.value => plus(
+                1,
+                usize::from(last.value.saturating_sub(first.value)),
+            ),
+            Some(numbers) => numbers.len(),
+            None => 1,
+        };
+        u64::from(u16::try_from(count).unwrap_or(1)).saturating_mul(LOT)
+    }
+
+    /// The nominal area of the land before an acreage, or after it, in hundredths of an acre. That of lots, whose areas
+    /// differ, is a quarter of it.
     fn land_beside(&self, list: &[Placed], index: usize) -> Option<u64> {
         let mut area: Option<u64> = None;
         let mut first: usize = 0;
         let mut has_section = false;
+        let mut sections: u64 = 1;
         for back in 1..PHRASES_MOST {
             let Some(placed) = index.checked_sub(back).and_then(|place| list.get(place)) else {
                 break;
             };
             let phrase = placed.phrase;
             match (phrase.names, area) {
-                (Names::Lots, None) => return None,
+                (Names::Lots, None) => return Some(self.least_of_lots(phrase)),
                 // White space may separate the steps of one part.
                 (Names::Part, Some(part)) if phrase.end == first => {
                     area = Some(self.share_of(phrase, part));
@@ -65,6 +131,8 @@ impl<'a> Plan<'a> {
                 // The land of a section that is moved is before it.
                 (Names::Sections, None) if placed.role != Role::LeftOut => {
                     has_section = true;
+                    let count = phrase.numbers.end.saturating_sub(phrase.numbers.first);
+                    sections = u64::from(u16::try_from(count).unwrap_or(1));
                     break;
                 }
                 _ => {}
@@ -79,13 +147,13 @@ impl<'a> Plan<'a> {
                 break;
             };
             match placed.phrase.names {
-                Names::Lots => return None,
+                Names::Lots => return Some(self.least_of_lots(placed.phrase)),
                 Names::Part | Names::All => return Some(self.share_of(placed.phrase, SECTION)),
                 Names::Sections if has_section => break,
                 _ => {}
             }
         }
-        Some(SECTION)
+        Some(SECTION.saturating_mul(sections))
     }
 
     /// The area of a phrase in land of an area: that of its steps, if it is an aliquot part.

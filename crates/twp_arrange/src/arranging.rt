@@ -6,6 +6,7 @@ use std::mem;
 use twp_grammar::Kind;
 use twp_phrases::{Form, Names, Phrase, Span};
 use twp_pieces::plus;
+use twp_rules::Rule;
 
 /// What becomes of a phrase.
 #[derive(Clone, Copy, PartialEq, Eq)]
@@ -156,6 +157,8 @@ impl<'a> Plan<'a> {
         let mut is_first_excepted = false;
         let mut landless: usize = 0;
         let mut unsure = false;
+        // Whether land has to follow a section that was named before.
+        let mut is_awaited = false;
         let is_landless = |group: Option<Group>| group.map_or(false, |group| !group.has_land);
         for placed in list.iter_mut() {
             let phrase = placed.phrase;
@@ -184,9 +187,14 @@ impl<'a> Plan<'a> {
                 (Names::Sections, Some(before))
                     if before.has_land && self.is_same_section(before.section, phrase) => {
                     placed.role = Role::LeftOut;
+                    unsure = unsure || is_awaited;
+                    is_awaited = !self.is_after_of(phrase);
                 }
                 (Names::Sections, before) => {
-                    unsure = unsure || !self.is_sure_group(before) || is_excepting(before);
+                    unsure = unsure
+                        || is_awaited
+                        || !self.is_sure_group(before)
+                        || is_excepting(before);
                     landless = plus(landless, usize::from(is_landless(before)));
                     count = count.saturating_add(1);
                     if placed.role == Role::Kept(0) {
@@ -202,6 +210,7 @@ impl<'a> Plan<'a> {
                 }
                 (names, Some(before)) => {
                     placed.role = Role::Kept(count);
+                    is_awaited = false;
                     let is_shared = before.is_shared
                         || (!before.has_land && placed.section.is_some());
                     unsure = unsure || (is_shared && names != Names::Part);
@@ -215,11 +224,31 @@ impl<'a> Plan<'a> {
                 (_, None) => unsure = true,
             }
         }
-        unsure = unsure || !self.is_sure_group(group) || is_first_excepted;
+        unsure = unsure || is_awaited || !self.is_sure_group(group) || is_first_excepted;
         landless = plus(landless, usize::from(is_landless(group)));
-        if unsure || (landless > 0 && landless < count && !self.are_set_apart(list)) {
+        let is_missing = landless > 0
+            && landless < count
+            && !self.are_set_apart(list)
+            && !self.are_all_whole(list);
+        if unsure || is_missing {
             self.draft.doubt();
         }
+    }
+
+    /// Whether `of` or `in` is before a section, or `said` is in it, as in `the NW1/4 of said Section 9`.
+    fn is_after_of(&self, section: Phrase) -> bool {
+        let pieces = &self.draft.pieces;
+        let before = section.first.saturating_sub(1);
+        pieces.is(before, b"of")
+            || pieces.is(before, b"in")
+            || pieces.is(before, b"said")
+            || pieces.is(section.first, b"said")
+            || pieces.is(section.first, b"same")
+    }
+
+    /// Whether a section has no word for it.
+    fn is_bare_number(&self, section: Phrase) -> bool {
+        matches!(self.draft.pieces.kind(section.first), Kind::Number(_))
     }
 
     /// Whether a phrase names the section that was named before, and no other.
@@ -234,6 +263,9 @@ impl<'a> Plan<'a> {
     /// and are written after each.
     fn share_sections(&mut self, list: &mut Vec<Placed>) {
         let mut shared: Option<usize> = None;
+        // How many sections share parts, and how many parts: as many may be one for each.
+        let mut sections: usize = 0;
+        let mut parts: usize = 0;
         for index in 0..list.len() {
             let Some(placed) = list.get(index) else {
                 break;
@@ -241,6 +273,11 @@ impl<'a> Plan<'a> {
             match placed.phrase.names {
                 Names::Sections => {
                     let phrase = placed.phrase;
+                    if parts > 0 && parts == sections {
+                        self.draft.doubt();
+                    }
+                    sections = self.count_of(phrase);
+                    parts = 0;
                     let is_shared = self.count_of(phrase) > 1
                         && !self.has_range(phrase)
                         && (matches!(self.draft.pieces.kind(phrase.end), Kind::Colon)
@@ -252,9 +289,13 @@ impl<'a> Plan<'a> {
                     if let (Some(sections), Names::Part) = (shared, names) {
                         share(list, sections, index);
                     }
+                    parts = plus(parts, usize::from(shared.is_some() || parts > 0));
                     shared = None;
                 }
             }
+        }
+        if parts > 0 && parts == sections {
+            self.draft.doubt();
         }
     }
 
@@ -311,6 +352,25 @@ impl<'a> Plan<'a> {
             };
         }
         true
+    }
+
+    /// Whether each section is whole, whichever of them `all` is said of, as in `Sec. 16 & Sec. 36: all`.
+    fn are_all_whole(&self, list: &[Placed]) -> bool {
+        let mut joined: Option<usize> = None;
+        for placed in list {
+            let phrase = placed.phrase;
+            match phrase.names {
+                Names::Heading | Names::Nothing(Rule::Meridian) => {}
+                Names::All => joined = None,
+                Names::Sections if joined.is_none() || joined == Some(phrase.first) => {
+                    let is_and = matches!(self.draft.pieces.kind(phrase.end), Kind::And)
+                        || self.draft.pieces.is(phrase.end, b"&");
+                    joined = Some(plus(phrase.end, usize::from(is_and)));
+                }
+                _ => return false,
+            }
+        }
+        joined.is_none()
     }
 
     /// Doubts land that is excepted from one of several parts, and isn't of the last of them: it may be a part of that, as
@@ -384,6 +444,7 @@ impl<'a> Plan<'a> {
         let mut excepted: Option<usize> = None;
         let mut is_excepting = false;
         let mut is_ended = false;
+        let mut is_divided_land = false;
         for index in 0..list.len() {
             let Some(placed) = list.get_mut(index) else {
                 break;
@@ -393,6 +454,15 @@ impl<'a> Plan<'a> {
                 Names::Nothing(_) | Names::Heading => {}
                 Names::Sections => {
                     placed.role = Role::LeftOut;
+                    unsure = unsure
+                        || (lands > 1
+                            && is_divided_land
+                            && phrase.first == last
+                            && (section.is_some() || self.is_bare_number(phrase)))
+                        || (section.is_some()
+                            && lands > 0
+                            && self.draft.pieces.has_before(phrase.first, b'\n'));
+                    is_divided_land = false;
                     has_comma = has_comma || self.has_kind(last, phrase.first, Kind::Comma);
                     last = phrase.first;
                     let is_several = self.count_of(phrase) > 1;
@@ -452,6 +522,8 @@ impl<'a> Plan<'a> {
                             || self.has_kind(before.end, phrase.first, Kind::And);
                         are_apart = are_apart && is_divided;
                     }
+                    is_divided_land = is_divided_land
+                        || (first.is_some() && self.has_kind(last, phrase.first, Kind::Semicolon));
                     first = Some(first.unwrap_or(index));
                     last = phrase.end;
                     lands = lands.saturating_add(1);

@@ -3,7 +3,7 @@
 use crate::arranging::{Placed, Role};
 use crate::plan::Plan;
 use twp_grammar::Kind;
-use twp_phrases::{Names, Phrase};
+use twp_phrases::{Form, Names, Phrase};
 use twp_pieces::plus;
 use twp_rules::Rule;
 
@@ -88,6 +88,11 @@ impl<'a> Plan<'a> {
                 if before.names == Names::Lots
                     && after.names == Names::Part
                     && after.steps.end > plus(after.steps.first, 1) => false,
+            // Nor is one in the cell for aliquot parts.
+            Joining::Nothing
+                if before.names == Names::Lots
+                    && is_left_out_after(before, left_out, Rule::Label)
+                    && self.draft.pieces.end_of_column_label(before.end).is_some() => false,
             Joining::Nothing if are_parts && is_left_out_after(before, left_out, Rule::Acreage) => {
                 !self.draft.pieces.begins_column(after.first)
             }
@@ -95,6 +100,10 @@ impl<'a> Plan<'a> {
                 !self.are_tracts(before)
             }
             Joining::Nothing => !has_section(left_out),
+            Joining::Stop
+                if before.names == Names::Lots
+                    && after.names == Names::Part
+                    && after.steps.end > plus(after.steps.first, 1) => !left_out.is_empty(),
             Joining::Stop => !(are_parts && left_out.is_empty()),
             Joining::Colon => !has_section(left_out),
             Joining::And => {
@@ -102,10 +111,33 @@ impl<'a> Plan<'a> {
                     && before.form != after.form
                     && !is_left_out_after(before, left_out, Rule::Repeated)
             }
-            Joining::Comma => are_parts && self.are_comma_cells(before, after),
+            Joining::Comma if are_parts => {
+                self.are_comma_cells(before, after) || self.may_share(before, after)
+            }
+            Joining::CommaAnd if are_parts => self.may_share(before, after),
             Joining::Other => self.is_unsure_list(before, after, left_out),
             _ => false,
         }
+    }
+
+    /// Whether a step of one of two parts may be for both, as in `NE/4, NW/4 of SE/4`: one has an `of`, and the other one step.
+    /// They aren't in each other, `the` isn't before the second alone, and no acreage is that of both.
+    fn may_share(&self, before: &Phrase, after: &Phrase) -> bool {
+        let (first, second) = (self.draft.steps_of(*before), self.draft.steps_of(*after));
+        let ([one, ..], [other, ..]) = (first, second) else {
+            return false;
+        };
+        let is_tail = after.form == Form::WithOf;
+        let bare = if is_tail { first } else { second };
+        let has_the = self.draft.pieces.is(after.first, b"the");
+        before.form != after.form
+            && bare.len() == 1
+            && !self.has_exact_acreage
+            && (if is_tail {
+                !do_meet(one.written, other.written)
+            } else {
+                !has_the
+            })
     }
 
     /// Whether `and`, or an ampersand, is among some pieces, but for what is left out.
@@ -120,7 +152,9 @@ impl<'a> Plan<'a> {
                 }
             }
             let is_and = matches!(self.draft.pieces.kind(index), Kind::And)
-                || self.draft.pieces.is(index, b"&");
+                || self.draft.pieces.is(index, b"&")
+                || self.draft.pieces.is(index, b"also")
+                || self.draft.pieces.is(index, b"together");
             if index >= next && is_and {
                 return true;
             }
@@ -135,6 +169,7 @@ impl<'a> Plan<'a> {
             Some(section) => {
                 section.first < part.first
                     && !pieces.is_label_of_tract(section.first.saturating_sub(3))
+                    && !pieces.is_label_of_tract(section.first.saturating_sub(4))
             }
             None => false,
         };
@@ -173,8 +208,8 @@ impl<'a> Plan<'a> {
             && matches!(pieces.kind(after.end.saturating_sub(1)), Kind::Corner(_))
     }
 
-    /// Whether other pieces than commas and semicolons between two lands may mean something else: only an ampersand
-    /// doesn't, between parts that both have an `of`, or none, nor a colon after a section that is named again.
+    /// Whether other pieces than commas and semicolons between two lands may mean something else: only an ampersand or a
+    /// plus sign doesn't, between parts that both have an `of`, or none, nor a colon after a section that is named again.
     fn is_unsure_list(&self, before: &Phrase, after: &Phrase, left_out: &[Placed]) -> bool {
         let mut next = before.end;
         let mut rest = left_out;
@@ -189,6 +224,7 @@ impl<'a> Plan<'a> {
                 continue;
             }
             if !(self.draft.pieces.is(index, b"&")
+                || self.draft.pieces.is(index, b"+")
                 || self.draft.pieces.is(index, b",")
                 || self.draft.pieces.is(index, b";"))
             {
@@ -197,6 +233,24 @@ impl<'a> Plan<'a> {
         }
         before.names == Names::Part && after.names == Names::Part && before.form != after.form
     }
+}
+
+/// Whether two steps have land in common.
+fn do_meet(one: &[u8], other: &[u8]) -> bool {
+    let (first, second) = (letters_of(one), letters_of(other));
+    !(has_opposite(first, second, b'N', b'S') || has_opposite(first, second, b'E', b'W'))
+}
+
+/// The letters of a step.
+fn letters_of(step: &[u8]) -> &[u8] {
+    let count: usize = if step.ends_with(b"2") { 1 } else { 2 };
+    step.get(..count).unwrap_or(b"")
+}
+
+/// Whether letters are of a side, and others of the opposite one.
+fn has_opposite(first: &[u8], second: &[u8], side: u8, other: u8) -> bool {
+    (first.contains(&side) && second.contains(&other))
+        || (first.contains(&other) && second.contains(&side))
 }
 
 /// Whether one phrase is left out by a rule after a part, as the parentheses in `the East Half (E/2)`, or the acreage in

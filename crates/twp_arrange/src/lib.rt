@@ -6,6 +6,7 @@ mod acreage;
 mod arranging;
 mod beside;
 mod joining;
+mod parcels;
 mod plan;
 mod together;
 

@@ -7,6 +7,8 @@ use twp_phrases::Draft;
 #[derive(Drop)]
 pub struct Plan<'a> {
     pub draft: Draft<'a>,
+    /// Whether an acreage that the text states is exactly that of all land before it.
+    pub has_exact_acreage: bool,
 }
 
 impl<'a> Plan<'a> {
@@ -14,7 +16,10 @@ impl<'a> Plan<'a> {
     pub fn of(alloc: Global, text: &'a [u8]) -> Result<Plan<'a>, AllocError> {
         let mut draft = Draft::new(alloc, text)?;
         draft.find_phrases()?;
-        let mut plan = Plan { draft };
+        let mut plan = Plan {
+            draft,
+            has_exact_acreage: false,
+        };
         plan.doubt_together();
         Ok(plan)
     }

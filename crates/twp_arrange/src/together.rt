@@ -2,7 +2,7 @@
 
 use crate::plan::Plan;
 use twp_grammar::Kind;
-use twp_phrases::{Names, Phrase};
+use twp_phrases::{Form, Names, Phrase};
 use twp_pieces::{begins_terms, plus};
 use twp_rules::Rule;
 
@@ -10,6 +10,8 @@ impl<'a> Plan<'a> {
     /// Doubts phrases that aren't sure together.
     pub(crate) fn doubt_together(&mut self) {
         if self.has_land_missing()
+            || self.has_empty_place()
+            || self.has_other_parcel()
             || self.has_loose_section()
             || self.has_other_tract()
             || self.has_unsure_neighbors()
@@ -51,6 +53,69 @@ impl<'a> Plan<'a> {
             }
         }
         is_labelled || ((self.draft.has_remark || has_status) && sections != lands)
+    }
+
+    /// Whether the place for the land of a section is empty, as in `Sec. 9: Ada County`, or the rest of several sections is
+    /// missing, as in `Secs. 9 -`.
+    fn has_empty_place(&self) -> bool {
+        // The last section, if no land follows it so far.
+        let mut section: Option<Phrase> = None;
+        let mut is_first = true;
+        let mut is_before = false;
+        for phrase in &self.draft.phrases {
+            match phrase.names {
+                Names::Sections => {
+                    if self.is_list_cut(phrase) || self.is_place_empty(section) {
+                        return true;
+                    }
+                    is_before = is_before || is_first;
+                    section = if is_before { Some(*phrase) } else { None };
+                    is_first = false;
+                }
+                Names::Part | Names::Lots | Names::All | Names::Except => {
+                    section = None;
+                    is_first = false;
+                }
+                Names::Nothing(Rule::Acreage) => {
+                    if self.is_before_gap(section) {
+                        return true;
+                    }
+                    section = None;
+                }
+                _ => {}
+            }
+        }
+        self.is_place_empty(section)
+    }
+
+    /// Whether the number of one section, after a word for several, is before a dash.
+    fn is_list_cut(&self, sections: &Phrase) -> bool {
+        let count = sections.numbers.end.saturating_sub(sections.numbers.first);
+        sections.form == Form::Plural && count == 1 && self.draft.pieces.is_dash(sections.end)
+    }
+
+    /// Whether a colon, or a cell without land, follows a section, or its word is for several.
+    fn is_place_empty(&self, section: Option<Phrase>) -> bool {
+        match section {
+            Some(section) => {
+                let count = section.numbers.end.saturating_sub(section.numbers.first);
+                matches!(self.draft.pieces.kind(section.end), Kind::Colon)
+                    || self.draft.pieces.has_empty_cell(section.end)
+                    || (section.form == Form::Plural && count == 1)
+            }
+            None => false,
+        }
+    }
+
+    /// Whether a comma and wide white space follow a section.
+    fn is_before_gap(&self, section: Option<Phrase>) -> bool {
+        match section {
+            Some(section) => {
+                self.draft.pieces.is(section.end, b",")
+                    && self.draft.pieces.begins_column(plus(section.end, 1))
+            }
+            None => false,
+        }
     }
 
     /// Whether a number that was taken for a section may be another one, since no land is beside it: where another section has

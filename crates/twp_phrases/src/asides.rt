@@ -144,7 +144,9 @@ impl<'a> Draft<'a> {
     /// The same, of what begins with a word for a column, or with a mark.
     fn end_of_marked(&self, index: usize, may_be_minus: bool) -> Option<(Rule, usize)> {
         if let Some(end) = self.pieces.end_of_column_label(index) {
-            return Some((Rule::Label, end));
+            let is_part = self.pieces.is(plus(index, 1), b"part");
+            let rule = if is_part { Rule::Heading } else { Rule::Label };
+            return Some((rule, end));
         }
         if let Some(end) = self.end_of_figure(index) {
             return Some((Rule::Acreage, end));

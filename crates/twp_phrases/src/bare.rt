@@ -26,7 +26,7 @@ impl<'a> Draft<'a> {
             None => false,
         };
         let is_after = (self.last_names() == Some(Names::Heading)
-            && (self.pieces.is(next, b":") || self.pieces.has_digits(digits, 2)))
+            && (self.pieces.is(next, b":") || self.pieces.bytes(digits).len() >= 2))
             || (is_list && self.pieces.is(next, b":"))
             || self.pieces.is_section_before_land(index);
         let place = if self.pieces.is_dash(next) || self.pieces.is(next, b",") {
@@ -112,7 +112,8 @@ impl<'a> Draft<'a> {
         let before = index.saturating_sub(1);
         let last = self.last_names();
         if self.pieces.is(next, b"/") && self.pieces.is_joined(next) {
-            return Ok(false);
+            let is_row = self.pieces.begins_line(index) || self.pieces.is(before, b";");
+            return Ok(is_row && self.end_of_heading(plus(next, 1))?.is_some());
         }
         let label = before.saturating_sub(1);
         if self.pieces.is(label, b"frstdivno") || self.pieces.is(label, b"frstdivlab") {
@@ -171,7 +172,8 @@ impl<'a> Draft<'a> {
             && self.pieces.bytes(index).len() >= 2
             && (index > 0 || self.pieces.has_digits(index, 3))
         {
-            return Ok(next < self.pieces.len());
+            // Alone on its line, it may be that of a page.
+            return Ok(next < self.pieces.len() && !self.pieces.has_before(next, b'\n'));
         }
         if last != Some(Names::Part)
             || self.pieces.is_joined(index)

@@ -125,6 +125,8 @@ pub struct Draft<'a> {
     pub names_land: bool,
     /// Whether text was left out as a remark.
     pub has_remark: bool,
+    /// Whether land was said to be meant at some depths, in parentheses.
+    pub has_depths: bool,
     /// Whether something was found that makes the text unsure, or that isn't land.
     pub is_unsure: bool,
     /// Whether a parenthesis before land is open.
@@ -169,6 +171,7 @@ impl<'a> Draft<'a> {
             claims: Vec::new(alloc),
             names_land: false,
             has_remark: false,
+            has_depths: false,
             is_unsure: false,
             has_open: false,
             last_section: None,

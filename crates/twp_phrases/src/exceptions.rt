@@ -1,7 +1,8 @@
 //! `except`, and words like it: `less and except`, `save and except`, `L&E`.
 
-use crate::draft::{Draft, Names, Phrase};
+use crate::draft::{Draft, Names, Phrase, Span};
 use std::alloc::AllocError;
+use twp_grammar::Kind;
 use twp_pieces::plus;
 use twp_rules::Rule;
 
@@ -58,8 +59,14 @@ impl<'a> Draft<'a> {
                     && pieces.is(second, b"."));
             return Some(if is_word { third } else { second });
         }
-        if pieces.is(index, b"but") && pieces.is(second, b"not") {
-            return Some(third);
+        if pieces.is(index, b"but") {
+            return if pieces.is(second, b"not") {
+                Some(third)
+            } else if self.is_after_all_land(index) {
+                Some(second)
+            } else {
+                None
+            };
         }
         if pieces.is(index, b"with")
             && pieces.is(second, b"the")
@@ -69,4 +76,135 @@ impl<'a> Draft<'a> {
         }
         None
     }
+
+    /// Whether `but` at an index is after all of a section, and before land, as in `all but Lot 4`.
+    fn is_after_all_land(&self, index: usize) -> bool {
+        let before = index.saturating_sub(1);
+        let land = plus(index, 1);
+        (self.pieces.is(before, b"all") || self.pieces.is(before, b"everything"))
+            && (self.pieces.begins_part(land) || matches!(self.pieces.kind(land), Kind::Lot))
+    }
+
+    /// An excepted part with `thereof` after it, to which the steps of the part are added from which it is excepted, as in
+    /// `NW1/4, except the SW1/4 thereof`. It is doubted if that may be another.
+    pub(crate) fn part_thereof(&mut self, part: Phrase) -> Result<Phrase, AllocError> {
+        let whole = match self.whole_before_except() {
+            Whole::Section => return Ok(part),
+            Whole::Part(whole) => whole,
+            Whole::Unsure => {
+                self.doubt();
+                return Ok(part);
+            }
+        };
+        if self.ends_with_steps_of(part, whole) {
+            return Ok(part);
+        }
+        if !self.is_surely_of(part, whole) {
+            self.doubt();
+            return Ok(part);
+        }
+        let place = self.pieces.end_before(part.end);
+        for index in whole.steps.first..whole.steps.end {
+            if let Some(step) = self.steps.get(index).copied() {
+                let rule = Rule::CopiedStep(step.start, step.end);
+                self.write(place, place, step.written, rule)?;
+                self.steps.push(step)?;
+            }
+        }
+        let changes = Span {
+            end: self.changes.len(),
+            ..part.changes
+        };
+        let steps = Span {
+            end: self.steps.len(),
+            ..part.steps
+        };
+        Ok(Phrase {
+            changes,
+            steps,
+            ..part
+        })
+    }
+
+    /// The land before an exception, which is the last phrase: the only part of its section.
+    fn whole_before_except(&self) -> Whole {
+        let mut whole = Whole::Section;
+        let mut is_first = true;
+        let mut has_section = self.begins_with_section();
+        for back in 1..plus(self.phrases.len(), 1) {
+            let place = self.phrases.len().saturating_sub(back);
+            let Some(phrase) = self.phrases.get(place).copied() else {
+                break;
+            };
+            match phrase.names {
+                Names::Except if is_first => is_first = false,
+                Names::Nothing(_) | Names::Heading => {}
+                // A section is after its land, or before it.
+                Names::Sections if matches!(whole, Whole::Section) && !has_section => {
+                    has_section = true;
+                }
+                Names::Sections => break,
+                Names::Part if !is_first && matches!(whole, Whole::Section) => {
+                    whole = Whole::Part(phrase);
+                }
+                Names::All if !is_first && matches!(whole, Whole::Section) => return whole,
+                _ => return Whole::Unsure,
+            }
+        }
+        whole
+    }
+
+    /// Whether a part is written with all steps of another, and more before them, as in `the NW1/4, except the SW1/4 of the
+    /// NW1/4 thereof`: it is of the section.
+    pub fn ends_with_steps_of(&self, part: Phrase, whole: Phrase) -> bool {
+        let steps = self.steps_of(part);
+        let all = self.steps_of(whole);
+        let Some(more) = steps.len().checked_sub(all.len()) else {
+            return false;
+        };
+        for index in 0..all.len() {
+            let one = steps.get(plus(more, index)).map(|step| step.written);
+            if one != all.get(index).map(|step| step.written) {
+                return false;
+            }
+        }
+        more > 0
+    }
+
+    /// Whether the land of the text follows its sections.
+    fn begins_with_section(&self) -> bool {
+        for phrase in &self.phrases {
+            if !matches!(phrase.names, Names::Nothing(_) | Names::Heading) {
+                return phrase.names == Names::Sections;
+            }
+        }
+        false
+    }
+
+    /// Whether a part is surely of another, and not of the section: the part is a half, or the other has quarters alone,
+    /// with the last of which the part doesn't end.
+    fn is_surely_of(&self, part: Phrase, whole: Phrase) -> bool {
+        let all = self.steps_of(whole);
+        for step in all {
+            if step.written.ends_with(b"2") {
+                return matches!(self.steps_of(part), [half] if half.written.ends_with(b"2"));
+            }
+        }
+        match (self.steps_of(part), all) {
+            ([_], _) => true,
+            ([.., one], [.., other]) => one.written != other.written,
+            _ => false,
+        }
+    }
+}
+
+/// The land from which something is excepted.
+#[derive(Clone, Copy)]
+enum Whole {
+    /// A section.
+    Section,
+    /// An aliquot part.
+    Part(Phrase),
+    /// Several, or it isn't sure.
+    Unsure,
 }

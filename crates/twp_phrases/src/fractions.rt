@@ -39,6 +39,9 @@ impl<'a> Draft<'a> {
             self.leave_out(index, next, Rule::Mark)?;
             return Ok(Some(plus(index, 2)));
         }
+        if let Some(after) = self.spaced_fraction(index, size)? {
+            return Ok(Some(after));
+        }
         if let Some(after) = self.end_of_fraction(index, size) {
             let start = if self.pieces.is_joined(index) {
                 self.pieces.start(index)
@@ -50,6 +53,31 @@ impl<'a> Draft<'a> {
             return Ok(Some(after));
         }
         Ok(None)
+    }
+
+    /// The fraction at an index with a space before its slash, or after it, as in `W1 /2`, which is left out: the index after
+    /// the fraction.
+    fn spaced_fraction(&mut self, index: usize, size: Size) -> Result<Option<usize>, AllocError> {
+        let slash = plus(index, 1);
+        let digit = plus(index, 2);
+        if !self.pieces.is(index, b"1") || !self.pieces.is(slash, b"/") {
+            return Ok(None);
+        }
+        let pieces = &self.pieces;
+        let (one, bar) = (pieces.end(index), pieces.start(slash));
+        let (after, last) = (pieces.end(slash), pieces.start(digit));
+        let is_near = bar <= plus(one, 1)
+            && last <= plus(after, 1)
+            && !pieces.has_break_before(slash)
+            && !pieces.has_break_before(digit);
+        let is_spaced = bar > one || last > after;
+        let is_digit = pieces.has_digits(digit, 1) && pieces.number(digit) == Some(size.digit());
+        if !is_near || !is_spaced || !is_digit || self.goes_on(plus(digit, 1)) {
+            return Ok(None);
+        }
+        self.leave_out_bytes(one, bar)?;
+        self.leave_out_bytes(after, last)?;
+        Ok(Some(plus(digit, 1)))
     }
 
     /// Where the fraction at an index ends that isn't written as in a description: a digit, a slash and a digit, a word

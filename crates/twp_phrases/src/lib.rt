@@ -16,6 +16,7 @@ mod parts;
 mod phrases;
 mod registers;
 mod sections;
+mod sure;
 mod whole;
 mod worded;
 

@@ -7,6 +7,9 @@ use twp_grammar::Kind;
 use twp_pieces::plus;
 use twp_rules::Rule;
 
+/// So many acres, and less than one more, may be those of a part of a lot.
+const LEAST: u16 = 2;
+
 impl<'a> Draft<'a> {
     /// The lots at an index.
     pub fn lots(&mut self, index: usize) -> Result<Option<Phrase>, AllocError> {
@@ -24,7 +27,9 @@ impl<'a> Draft<'a> {
         }
         self.write_numeral(number)?;
         let before = next.saturating_sub(1);
-        let is_plural = self.pieces.is(before, b"lots") || self.pieces.is(before, b"lts");
+        let is_plural = self.pieces.is(before, b"lots")
+            || self.pieces.is(before, b"lts")
+            || self.pieces.is(before, b"iots");
         let end = self.numbers_after(number, Names::Lots, is_plural)?;
         Ok(Some(self.phrase(Names::Lots, index, end, from)))
     }
@@ -40,7 +45,9 @@ impl<'a> Draft<'a> {
             && !(self.pieces.is(word, b"l")
                 || self.pieces.is(word, b"lt")
                 || self.pieces.is(word, b"gl")
-                || self.pieces.is(word, b"lts"))
+                || self.pieces.is(word, b"lts")
+                || self.pieces.is(word, b"iots")
+                || self.pieces.is(word, b"iot"))
         {
             return Ok(None);
         }
@@ -53,6 +60,10 @@ impl<'a> Draft<'a> {
             self.replace(word, b"lot ", Rule::LotWord)?;
         } else if self.pieces.is(word, b"lts") {
             self.replace(word, b"lots ", Rule::LotWord)?;
+        } else if self.pieces.is(word, b"iots") {
+            self.replace(word, b"lots", Rule::LotWord)?;
+        } else if self.pieces.is(word, b"iot") {
+            self.replace(word, b"lot", Rule::LotWord)?;
         }
         for place in next..plus(next, 3) {
             if place == next
@@ -125,6 +136,10 @@ impl<'a> Draft<'a> {
         };
         if !has_point || !self.pieces.is(close, b")") {
             return Ok(index);
+        }
+        // So little may be a part of the lot.
+        if self.pieces.number(plus(index, 1)).unwrap_or(0) <= LEAST {
+            self.doubt();
         }
         self.leave_out(index, plus(close, 1), Rule::Acreage)?;
         Ok(plus(close, 1))

@@ -4,8 +4,6 @@ use crate::draft::{Claim, Claimed, Draft, Names, Phrase};
 use std::alloc::AllocError;
 use twp_grammar::Kind;
 use twp_pieces::plus;
-use twp_remarks::{Position, end_of_remark};
-use twp_rules::Rule;
 
 /// The most pieces that join two phrases.
 const JOINING_MOST: usize = 16;
@@ -25,6 +23,10 @@ impl<'a> Draft<'a> {
             match self.phrase_at(here)? {
                 Some(phrase) => {
                     index = phrase.end;
+                    // Land at some depths, and other land.
+                    if self.has_depths && !matches!(phrase.names, Names::Nothing(_)) {
+                        self.doubt();
+                    }
                     self.names_land = self.names_land
                         || !matches!(phrase.names, Names::Nothing(_) | Names::Heading);
                     if phrase.names == Names::Sections {
@@ -33,11 +35,17 @@ impl<'a> Draft<'a> {
                     self.phrases.push(phrase)?;
                 }
                 None if self.joins_phrases(here) && here < plus(index, JOINING_MOST) => {
+                    if self.is_empty_slot(here) {
+                        self.doubt();
+                    }
                     self.has_open = self.pieces.is(here, b"(")
                         || (self.has_open && !self.pieces.is(here, b")"));
                 }
                 None => self.doubt(),
             }
+        }
+        if self.has_open {
+            self.doubt();
         }
         Ok(())
     }
@@ -87,6 +95,7 @@ impl<'a> Draft<'a> {
                 || self.after_except(next).is_some(),
             Some(Names::Part | Names::All) => {
                 self.after_except(next).is_some()
+                    || self.pieces.begins_tier(next)
                     || matches!(self.pieces.kind(next), Kind::Sec)
                     || (self.pieces.number(next).is_some() && self.pieces.is_dash(plus(next, 1)))
             }
@@ -257,25 +266,6 @@ impl<'a> Draft<'a> {
         Ok(self.remark(index))
     }
 
-    /// The remark at an index.
-    fn remark(&mut self, index: usize) -> Option<Phrase> {
-        let position = if self.names_land {
-            Position::AfterLand
-        } else {
-            Position::BeforeLand
-        };
-        let end = end_of_remark(&self.pieces, index, position)?;
-        // Numbers may be those of lots, beside a section also as a spreadsheet changes them.
-        let is_beside = self.last_names() == Some(Names::Sections);
-        let has_lots = is_beside && !self.pieces.has_word(index, end);
-        if has_lots || self.pieces.are_small_numbers(index, end) {
-            return None;
-        }
-        let is_label = self.pieces.is_label_of_tract(index);
-        self.has_remark = self.has_remark || !is_label;
-        Some(self.phrase(Names::Nothing(Rule::Label), index, end, self.extent()))
-    }
-
     /// The section of a location, or the aliquot part, at an index.
     fn half_or_section(&mut self, index: usize) -> Result<Option<Phrase>, AllocError> {
         let from = self.extent();
@@ -288,64 +278,26 @@ impl<'a> Draft<'a> {
 
     /// The aliquot part at an index, which is doubted if it may be something else.
     fn sure_part(&mut self, index: usize) -> Result<Option<Phrase>, AllocError> {
-        let part = self.part(index)?;
-        if let Some(phrase) = part {
-            self.doubt_part(phrase);
-            if self.pieces.after_fractional(index) > index {
-                self.claims.push(Claim {
-                    place: phrase.end,
-                    what: Claimed::WithLots,
-                })?;
-            }
-        }
-        Ok(part)
-    }
-
-    /// Doubts a part that may be something else: `S2` before any other land, a half after lots, a corner, a part with a
-    /// slash.
-    fn doubt_part(&mut self, part: Phrase) {
-        let digit = plus(part.first, 1);
-        let is_digit = part.end == plus(part.first, 2) && self.pieces.has_digits(digit, 1);
-        let is_south = is_digit && !self.names_land && self.pieces.is(part.first, b"s");
-        let is_location = self.pieces.number(part.end).is_some()
-            && self.pieces.is_dash(plus(part.end, 1));
-        let is_sure = is_location
-            || self.pieces.is(part.end, b"of")
-            || self.pieces.leads_to_section(part.end);
-        if is_south && !is_sure {
-            self.doubt();
-        }
-        // After `S3:`, it may be a section.
-        let is_after_letter = match self.last_section {
-            Some(section) => self.pieces.is(section.first, b"s"),
-            None => false,
+        let Some(part) = self.part(index)? else {
+            return Ok(None);
         };
-        let is_more = self.last_names() != Some(Names::Sections);
-        if is_digit && is_after_letter && is_more && self.pieces.is(part.first, b"s") {
-            self.doubt();
+        self.doubt_part(part);
+        if self.pieces.after_fractional(index) > index {
+            self.claims.push(Claim {
+                place: part.end,
+                what: Claimed::WithLots,
+            })?;
         }
-        let is_half = is_digit && self.pieces.number(digit) == Some(2);
-        if is_half && self.is_after_one_lot() {
-            self.doubt();
+        if !self.pieces.is(part.end, b"thereof") {
+            return Ok(Some(part));
         }
-        if self.pieces.is(part.end, b"corner")
-            || self.pieces.is(part.end, b"cor")
-            || (self.pieces.is(part.end, b"/")
-                && (self.pieces.is_joined(part.end) || self.pieces.is_joined(plus(part.end, 1))))
-        {
-            self.doubt();
-        }
-    }
-
-    /// Whether the phrase before is of one lot, after a word that may be for several.
-    fn is_after_one_lot(&self) -> bool {
-        match self.phrases.last() {
-            Some(phrase) => {
-                phrase.names == Names::Lots
-                    && phrase.numbers.end.saturating_sub(phrase.numbers.first) == 1
-                    && !(self.pieces.is(phrase.first, b"l") || self.pieces.is(phrase.first, b"lot"))
+        match self.last_names() {
+            Some(Names::Except) => Ok(Some(self.part_thereof(part)?)),
+            Some(Names::Part | Names::Lots) => {
+                self.doubt();
+                Ok(Some(part))
             }
-            None => false,
+            _ => Ok(Some(part)),
         }
     }
 }

@@ -49,6 +49,7 @@ impl<'a> Draft<'a> {
         };
         if !self.pieces.is(index, b"a")
             || !is_before_part
+            || next >= self.pieces.len()
             || self.last_names() != Some(Names::Sections)
         {
             return None;

@@ -26,6 +26,10 @@ impl<'a> Draft<'a> {
             self.replace(next, b"all", Rule::Word)?;
             return Ok(Some(self.phrase(Names::All, index, plus(next, 1), from)));
         }
+        if self.pieces.is(next, b"everything") && self.after_except(plus(next, 1)).is_some() {
+            self.replace(next, b"all", Rule::Word)?;
+            return Ok(Some(self.phrase(Names::All, index, plus(next, 1), from)));
+        }
         if !matches!(self.pieces.kind(next), Kind::All) || !self.pieces.may_be_land(next) {
             return Ok(None);
         }
@@ -58,7 +62,6 @@ impl<'a> Draft<'a> {
         for place in index..plus(index, 5) {
             if (self.pieces.is(place, b"public")
                 || self.pieces.is(place, b"domain")
-                || self.pieces.is(place, b"federal")
                 || self.pieces.is(place, b"land")
                 || self.pieces.is(place, b"lands"))
                 && place == next

@@ -25,7 +25,7 @@ struct Lead {
 impl<'a> Pieces<'a> {
     /// Where the acreage at an index ends.
     pub fn end_of_acreage(&self, index: usize) -> Option<usize> {
-        if !self.is(index, b"(") {
+        if !self.is(index, b"(") && !self.is(index, b"[") {
             let end = self.end_of_figure_and_unit(index)?;
             return if self.is_end_of_acreage(end) {
                 Some(end)
@@ -40,7 +40,8 @@ impl<'a> Pieces<'a> {
         if self.is(next, b"spacing") {
             next = plus(next, 1);
         }
-        if self.is(next, b")") {
+        let mark: &'static [u8] = if self.is(index, b"(") { b")" } else { b"]" };
+        if self.is(next, mark) {
             Some(plus(next, 1))
         } else {
             None
@@ -63,6 +64,9 @@ impl<'a> Pieces<'a> {
 
     /// Where acreage ends: words before it, a number, and its unit, before or after the number.
     fn end_of_figure_and_unit(&self, index: usize) -> Option<usize> {
+        if self.is_after_point(index) {
+            return None;
+        }
         let Lead { end, has_unit } = self.lead_of_acreage(index);
         let mut next = match self.end_of_decimal(end) {
             // A few acres may be less than the land.
@@ -119,6 +123,17 @@ impl<'a> Pieces<'a> {
         Some(next)
     }
 
+    /// Whether a number at an index is a fraction, with a point and no number before it, as in `.25 acres`.
+    fn is_after_point(&self, index: usize) -> bool {
+        let point = index.saturating_sub(1);
+        let before = point.saturating_sub(1);
+        self.number(index).is_some()
+            && index > 0
+            && self.is(point, b".")
+            && self.is_joined(index)
+            && !(self.is_joined(point) && matches!(self.kind(before), Kind::Other))
+    }
+
     /// Words before acreage, at an index.
     fn lead_of_acreage(&self, index: usize) -> Lead {
         let mut lead = Lead {
@@ -133,7 +148,9 @@ impl<'a> Pieces<'a> {
             let word = self.lower(place);
             let is_lead = is_acreage_lead(word);
             let is_unit = is_acres(word) || is_same(word, b"acreage");
-            let is_mark = (self.is(place, b":") || self.is(place, b".")) && place > index;
+            let is_mark = (self.is(place, b":") || self.is(place, b"."))
+                && place > index
+                && !self.is_after_point(plus(place, 1));
             if !is_lead && !is_unit && !is_mark && !is_area_word(word) {
                 break;
             }

@@ -3,7 +3,7 @@
 use crate::pieces::{Pieces, plus};
 use twp_grammar::Kind;
 use twp_words::{
-    are_meridian_letters, is_bare_meridian, is_beyond_label, is_boundary, is_meridian,
+    are_meridian_letters, is_bare_meridian, is_beyond_label, is_boundary, is_glued, is_meridian,
     is_meridian_of_two, is_partial, is_state, is_state_of_two,
 };
 
@@ -118,7 +118,14 @@ impl<'a> Pieces<'a> {
         if let Some(end) = self.end_of_meridian_word(word) {
             return Some(end);
         }
-        self.end_of_letters(word)
+        let end = self.end_of_letters(word)?;
+        // Other meridians than principal ones have no number, but for their code, as `08`.
+        let is_principal = self.is(word, b"pm") || self.is(word, b"p");
+        if is_ordinal || is_principal || self.bytes(index).starts_with(b"0") {
+            Some(end)
+        } else {
+            None
+        }
     }
 
     /// Where the name of a meridian at an index ends, with the word for it.
@@ -313,6 +320,7 @@ impl<'a> Pieces<'a> {
             && !is_beyond_label(word)
             && !is_boundary(word)
             && !is_partial(word)
+            && !is_glued(self.bytes(index))
     }
 
     /// Where the word for a county at an index ends.

@@ -3,7 +3,8 @@
 use crate::pieces::{Pieces, plus};
 use twp_grammar::Kind;
 use twp_words::{
-    is_instrument, is_month, is_numeral, is_of_label, is_of_record, is_of_share, is_of_time,
+    is_instrument, is_month, is_numeral, is_of_label, is_of_other_land, is_of_record, is_of_share,
+    is_of_time, is_of_tract,
 };
 
 /// The most pieces of letters and digits without white space.
@@ -21,15 +22,28 @@ impl<'a> Pieces<'a> {
         }
     }
 
-    /// Whether the label of a tract is at an index: first on its line, or after a sentence, as in `Tract 2:`.
+    /// Whether the label of a tract is at an index.
     pub fn is_label_of_tract(&self, index: usize) -> bool {
+        self.end_of_tract(index).is_some()
+    }
+
+    /// Where the label of a tract at an index ends: first on its line, or after a sentence, as `Tract 2:` or `Tr. 2:`.
+    pub fn end_of_tract(&self, index: usize) -> Option<usize> {
+        if !is_of_tract(self.lower(index)) {
+            return None;
+        }
         let before = index.saturating_sub(1);
         let is_apart = self.begins_line(index) || self.is(before, b".") || self.is(before, b";");
-        let number = self.number(plus(index, 1)).unwrap_or(0);
-        is_apart
-            && number <= SECTIONS
-            && (self.is(index, b"tract") || self.is(index, b"parcel") || self.is(index, b"unit"))
-            && self.is(plus(index, 2), b":")
+        let next = plus(index, 1);
+        let is_short = self.is(index, b"tr") && self.is(next, b".") && self.is_joined(next);
+        let place = plus(next, usize::from(is_short));
+        let mark = plus(place, 1);
+        let number = self.number(place).unwrap_or(0);
+        if is_apart && number <= SECTIONS && self.is(mark, b":") {
+            Some(plus(mark, 1))
+        } else {
+            None
+        }
     }
 
     /// Whether a date is at an index, or the volume and the page of a record, as `3/14/1919`, `06-02-1948`, or `61/204`.
@@ -82,7 +96,35 @@ impl<'a> Pieces<'a> {
             has_long = has_long || is_long;
             end = plus(place, 1);
         }
-        if has_long { Some(end) } else { None }
+        if has_long && !self.begins_other_code(index) {
+            Some(end)
+        } else {
+            None
+        }
+    }
+
+    /// Whether letters at an index are before the number of other land, or of lots, as in `TL1200` or `L34567`.
+    pub(crate) fn begins_other_code(&self, index: usize) -> bool {
+        let next = plus(index, 1);
+        let is_number = matches!(self.kind(next), Kind::Number(_) | Kind::BadNumber);
+        let is_lots = matches!(self.kind(index), Kind::Lot)
+            || self.is(index, b"l")
+            || self.is(index, b"lt")
+            || self.is(index, b"lts");
+        (is_lots && is_number) || is_of_other_land(self.lower(index))
+    }
+
+    /// Whether a word for a section, as scanning leaves it, is at an index, with its number, as `See.10`.
+    pub fn is_like_section(&self, index: usize) -> bool {
+        let point = plus(index, 1);
+        let number = plus(index, 2);
+        let value = self.number(number).unwrap_or(0);
+        let is_worn = matches!(self.lower(number), [b'i' | b'l' | b'o', ..])
+            && self.bytes(number).len() <= 2;
+        matches!(self.lower(index), [b's', _, _])
+            && self.is(point, b".")
+            && self.is_joined(point)
+            && ((value >= 1 && value <= SECTIONS) || is_worn)
     }
 
     /// Whether a share of an interest is at an index, as in `1/2 min.`, `1/3 int only`, or `0.01562500 RI`.
@@ -108,7 +150,11 @@ impl<'a> Pieces<'a> {
         let before = index.saturating_sub(1);
         let next = plus(index, 1);
         let word = self.lower(before);
-        let is_record = is_of_label(word) || is_instrument(word) || is_of_record(word);
+        let is_numbered = self.is(before, b".") && self.is(before.saturating_sub(1), b"no");
+        let is_record = is_numbered
+            || is_of_label(word)
+            || is_instrument(word)
+            || is_of_record(word);
         let is_end = self.is_joined(index)
             && (self.is(before, b"/")
                 || self.is(before, b".")
@@ -148,6 +194,17 @@ impl<'a> Pieces<'a> {
             }
         }
         self.number(first).is_some()
+    }
+
+    /// Whether a number of three digits or more is among some pieces.
+    pub fn has_long_number(&self, first: usize, end: usize) -> bool {
+        for index in first..end {
+            let is_number = matches!(self.kind(index), Kind::Number(_) | Kind::BadNumber);
+            if is_number && self.bytes(index).len() >= 3 {
+                return true;
+            }
+        }
+        false
     }
 
     /// Whether a word of two letters or more is among some pieces, which is no month.

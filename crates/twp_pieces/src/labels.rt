@@ -52,6 +52,12 @@ impl<'a> Pieces<'a> {
 
     /// Where the name of the column for aliquot parts at an index ends, as `ALIQ`, or `Type: ALIQ Subdiv:`.
     pub fn end_of_column_label(&self, index: usize) -> Option<usize> {
+        if !matches!(self.kind(index), Kind::Other) {
+            return None;
+        }
+        if self.is_label_of_part(index) {
+            return Some(plus(index, 3));
+        }
         let mut end: Option<usize> = None;
         let mut next = index;
         for place in index..plus(index, 6) {
@@ -65,7 +71,8 @@ impl<'a> Pieces<'a> {
                 || is_same(word, b"aliquots")
                 || ((is_same(word, b"subdivision") || is_same(word, b"subdiv"))
                     && self.is_before_column(after))
-                || (is_same(word, b"legal") && index > 0);
+                || ((is_same(word, b"legal") || is_same(word, b"lgl")) && index > 0)
+                || (is_same(word, b"qtr") && self.is_after_section(place));
             let is_before_colon = is_field(word) && self.is(after, b":");
             if !is_name && !is_before_colon {
                 break;
@@ -81,6 +88,23 @@ impl<'a> Pieces<'a> {
             end = Some(next);
         }
         end
+    }
+
+    /// Whether `Aliquot Part:` is at an index.
+    fn is_label_of_part(&self, index: usize) -> bool {
+        let part = plus(index, 1);
+        self.is(index, b"aliquot")
+            && (self.is(part, b"part") || self.is(part, b"parts"))
+            && self.is(plus(part, 1), b":")
+    }
+
+    /// Whether a section, with the word for it, is before an index, and an aliquot part after it.
+    fn is_after_section(&self, index: usize) -> bool {
+        let number = index.saturating_sub(1);
+        let word = number.saturating_sub(1);
+        let is_section = matches!(self.kind(word), Kind::Sec)
+            || (self.is(word, b".") && matches!(self.kind(word.saturating_sub(1)), Kind::Sec));
+        is_section && self.number(number).is_some() && self.begins_part(plus(index, 1))
     }
 
     /// Whether land follows the name of its column at an index. After lots, `Subdivision` may be that of a town.
@@ -155,10 +179,19 @@ impl<'a> Pieces<'a> {
         None
     }
 
+    /// Whether a township begins at an index: the word for it, or a number with its side.
+    pub fn begins_tier(&self, index: usize) -> bool {
+        let side = plus(index, 1);
+        self.is_township_word(index)
+            || (self.number(index).is_some() && self.is_joined(side) && self.is_north_south(side))
+    }
+
     /// Whether the word for a township or a range is at an index.
     pub fn is_township_word(&self, index: usize) -> bool {
         let word = self.lower(index);
-        (matches!(self.kind(index), Kind::T | Kind::R) && self.number(plus(index, 1)).is_some())
+        let next = plus(index, 1);
+        let number = plus(next, usize::from(self.is(next, b".")));
+        (matches!(self.kind(index), Kind::T | Kind::R) && self.number(number).is_some())
             || is_same(word, b"township")
             || is_same(word, b"twp")
             || is_same(word, b"range")

@@ -188,6 +188,20 @@ impl<'a> Pieces<'a> {
         false
     }
 
+    /// Whether an empty cell is between the piece at an index and the one before it: a tab, and the end of the line or of
+    /// the text.
+    pub fn has_empty_cell(&self, index: usize) -> bool {
+        let white = self.text.get(self.end_before(index)..self.start(index));
+        let mut has_tab = false;
+        for byte in white.unwrap_or(b"") {
+            if has_tab && *byte == b'\n' {
+                return true;
+            }
+            has_tab = has_tab || *byte == b'\t';
+        }
+        has_tab && index >= self.len()
+    }
+
     /// Whether a byte of white space, as a tab, is between the piece at an index and the one before it.
     pub fn has_before(&self, index: usize, byte: u8) -> bool {
         let white = self.text.get(self.end_before(index)..self.start(index));

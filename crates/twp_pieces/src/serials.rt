@@ -47,7 +47,7 @@ impl<'a> Pieces<'a> {
             has_long = is_number && (self.bytes(place).len() >= least || has_long);
             end = plus(place, 1);
         }
-        if has_long && !limits_land(self.lower(index)) {
+        if has_long && !limits_land(self.lower(index)) && !self.begins_other_code(index) {
             Some(end)
         } else {
             None

@@ -2,8 +2,9 @@
 //! depths, rights, and records after land. What may name land, take some away, or bound it, is none of them.
 #![tactic(auto)]
 
+mod marks;
 mod remarks;
 mod trailers;
 
 pub use remarks::{Position, end_of_remark};
-pub use trailers::end_of_trailer;
+pub use trailers::{begins_depths, end_of_trailer};

@@ -1,11 +1,15 @@
 //! Remarks beside land: a cell, a line, a sentence, or parentheses that name no land.
 
+use crate::marks::{
+    begins_tract, has_no_title, is_homesite_of_acreage, is_initial, is_known_at,
+    is_metes_and_bounds, is_more, is_of_well, is_title_of_other,
+};
 use crate::trailers::end_of_depths;
 use twp_grammar::Kind;
 use twp_pieces::{Pieces, plus};
 use twp_words::{
     adds_land, alters_land, begins_reference, begins_terms, has_side, is_acres, is_beyond_label,
-    is_boundary, is_feature, is_instrument, is_month, is_numeral, is_of_covering, is_of_label,
+    is_boundary, is_glued, is_instrument, is_month, is_numeral, is_of_covering, is_of_label,
     is_of_record, is_of_time, is_of_water, is_partial, is_round_acreage, limits_land,
     may_be_corners, names_parcel, points_into,
 };
@@ -15,6 +19,9 @@ const PIECES_MOST: usize = 64;
 
 /// The number of a township's last section: a remark doesn't begin or end with a number up to this.
 const SECTIONS: u16 = 36;
+
+/// The acres of a quarter section.
+const QUARTER_ACRES: u16 = 160;
 
 /// Where a label is.
 #[derive(Clone, Copy, PartialEq, Eq)]
@@ -30,22 +37,23 @@ pub fn end_of_remark(pieces: &Pieces<'_>, index: usize, position: Position) -> O
     if pieces.is(index, b"(") {
         return end_of_parentheses(pieces, index);
     }
-    if pieces.is_label_of_tract(index) {
-        return Some(plus(index, 3));
+    if let Some(end) = pieces.end_of_tract(index) {
+        return Some(end);
     }
     if !begins_remark(pieces, index, position) {
         return None;
     }
     let mut has_word = false;
+    let mut is_sure = begins_tract(pieces, index) || is_homesite_of_acreage(pieces, index);
     let mut next = index;
     for place in index..plus(index, PIECES_MOST) {
         let is_last = place >= pieces.len();
         if place > index && (is_last || ends_remark(pieces, place, position)) {
             let last = place.saturating_sub(1);
             let is_whole = (!is_last || position == Position::AfterLand)
-                && !(position == Position::BeforeLand && is_feature(pieces.lower(last)))
+                && !(position == Position::BeforeLand && is_title_of_other(pieces, last))
                 && !(place > plus(index, 1) && points_into(pieces.lower(last)));
-            return if has_word && is_whole {
+            return if has_word && is_whole && (is_sure || position == Position::BeforeLand) {
                 let is_colon = matches!(pieces.kind(place), Kind::Colon)
                     && !pieces.begins_column(place);
                 Some(plus(place, usize::from(is_colon)))
@@ -59,6 +67,7 @@ pub fn end_of_remark(pieces: &Pieces<'_>, index: usize, position: Position) -> O
         if let Some(end) = pieces.end_of_code(place) {
             next = end;
             has_word = true;
+            is_sure = true;
             continue;
         }
         let is_name = position == Position::BeforeLand
@@ -69,25 +78,21 @@ pub fn end_of_remark(pieces: &Pieces<'_>, index: usize, position: Position) -> O
             && place > index
             && !pieces.is(index, b"total")
             && !is_price;
-        // Less than 100 acres may be less than the land that follows.
+        // Less than a quarter section may be less than the land that follows.
         let figure = place.saturating_sub(1);
         let is_area = position == Position::BeforeLand
             && is_acres(pieces.lower(place))
             && place > index
-            && !(pieces.number(figure).is_some() && pieces.bytes(figure).len() >= 3);
+            && (pieces.is(plus(place, 1), b"of")
+                || !(pieces.number(figure).unwrap_or(0) >= QUARTER_ACRES));
         let is_after = position == Position::AfterLand
             && (is_parcel
                 || is_boundary(pieces.lower(place))
                 || limits_land_at(pieces, place)
                 || may_end_label(pieces, place));
-        // The name of a well may have the numbers of two sections.
-        let before = place.saturating_sub(1);
         let is_of_well = position == Position::BeforeLand
-            && (matches!(pieces.kind(before), Kind::Other) || pieces.is(before, b"#"))
             && place > index
-            && pieces.is_dash(plus(place, 1))
-            && pieces.is_joined(plus(place, 1))
-            && pieces.is_joined(plus(place, 2));
+            && is_of_well(pieces, place);
         if (is_beyond_remark(pieces, place) && !is_name)
             || is_after
             || is_area
@@ -96,6 +101,7 @@ pub fn end_of_remark(pieces: &Pieces<'_>, index: usize, position: Position) -> O
             return None;
         }
         has_word = has_word || says_something(pieces, place);
+        is_sure = is_sure || is_known_at(pieces, place);
     }
     None
 }
@@ -121,9 +127,10 @@ fn begins_remark(pieces: &Pieces<'_>, index: usize, position: Position) -> bool 
         || is_after_comma
         || is_after_stop
         || is_after_acreage;
-    let is_new = position == Position::AfterLand
-        && adds_land(pieces.lower(index))
-        && !(pieces.has_before(index, b'\n') && pieces.begins_column(plus(index, 2)));
+    let is_new = match position {
+        Position::AfterLand => adds_land(pieces.lower(index)) && !begins_tract(pieces, index),
+        Position::BeforeLand => is_more(pieces.lower(index)),
+    };
     let is_first = match pieces.kind(index) {
         Kind::Number(number) => {
             number > SECTIONS
@@ -141,12 +148,6 @@ fn begins_remark(pieces: &Pieces<'_>, index: usize, position: Position) -> bool 
             || pieces.end_of_code(index).is_some(),
     };
     (is_apart || pieces.is_share(index)) && is_first && !is_new
-}
-
-/// Whether the initial of a name is at an index, as in `H. J. Stoddard`: a letter that is no side, and a period.
-fn is_initial(pieces: &Pieces<'_>, index: usize) -> bool {
-    let next = plus(index, 1);
-    matches!(pieces.kind(index), Kind::Other) && pieces.is(next, b".") && pieces.is_joined(next)
 }
 
 /// Whether a remark ends before a piece, or with it, if it is a colon.
@@ -177,7 +178,11 @@ fn is_beyond_remark(pieces: &Pieces<'_>, index: usize) -> bool {
         || pieces.is(index, b"?")
         || (pieces.is(index, b"'") && pieces.number(index.saturating_sub(1)).is_some())
         || may_be_corners(pieces.lower(index))
-        || alters_land(pieces.lower(index))
+        || (alters_land(pieces.lower(index)) && !is_homesite_of_acreage(pieces, index))
+        || is_glued(pieces.bytes(index))
+        || pieces.is_like_section(index)
+        || is_metes_and_bounds(pieces, index)
+        || (pieces.is(index, b"no") && has_no_title(pieces.lower(plus(index, 1))))
         || (pieces.is(index, b"/")
             && (pieces.is(plus(index, 1), b"2") || pieces.is(plus(index, 1), b"4"))
             && !pieces.is_date(index.saturating_sub(1)))
@@ -195,7 +200,12 @@ fn is_of_calendar(pieces: &Pieces<'_>, index: usize) -> bool {
 /// acreage that land is called by, or a size, as in `300 x 300`.
 fn limits_land_at(pieces: &Pieces<'_>, index: usize) -> bool {
     let word = pieces.lower(index);
+    let next = plus(index, 1);
+    let is_rest = pieces.is(index, b"net")
+        && (pieces.is(next, b"of") || pieces.number(next).is_some());
     limits_land(word)
+        || is_rest
+        || (pieces.is(index, b"sale") && pieces.is(next, b"to"))
         || has_side(word)
         || (is_numeral(word) && adds_section(pieces, plus(index, 1)))
         || is_size_or_acreage(pieces, index)
@@ -264,7 +274,14 @@ fn end_of_parentheses(pieces: &Pieces<'_>, index: usize) -> Option<usize> {
     }
     let is_lease = (pieces.is(next, b"state") || pieces.is(next, b"federal"))
         && pieces.is(plus(next, 1), b"lease");
-    if !(is_lease || begins_reference(first) || begins_terms(first)) {
+    let is_owner = pieces.is(next, b"owner") && pieces.is(plus(next, 1), b"no");
+    let is_status = (pieces.is(next, b"both") || pieces.is(next, b"all"))
+        && begins_terms(pieces.lower(plus(next, 1)))
+        && pieces.is(plus(next, 2), b")");
+    if is_status {
+        return Some(plus(next, 3));
+    }
+    if !(is_lease || is_owner || begins_reference(first) || begins_terms(first)) {
         return None;
     }
     for place in plus(index, 1)..plus(index, 8) {

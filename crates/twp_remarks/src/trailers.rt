@@ -1,5 +1,6 @@
 //! What is said after land, and isn't land: `limited to the Lance formation`, `recorded in Book 3`, `HBP`.
 
+use crate::marks::is_metes_and_bounds;
 use crate::remarks::is_size_or_acreage;
 use twp_grammar::Kind;
 use twp_pieces::{Pieces, plus};
@@ -71,7 +72,10 @@ fn is_word_of(pieces: &Pieces<'_>, trailer: Trailer, index: usize) -> bool {
         Trailer::Depths => is_of_depth(word),
         Trailer::Reserved => is_of_estate(word),
         Trailer::Granted => is_of_appurtenance(word),
-        Trailer::Terms | Trailer::Rights | Trailer::Office | Trailer::Survey => true,
+        Trailer::Survey => {
+            is_same(word, b"official") || is_same(word, b"government") || is_same(word, b"govt")
+        }
+        Trailer::Terms | Trailer::Rights | Trailer::Office => true,
     }
 }
 
@@ -90,15 +94,34 @@ fn is_beyond_trailer(pieces: &Pieces<'_>, trailer: Trailer, index: usize) -> boo
     let is_part = trailer != Trailer::Office
         && (is_parcel || is_partial(word) || pieces.may_be_section(index));
     let is_beyond = match trailer {
-        Trailer::Terms => is_beyond_terms(word) || is_size_or_acreage(pieces, index),
+        Trailer::Terms => {
+            is_beyond_terms(word)
+                || limits_land(word)
+                || is_size_or_acreage(pieces, index)
+                || is_metes_and_bounds(pieces, index)
+                || (pieces.is(index, b"&") && begins_terms(pieces.lower(plus(index, 1))))
+        }
         Trailer::Depths => limits_land(word) || is_site(word) || is_beyond_depths(word),
-        Trailer::Rights => is_conveyance(word),
+        Trailer::Rights => {
+            is_conveyance(word)
+                || (is_same(word, b"boundary") && pieces.is(plus(index, 1), b"line"))
+        }
         Trailer::Granted => {
             is_same(word, b"lands")
                 || is_same(word, b"place")
                 || is_same(word, b"street")
                 || is_same(word, b"bed")
                 || is_same(word, b"ground")
+                || is_same(word, b"farm")
+                || is_same(word, b"field")
+                || is_same(word, b"meadow")
+                || is_same(word, b"mill")
+                || is_same(word, b"mining")
+                || is_same(word, b"property")
+                || is_same(word, b"quarry")
+                || is_same(word, b"reservoir")
+                || is_same(word, b"tracts")
+                || is_same(word, b"acreage")
         }
         _ => false,
     };
@@ -153,7 +176,7 @@ fn trailer_at(pieces: &Pieces<'_>, index: usize) -> Option<Trailer> {
     if is_same(word, b"as") {
         return if pieces.is(next, b"to") {
             Some(Trailer::Depths)
-        } else if pieces.is(next, b"shown") {
+        } else if pieces.is(next, b"shown") && is_soon(pieces, next, b"official") {
             Some(Trailer::Terms)
         } else {
             None
@@ -198,11 +221,35 @@ fn trailer_at(pieces: &Pieces<'_>, index: usize) -> Option<Trailer> {
     {
         return Some(Trailer::Depths);
     }
-    if begins_terms(word) {
-        Some(Trailer::Terms)
-    } else {
-        None
+    if !begins_terms(word) {
+        return None;
     }
+    // A book without a page may be a block.
+    let is_book = is_same(word, b"bk") || is_same(word, b"book");
+    let has_page = is_soon(pieces, index, b"pg")
+        || is_soon(pieces, index, b"p")
+        || is_soon(pieces, index, b"page")
+        || is_soon(pieces, index, b"/");
+    if is_book && !has_page {
+        None
+    } else {
+        Some(Trailer::Terms)
+    }
+}
+
+/// Whether a word is among the next pieces after an index.
+fn is_soon(pieces: &Pieces<'_>, index: usize, word: &[u8]) -> bool {
+    for place in plus(index, 1)..plus(index, 8) {
+        if pieces.is(place, word) {
+            return true;
+        }
+    }
+    false
+}
+
+/// Whether depths begin at an index.
+pub fn begins_depths(pieces: &Pieces<'_>, index: usize) -> bool {
+    trailer_at(pieces, index) == Some(Trailer::Depths)
 }
 
 /// Whether the grantor before an index reserves something, as in `Grantor herein excepting and reserving`.
@@ -238,7 +285,14 @@ fn may_be_land_beside_rights(pieces: &Pieces<'_>, index: usize) -> bool {
         Kind::All => false,
         Kind::Other if pieces.is(index, b"land") || pieces.is(index, b"lands") => {
             let before = index.saturating_sub(2);
-            pieces.is(plus(before, 1), b"the")
+            let word = plus(before, 1);
+            if pieces.is(word, b"any")
+                || pieces.is(word, b"other")
+                || pieces.is(word, b"railroad")
+            {
+                return true;
+            }
+            pieces.is(word, b"the")
                 && !(pieces.is(before, b"in")
                     || pieces.is(before, b"of")
                     || pieces.is(before, b"under"))

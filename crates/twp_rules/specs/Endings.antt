@@ -83,7 +83,7 @@ state_letters = codes "id" ∷ codes "wy" ∷ codes "nv" ∷ codes "ca" ∷ code
 abbrev pub acreage_ends : List (List ℕ)
 acreage_ends = codes "acres" ∷ codes "acre" ∷ codes "ac" ∷ codes "acres." ∷ codes "ac." ∷ codes "less"
     ∷ codes "m/l" ∷ codes ")" ∷ codes "pooled" ∷ codes "total" ∷ codes "net" ∷ codes "gross" ∷ codes "/-"
-    ∷ codes "acs" ∷ codes "acs." ∷ []
+    ∷ codes "acs" ∷ codes "acs." ∷ codes "]" ∷ []
 
 -- or begins with, after white space
 abbrev pub acreage_fronts : List (List ℕ)

@@ -157,7 +157,8 @@ abbrev pub heading_words : List Entry
 heading_words = (codes "township" ⇒ codes "T.") ∷ (codes "twp" ⇒ codes "T.") ∷ (codes "tp" ⇒ codes "T.")
     ∷ (codes "twsp" ⇒ codes "T.") ∷ (codes "range" ⇒ codes "R.") ∷ (codes "rng" ⇒ codes "R.")
     ∷ (codes "rge" ⇒ codes "R.") ∷ (codes "rg" ⇒ codes "R.") ∷ left_out (codes "in") ∷ left_out (codes "of")
-    ∷ (codes "0sn" ⇒ codes ", sec. ") ∷ left_out (codes "a") ∷ left_out (codes "numbered") ∷ []
+    ∷ (codes "0sn" ⇒ codes ", sec. ") ∷ left_out (codes "a") ∷ left_out (codes "numbered")
+    ∷ left_out (codes "aliquot part:") ∷ []
 
 -- and the marks in them
 abbrev pub heading_marks : List Entry
@@ -186,7 +187,7 @@ lot_words = (codes "l" ⇒ codes "lot ") ∷ (codes "lt" ⇒ codes "lot ") ∷ (
     ∷ left_out (codes "government") ∷ left_out (codes "govt") ∷ left_out (codes "gov")
     ∷ left_out (codes "t") ∷ left_out (codes "u") ∷ left_out (codes "s") ∷ left_out (codes "the")
     ∷ left_out (codes "numbered") ∷ left_out (codes "no") ∷ left_out (codes "nos")
-    ∷ (codes "gl" ⇒ codes "lot ") ∷ []
+    ∷ (codes "gl" ⇒ codes "lot ") ∷ (codes "iot" ⇒ codes "lot") ∷ (codes "iots" ⇒ codes "lots") ∷ []
 
 -- and marks in them
 abbrev pub lot_marks : List Entry
@@ -241,7 +242,8 @@ more_little_words = left_out (codes "public") ∷ left_out (codes "domain") ∷ 
 abbrev pub joining_words : List Entry
 joining_words = left_out (codes "also") ∷ left_out (codes "together") ∷ left_out (codes "with")
     ∷ left_out (codes "not") ∷ left_out (codes "exception") ∷ left_out (codes "inclusive")
-    ∷ left_out (codes "incl") ∷ left_out (codes "both") ∷ left_out (codes "numbered") ∷ []
+    ∷ left_out (codes "incl") ∷ left_out (codes "both") ∷ left_out (codes "numbered")
+    ∷ (codes "everything" ⇒ codes "all") ∷ []
 
 -- ZEROS: before the other digits of a number
 abbrev pub zeros : List Entry

@@ -54,6 +54,7 @@ pub(crate) fn has_acreage_ends(seen: &[u8]) -> bool
         || ends_with(seen, b"/-")
         || ends_with(seen, b"acs")
         || ends_with(seen, b"acs.")
+        || ends_with(seen, b"]")
 }
 
 /// The texts `acreage_fronts` of the specification.

@@ -175,6 +175,7 @@ pub(crate) fn is_in_joining_words(seen: &[u8], written: &[u8]) -> bool
         || is_row(seen, written, b"incl", b"")
         || is_row(seen, written, b"both", b"")
         || is_row(seen, written, b"numbered", b"")
+        || is_row(seen, written, b"everything", b"all")
 }
 
 /// The table `heading_words` of the specification.
@@ -194,6 +195,7 @@ pub(crate) fn is_in_heading_words(seen: &[u8], written: &[u8]) -> bool
         || is_row(seen, written, b"0sn", b", sec. ")
         || is_row(seen, written, b"a", b"")
         || is_row(seen, written, b"numbered", b"")
+        || is_row(seen, written, b"aliquot part:", b"")
 }
 
 /// The table `headings` of the specification.
@@ -268,6 +270,8 @@ pub(crate) fn is_in_lot_words(seen: &[u8], written: &[u8]) -> bool
         || is_row(seen, written, b"no", b"")
         || is_row(seen, written, b"nos", b"")
         || is_row(seen, written, b"gl", b"lot ")
+        || is_row(seen, written, b"iot", b"lot")
+        || is_row(seen, written, b"iots", b"lots")
 }
 
 /// The table `more_marks` of the specification.

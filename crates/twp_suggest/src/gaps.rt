@@ -88,7 +88,8 @@ impl<'a> Writer<'a> {
             }
         }
         let left_out = list.get(next..).unwrap_or(&[]);
-        if left_out.is_empty() && self.may_be_cut_off(before) {
+        let last = list.last().map_or(0, |placed| placed.phrase.end);
+        if (left_out.is_empty() && self.may_be_cut_off(before)) || self.leads_nowhere(last) {
             self.plan.draft.doubt();
         }
         self.write_gap(before, None, left_out, &mut out)?;
@@ -109,6 +110,30 @@ impl<'a> Writer<'a> {
             }
         }
         false
+    }
+
+    /// Whether a word or a mark after the last phrase leads to more, which is missing.
+    fn leads_nowhere(&self, last: usize) -> bool {
+        let pieces = &self.plan.draft.pieces;
+        let word = last.saturating_sub(1);
+        if pieces.is(word, b"in") || pieces.is(word, b"of") || pieces.is(word, b"under") {
+            return true;
+        }
+        for index in last..pieces.len() {
+            if self.is_word(index) || self.leads_on(index) {
+                return true;
+            }
+        }
+        false
+    }
+
+    /// Whether a word or a mark at an index leads from land to more of it.
+    fn leads_on(&self, index: usize) -> bool {
+        let pieces = &self.plan.draft.pieces;
+        pieces.is(index, b"also")
+            || pieces.is(index, b"together")
+            || pieces.is(index, b"+")
+            || pieces.is(index, b"/")
     }
 
     /// The changes in a phrase.
@@ -200,7 +225,9 @@ impl<'a> Writer<'a> {
         let is_quarter_of_half = half.ends_with(b"2")
             && quarter.ends_with(b"4")
             && quarter.get(..2).unwrap_or(b"").contains(&side);
-        if is_quarter_of_half || (is_half && self.plan.draft.have_same_steps(*one, *other)) {
+        let is_twice = is_half && self.plan.draft.have_same_steps(*one, *other);
+        let is_spaced = self.is_spaced(*one) && self.is_spaced(*other);
+        if is_quarter_of_half || (is_twice && !is_spaced) || self.may_be_again(gap, *one, *other) {
             self.plan.draft.doubt();
         }
         let start = self.plan.draft.pieces.end_before(gap.first);
@@ -222,6 +249,32 @@ impl<'a> Writer<'a> {
             out.options.push(change(start, end, b"", Rule::OnePart))?;
         }
         self.note_joint(begin, middle, out)
+    }
+
+    /// Whether one of two parts may be the other again, or a part of it, in a cell of its own: `SWSE SWSE`, `N2SE SE`.
+    fn may_be_again(&self, gap: Gap, one: Phrase, other: Phrase) -> bool {
+        let draft = &self.plan.draft;
+        let is_same = draft.steps_of(one).len() > 1 && draft.have_same_steps(one, other);
+        let is_again = match (draft.steps_of(one), draft.steps_of(other)) {
+            ([half], [first, _, ..]) => {
+                other.form == Form::WithOf
+                    && half.written.ends_with(b"2")
+                    && half.written == first.written
+            }
+            _ => false,
+        };
+        is_same
+            || is_again
+            || draft.ends_with_steps_of(one, other)
+            || (draft.pieces.has_break_before(gap.end) && draft.ends_with_steps_of(other, one))
+    }
+
+    /// Whether white space is between the letter of a half and its fraction, as in `N 1/2`, so that white space after it
+    /// separates no parts.
+    fn is_spaced(&self, half: Phrase) -> bool {
+        let fraction = plus(half.first, 1);
+        matches!(self.plan.draft.pieces.kind(fraction), Kind::Half)
+            && !self.plan.draft.pieces.is_joined(fraction)
     }
 
     /// Notes a joint whose options are from one index on, and those of the second way from another. A text with too many
@@ -367,7 +420,8 @@ impl<'a> Writer<'a> {
             if index < next {
                 continue;
             }
-            if self.is_word(index) && !self.may_leave_out(index, gap, rest) {
+            let is_lost = gap.first == 0 && self.leads_on(index);
+            if is_lost || (self.is_word(index) && !self.may_leave_out(index, gap, rest)) {
                 self.plan.draft.doubt();
             }
             match mark {
@@ -434,7 +488,13 @@ impl<'a> Writer<'a> {
             || self.plan.draft.pieces.is(index, b"said"))
             && gap.end > index
             && rest.is_empty();
-        is_before_moved || is_and || is_the || gap.first == 0
+        let is_of = self.plan.draft.pieces.is(index, b"of")
+            && !self.plan.draft.pieces.is(index.saturating_sub(1), b"all");
+        let is_first = gap.first == 0
+            && !(is_of
+                || self.plan.draft.pieces.is(index, b"and")
+                || self.plan.draft.pieces.is(index, b"&"));
+        is_before_moved || is_and || is_the || is_first
     }
 
     /// Leaves out a phrase, with the white space before it, but for words that a rule looks at as a whole.

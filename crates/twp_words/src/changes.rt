@@ -1,9 +1,15 @@
 //! Words that change which land is meant: corrections, parts of it, sizes, and what is reserved or granted with it.
 
+use crate::doubts::{casts_doubt, casts_doubt_after};
 use crate::same::is_same;
 
 /// Words by which land isn't meant any more, or other land is: no remark, label, or term has them.
 pub fn alters_land(word: &[u8]) -> bool {
+    changes_land(word) || casts_doubt(word)
+}
+
+/// Words by which land is changed.
+fn changes_land(word: &[u8]) -> bool {
     match word {
         [b'a', ..] => { is_same(word, b"abuts") || is_same(word, b"alternate") }
         [b'b', ..] => {
@@ -126,7 +132,8 @@ pub fn alters_land(word: &[u8]) -> bool {
 
 /// Words for sizes, places, and parts: after land, no remark has them, and no limit to depths.
 pub fn limits_land(word: &[u8]) -> bool {
-    is_same(word, b"acreage")
+    casts_doubt_after(word)
+        || is_same(word, b"acreage")
         || is_same(word, b"area")
         || is_same(word, b"around")
         || is_same(word, b"bds")
@@ -258,7 +265,21 @@ pub fn is_of_survey(word: &[u8]) -> bool {
 /// Words for a place in land: what is reserved or granted there is land.
 pub fn is_site(word: &[u8]) -> bool {
     is_same(word, b"bed")
+        || is_same(word, b"acreage")
         || is_same(word, b"burial")
+        || is_same(word, b"cabin")
+        || is_same(word, b"church")
+        || is_same(word, b"corrals")
+        || is_same(word, b"farm")
+        || is_same(word, b"home")
+        || is_same(word, b"meadow")
+        || is_same(word, b"mill")
+        || is_same(word, b"much")
+        || is_same(word, b"pit")
+        || is_same(word, b"quarry")
+        || is_same(word, b"rr")
+        || is_same(word, b"schoolyard")
+        || is_same(word, b"streets")
         || is_same(word, b"field")
         || is_same(word, b"canal")
         || is_same(word, b"creek")

@@ -122,11 +122,11 @@ pub fn is_damaged_corner(bytes: &[u8]) -> bool {
 }
 
 /// Whether a word is a side and a letter that scanning makes of a `1`, before a slash, as in `Wl/2`, or of `1/`, as in
-/// `WY2`.
+/// `WY2` or `WV2`.
 pub fn is_damaged_half(bytes: &[u8], rest: Option<&[u8]>) -> bool {
     match bytes {
         [b'N' | b'S' | b'E' | b'W', b'l' | b'I' | b'i'] => matches!(rest, Some([b'/', ..])),
-        [b'N' | b'S' | b'E' | b'W', b'Y'] => matches!(rest, Some([b'2', ..])),
+        [b'N' | b'S' | b'E' | b'W', b'Y' | b'V'] => matches!(rest, Some([b'2', ..])),
         _ => false,
     }
 }

@@ -22,6 +22,37 @@ pub fn is_of_label(word: &[u8]) -> bool {
         || is_same(word, b"class")
 }
 
+/// Words for a tract, with which the label of one begins, as `Tract 2:` or `Tr. 2:`.
+pub fn is_of_tract(word: &[u8]) -> bool {
+    is_same(word, b"tract")
+        || is_same(word, b"parcel")
+        || is_same(word, b"unit")
+        || is_same(word, b"tr")
+}
+
+/// Letters before the number of other land, as `TL1200` of a tax lot, or `MS-4411` of a mineral survey.
+pub fn is_of_other_land(word: &[u8]) -> bool {
+    is_same(word, b"bla")
+        || is_same(word, b"cos")
+        || is_same(word, b"esmt")
+        || is_same(word, b"hes")
+        || is_same(word, b"lla")
+        || is_same(word, b"ms")
+        || is_same(word, b"mss")
+        || is_same(word, b"parcel")
+        || is_same(word, b"pcl")
+        || is_same(word, b"plat")
+        || is_same(word, b"replat")
+        || is_same(word, b"ros")
+        || is_same(word, b"row")
+        || is_same(word, b"sub")
+        || is_same(word, b"subd")
+        || is_same(word, b"tl")
+        || is_same(word, b"tr")
+        || is_same(word, b"tract")
+        || is_same(word, b"tx")
+}
+
 /// Words for instruments and where they are recorded, with which such a label begins, too.
 pub fn is_instrument(word: &[u8]) -> bool {
     is_same(word, b"wd")
@@ -419,6 +450,9 @@ pub fn adds_land(word: &[u8]) -> bool {
         || is_same(word, b"on")
         || is_same(word, b"from")
         || is_same(word, b"by")
+        || is_same(word, b"gov")
+        || is_same(word, b"government")
+        || is_same(word, b"govt")
         || is_same(word, b"tract")
         || is_same(word, b"parcel")
         || is_same(word, b"site")

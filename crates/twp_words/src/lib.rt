@@ -4,7 +4,9 @@
 
 mod changes;
 mod directions;
+mod doubts;
 mod figures;
+mod known;
 mod labels;
 mod meridians;
 mod parties;
@@ -21,12 +23,14 @@ pub use directions::{
     is_damaged_corner, is_damaged_half, is_worn_corner, is_worn_section, letters_of, tens_of,
     value_of,
 };
+pub use doubts::is_doubtful_title;
 pub use figures::{
     is_acreage_lead, is_acres, is_area_word, is_numeral, is_of_count, value_of_count,
 };
+pub use known::is_known;
 pub use labels::{
     adds_land, is_beyond_label, is_column, is_feature, is_field, is_instrument, is_of_covering,
-    is_of_label, is_of_property, is_of_water, points_into,
+    is_of_label, is_of_other_land, is_of_property, is_of_tract, is_of_water, points_into,
 };
 pub use meridians::{
     are_meridian_letters, is_bare_meridian, is_meridian, is_meridian_of_two, is_state,
@@ -37,7 +41,7 @@ pub use parties::{
     is_owner, is_partial, is_whose, may_be_corners,
 };
 pub use requests::{begins_request, is_of_request};
-pub use same::{are_corners, is_one_of, is_same, size_of_character};
+pub use same::{are_corners, is_glued, is_one_of, is_same, size_of_character};
 pub use steps::{Size, written_step};
 pub use terms::{
     begins_terms, is_beyond_depths, is_beyond_terms, is_boundary, is_conveyance, is_of_depth,

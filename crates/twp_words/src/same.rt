@@ -18,6 +18,24 @@ pub fn are_corners(letters: &[u8]) -> bool {
     true
 }
 
+/// Whether a word begins with corners in capitals, and goes on as another word, from which a line end was lost, as in
+/// `NENWCanyon`.
+pub fn is_glued(word: &[u8]) -> bool {
+    let mut rest = word;
+    for _ in 0..4 {
+        match rest {
+            [b'N' | b'S', b'E' | b'W', more @ ..] => rest = more,
+            _ => break,
+        }
+    }
+    let is_name = match rest {
+        [b'A'..=b'Z', b'a'..=b'z', ..] => true,
+        [b'a'..=b'z', b'a'..=b'z', b'a'..=b'z', b'a'..=b'z', ..] => true,
+        _ => false,
+    };
+    rest.len() < word.len() && is_name
+}
+
 /// Whether bytes are one of these texts, which are separated by spaces, in letters of either case.
 pub fn is_one_of(bytes: &[u8], texts: &str) -> bool {
     if bytes.is_empty() {

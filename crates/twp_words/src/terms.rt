@@ -73,6 +73,15 @@ pub fn is_beyond_depths(word: &[u8]) -> bool {
         || is_same(word, b"lies")
         || is_same(word, b"lie")
         || is_same(word, b"sea")
+        || is_same(word, b"ca")
+        || is_same(word, b"coulee")
+        || is_same(word, b"dam")
+        || is_same(word, b"dike")
+        || is_same(word, b"flume")
+        || is_same(word, b"grade")
+        || is_same(word, b"pooled")
+        || is_same(word, b"psu")
+        || is_same(word, b"terrace")
 }
 
 /// Words for what takes land away that rights are said of, as in `subject to prior sales`.
@@ -85,6 +94,21 @@ pub fn is_conveyance(word: &[u8]) -> bool {
         || is_same(word, b"outsales")
         || is_same(word, b"deed")
         || is_same(word, b"deeds")
+        || is_same(word, b"acreage")
+        || is_same(word, b"bed")
+        || is_same(word, b"decree")
+        || is_same(word, b"exchange")
+        || is_same(word, b"grant")
+        || is_same(word, b"grants")
+        || is_same(word, b"patent")
+        || is_same(word, b"plat")
+        || is_same(word, b"quitclaim")
+        || is_same(word, b"schoolhouse")
+        || is_same(word, b"sold")
+        || is_same(word, b"streets")
+        || is_same(word, b"survey")
+        || is_same(word, b"transfers")
+        || is_same(word, b"verification")
 }
 
 /// Words of which terms after land are of depths.

@@ -1,0 +1,141 @@
+//! Remarks, and what makes a phrase unsure: an empty place in a list, and parts that may be something else.
+
+use crate::draft::{Draft, Names, Phrase};
+use twp_grammar::Kind;
+use twp_pieces::plus;
+use twp_remarks::{Position, begins_depths, end_of_remark};
+use twp_rules::Rule;
+
+impl<'a> Draft<'a> {
+    /// Whether a comma or a semicolon at an index has nothing before it, so that something may be missing there. A cell
+    /// after that of the section may be empty.
+    pub(crate) fn is_empty_slot(&self, index: usize) -> bool {
+        if !matches!(self.pieces.kind(index), Kind::Comma | Kind::Semicolon) {
+            return false;
+        }
+        let Some(before) = index.checked_sub(1) else {
+            return true;
+        };
+        match self.pieces.kind(before) {
+            Kind::Comma if self.pieces.is_joined(index) => {
+                self.last_names() != Some(Names::Sections)
+            }
+            Kind::Comma | Kind::Semicolon | Kind::Colon | Kind::And | Kind::The => true,
+            Kind::BadByte => self.pieces.is(before, b"&") || self.pieces.is_dash(before),
+            _ => self.pieces.begins_column(index) || self.is_after_label(index),
+        }
+    }
+
+    /// Whether the name of the column for aliquot parts is before an index.
+    pub(crate) fn is_after_label(&self, index: usize) -> bool {
+        match self.phrases.last() {
+            Some(phrase) => {
+                phrase.end == index && self.pieces.end_of_column_label(phrase.first) == Some(index)
+            }
+            None => false,
+        }
+    }
+
+    /// The remark at an index.
+    pub(crate) fn remark(&mut self, index: usize) -> Option<Phrase> {
+        let position = if self.names_land {
+            Position::AfterLand
+        } else {
+            Position::BeforeLand
+        };
+        let end = end_of_remark(&self.pieces, index, position)?;
+        // Numbers may be those of lots, beside a section also as a spreadsheet changes them.
+        let is_beside = self.last_names() == Some(Names::Sections);
+        let has_lots = is_beside && !self.pieces.has_word(index, end)
+            || (position == Position::BeforeLand && self.may_be_plat(index, end));
+        if has_lots || self.pieces.are_small_numbers(index, end) {
+            return None;
+        }
+        let is_label = self.pieces.is_label_of_tract(index);
+        self.has_remark = self.has_remark || !is_label;
+        self.has_depths = self.has_depths
+            || (self.pieces.is(index, b"(") && begins_depths(&self.pieces, plus(index, 1)));
+        Some(self.phrase(Names::Nothing(Rule::Label), index, end, self.extent()))
+    }
+
+    /// Whether a label before lots may be the name of a town's plat: it has no number, and no word for a lease or the like.
+    pub(crate) fn may_be_plat(&self, first: usize, end: usize) -> bool {
+        let next = plus(
+            end,
+            usize::from(self.pieces.is(end, b",") || self.pieces.is(end, b"|")),
+        );
+        let last = end.saturating_sub(1);
+        let word = last.saturating_sub(usize::from(self.pieces.is(last, b":")));
+        matches!(self.pieces.kind(next), Kind::Lot)
+            && !self.pieces.is_label_of_tract(first)
+            && !(self.pieces.is(word, b"land") || self.pieces.is(word, b"lands"))
+            && !self.pieces.has_long_number(first, end)
+    }
+
+    /// Doubts a part that may be something else: `S2` before any other land, a half after lots, a corner, a part with a
+    /// slash.
+    pub(crate) fn doubt_part(&mut self, part: Phrase) {
+        let digit = plus(part.first, 1);
+        let is_digit = part.end == plus(part.first, 2) && self.pieces.has_digits(digit, 1);
+        let is_south = is_digit && !self.names_land && self.pieces.is(part.first, b"s");
+        let is_location = self.pieces.number(part.end).is_some()
+            && self.pieces.is_dash(plus(part.end, 1));
+        let is_sure = is_location
+            || self.pieces.is(part.end, b"of")
+            || self.pieces.leads_to_section(part.end);
+        if is_south && !is_sure {
+            self.doubt();
+        }
+        // After `S3:`, it may be a section.
+        let is_after_letter = match self.last_section {
+            Some(section) => self.pieces.is(section.first, b"s"),
+            None => false,
+        };
+        let is_more = self.last_names() != Some(Names::Sections)
+            || self.pieces.is(part.first.saturating_sub(1), b",");
+        if is_digit && is_after_letter && is_more && self.pieces.is(part.first, b"s") {
+            self.doubt();
+        }
+        if part.end == self.pieces.len() && self.may_be_cut_section(part) {
+            self.doubt();
+        }
+        let is_half = is_digit && self.pieces.number(digit) == Some(2);
+        if is_half && self.is_after_one_lot() {
+            self.doubt();
+        }
+        if self.pieces.is(part.end, b"corner")
+            || self.pieces.is(part.end, b"cor")
+            || (self.pieces.is(part.end, b"/")
+                && (self.pieces.is_joined(part.end) || self.pieces.is_joined(plus(part.end, 1))))
+        {
+            self.doubt();
+        }
+    }
+
+    /// Whether the last part of a text may be the beginning of a word for a section: `Se`, or `se` after a part in capitals.
+    pub(crate) fn may_be_cut_section(&self, part: Phrase) -> bool {
+        let letters = self.pieces.bytes(part.first);
+        let is_after_capital = match self.phrases.last() {
+            Some(before) => {
+                before.names == Names::Part
+                    && matches!(self.pieces.bytes(before.first), [b'A'..=b'Z', ..])
+            }
+            None => false,
+        };
+        part.end == plus(part.first, 1)
+            && matches!(letters, [b'S' | b's', b'e'])
+            && (matches!(letters, [b'S', _]) || is_after_capital)
+    }
+
+    /// Whether the phrase before is of one lot, after a word that may be for several.
+    pub(crate) fn is_after_one_lot(&self) -> bool {
+        match self.phrases.last() {
+            Some(phrase) => {
+                phrase.names == Names::Lots
+                    && phrase.numbers.end.saturating_sub(phrase.numbers.first) == 1
+                    && !(self.pieces.is(phrase.first, b"l") || self.pieces.is(phrase.first, b"lot"))
+            }
+            None => false,
+        }
+    }
+}
