@@ -19,16 +19,34 @@ import signal
 import sys
 import threading
 import time
+from concurrent.futures import FIRST_COMPLETED, ThreadPoolExecutor, wait
 from pathlib import Path
 
 from kit import loaded_rt
 
 ROOT = Path(__file__).resolve().parent.parent
 # What is used of the kit's rt.
-NEEDED = ("ci_over", "edits_of", "run", "set_aside", "processors", "Crate.ci", "Crate.has_tests", "rtlib.crates_below")
-# How many more processes run than there are processors. A crate can't be given more processes once it has begun, so
-# without these, processors idle when the crates beside it end.
-SPARE = 2
+NEEDED = (
+    "ci_over",
+    "edits_of",
+    "run",
+    "set_aside",
+    "in_lanes",
+    "processors",
+    "free",
+    "Crate.ci",
+    "Crate.has_tests",
+    "rtlib.crates_below",
+)
+# How many processes run for each processor: a crate can't be given more processes once it has begun, so without spare
+# ones, processors idle when the crates beside it end.
+FOR_A_PROCESSOR = 2
+# A crate gets one more process for each of so many lines, up to a number.
+LINES_FOR_A_PROCESS = 600
+PROCESSES_MOST = 4
+# The share of the free memory that is used, and the share that each further process takes of what a crate needs.
+SHARE_OF_MEMORY = 0.85
+FURTHER = 0.6
 # What rt prints of a crate: its output, after a line with two equals signs, and whether it is proved.
 ENDED = re.compile(r"rt: (\w+) (?:proved|is kept: .*)$")
 FAILED = re.compile(r"rt: (\w+) NOT PROVED")
@@ -86,6 +104,56 @@ class Progress:
             self.show()
 
 
+class Lanes:
+    """Which of rt's tasks run. A task is what it waits for, its work in lines, its memory, and a call that gets what the
+    others gave and how many processes it may use. The tasks with the longest chain of others above them come first, and
+    get as many processes for their lines as the other ones that are ready leave."""
+
+    def __init__(self, tasks, processors, memory):
+        self.tasks, self.memory, self.processes = tasks, memory, int(FOR_A_PROCESSOR * processors)
+        # For each running task: its name, and the number of processes. There are no tests, so their tasks have given that.
+        self.running, self.given = {}, {it: True for it in tasks if it[1] == "tests"}
+        chain = {}
+        for key in reversed(tasks):
+            above = [chain[it] for it in chain if key in tasks[it][0]]
+            chain[key] = tasks[key][1] + max(above, default=0)
+        self.waiting = sorted(tasks.keys() - self.given.keys(), key=lambda it: -chain[it])
+
+    def memory_of(self, key, count):
+        return self.tasks[key][2] * (1 + FURTHER * (count - 1))
+
+    def processes_for(self, key, others):
+        """How many processes a task gets now, given how many others are ready; 0 if it has to wait."""
+        idle = self.processes - sum(count for _, count in self.running.values())
+        room = self.memory - sum(self.memory_of(*it) for it in self.running.values())
+        if idle < 1 or (self.running and room < self.memory_of(key, 1)):
+            return 0
+        count = min(PROCESSES_MOST, 1 + self.tasks[key][1] // LINES_FOR_A_PROCESS, idle - others)
+        while count > 1 and room < self.memory_of(key, count):
+            count -= 1
+        return max(1, count)
+
+    def begin(self, pool):
+        """Starts the tasks that are next."""
+        ready = [it for it in self.waiting if all(below in self.given for below in self.tasks[it][0])]
+        for at, key in enumerate(ready):
+            count = self.processes_for(key, len(ready) - at - 1)
+            if count == 0:
+                return
+            self.waiting.remove(key)
+            self.running[pool.submit(self.tasks[key][3], self.given, count)] = key, count
+
+    def run(self):
+        """Runs all tasks, and returns what each gave."""
+        with ThreadPoolExecutor(self.processes) as pool:
+            self.begin(pool)
+            while self.running:
+                for ended in wait(self.running, return_when=FIRST_COMPLETED).done:
+                    self.given[self.running.pop(ended)[0]] = ended.result()
+                self.begin(pool)
+        return self.given
+
+
 def stamp_of(crate):
     """The file that says of which sources a crate's library or program was built: for a library, that of rt itself."""
     return Path(crate.folder, "out", "proved" if crate.is_program else "rlib/stamp")
@@ -114,7 +182,6 @@ def remove_built(crate):
 def prove(rt, crates):
     """Proves and builds crates, of which each comes after those below it. Returns whether that succeeded."""
     progress, ended, proved_by = Progress(crates), threading.Event(), rt.Crate.ci
-    processors = rt.processors()
 
     def ci(crate, flags, tests):
         with progress.runs(crate.name):
@@ -122,7 +189,7 @@ def prove(rt, crates):
 
     rt.Crate.ci, rt.Crate.has_tests = ci, lambda crate: False
     rt.edits_of, rt.run = lambda crate: ([], []), lambda crate, tests, ending="": True
-    rt.processors = lambda: processors + SPARE
+    rt.in_lanes = lambda tasks: Lanes(tasks, rt.processors(), SHARE_OF_MEMORY * rt.free()).run()
     # rt ci puts all that is in the crates' out/ aside; here, only what is built anew has to go.
     rt.set_aside = lambda root, names, aside: [remove_built(it) for it in crates]
     threading.Thread(target=progress.show_each_minute, args=(ended,), daemon=True).start()

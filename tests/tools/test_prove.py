@@ -11,7 +11,7 @@ import unittest
 sys.dont_write_bytecode = True
 sys.path.insert(0, str(pathlib.Path(__file__).resolve().parent.parent.parent / "tools"))
 
-from prove import Progress, is_built, remove_built  # noqa: E402
+from prove import Lanes, Progress, is_built, remove_built  # noqa: E402
 
 
 def crate(folder, name, is_program=False):
@@ -80,6 +80,28 @@ class Proving(unittest.TestCase):
             remove_built(it)
         self.assertFalse(is_built(self.library) or is_built(self.program))
         self.assertTrue(kept.is_dir())
+
+    def test_the_longest_chain_gets_the_processes_that_others_leave(self):
+        begun = []
+
+        def task(name, lines, *below):
+            def call(given, count):
+                begun.append((name, count))
+                return all(given[it, "proof"] for it in below)
+
+            return [(it, "proof") for it in below], lines, 1, call
+
+        tasks = {("grid", "proof"): task("grid", 1_200), ("words", "proof"): task("words", 1_100)}
+        tasks["land", "proof"] = task("land", 10, "grid")
+        tasks["land", "tests"] = [], 0, 1, None
+        given = Lanes(tasks, processors=2, memory=1_000).run()
+        self.assertEqual(given, dict.fromkeys(tasks, True))
+        self.assertEqual(sorted(begun[:2]), [("grid", 3), ("words", 1)])
+        self.assertEqual(begun[2][0], "land")
+
+    def test_a_task_waits_for_memory(self):
+        tasks = {(name, "proof"): ([], 9_000, 10, lambda given, count: count) for name in ("one", "other")}
+        self.assertEqual(set(Lanes(tasks, processors=4, memory=12).run().values()), {1})
 
 
 if __name__ == "__main__":
