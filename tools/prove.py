@@ -38,15 +38,14 @@ NEEDED = (
     "Crate.has_tests",
     "rtlib.crates_below",
 )
-# How many processes run for each processor: a crate can't be given more processes once it has begun, so without spare
-# ones, processors idle when the crates beside it end.
-FOR_A_PROCESSOR = 2
-# A crate gets one more process for each of so many lines, up to a number.
+# A crate gets one more process for each of so many lines, up to a number. More processes run than there are processors:
+# a crate can't be given more once it has begun, and the one that all others wait for must not be left with one.
 LINES_FOR_A_PROCESS = 600
 PROCESSES_MOST = 4
-# The share of the free memory that is used, and the share that each further process takes of what a crate needs.
+# The share of the free memory that is used, and the share that each further process takes of what a crate needs, which
+# is less than what rt counts with: what a crate needs is mostly what the first process loads.
 SHARE_OF_MEMORY = 0.85
-FURTHER = 0.6
+FURTHER = 0.3
 # What rt prints of a crate: its output, after a line with two equals signs, and whether it is proved.
 ENDED = re.compile(r"rt: (\w+) (?:proved|is kept: .*)$")
 FAILED = re.compile(r"rt: (\w+) NOT PROVED")
@@ -106,11 +105,11 @@ class Progress:
 
 class Lanes:
     """Which of rt's tasks run. A task is what it waits for, its work in lines, its memory, and a call that gets what the
-    others gave and how many processes it may use. The tasks with the longest chain of others above them come first, and
-    get as many processes for their lines as the other ones that are ready leave."""
+    others gave and how many processes it may use. As many tasks run as there are processors, first those with the
+    longest chain of others above them, and each with processes for its lines, as far as there is memory."""
 
     def __init__(self, tasks, processors, memory):
-        self.tasks, self.memory, self.processes = tasks, memory, int(FOR_A_PROCESSOR * processors)
+        self.tasks, self.processors, self.memory = tasks, processors, memory
         # For each running task: its name, and the number of processes. There are no tests, so their tasks have given that.
         self.running, self.given = {}, {it: True for it in tasks if it[1] == "tests"}
         chain = {}
@@ -122,22 +121,20 @@ class Lanes:
     def memory_of(self, key, count):
         return self.tasks[key][2] * (1 + FURTHER * (count - 1))
 
-    def processes_for(self, key, others):
-        """How many processes a task gets now, given how many others are ready; 0 if it has to wait."""
-        idle = self.processes - sum(count for _, count in self.running.values())
+    def processes_for(self, key):
+        """How many processes a task gets now; 0 if it has to wait."""
         room = self.memory - sum(self.memory_of(*it) for it in self.running.values())
-        if idle < 1 or (self.running and room < self.memory_of(key, 1)):
+        if self.running and (len(self.running) == self.processors or room < self.memory_of(key, 1)):
             return 0
-        count = min(PROCESSES_MOST, 1 + self.tasks[key][1] // LINES_FOR_A_PROCESS, idle - others)
+        count = min(PROCESSES_MOST, 1 + self.tasks[key][1] // LINES_FOR_A_PROCESS)
         while count > 1 and room < self.memory_of(key, count):
             count -= 1
-        return max(1, count)
+        return count
 
     def begin(self, pool):
         """Starts the tasks that are next."""
-        ready = [it for it in self.waiting if all(below in self.given for below in self.tasks[it][0])]
-        for at, key in enumerate(ready):
-            count = self.processes_for(key, len(ready) - at - 1)
+        for key in [it for it in self.waiting if all(below in self.given for below in self.tasks[it][0])]:
+            count = self.processes_for(key)
             if count == 0:
                 return
             self.waiting.remove(key)
@@ -145,7 +142,7 @@ class Lanes:
 
     def run(self):
         """Runs all tasks, and returns what each gave."""
-        with ThreadPoolExecutor(self.processes) as pool:
+        with ThreadPoolExecutor(self.processors) as pool:
             self.begin(pool)
             while self.running:
                 for ended in wait(self.running, return_when=FIRST_COMPLETED).done:

@@ -81,7 +81,7 @@ class Proving(unittest.TestCase):
         self.assertFalse(is_built(self.library) or is_built(self.program))
         self.assertTrue(kept.is_dir())
 
-    def test_the_longest_chain_gets_the_processes_that_others_leave(self):
+    def test_crates_come_by_the_longest_chain_and_get_processes_for_their_lines(self):
         begun = []
 
         def task(name, lines, *below):
@@ -91,15 +91,15 @@ class Proving(unittest.TestCase):
 
             return [(it, "proof") for it in below], lines, 1, call
 
-        tasks = {("grid", "proof"): task("grid", 1_200), ("words", "proof"): task("words", 1_100)}
-        tasks["land", "proof"] = task("land", 10, "grid")
+        # `grid` is shorter than `excerpt`, but not with `land` above it.
+        tasks = {("excerpt", "proof"): task("excerpt", 650), ("grid", "proof"): task("grid", 500)}
+        tasks["land", "proof"] = task("land", 9_000, "grid")
         tasks["land", "tests"] = [], 0, 1, None
-        given = Lanes(tasks, processors=2, memory=1_000).run()
+        given = Lanes(tasks, processors=1, memory=1_000).run()
         self.assertEqual(given, dict.fromkeys(tasks, True))
-        self.assertEqual(sorted(begun[:2]), [("grid", 3), ("words", 1)])
-        self.assertEqual(begun[2][0], "land")
+        self.assertEqual(begun, [("grid", 1), ("land", 4), ("excerpt", 2)])
 
-    def test_a_task_waits_for_memory(self):
+    def test_a_crate_waits_for_memory(self):
         tasks = {(name, "proof"): ([], 9_000, 10, lambda given, count: count) for name in ("one", "other")}
         self.assertEqual(set(Lanes(tasks, processors=4, memory=12).run().values()), {1})
 
