@@ -15,13 +15,21 @@ import wrong_bodies
 from kit import loaded_rt
 
 
+def takes(rt, name, *parameters):
+    """Whether an rt has a function with these parameters."""
+    return hasattr(rt, name) and list(inspect.signature(getattr(rt, name)).parameters) == list(parameters)
+
+
 def main():
-    rt = loaded_rt("ci", "must_fail_all", *wrong_bodies.NEEDED)
-    if rt is None or list(inspect.signature(rt.must_fail_all).parameters) != ["crate", "edits", "flags"]:
+    rt = loaded_rt("ci", *wrong_bodies.NEEDED)
+    if rt and takes(rt, "must_fail_all", "crate", "edits", "flags"):
+        rt.must_fail_all = lambda crate, edits, flags: wrong_bodies.must_fail_all(rt, crate, edits, flags)
+    elif rt and takes(rt, "must_fail", "crate", "edit", "flags", "kept") and hasattr(rt, "edits_of"):
+        rt.must_fail = wrong_bodies.one_by_one(rt)
+    else:
         print("this kit's rt can't be used for that, so one wrong body is tried after another", flush=True)
         os.execvp("rt", ["rt", "ci"])
-    rt.must_fail_all = lambda crate, edits, flags: wrong_bodies.must_fail_all(rt, crate, edits, flags)
-    return rt.ci()
+    return rt.ci(False) if takes(rt, "ci", "anew", "names") else rt.ci()
 
 
 if __name__ == "__main__":

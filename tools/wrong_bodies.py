@@ -19,6 +19,7 @@ So are all of a check that finds an error in a definition or a lemma, which func
 import re
 import shutil
 import tempfile
+import threading
 from dataclasses import dataclass
 from pathlib import Path
 
@@ -189,16 +190,20 @@ class Trying:
             self.sources[path] = file.read_text(encoding="utf-8") if file.is_file() else ""
         return self.sources[path]
 
-    def together(self, edits, kept):
-        """Tries wrong bodies by as few checks as there are for one function, over the work that is kept in a folder.
-        Returns those that were refused, each with the goal."""
+    def groups(self, edits):
+        """Wrong bodies that are tried together: as few groups as there are wrong bodies for one function."""
         left = {it: functions for it in edits if (functions := it.functions(self.text_of))}
-        found = {}
         while left:
             these = Together(self.text_of)
-            later = {it: functions for it, functions in left.items() if not these.takes(it, functions)}
+            left = {it: functions for it, functions in left.items() if not these.takes(it, functions)}
+            yield these
+
+    def together(self, edits, kept):
+        """Tries wrong bodies over the work that is kept in a folder. Returns those that were refused, each with the
+        goal."""
+        found = {}
+        for these in self.groups(edits):
             found.update(self.refused(these, kept))
-            left = later
         return found
 
     def refused(self, these, kept):
@@ -217,8 +222,65 @@ class Trying:
 
     def result(self, edit, goal, kept):
         if goal:
-            return True, f"must-fail {self.crate.name}/{edit.name}: refused, as it must be: {goal[:160]}"
+            return True, said_of(self.crate, edit, goal)
         return self.rt.must_fail(self.crate, edit.file, self.flags, kept)
+
+
+def said_of(crate, edit, goal):
+    return f"must-fail {crate.name}/{edit.name}: refused, as it must be: {goal[:160]}"
+
+
+class Groups:
+    """The wrong bodies of a crate for an rt that asks for one at a time, from several threads: the first that asks has a
+    group of them tried, and takes its answer from that."""
+
+    def __init__(self, rt, crate, flags):
+        self.trying = Trying(rt, crate, flags)
+        files = rt.edits_of(crate)[0]
+        self.edits = {it.file: it for it in map(Edit, files)}
+        self.left = list(self.trying.groups(self.edits.values()))
+        self.running, self.found, self.changed = [], {}, threading.Condition()
+
+    def has(self, groups, edit):
+        return any(edit in these.edits for these in groups)
+
+    def goal(self, file, kept):
+        """The goal by which a wrong body is refused in its group, over the work that is kept in a folder, or None."""
+        edit = self.edits.get(file)
+        while True:
+            with self.changed:
+                if self.has(self.left, edit) or (self.left and self.has(self.running, edit)):
+                    these = next((it for it in self.left if edit in it.edits), self.left[0])
+                    self.left.remove(these)
+                    self.running.append(these)
+                elif self.has(self.running, edit):
+                    self.changed.wait()
+                    continue
+                else:
+                    return self.found.get(edit)
+            refused = self.trying.refused(these, kept)
+            with self.changed:
+                self.found.update(refused)
+                self.running.remove(these)
+                self.changed.notify_all()
+
+
+def one_by_one(rt):
+    """What takes the place of an rt's `must_fail`, which tries one wrong body over the work that is kept in a folder: the
+    same, but for those that a group refuses. With no such folder, rt tries from nothing, and so does this."""
+    alone, crates, must_fail = threading.Lock(), {}, rt.must_fail
+
+    def tried(crate, file, flags, kept=None):
+        if kept is None:
+            return must_fail(crate, file, flags)
+        with alone:
+            if crate.folder not in crates:
+                crates[crate.folder] = Groups(rt, crate, flags)
+        groups = crates[crate.folder]
+        goal = groups.goal(file, kept)
+        return (rt.REFUSED, said_of(crate, groups.edits[file], goal)) if goal else must_fail(crate, file, flags, kept)
+
+    return tried
 
 
 def must_fail_all(rt, crate, files, flags, over=None, known=()):

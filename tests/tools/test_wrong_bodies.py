@@ -1,14 +1,17 @@
 #!/usr/bin/env python3
 """Tests how tools/wrong_bodies.py tells which functions an edit changes, and which goals of a check are theirs."""
 import pathlib
+import re
 import sys
 import tempfile
+import threading
+import types
 import unittest
 
 sys.dont_write_bytecode = True
 sys.path.insert(0, str(pathlib.Path(__file__).resolve().parent.parent.parent / "tools"))
 
-from wrong_bodies import Edit, Together, functions_of, names_goal  # noqa: E402
+from wrong_bodies import Edit, Together, functions_of, names_goal, one_by_one  # noqa: E402
 
 SOURCE = """//! Lines.
 
@@ -117,6 +120,73 @@ class Checks(unittest.TestCase):
             these.takes(it, it.functions(text_of))
         goal = "note: src/line.rt:27:5: it is not proved that what the function ensures holds when it returns (`returns`)"
         self.assertEqual(these.refused(f"fn twp_grid::line::Line::index: not proved\n{goal}\n"), {other: goal})
+
+
+class OneByOne(unittest.TestCase):
+    """Of an rt that asks for one wrong body at a time."""
+
+    def setUp(self):
+        room = tempfile.TemporaryDirectory()
+        self.addCleanup(room.cleanup)
+        folder = pathlib.Path(room.name)
+        (folder / "src").mkdir()
+        (folder / "src" / "line.rt").write_text(SOURCE)
+        # Two of the same function, one of another, and one of a constant.
+        pairs = {"one": ("return 1;", "return 2;"), "two": ("self.number)", "7)"), "sides": ("north:", "south:")}
+        pairs["lines"] = "= 84;", "= 83;"
+        self.files = {}
+        for name, (old, new) in pairs.items():
+            file = folder / f"{name}.edit"
+            file.write_text(f"file: src/line.rt\nold: {old}\nnew: {new}\n")
+            self.files[name] = str(file)
+        self.checks, self.alone = [], []
+        self.crate = types.SimpleNamespace(name="twp_grid", folder=str(folder))
+        self.rt = types.SimpleNamespace(
+            edits_of=lambda crate: (list(self.files.values()), []),
+            checked=self.checked,
+            must_fail=self.must_fail,
+            unread=lambda line, texts: False,
+            rtlib=types.SimpleNamespace(STALE=re.compile("stale")),
+            REFUSED="refused",
+        )
+
+    def checked(self, crate, texts, flags, kept):
+        """A check that refuses `index`, and nothing else."""
+        self.checks.append(texts["src/line.rt"])
+        out = "note: src/line.rt:12:9: it is not proved that ..\nlogic=not-proved"
+        return types.SimpleNamespace(stdout=out, returncode=1)
+
+    def must_fail(self, crate, file, flags, kept=None):
+        self.alone.append((pathlib.Path(file).stem, kept))
+        return "missed", "NOT REFUSED"
+
+    def test_those_of_different_functions_are_in_one_check(self):
+        tried = one_by_one(self.rt)
+        found = {name: tried(self.crate, file, [], "kept") for name, file in self.files.items()}
+        self.assertEqual([found[it][0] for it in self.files], ["refused", "refused", "missed", "missed"])
+        self.assertIn("must-fail twp_grid/one.edit: refused, as it must be: note: src/line.rt:12", found["one"][1])
+        self.assertEqual(len(self.checks), 2)
+        self.assertTrue("return 2;" in self.checks[0] and "south:" in self.checks[0])
+        self.assertEqual(self.alone, [("sides", "kept"), ("lines", "kept")])
+
+    def test_with_no_kept_work_each_is_tried_by_rt(self):
+        tried = one_by_one(self.rt)
+        self.assertEqual(tried(self.crate, self.files["one"], []), ("missed", "NOT REFUSED"))
+        self.assertEqual((self.checks, self.alone), ([], [("one", None)]))
+
+    def test_each_group_is_checked_once_by_several_threads(self):
+        tried, found = one_by_one(self.rt), {}
+
+        def ask(name):
+            found[name] = tried(self.crate, self.files[name], [], "kept")[0]
+
+        threads = [threading.Thread(target=ask, args=(it,)) for it in ("one", "two", "sides")]
+        for it in threads:
+            it.start()
+        for it in threads:
+            it.join()
+        self.assertEqual(found, {"one": "refused", "two": "refused", "sides": "missed"})
+        self.assertEqual(len(self.checks), 2)
 
 
 if __name__ == "__main__":
