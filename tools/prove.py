@@ -13,6 +13,7 @@ of that crate, and ends with status 1. The status is 3 if this kit's rt can't be
 """
 
 import contextlib
+import os
 import re
 import shutil
 import signal
@@ -190,6 +191,7 @@ def prove(rt, crates):
     # rt ci puts all that is in the crates' out/ aside; here, only what is built anew has to go.
     rt.set_aside = lambda root, names, aside: [remove_built(it) for it in crates]
     threading.Thread(target=progress.show_each_minute, args=(ended,), daemon=True).start()
+    os.chdir(ROOT)
     with contextlib.redirect_stdout(progress):
         status = rt.ci_over(None, False, [it.name for it in crates])
     ended.set()

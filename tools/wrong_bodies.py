@@ -258,11 +258,15 @@ class Groups:
                     continue
                 else:
                     return self.found.get(edit)
-            refused = self.trying.refused(these, kept)
-            with self.changed:
-                self.found.update(refused)
-                self.running.remove(these)
-                self.changed.notify_all()
+            refused = {}
+            try:
+                refused = self.trying.refused(these, kept)
+            finally:
+                # Others wait for it, however it ends; without a result, rt tries them one at a time.
+                with self.changed:
+                    self.found.update(refused)
+                    self.running.remove(these)
+                    self.changed.notify_all()
 
 
 def one_by_one(rt):
@@ -295,7 +299,9 @@ def must_fail_all(rt, crate, files, flags, over=None, known=()):
             shutil.copytree(over, kept, dirs_exist_ok=True)
         tried = Trying(rt, crate, flags).results(files, kept)
         is_sound = not rt.checked(crate, {}, flags, kept).returncode
+    # Kits say that it is refused by `True`, or by a word.
+    refused = (True, getattr(rt, "REFUSED", True))
     return [
-        it if is_sound and (it[0] or file in known) else rt.must_fail(crate, file, flags)
+        it if is_sound and (it[0] in refused or file in known) else rt.must_fail(crate, file, flags)
         for file, it in zip(files, tried)
     ]
