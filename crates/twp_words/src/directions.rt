@@ -1,6 +1,6 @@
 //! Words for sides and corners, and for numbers, with what is written for them.
 
-use crate::same::is_same;
+use crate::same::{is_among, is_same};
 
 /// The letters of a word for a side or a corner, in lowercase.
 pub fn letters_of(word: &[u8]) -> Option<&'static [u8]> {
@@ -76,15 +76,12 @@ fn is_worn_southwest(word: &[u8]) -> bool {
 
 /// Words for a section with a slip, or as scanning leaves them.
 pub fn is_worn_section(word: &[u8]) -> bool {
-    word.len() >= 6
-        && (is_same(word, b"secton")
-            || is_same(word, b"sectlon")
-            || is_same(word, b"sectoin")
-            || is_same(word, b"seciton")
-            || is_same(word, b"sectiou")
-            || is_same(word, b"seclion")
-            || is_same(word, b"seotion")
-            || is_same(word, b"sectior"))
+    let words: &str = match word.len() {
+        6 => "secton",
+        7 => "seciton seclion sectior sectiou sectlon sectoin seotion",
+        _ => return false,
+    };
+    is_among(word, words)
 }
 
 /// The first digit of a number that has two words, of which this is the first, in lowercase.

@@ -1,6 +1,6 @@
 //! Words of acreage and of numbers.
 
-use crate::same::is_same;
+use crate::same::{is_among, is_same};
 
 /// Words for the unit of acreage.
 pub fn is_acres(word: &[u8]) -> bool {
@@ -12,37 +12,33 @@ pub fn is_acres(word: &[u8]) -> bool {
 
 /// Words that say that acreage follows.
 pub fn is_acreage_lead(word: &[u8]) -> bool {
-    is_same(word, b"containing")
-        || is_same(word, b"contains")
-        || is_same(word, b"contain")
-        || is_same(word, b"comprising")
-        || is_same(word, b"aggregating")
-        || is_same(word, b"aggregate")
-        || is_same(word, b"total")
-        || is_same(word, b"tot")
-        || is_same(word, b"totaling")
-        || is_same(word, b"gross")
-        || is_same(word, b"net")
-        || is_same(word, b"being")
-        || is_same(word, b"gisacre")
-        || is_same(word, b"gisacres")
+    let words: &str = match word.len() {
+        3 => "net tot",
+        5 => "being gross total",
+        7 => "contain gisacre",
+        8 => "contains gisacres totaling",
+        9 => "aggregate",
+        10 => "comprising containing",
+        11 => "aggregating",
+        _ => return false,
+    };
+    is_among(word, words)
 }
 
 /// Other words before acreage.
 pub fn is_area_word(word: &[u8]) -> bool {
-    is_same(word, b"the")
-        || is_same(word, b"area")
-        || is_same(word, b"areas")
-        || is_same(word, b"described")
-        || is_same(word, b"lands")
-        || is_same(word, b"in")
-        || is_same(word, b"all")
-        || is_same(word, b"a")
-        || is_same(word, b"of")
-        || is_same(word, b"approximately")
-        || is_same(word, b"about")
-        || is_same(word, b"mineral")
-        || is_same(word, b"and")
+    let words: &str = match word.len() {
+        1 => "a",
+        2 => "in of",
+        3 => "all and the",
+        4 => "area",
+        5 => "about areas lands",
+        7 => "mineral",
+        9 => "described",
+        13 => "approximately",
+        _ => return false,
+    };
+    is_among(word, words)
 }
 
 /// Words for a number that a section may have.
@@ -56,37 +52,18 @@ pub fn is_numeral(word: &[u8]) -> bool {
 
 /// The words of a number.
 pub fn is_of_count(word: &[u8]) -> bool {
-    is_same(word, b"one")
-        || is_same(word, b"two")
-        || is_same(word, b"three")
-        || is_same(word, b"four")
-        || is_same(word, b"five")
-        || is_same(word, b"six")
-        || is_same(word, b"seven")
-        || is_same(word, b"eight")
-        || is_same(word, b"nine")
-        || is_same(word, b"ten")
-        || is_same(word, b"eleven")
-        || is_same(word, b"twelve")
-        || is_same(word, b"thirteen")
-        || is_same(word, b"fourteen")
-        || is_same(word, b"fifteen")
-        || is_same(word, b"sixteen")
-        || is_same(word, b"seventeen")
-        || is_same(word, b"eighteen")
-        || is_same(word, b"nineteen")
-        || is_same(word, b"twenty")
-        || is_same(word, b"thirty")
-        || is_same(word, b"forty")
-        || is_same(word, b"fifty")
-        || is_same(word, b"sixty")
-        || is_same(word, b"seventy")
-        || is_same(word, b"eighty")
-        || is_same(word, b"ninety")
-        || is_same(word, b"hundred")
-        || is_same(word, b"thousand")
-        || is_same(word, b"and")
-        || is_same(word, b"-")
+    let words: &str = match word.len() {
+        1 => "-",
+        3 => "and one six ten two",
+        4 => "five four nine",
+        5 => "eight fifty forty seven sixty three",
+        6 => "eighty eleven ninety thirty twelve twenty",
+        7 => "fifteen hundred seventy sixteen",
+        8 => "eighteen fourteen nineteen thirteen thousand",
+        9 => "seventeen",
+        _ => return false,
+    };
+    is_among(word, words)
 }
 
 /// The value of a word for a number up to ninety.

@@ -1,25 +1,20 @@
 //! Words of labels before land, of instruments, and of columns.
 
-use crate::same::is_same;
+use crate::same::{is_among, is_same};
 
 /// Words of labels, after which a label may end with a number.
 pub fn is_of_label(word: &[u8]) -> bool {
-    is_same(word, b"tract")
-        || is_same(word, b"parcel")
-        || is_same(word, b"unit")
-        || is_same(word, b"no")
-        || is_same(word, b"lease")
-        || is_same(word, b"exhibit")
-        || is_same(word, b"serial")
-        || is_same(word, b"item")
-        || is_same(word, b"case")
-        || is_same(word, b"file")
-        || is_same(word, b"number")
-        || is_same(word, b"premises")
-        || is_same(word, b"areas")
-        || is_same(word, b"cat")
-        || is_same(word, b"category")
-        || is_same(word, b"class")
+    let words: &str = match word.len() {
+        2 => "no",
+        3 => "cat",
+        4 => "case file item unit",
+        5 => "areas class lease tract",
+        6 => "number parcel serial",
+        7 => "exhibit",
+        8 => "category premises",
+        _ => return false,
+    };
+    is_among(word, words)
 }
 
 /// Words for a tract, with which the label of one begins, as `Tract 2:` or `Tr. 2:`.
@@ -32,42 +27,28 @@ pub fn is_of_tract(word: &[u8]) -> bool {
 
 /// Letters before the number of other land, as `TL1200` of a tax lot, or `MS-4411` of a mineral survey.
 pub fn is_of_other_land(word: &[u8]) -> bool {
-    is_same(word, b"bla")
-        || is_same(word, b"cos")
-        || is_same(word, b"esmt")
-        || is_same(word, b"hes")
-        || is_same(word, b"lla")
-        || is_same(word, b"ms")
-        || is_same(word, b"mss")
-        || is_same(word, b"parcel")
-        || is_same(word, b"pcl")
-        || is_same(word, b"plat")
-        || is_same(word, b"replat")
-        || is_same(word, b"ros")
-        || is_same(word, b"row")
-        || is_same(word, b"sub")
-        || is_same(word, b"subd")
-        || is_same(word, b"tl")
-        || is_same(word, b"tr")
-        || is_same(word, b"tract")
-        || is_same(word, b"tx")
+    let words: &str = match word.len() {
+        2 => "ms tl tr tx",
+        3 => "bla cos hes lla mss pcl ros row sub",
+        4 => "esmt plat subd",
+        5 => "tract",
+        6 => "parcel replat",
+        _ => return false,
+    };
+    is_among(word, words)
 }
 
 /// Words for instruments and where they are recorded, with which such a label begins, too.
 pub fn is_instrument(word: &[u8]) -> bool {
-    is_same(word, b"wd")
-        || is_same(word, b"qcd")
-        || is_same(word, b"ogl")
-        || is_same(word, b"md")
-        || is_same(word, b"deed")
-        || is_same(word, b"bk")
-        || is_same(word, b"book")
-        || is_same(word, b"inst")
-        || is_same(word, b"instr")
-        || is_same(word, b"instrument")
-        || is_same(word, b"vol")
-        || is_same(word, b"pg")
-        || is_same(word, b"page")
+    let words: &str = match word.len() {
+        2 => "bk md pg wd",
+        3 => "ogl qcd vol",
+        4 => "book deed inst page",
+        5 => "instr",
+        10 => "instrument",
+        _ => return false,
+    };
+    is_among(word, words)
 }
 
 /// Words of a label after which the land of an instrument follows.
@@ -80,404 +61,147 @@ pub fn is_of_covering(word: &[u8]) -> bool {
 
 /// The names of columns.
 pub fn is_column(word: &[u8]) -> bool {
-    is_same(word, b"sec")
-        || is_same(word, b"section")
-        || is_same(word, b"twp")
-        || is_same(word, b"township")
-        || is_same(word, b"rng")
-        || is_same(word, b"rge")
-        || is_same(word, b"range")
-        || is_same(word, b"legal")
-        || is_same(word, b"description")
-        || is_same(word, b"subdivision")
-        || is_same(word, b"subdiv")
-        || is_same(word, b"aliquot")
-        || is_same(word, b"aliq")
-        || is_same(word, b"aliquots")
-        || is_same(word, b"no")
-        || is_same(word, b"number")
-        || is_same(word, b"tract")
-        || is_same(word, b"t")
-        || is_same(word, b"r")
-        || is_same(word, b"s")
-        || is_same(word, b"mer")
-        || is_same(word, b"st")
-        || is_same(word, b"county")
-        || is_same(word, b"type")
-        || is_same(word, b"nr")
-        || is_same(word, b"suff")
-        || is_same(word, b"desc")
-        || is_same(word, b"lots")
-        || is_same(word, b"lot")
-        || is_same(word, b"stype")
-        || is_same(word, b"snr")
-        || is_same(word, b"surtype")
-        || is_same(word, b"survey")
-        || is_same(word, b"state")
-        || is_same(word, b"district")
-        || is_same(word, b"field")
-        || is_same(word, b"office")
-        || is_same(word, b"mgmt")
-        || is_same(word, b"agency")
-        || is_same(word, b"gross")
-        || is_same(word, b"net")
-        || is_same(word, b"meridian")
-        || is_same(word, b"owner")
+    let words: &str = match word.len() {
+        1 => "r s t",
+        2 => "no nr st",
+        3 => "lot mer net rge rng sec snr twp",
+        4 => "aliq desc lots mgmt suff type",
+        5 => "field gross legal owner range state stype tract",
+        6 => "agency county number office subdiv survey",
+        7 => "aliquot section surtype",
+        8 => "aliquots district meridian township",
+        11 => "description subdivision",
+        _ => return false,
+    };
+    is_among(word, words)
 }
 
 /// The names of fields of a record, before a colon.
 pub fn is_field(word: &[u8]) -> bool {
-    is_same(word, b"type")
-        || is_same(word, b"legal")
-        || is_same(word, b"desc")
-        || is_same(word, b"description")
-        || is_same(word, b"twnshplab")
-        || is_same(word, b"frstdivno")
-        || is_same(word, b"frstdivlab")
-        || is_same(word, b"secdivno")
-        || is_same(word, b"secdivlab")
+    let words: &str = match word.len() {
+        4 => "desc type",
+        5 => "legal",
+        8 => "secdivno",
+        9 => "frstdivno secdivlab twnshplab",
+        10 => "frstdivlab",
+        11 => "description",
+        _ => return false,
+    };
+    is_among(word, words)
 }
 
 /// Words in whose company a label may be of land, or limit it: no label has them.
 pub fn is_beyond_label(word: &[u8]) -> bool {
-    match word {
-        [b'a', ..] => {
-            is_same(word, b"about")
-                || is_same(word, b"above")
-                || is_same(word, b"abutting")
-                || is_same(word, b"access")
-                || is_same(word, b"accretion")
-                || is_same(word, b"accretions")
-                || is_same(word, b"across")
-                || is_same(word, b"addition")
-                || is_same(word, b"additional")
-                || is_same(word, b"adjacent")
-                || is_same(word, b"adjoiner")
-                || is_same(word, b"adjoiners")
-                || is_same(word, b"adjoining")
-                || is_same(word, b"along")
-                || is_same(word, b"approx")
-                || is_same(word, b"approximately")
-                || is_same(word, b"at")
+    let words: &str = match word.len() {
+        2 => "at ft if pt",
+        3 => "bed bhl blk cor etc frl hes hwy not old pad pit pob pod por rod ros row shl tax way",
+        4 => {
+            "base beds city edge esmt feet hole lake lode near none only over pads part plat \
+             pond rest road rods site sold spud town typo used void"
         }
-        [b'b', ..] => {
-            is_same(word, b"balance")
-                || is_same(word, b"base")
-                || is_same(word, b"bed")
-                || is_same(word, b"beds")
-                || is_same(word, b"beginning")
-                || is_same(word, b"below")
-                || is_same(word, b"between")
-                || is_same(word, b"bhl")
-                || is_same(word, b"blk")
-                || is_same(word, b"block")
-                || is_same(word, b"bounded")
+        5 => {
+            "about above along below block canal claim creek depth ditch error esmts lanes \
+             lying other parts point ponds river roads sites strip tower trail"
         }
-        [b'c', ..] => {
-            is_same(word, b"campground")
-                || is_same(word, b"canal")
-                || is_same(word, b"canals")
-                || is_same(word, b"cancelled")
-                || is_same(word, b"city")
-                || is_same(word, b"claim")
-                || is_same(word, b"claims")
-                || is_same(word, b"commencing")
-                || is_same(word, b"condominiums")
-                || is_same(word, b"cor")
-                || is_same(word, b"corner")
-                || is_same(word, b"corrected")
-                || is_same(word, b"correction")
-                || is_same(word, b"creek")
-                || is_same(word, b"crossing")
+        6 => {
+            "access across approx canals claims corner delete depths fenced former inside \
+             leased offset others remove spring survey thence towers tunnel within"
         }
-        [b'd', ..] => {
-            is_same(word, b"delete")
-                || is_same(word, b"deleted")
-                || is_same(word, b"depth")
-                || is_same(word, b"depths")
-                || is_same(word, b"disputed")
-                || is_same(word, b"ditch")
-                || is_same(word, b"ditches")
-                || is_same(word, b"diversion")
-                || is_same(word, b"drillsite")
+        7 => {
+            "balance between bounded deleted ditches estates heights highway islands limited \
+             nothing omitted outside partial portion removed surface through unknown village"
         }
-        [b'e', ..] => {
-            is_same(word, b"easement")
-                || is_same(word, b"easements")
-                || is_same(word, b"edge")
-                || is_same(word, b"error")
-                || is_same(word, b"esmt")
-                || is_same(word, b"esmts")
-                || is_same(word, b"estates")
-                || is_same(word, b"etc")
-                || is_same(word, b"exceptions")
-                || is_same(word, b"excluded")
-                || is_same(word, b"excludes")
-                || is_same(word, b"exclusive")
+        8 => {
+            "abutting addition adjacent adjoiner crossing disputed easement excluded excludes \
+             formerly headgate highways location minerals pipeline portions proposed railroad \
+             released reserved reserves riverbed townsite trespass unleased wellbore"
         }
-        [b'f', ..] => {
-            is_same(word, b"feet")
-                || is_same(word, b"fenced")
-                || is_same(word, b"formation")
-                || is_same(word, b"former")
-                || is_same(word, b"formerly")
-                || is_same(word, b"fractional")
-                || is_same(word, b"frl")
-                || is_same(word, b"ft")
+        9 => {
+            "accretion adjoiners adjoining beginning cancelled corrected diversion drillsite \
+             easements exclusive formation pipelines powerline remainder remaining reserving \
+             reservoir unplatted withdrawn"
         }
-        [b'h', ..] => {
-            is_same(word, b"headgate")
-                || is_same(word, b"heights")
-                || is_same(word, b"hes")
-                || is_same(word, b"highway")
-                || is_same(word, b"highways")
-                || is_same(word, b"hole")
-                || is_same(word, b"hwy")
+        10 => {
+            "accretions additional campground commencing correction exceptions fractional \
+             powerlines ranchettes reservoirs unsurveyed"
         }
-        [b'i', ..] => {
-            is_same(word, b"if") || is_same(word, b"inside") || is_same(word, b"islands")
-        }
-        [b'l', ..] => {
-            is_same(word, b"lake")
-                || is_same(word, b"lanes")
-                || is_same(word, b"leased")
-                || is_same(word, b"limited")
-                || is_same(word, b"location")
-                || is_same(word, b"lode")
-                || is_same(word, b"lying")
-        }
-        [b'm', ..] => { is_same(word, b"minerals") }
-        [b'n', ..] => {
-            is_same(word, b"near")
-                || is_same(word, b"neighboring")
-                || is_same(word, b"none")
-                || is_same(word, b"not")
-                || is_same(word, b"nothing")
-        }
-        [b'o', ..] => {
-            is_same(word, b"offset")
-                || is_same(word, b"old")
-                || is_same(word, b"omitted")
-                || is_same(word, b"only")
-                || is_same(word, b"other")
-                || is_same(word, b"others")
-                || is_same(word, b"outside")
-                || is_same(word, b"over")
-        }
-        [b'p', ..] => {
-            is_same(word, b"pad")
-                || is_same(word, b"pads")
-                || is_same(word, b"part")
-                || is_same(word, b"partial")
-                || is_same(word, b"parts")
-                || is_same(word, b"pipeline")
-                || is_same(word, b"pipelines")
-                || is_same(word, b"pit")
-                || is_same(word, b"plat")
-                || is_same(word, b"pob")
-                || is_same(word, b"pod")
-                || is_same(word, b"point")
-                || is_same(word, b"pond")
-                || is_same(word, b"ponds")
-                || is_same(word, b"por")
-                || is_same(word, b"portion")
-                || is_same(word, b"portions")
-                || is_same(word, b"powerline")
-                || is_same(word, b"powerlines")
-                || is_same(word, b"proposed")
-                || is_same(word, b"protraction")
-                || is_same(word, b"pt")
-        }
-        [b'r', ..] => {
-            is_same(word, b"railroad")
-                || is_same(word, b"ranchettes")
-                || is_same(word, b"released")
-                || is_same(word, b"relinquished")
-                || is_same(word, b"remainder")
-                || is_same(word, b"remaining")
-                || is_same(word, b"remove")
-                || is_same(word, b"removed")
-                || is_same(word, b"reservation")
-                || is_same(word, b"reservations")
-                || is_same(word, b"reserved")
-                || is_same(word, b"reserves")
-                || is_same(word, b"reserving")
-                || is_same(word, b"reservoir")
-                || is_same(word, b"reservoirs")
-                || is_same(word, b"rest")
-                || is_same(word, b"river")
-                || is_same(word, b"riverbed")
-                || is_same(word, b"road")
-                || is_same(word, b"roads")
-                || is_same(word, b"rod")
-                || is_same(word, b"rods")
-                || is_same(word, b"ros")
-                || is_same(word, b"row")
-        }
-        [b's', ..] => {
-            is_same(word, b"shl")
-                || is_same(word, b"site")
-                || is_same(word, b"sites")
-                || is_same(word, b"sold")
-                || is_same(word, b"spring")
-                || is_same(word, b"spud")
-                || is_same(word, b"strip")
-                || is_same(word, b"subdivision")
-                || is_same(word, b"surface")
-                || is_same(word, b"surrendered")
-                || is_same(word, b"surrounding")
-                || is_same(word, b"survey")
-        }
-        [b't', ..] => {
-            is_same(word, b"tax")
-                || is_same(word, b"thence")
-                || is_same(word, b"through")
-                || is_same(word, b"tower")
-                || is_same(word, b"towers")
-                || is_same(word, b"town")
-                || is_same(word, b"townsite")
-                || is_same(word, b"trail")
-                || is_same(word, b"trespass")
-                || is_same(word, b"tunnel")
-                || is_same(word, b"typo")
-        }
-        [b'u', ..] => {
-            is_same(word, b"unknown")
-                || is_same(word, b"unleased")
-                || is_same(word, b"unplatted")
-                || is_same(word, b"unsurveyed")
-                || is_same(word, b"used")
-        }
-        [b'v', ..] => { is_same(word, b"village") || is_same(word, b"void") }
-        [b'w', ..] => {
-            is_same(word, b"way")
-                || is_same(word, b"wellbore")
-                || is_same(word, b"withdrawn")
-                || is_same(word, b"within")
-        }
-        _ => false,
-    }
+        11 => "neighboring protraction reservation subdivision surrendered surrounding",
+        12 => "condominiums relinquished reservations",
+        13 => "approximately",
+        _ => return false,
+    };
+    is_among(word, words)
 }
 
 /// Words for what lies in land: at the end of a label before land, such a word may say what is meant there.
 pub fn is_feature(word: &[u8]) -> bool {
-    is_same(word, b"barn")
-        || is_same(word, b"bridge")
-        || is_same(word, b"cabin")
-        || is_same(word, b"cemetery")
-        || is_same(word, b"church")
-        || is_same(word, b"dam")
-        || is_same(word, b"house")
-        || is_same(word, b"island")
-        || is_same(word, b"graveyard")
-        || is_same(word, b"levee")
-        || is_same(word, b"line")
-        || is_same(word, b"lode")
-        || is_same(word, b"lodes")
-        || is_same(word, b"meadow")
-        || is_same(word, b"mill")
-        || is_same(word, b"mine")
-        || is_same(word, b"orchard")
-        || is_same(word, b"school")
-        || is_same(word, b"substation")
-        || is_same(word, b"wellsite")
+    let words: &str = match word.len() {
+        3 => "dam",
+        4 => "barn line lode mill mine",
+        5 => "cabin house levee lodes",
+        6 => "bridge church island meadow school",
+        7 => "orchard",
+        8 => "cemetery wellsite",
+        9 => "graveyard",
+        10 => "substation",
+        _ => return false,
+    };
+    is_among(word, words)
 }
 
 /// The words of `all that certain real property being`.
 pub fn is_of_property(word: &[u8]) -> bool {
-    is_same(word, b"all")
-        || is_same(word, b"that")
-        || is_same(word, b"those")
-        || is_same(word, b"certain")
-        || is_same(word, b"real")
-        || is_same(word, b"estate")
-        || is_same(word, b"property")
-        || is_same(word, b"tract")
-        || is_same(word, b"parcel")
-        || is_same(word, b"or")
-        || is_same(word, b"piece")
-        || is_same(word, b"of")
-        || is_same(word, b"land")
-        || is_same(word, b"lands")
-        || is_same(word, b"premises")
-        || is_same(word, b"situated")
-        || is_same(word, b"situate")
-        || is_same(word, b"located")
-        || is_same(word, b"lying")
-        || is_same(word, b"in")
-        || is_same(word, b"described")
-        || is_same(word, b"being")
-        || is_same(word, b"as")
-        || is_same(word, b"follows")
-        || is_same(word, b"the")
-        || is_same(word, b"following")
-        || is_same(word, b"to")
-        || is_same(word, b"-")
-        || is_same(word, b"wit")
-        || is_same(word, b":")
-        || is_same(word, b",")
-        || is_same(word, b"and")
-        || is_same(word, b"legally")
-        || is_same(word, b"more")
-        || is_same(word, b"particularly")
-        || is_same(word, b"covered")
-        || is_same(word, b"affected")
-        || is_same(word, b"by")
-        || is_same(word, b"this")
-        || is_same(word, b"opinion")
-        || is_same(word, b"report")
-        || is_same(word, b"lease")
-        || is_same(word, b"included")
-        || is_same(word, b"segregated")
-        || is_same(word, b"remaining")
-        || is_same(word, b"into")
-        || is_same(word, b"is")
-        || is_same(word, b"are")
+    let words: &str = match word.len() {
+        1 => ", - :",
+        2 => "as by in is of or to",
+        3 => "all and are the wit",
+        4 => "into land more real that this",
+        5 => "being lands lease lying piece those tract",
+        6 => "estate parcel report",
+        7 => "certain covered follows legally located opinion situate",
+        8 => "affected included premises property situated",
+        9 => "described following remaining",
+        10 => "segregated",
+        12 => "particularly",
+        _ => return false,
+    };
+    is_among(word, words)
 }
 
 /// Words that begin other land than was named, as in `and the mill site`, and what no remark after land begins with.
 pub fn adds_land(word: &[u8]) -> bool {
-    is_same(word, b"and")
-        || is_same(word, b"or")
-        || is_same(word, b"also")
-        || is_same(word, b"plus")
-        || is_same(word, b"with")
-        || is_same(word, b"together")
-        || is_same(word, b"including")
-        || is_same(word, b"to")
-        || is_same(word, b"of")
-        || is_same(word, b"in")
-        || is_same(word, b"on")
-        || is_same(word, b"from")
-        || is_same(word, b"by")
-        || is_same(word, b"gov")
-        || is_same(word, b"government")
-        || is_same(word, b"govt")
-        || is_same(word, b"tract")
-        || is_same(word, b"parcel")
-        || is_same(word, b"site")
-        || is_same(word, b"subject")
-        || is_same(word, b"subj")
-        || is_same(word, b"according")
-        || is_same(word, b"grantor")
-        || is_same(word, b"as")
+    let words: &str = match word.len() {
+        2 => "as by in of on or to",
+        3 => "and gov",
+        4 => "also from govt plus site subj with",
+        5 => "tract",
+        6 => "parcel",
+        7 => "grantor subject",
+        8 => "together",
+        9 => "according including",
+        10 => "government",
+        _ => return false,
+    };
+    is_among(word, words)
 }
 
 /// Words with which the name of a water ends.
 pub fn is_of_water(word: &[u8]) -> bool {
-    is_same(word, b"creek")
-        || is_same(word, b"lake")
-        || is_same(word, b"river")
-        || is_same(word, b"spring")
-        || is_same(word, b"canal")
+    let words: &str = match word.len() {
+        4 => "lake",
+        5 => "canal creek river",
+        6 => "spring",
+        _ => return false,
+    };
+    is_among(word, words)
 }
 
 /// Words with which no remark before land ends, since they say where in the land something is.
 pub fn points_into(word: &[u8]) -> bool {
-    is_same(word, b"in")
-        || is_same(word, b"of")
-        || is_same(word, b"on")
-        || is_same(word, b"from")
-        || is_same(word, b"to")
-        || is_same(word, b"into")
+    let words: &str = match word.len() {
+        2 => "in of on to",
+        4 => "from into",
+        _ => return false,
+    };
+    is_among(word, words)
 }

@@ -1,32 +1,22 @@
 //! Names of meridians and of states, and the letters for them.
 
-use crate::same::is_same;
+use crate::same::{is_among, is_same};
 
 /// Names of meridians of one word.
 pub fn is_meridian(word: &[u8]) -> bool {
-    is_same(word, b"boise")
-        || is_same(word, b"willamette")
-        || is_same(word, b"cimarron")
-        || is_same(word, b"indian")
-        || is_same(word, b"michigan")
-        || is_same(word, b"huntsville")
-        || is_same(word, b"chickasaw")
-        || is_same(word, b"choctaw")
-        || is_same(word, b"humboldt")
-        || is_same(word, b"louisiana")
-        || is_same(word, b"tallahassee")
-        || is_same(word, b"uintah")
-        || is_same(word, b"navajo")
-        || is_same(word, b"montana")
-        || is_same(word, b"mont")
-        || is_same(word, b"ute")
-        || is_same(word, b"principal")
-        || is_same(word, b"sixth")
-        || is_same(word, b"fifth")
-        || is_same(word, b"fourth")
-        || is_same(word, b"third")
-        || is_same(word, b"second")
-        || is_same(word, b"first")
+    let words: &str = match word.len() {
+        3 => "ute",
+        4 => "mont",
+        5 => "boise fifth first sixth third",
+        6 => "fourth indian navajo second uintah",
+        7 => "choctaw montana",
+        8 => "cimarron humboldt michigan",
+        9 => "chickasaw louisiana principal",
+        10 => "huntsville willamette",
+        11 => "tallahassee",
+        _ => return false,
+    };
+    is_among(word, words)
 }
 
 /// Names of meridians that are written without the word for it after a township and range.
@@ -39,70 +29,32 @@ pub fn is_bare_meridian(word: &[u8]) -> bool {
 
 /// Letters for a meridian.
 pub fn are_meridian_letters(word: &[u8]) -> bool {
-    is_same(word, b"bm")
-        || is_same(word, b"bhm")
-        || is_same(word, b"pm")
-        || is_same(word, b"nmpm")
-        || is_same(word, b"mdm")
-        || is_same(word, b"mdbm")
-        || is_same(word, b"sbm")
-        || is_same(word, b"sbbm")
-        || is_same(word, b"wm")
-        || is_same(word, b"slm")
-        || is_same(word, b"slbm")
-        || is_same(word, b"um")
-        || is_same(word, b"usm")
-        || is_same(word, b"crm")
-        || is_same(word, b"fm")
-        || is_same(word, b"gsrm")
-        || is_same(word, b"gsrbm")
-        || is_same(word, b"mpm")
+    let words: &str = match word.len() {
+        2 => "bm fm pm um wm",
+        3 => "bhm crm mdm mpm sbm slm usm",
+        4 => "gsrm mdbm nmpm sbbm slbm",
+        5 => "gsrbm",
+        _ => return false,
+    };
+    is_among(word, words)
 }
 
 /// States, and the letters for them, that have public land.
 pub fn is_state(word: &[u8]) -> bool {
-    is_same(word, b"idaho")
-        || is_same(word, b"id")
-        || is_same(word, b"wyoming")
-        || is_same(word, b"wy")
-        || is_same(word, b"nevada")
-        || is_same(word, b"nv")
-        || is_same(word, b"california")
-        || is_same(word, b"ca")
-        || is_same(word, b"utah")
-        || is_same(word, b"ut")
-        || is_same(word, b"montana")
-        || is_same(word, b"mt")
-        || is_same(word, b"oregon")
-        || is_same(word, b"colorado")
-        || is_same(word, b"co")
-        || is_same(word, b"nm")
-        || is_same(word, b"arizona")
-        || is_same(word, b"az")
-        || is_same(word, b"nd")
-        || is_same(word, b"sd")
-        || is_same(word, b"alaska")
-        || is_same(word, b"ak")
-        || is_same(word, b"nebraska")
-        || is_same(word, b"kansas")
-        || is_same(word, b"oklahoma")
-        || is_same(word, b"arkansas")
-        || is_same(word, b"minnesota")
-        || is_same(word, b"wisconsin")
-        || is_same(word, b"mississippi")
-        || is_same(word, b"alabama")
-        || is_same(word, b"florida")
-        || is_same(word, b"michigan")
-        || is_same(word, b"nebr")
-        || is_same(word, b"kans")
-        || is_same(word, b"okla")
-        || is_same(word, b"minn")
-        || is_same(word, b"wyo")
-        || is_same(word, b"colo")
-        || is_same(word, b"mont")
-        || is_same(word, b"ariz")
-        || is_same(word, b"calif")
-        || is_same(word, b"nev")
+    let words: &str = match word.len() {
+        2 => "ak az ca co id mt nd nm nv sd ut wy",
+        3 => "nev wyo",
+        4 => "ariz colo kans minn mont nebr okla utah",
+        5 => "calif idaho",
+        6 => "alaska kansas nevada oregon",
+        7 => "alabama arizona florida montana wyoming",
+        8 => "arkansas colorado michigan nebraska oklahoma",
+        9 => "minnesota wisconsin",
+        10 => "california",
+        11 => "mississippi",
+        _ => return false,
+    };
+    is_among(word, words)
 }
 
 /// Whether two words are a meridian's name.

@@ -1,62 +1,33 @@
 //! Words of a question or a request before land, as in `can you run the NE/4 of 14?`.
 
-use crate::same::is_same;
+use crate::same::is_among;
 
 /// The words that a request begins with.
 pub fn begins_request(word: &[u8]) -> bool {
-    is_same(word, b"hey")
-        || is_same(word, b"hi")
-        || is_same(word, b"can")
-        || is_same(word, b"could")
-        || is_same(word, b"would")
-        || is_same(word, b"will")
-        || is_same(word, b"please")
-        || is_same(word, b"pls")
-        || is_same(word, b"need")
-        || is_same(word, b"we")
-        || is_same(word, b"i")
-        || is_same(word, b"they")
-        || is_same(word, b"lands")
+    let words: &str = match word.len() {
+        1 => "i",
+        2 => "hi we",
+        3 => "can hey pls",
+        4 => "need they will",
+        5 => "could lands would",
+        6 => "please",
+        _ => return false,
+    };
+    is_among(word, words)
 }
 
 /// The words that may follow: who asks, what is to be done, and with what.
 pub fn is_of_request(word: &[u8]) -> bool {
-    is_same(word, b"you")
-        || is_same(word, b"we")
-        || is_same(word, b"i")
-        || is_same(word, b"me")
-        || is_same(word, b"us")
-        || is_same(word, b"it")
-        || is_same(word, b"can")
-        || is_same(word, b"could")
-        || is_same(word, b"please")
-        || is_same(word, b"pls")
-        || is_same(word, b"run")
-        || is_same(word, b"check")
-        || is_same(word, b"pull")
-        || is_same(word, b"look")
-        || is_same(word, b"get")
-        || is_same(word, b"send")
-        || is_same(word, b"need")
-        || is_same(word, b"want")
-        || is_same(word, b"also")
-        || is_same(word, b"have")
-        || is_same(word, b"has")
-        || is_same(word, b"up")
-        || is_same(word, b"are")
-        || is_same(word, b"is")
-        || is_same(word, b"for")
-        || is_same(word, b"on")
-        || is_same(word, b"title")
-        || is_same(word, b"lease")
-        || is_same(word, b"ownership")
-        || is_same(word, b"record")
-        || is_same(word, b"records")
-        || is_same(word, b"status")
-        || is_same(word, b"the")
-        || is_same(word, b"this")
-        || is_same(word, b"that")
-        || is_same(word, b"these")
-        || is_same(word, b"lands")
-        || is_same(word, b"land")
+    let words: &str = match word.len() {
+        1 => "i",
+        2 => "is it me on up us we",
+        3 => "are can for get has pls run the you",
+        4 => "also have land look need pull send that this want",
+        5 => "check could lands lease these title",
+        6 => "please record status",
+        7 => "records",
+        9 => "ownership",
+        _ => return false,
+    };
+    is_among(word, words)
 }

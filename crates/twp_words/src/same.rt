@@ -1,8 +1,21 @@
-//! Whether two texts are the same, whether a text is one of several, and whether letters are those of corners.
+//! Whether two texts are the same, whether a word is in a list, and whether letters are those of corners.
 
 /// Whether two texts are the same. A pattern of bytes would be proved byte by byte, which takes several times as long.
 pub fn is_same(word: &[u8], text: &[u8]) -> bool {
     word == text
+}
+
+/// Whether a word is one of these words, which all have as many bytes as it has, and a space between them. A list in
+/// code has a row of words for each length: so only the few words of this length are compared, and the list is proved at
+/// once, not word by word.
+#[inline(never)]
+pub(crate) fn is_among(word: &[u8], words: &str) -> bool {
+    for one in words.as_bytes().chunks(word.len().saturating_add(1)) {
+        if one.first() == word.first() && one.starts_with(word) {
+            return true;
+        }
+    }
+    false
 }
 
 /// Whether letters in lowercase are those of two corners or more.

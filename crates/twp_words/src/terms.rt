@@ -1,338 +1,178 @@
 //! Words of terms after land: depths, rights, boundaries, and interests.
 
-use crate::same::is_same;
+use crate::same::is_among;
 
 /// Words that begin terms, interests, and records after land.
 pub fn begins_terms(word: &[u8]) -> bool {
-    is_same(word, b"doi")
-        || is_same(word, b"nri")
-        || is_same(word, b"wi")
-        || is_same(word, b"ri")
-        || is_same(word, b"orri")
-        || is_same(word, b"recorded")
-        || is_same(word, b"hbp")
-        || is_same(word, b"exp")
-        || is_same(word, b"expires")
-        || is_same(word, b"rental")
-        || is_same(word, b"decimal")
-        || is_same(word, b"dec")
-        || is_same(word, b"royalty")
-        || is_same(word, b"open")
-        || is_same(word, b"leased")
-        || is_same(word, b"bk")
-        || is_same(word, b"book")
-        || is_same(word, b"inst")
-        || is_same(word, b"instr")
-        || is_same(word, b"instrument")
-        || is_same(word, b"vol")
-        || is_same(word, b"doc")
-        || is_same(word, b"document")
-        || is_same(word, b"lease")
-        || is_same(word, b"serial")
-        || is_same(word, b"fed")
-        || is_same(word, b"fee")
-        || is_same(word, b"blm")
-        || is_same(word, b"usa")
-        || is_same(word, b"private")
-        || is_same(word, b"interest")
-        || is_same(word, b"int")
-        || is_same(word, b"pls")
-        || is_same(word, b"please")
-        || is_same(word, b"thx")
-        || is_same(word, b"thanks")
+    let words: &str = match word.len() {
+        2 => "bk ri wi",
+        3 => "blm dec doc doi exp fed fee hbp int nri pls thx usa vol",
+        4 => "book inst open orri",
+        5 => "instr lease",
+        6 => "leased please rental serial thanks",
+        7 => "decimal expires private royalty",
+        8 => "document interest recorded",
+        10 => "instrument",
+        _ => return false,
+    };
+    is_among(word, words)
 }
 
 /// Words with which what looks like a term takes land away, or limits it, as in `lease excludes the barn`.
 pub fn is_beyond_terms(word: &[u8]) -> bool {
-    is_same(word, b"not")
-        || is_same(word, b"but")
-        || is_same(word, b"rest")
-        || is_same(word, b"remainder")
-        || is_same(word, b"void")
-        || is_same(word, b"remove")
-        || is_same(word, b"cancel")
-        || is_same(word, b"feet")
+    let words: &str = match word.len() {
+        3 => "but not",
+        4 => "feet rest void",
+        6 => "cancel remove",
+        9 => "remainder",
+        _ => return false,
+    };
+    is_among(word, words)
 }
 
 /// Words with which what looks like depths limits land, as in `only as to lands in Book 5`.
 pub fn is_beyond_depths(word: &[u8]) -> bool {
-    is_same(word, b"land")
-        || is_same(word, b"lands")
-        || is_same(word, b"tracts")
-        || is_same(word, b"unit")
-        || is_same(word, b"units")
-        || is_same(word, b"pa")
-        || is_same(word, b"spacing")
-        || is_same(word, b"pipeline")
-        || is_same(word, b"pad")
-        || is_same(word, b"reservoir")
-        || is_same(word, b"row")
-        || is_same(word, b"exhibit")
-        || is_same(word, b"county")
-        || is_same(word, b"located")
-        || is_same(word, b"lies")
-        || is_same(word, b"lie")
-        || is_same(word, b"sea")
-        || is_same(word, b"ca")
-        || is_same(word, b"coulee")
-        || is_same(word, b"dam")
-        || is_same(word, b"dike")
-        || is_same(word, b"flume")
-        || is_same(word, b"grade")
-        || is_same(word, b"pooled")
-        || is_same(word, b"psu")
-        || is_same(word, b"terrace")
+    let words: &str = match word.len() {
+        2 => "ca pa",
+        3 => "dam lie pad psu row sea",
+        4 => "dike land lies unit",
+        5 => "flume grade lands units",
+        6 => "coulee county pooled tracts",
+        7 => "exhibit located spacing terrace",
+        8 => "pipeline",
+        9 => "reservoir",
+        _ => return false,
+    };
+    is_among(word, words)
 }
 
 /// Words for what takes land away that rights are said of, as in `subject to prior sales`.
 pub fn is_conveyance(word: &[u8]) -> bool {
-    is_same(word, b"conveyance")
-        || is_same(word, b"conveyances")
-        || is_same(word, b"sale")
-        || is_same(word, b"sales")
-        || is_same(word, b"outsale")
-        || is_same(word, b"outsales")
-        || is_same(word, b"deed")
-        || is_same(word, b"deeds")
-        || is_same(word, b"acreage")
-        || is_same(word, b"bed")
-        || is_same(word, b"decree")
-        || is_same(word, b"exchange")
-        || is_same(word, b"grant")
-        || is_same(word, b"grants")
-        || is_same(word, b"patent")
-        || is_same(word, b"plat")
-        || is_same(word, b"quitclaim")
-        || is_same(word, b"schoolhouse")
-        || is_same(word, b"sold")
-        || is_same(word, b"streets")
-        || is_same(word, b"survey")
-        || is_same(word, b"transfers")
-        || is_same(word, b"verification")
+    let words: &str = match word.len() {
+        3 => "bed",
+        4 => "deed plat sale sold",
+        5 => "deeds grant sales",
+        6 => "decree grants patent survey",
+        7 => "acreage outsale streets",
+        8 => "exchange outsales",
+        9 => "quitclaim transfers",
+        10 => "conveyance",
+        11 => "conveyances schoolhouse",
+        12 => "verification",
+        _ => return false,
+    };
+    is_among(word, words)
 }
 
 /// Words of which terms after land are of depths.
 pub fn is_of_depth(word: &[u8]) -> bool {
-    is_same(word, b"depth")
-        || is_same(word, b"depths")
-        || is_same(word, b"formation")
-        || is_same(word, b"formations")
-        || is_same(word, b"feet")
-        || is_same(word, b"base")
-        || is_same(word, b"surface")
-        || is_same(word, b"rights")
-        || is_same(word, b"minerals")
-        || is_same(word, b"only")
-        || is_same(word, b"zone")
-        || is_same(word, b"interval")
-        || is_same(word, b"stratigraphic")
-        || is_same(word, b"sand")
-        || is_same(word, b"horizon")
+    let words: &str = match word.len() {
+        4 => "base feet only sand zone",
+        5 => "depth",
+        6 => "depths rights",
+        7 => "horizon surface",
+        8 => "interval minerals",
+        9 => "formation",
+        10 => "formations",
+        13 => "stratigraphic",
+        _ => return false,
+    };
+    is_among(word, words)
 }
 
 /// Words for what bounds land, or crosses it.
 pub fn is_boundary(word: &[u8]) -> bool {
-    is_same(word, b"road")
-        || is_same(word, b"roads")
-        || is_same(word, b"river")
-        || is_same(word, b"creek")
-        || is_same(word, b"canal")
-        || is_same(word, b"ditch")
-        || is_same(word, b"highway")
-        || is_same(word, b"railroad")
-        || is_same(word, b"railway")
-        || is_same(word, b"line")
-        || is_same(word, b"lines")
-        || is_same(word, b"fence")
-        || is_same(word, b"way")
-        || is_same(word, b"shore")
-        || is_same(word, b"lake")
-        || is_same(word, b"contour")
-        || is_same(word, b"bank")
-        || is_same(word, b"boundary")
-        || is_same(word, b"city")
-        || is_same(word, b"limits")
-        || is_same(word, b"portion")
-        || is_same(word, b"part")
-        || is_same(word, b"lying")
-        || is_same(word, b"within")
-        || is_same(word, b"outside")
-        || is_same(word, b"bluff")
-        || is_same(word, b"rim")
-        || is_same(word, b"ridge")
-        || is_same(word, b"mesa")
-        || is_same(word, b"cliff")
-        || is_same(word, b"high")
-        || is_same(word, b"water")
-        || is_same(word, b"mark")
-        || is_same(word, b"shoreline")
-        || is_same(word, b"hill")
-        || is_same(word, b"hills")
-        || is_same(word, b"pit")
-        || is_same(word, b"dune")
-        || is_same(word, b"dunes")
-        || is_same(word, b"bar")
-        || is_same(word, b"ground")
-        || is_same(word, b"orchard")
+    let words: &str = match word.len() {
+        3 => "bar pit rim way",
+        4 => "bank city dune high hill lake line mark mesa part road",
+        5 => {
+            "bluff canal cliff creek ditch dunes fence hills lines lying ridge river roads \
+             shore water"
+        }
+        6 => "ground limits within",
+        7 => "contour highway orchard outside portion railway",
+        8 => "boundary railroad",
+        9 => "shoreline",
+        _ => return false,
+    };
+    is_among(word, words)
 }
 
 /// What a share is of, as in `50% fee min`, or `1/3 int only`.
 pub fn is_of_share(word: &[u8]) -> bool {
-    is_same(word, b"usa")
-        || is_same(word, b"us")
-        || is_same(word, b"fed")
-        || is_same(word, b"federal")
-        || is_same(word, b"fee")
-        || is_same(word, b"state")
-        || is_same(word, b"private")
-        || is_same(word, b"blm")
-        || is_same(word, b"min")
-        || is_same(word, b"mineral")
-        || is_same(word, b"minerals")
-        || is_same(word, b"int")
-        || is_same(word, b"interest")
-        || is_same(word, b"ri")
-        || is_same(word, b"wi")
-        || is_same(word, b"nri")
-        || is_same(word, b"orri")
-        || is_same(word, b"royalty")
-        || is_same(word, b"mi")
+    let words: &str = match word.len() {
+        2 => "mi ri us wi",
+        3 => "blm fed fee int min nri usa",
+        4 => "orri",
+        5 => "state",
+        7 => "federal mineral private royalty",
+        8 => "interest minerals",
+        _ => return false,
+    };
+    is_among(word, words)
 }
 
 /// Words of the plat of a town, and of land that a river adds: no lots and aliquot parts.
 pub fn is_of_town(word: &[u8]) -> bool {
-    is_same(word, b"addition")
-        || is_same(word, b"subdivision")
-        || is_same(word, b"townsite")
-        || is_same(word, b"block")
-        || is_same(word, b"accretion")
-        || is_same(word, b"accretions")
+    let words: &str = match word.len() {
+        5 => "block",
+        8 => "addition townsite",
+        9 => "accretion",
+        10 => "accretions",
+        11 => "subdivision",
+        _ => return false,
+    };
+    is_among(word, words)
 }
 
 /// Words for a piece of land: rights that name one may take it out of the land.
 pub fn names_parcel(word: &[u8]) -> bool {
-    is_same(word, b"acre")
-        || is_same(word, b"acres")
-        || is_same(word, b"ac")
-        || is_same(word, b"tract")
-        || is_same(word, b"parcel")
-        || is_same(word, b"strip")
-        || is_same(word, b"site")
-        || is_same(word, b"ranch")
-        || is_same(word, b"portion")
-        || is_same(word, b"part")
-        || is_same(word, b"adjoining")
-        || is_same(word, b"pasture")
-        || is_same(word, b"island")
-        || is_same(word, b"orchard")
-        || is_same(word, b"barn")
-        || is_same(word, b"house")
-        || is_same(word, b"rods")
-        || is_same(word, b"rod")
-        || is_same(word, b"millsite")
-        || is_same(word, b"homestead")
-        || is_same(word, b"adjacent")
-        || is_same(word, b"abutting")
+    let words: &str = match word.len() {
+        2 => "ac",
+        3 => "rod",
+        4 => "acre barn part rods site",
+        5 => "acres house ranch strip tract",
+        6 => "island parcel",
+        7 => "orchard pasture portion",
+        8 => "abutting adjacent millsite",
+        9 => "adjoining homestead",
+        _ => return false,
+    };
+    is_among(word, words)
 }
 
 /// What `all` may be of, if it isn't of land.
 pub fn is_of_right(word: &[u8]) -> bool {
-    is_same(word, b"water")
-        || is_same(word, b"oil")
-        || is_same(word, b"gas")
-        || is_same(word, b"minerals")
-        || is_same(word, b"mineral")
-        || is_same(word, b"rights")
-        || is_same(word, b"right")
-        || is_same(word, b"depths")
-        || is_same(word, b"other")
-        || is_same(word, b"easements")
-        || is_same(word, b"appurtenances")
-        || is_same(word, b"improvements")
-        || is_same(word, b"existing")
-        || is_same(word, b"coal")
-        || is_same(word, b"matters")
-        || is_same(word, b"mins")
-        || is_same(word, b"min")
-        || is_same(word, b"int")
-        || is_same(word, b"interest")
+    let words: &str = match word.len() {
+        3 => "gas int min oil",
+        4 => "coal mins",
+        5 => "other right water",
+        6 => "depths rights",
+        7 => "matters mineral",
+        8 => "existing interest minerals",
+        9 => "easements",
+        12 => "improvements",
+        13 => "appurtenances",
+        _ => return false,
+    };
+    is_among(word, words)
 }
 
 /// The words of an interest in land.
 pub fn is_of_interest(word: &[u8]) -> bool {
-    is_same(word, b"one-half")
-        || is_same(word, b"one")
-        || is_same(word, b"two")
-        || is_same(word, b"three")
-        || is_same(word, b"four")
-        || is_same(word, b"half")
-        || is_same(word, b"third")
-        || is_same(word, b"fourth")
-        || is_same(word, b"fifth")
-        || is_same(word, b"eighth")
-        || is_same(word, b"sixteenth")
-        || is_same(word, b"quarter")
-        || is_same(word, b"thirds")
-        || is_same(word, b"fourths")
-        || is_same(word, b"eighths")
-        || is_same(word, b"sixteenths")
-        || is_same(word, b"interest")
-        || is_same(word, b"int")
-        || is_same(word, b"in")
-        || is_same(word, b"and")
-        || is_same(word, b"to")
-        || is_same(word, b"the")
-        || is_same(word, b"of")
-        || is_same(word, b"mineral")
-        || is_same(word, b"minerals")
-        || is_same(word, b"min")
-        || is_same(word, b"rights")
-        || is_same(word, b"right")
-        || is_same(word, b"title")
-        || is_same(word, b"oil")
-        || is_same(word, b"gas")
-        || is_same(word, b"hydrocarbons")
-        || is_same(word, b"coal")
-        || is_same(word, b"other")
-        || is_same(word, b"royalty")
-        || is_same(word, b"under")
-        || is_same(word, b"th")
-        || is_same(word, b"ths")
-        || is_same(word, b"-")
-        || is_same(word, b"/")
-        || is_same(word, b".")
-        || is_same(word, b",")
-        || is_same(word, b"(")
-        || is_same(word, b")")
-        || is_same(word, b"'")
-        || is_same(word, b"%")
-        || is_same(word, b"fee")
-        || is_same(word, b"surface")
-        || is_same(word, b"an")
-        || is_same(word, b"working")
-        || is_same(word, b"net")
-        || is_same(word, b"gross")
-        || is_same(word, b"its")
-        || is_same(word, b"his")
-        || is_same(word, b"her")
-        || is_same(word, b"their")
-        || is_same(word, b"undivided")
-        || is_same(word, b"und")
-        || is_same(word, b"or")
-        || is_same(word, b"producible")
-        || is_same(word, b"produced")
-        || is_same(word, b"from")
-        || is_same(word, b"that")
-        || is_same(word, b"may")
-        || is_same(word, b"be")
-        || is_same(word, b"all")
-        || is_same(word, b"our")
-        || is_same(word, b"my")
-        || is_same(word, b"metallic")
-        || is_same(word, b"non")
-        || is_same(word, b"following")
-        || is_same(word, b"described")
-        || is_same(word, b"lands")
-        || is_same(word, b"land")
-        || is_same(word, b"wit")
+    let words: &str = match word.len() {
+        1 => "% ' ( ) , - . /",
+        2 => "an be in my of or th to",
+        3 => "all and fee gas her his int its may min net non oil one our the ths two und wit",
+        4 => "coal four from half land that",
+        5 => "fifth gross lands other right their third three title under",
+        6 => "eighth fourth rights thirds",
+        7 => "eighths fourths mineral quarter royalty surface working",
+        8 => "interest metallic minerals one-half produced",
+        9 => "described following sixteenth undivided",
+        10 => "producible sixteenths",
+        12 => "hydrocarbons",
+        _ => return false,
+    };
+    is_among(word, words)
 }
