@@ -23,3 +23,5 @@ pub mod RelationFacts
 pub mod LotSections
 pub mod MadeLands
 pub mod WholeDecided
+pub mod NumberFacts
+pub mod NumberedLands
