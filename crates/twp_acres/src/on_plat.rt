@@ -16,7 +16,7 @@ use twp_measure::Area;
 use twp_plat::{Account, Plat, area_by};
 use twp_read::{Clarity, Description};
 use twp_resolve::{resolve_if_room, resolve_into};
-use twp_spell::spell;
+use twp_spell::{spell, spell_set};
 
 /// The acres of the land described on a plat, by an account: the exact area in hundredths of an
 /// acre, rounded once, half up. `Stop::Refused` is the first fault of the description, at its byte;
@@ -119,7 +119,7 @@ pub(crate) fn normal_noting(
     let read = read_noting(alloc, description, clarity)?;
     let mut land = FewLanes::empty();
     if resolve_if_room(&mut land, &read, plat.township())? {
-        return Ok(spell(alloc, &land, plat.township())?);
+        return Ok(spell_set(alloc, &land, plat.township())?);
     }
     normal_in_all(alloc, plat, &read)
 }

@@ -13,7 +13,7 @@ use crate::account::Account;
 use crate::closing::QUARTER_MILE;
 use crate::plat::Plat;
 use twp_grid::{Block, PLACES_TO_POSITION, Section, lot_count, lot_place};
-use twp_land::PlaceSet;
+use twp_land::{Land, PlaceSet};
 use twp_measure::Area;
 
 /// The number of places in a position.
@@ -28,7 +28,7 @@ const REGULAR_PLACE: u128 = REGULAR_POSITION / PLACES_OF_POSITION as u128;
 /// The exact area of land: each place counts for its share of its position's area on the plat,
 /// which is the same for all places of the position, and nothing is rounded (this project's rule; a
 /// lot is taken whole: Specifications for Descriptions of Land).
-pub fn area_of<L: PlaceSet>(plat: &Plat, land: &L) -> Area
+pub fn area_of<L: Land>(plat: &Plat, land: &L) -> Area
     requires whole { HasWholeLots PLACE_DIGITS (L.places land.now) }
     ensures { IsLandArea PLACE_DIGITS plat.now (L.places land.now) result }
 {
@@ -37,7 +37,7 @@ pub fn area_of<L: PlaceSet>(plat: &Plat, land: &L) -> Area
 
 /// The plat area of land: each lot counts for its acreage as the plat shows it, and each place off
 /// the lots for its share of 40 acres (this project's rule).
-pub fn plat_area_of<L: PlaceSet>(plat: &Plat, land: &L) -> Area
+pub fn plat_area_of<L: Land>(plat: &Plat, land: &L) -> Area
     requires whole { HasWholeLots PLACE_DIGITS (L.places land.now) }
     ensures { IsPlatArea PLACE_DIGITS plat.now (L.places land.now) result }
 {

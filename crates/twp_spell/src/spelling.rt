@@ -11,7 +11,7 @@ use crate::written_parts::write_parts;
 use itoa::Buffer;
 use std::alloc::{AllocError, Global};
 use twp_grid::{Block, EastWest, NorthSouth, Section, Township, lot_count};
-use twp_land::PlaceSet;
+use twp_land::{Land, PlaceSet};
 
 /// There is room from the start for the text of some ten parts, in bytes.
 const ROOM: usize = 256;
@@ -20,7 +20,15 @@ const ROOM: usize = 256;
 /// `sec. 14, N1/2, SE1/4.`: its sections by ascending number, each with `all` or with the lots and
 /// aliquot parts in the land. The text of empty land is empty. A lot is named if the land contains
 /// some place of it.
-pub fn spell<L: PlaceSet>(
+pub fn spell<L: Land>(alloc: Global, land: &L, township: Township) -> Result<Vec<u8>, AllocError>
+    ensures text { IfOk result
+        (λ text. IsCanonicalText PLACE_DIGITS township (L.places land.now) text.items) }
+{
+    spell_set(alloc, land, township)
+}
+
+/// The same, of any set of places.
+pub fn spell_set<L: PlaceSet>(
     alloc: Global,
     land: &L,
     township: Township,

@@ -26,7 +26,7 @@ returns-then-branch-clause-text c = record {
     read = c.in_ok-read.ensures.read;
     land = rw c.township.ensures at (c.in_ok-resolve_if_room.ensures.land c.if-branch.true);
   };
-  text_is = rw c.township-then-branch.ensures at c.in_ok-spell.ensures.text;
+  text_is = rw c.township-then-branch.ensures at c.in_ok-spell_set.ensures.text;
 }
 
 pub returns-clause-text : goal.returns-clause-text

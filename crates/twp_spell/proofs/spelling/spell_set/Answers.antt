@@ -3,7 +3,7 @@ use Rattle.std.proofs.Common.{refl, arith}
 use Rattle.twp_grid.specs.Places.{PLACE_DIGITS}
 use Rattle.twp_land.proofs.LandRanges.{nothing_within}
 use Rattle.twp_spell.proofs.SpellingFacts.{begun_from, begun_all}
-use Rattle.twp_spell.proofs.spelling.spell.Goals as goal
+use Rattle.twp_spell.proofs.spelling.spell_set.Goals as goal
 
 pub returns-in_default : goal.returns-in_default
 returns-in_default g c =

@@ -1,7 +1,7 @@
 use Rattle.std.proofs.Common.{◌≤◌}
 use Rattle.twp_grid.specs.Places.{PLACE_DIGITS}
 use Rattle.twp_spell.specs.steps.SpellingSteps.{AreBegun}
-use Rattle.twp_spell.proofs.spelling.spell.Given as goal
+use Rattle.twp_spell.proofs.spelling.spell_set.Given as goal
 
 -- the land's sections so far were written
 abbrev pub invariant-loop-number : goal.invariant-loop-number
