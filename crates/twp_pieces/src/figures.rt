@@ -136,10 +136,11 @@ impl<'a> Pieces<'a> {
             let is_mark = matches!(self.kind(place), Kind::Half | Kind::Quarter)
                 || self.is(place, b"%")
                 || (place > index && (self.is(place, b"/") || self.is(place, b".")));
-            if place == after && (is_number || is_mark) {
-                has_mark = has_mark || is_mark;
-                after = plus(place, 1);
+            if !is_number && !is_mark {
+                break;
             }
+            has_mark = has_mark || is_mark;
+            after = plus(place, 1);
         }
         has_mark && is_of_share(self.lower(after))
     }
@@ -149,6 +150,9 @@ impl<'a> Pieces<'a> {
     pub fn may_be_section(&self, index: usize) -> bool {
         let before = index.saturating_sub(1);
         let next = plus(index, 1);
+        if !self.is_number_of_section(index) {
+            return false;
+        }
         let word = self.lower(before);
         let is_numbered = self.is(before, b".") && self.is(before.saturating_sub(1), b"no");
         let is_record = is_numbered
@@ -160,15 +164,9 @@ impl<'a> Pieces<'a> {
                 || self.is(before, b".")
                 || self.is(before, b",")
                 || self.is_dash(before));
-        let number = self.number(index).unwrap_or(0);
-        let is_in_digits = number >= 1 && number <= SECTIONS;
-        let is_followed = matches!(self.lower(next), [b'a'..=b'z', ..]) || self.is_dash(next);
-        let is_last_word = self.begins_column(next) || !is_followed;
-        let is_in_words = is_numeral(self.lower(index)) && is_last_word;
         let is_first = self.is_joined(next)
             && matches!(self.kind(next), Kind::Number(_) | Kind::BadNumber);
-        (is_in_digits || is_in_words)
-            && !is_first
+        !is_first
             && !(is_record || is_end || self.is_date(index) || self.is_share(index))
             && !is_of_time(self.lower(next))
             && !self.is(before, b"$")
@@ -176,9 +174,23 @@ impl<'a> Pieces<'a> {
             && !(self.is(next, b",") && self.has_digits(plus(index, 2), 3))
     }
 
+    /// Whether the number of a section is at an index, in digits, or in words without more of them.
+    fn is_number_of_section(&self, index: usize) -> bool {
+        let next = plus(index, 1);
+        match self.kind(index) {
+            Kind::Number(number) => number >= 1 && number <= SECTIONS,
+            Kind::Other if is_numeral(self.lower(index)) => {
+                let is_followed = matches!(self.lower(next), [b'a'..=b'z', ..])
+                    || self.is_dash(next);
+                !is_followed || self.begins_column(next)
+            }
+            _ => false,
+        }
+    }
+
     /// Whether the piece at an index is the first on its line, in its cell, or after a bar or wide white space.
     pub fn begins_column(&self, index: usize) -> bool {
-        self.begins_cell(index) || self.start(index) > plus(self.end_before(index), 1)
+        self.start(index) > plus(self.end_before(index), 1) || self.begins_cell(index)
     }
 
     /// Whether some pieces begin with a number, and have no letters, and no number that is too large for a lot or a section.

@@ -1,7 +1,7 @@
 //! The pieces of a text: its tokens, and the characters that begin none.
 
 use std::alloc::{AllocError, Global};
-use twp_grammar::{Kind, Token, Tokens};
+use twp_grammar::{Kind, Token, Tokens, first_token};
 use twp_words::{is_damaged_corner, is_damaged_half, is_same, size_of_character};
 
 /// The most characters, one after another, that begin no token: a text with more has no reading, and isn't cut further.
@@ -23,6 +23,8 @@ pub struct Pieces<'a> {
 #[derive(Clone, Copy)]
 struct Piece {
     kind: Kind,
+    /// How many bytes it has, up to the most that a `u16` can hold: words of another length are ruled out by it.
+    size: u16,
     start: usize,
     end: usize,
 }
@@ -32,6 +34,7 @@ impl Piece {
     fn at(start: usize, size: usize, kind: Kind) -> Piece {
         Piece {
             kind,
+            size: u16::try_from(size).unwrap_or(u16::MAX),
             start,
             end: plus(start, size),
         }
@@ -49,9 +52,14 @@ impl<'a> Pieces<'a> {
         let lower = text.to_ascii_lowercase(alloc)?;
         // Most pieces have two bytes or more.
         let mut list = Vec::with_capacity(alloc, plus(text.len() / 2, PIECES_FIRST))?;
+        let mut at: usize = 0;
         let mut end = 0;
         let mut unknown: usize = 0;
-        for token in Tokens::new(text) {
+        for _ in 0..text.len() {
+            let Some(token) = first_token(text, at.min(text.len())) else {
+                break;
+            };
+            at = plus(token.at, token.text.len());
             if token.at < end {
                 continue;
             }
@@ -139,7 +147,7 @@ impl<'a> Pieces<'a> {
     pub fn is(&self, index: usize, text: &[u8]) -> bool {
         match self.list.get(index) {
             Some(piece) => {
-                piece.end.saturating_sub(piece.start) == text.len()
+                usize::from(piece.size) == text.len()
                     && self.lower.get(piece.start..piece.end).unwrap_or(b"") == text
             }
             None => text.is_empty(),
@@ -160,10 +168,14 @@ impl<'a> Pieces<'a> {
     pub fn begins_cell(&self, index: usize) -> bool {
         self.begins_line(index)
             || index >= self.len()
-            || self.is(index, b"|")
-            || self.is_quote_of_cell(index)
-            || self.is(index.saturating_sub(1), b"|")
-            || (index > 0 && self.is_quote_of_cell(index.saturating_sub(1)))
+            || self.is_edge_of_cell(index)
+            || self.is_edge_of_cell(index.saturating_sub(1))
+    }
+
+    /// Whether a bar, or the quote before a cell or after it, is at an index. Most pieces are of another kind.
+    fn is_edge_of_cell(&self, index: usize) -> bool {
+        matches!(self.kind(index), Kind::BadByte)
+            && (self.is(index, b"|") || self.is_quote_of_cell(index))
     }
 
     /// Whether the quote before a cell, or the one after it, is at an index.
@@ -223,7 +235,12 @@ impl<'a> Pieces<'a> {
 
     /// Whether the piece at an index is a number of so many digits.
     pub fn has_digits(&self, index: usize, count: usize) -> bool {
-        matches!(self.kind(index), Kind::Number(_)) && self.bytes(index).len() == count
+        match self.list.get(index) {
+            Some(piece) => {
+                matches!(piece.kind, Kind::Number(_)) && usize::from(piece.size) == count
+            }
+            None => false,
+        }
     }
 
     /// Whether the piece at an index names north or south.
