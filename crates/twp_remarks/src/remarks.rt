@@ -74,8 +74,8 @@ pub fn end_of_remark(pieces: &Pieces<'_>, index: usize, position: Position) -> O
             && is_of_water(pieces.lower(place))
             && pieces.begins_column(plus(place, 1));
         let is_price = pieces.is(place.saturating_sub(1), b"/");
-        let is_parcel = names_parcel(pieces.lower(place))
-            && place > index
+        let is_parcel = place > index
+            && names_parcel(pieces.lower(place))
             && !pieces.is(index, b"total")
             && !is_price;
         // Less than a quarter section may be less than the land that follows.
@@ -90,13 +90,10 @@ pub fn end_of_remark(pieces: &Pieces<'_>, index: usize, position: Position) -> O
                 || is_boundary(pieces.lower(place))
                 || limits_land_at(pieces, place)
                 || may_end_label(pieces, place));
-        let is_of_well = position == Position::BeforeLand
-            && place > index
-            && is_of_well(pieces, place);
-        if (is_beyond_remark(pieces, place) && !is_name)
-            || is_after
+        if is_after
             || is_area
-            || (pieces.may_be_section(place) && !is_of_well)
+            || (pieces.may_be_section(place) && !may_be_well(pieces, index, place, position))
+            || (!is_name && is_beyond_remark(pieces, place))
         {
             return None;
         }
@@ -104,6 +101,11 @@ pub fn end_of_remark(pieces: &Pieces<'_>, index: usize, position: Position) -> O
         is_sure = is_sure || is_known_at(pieces, place);
     }
     None
+}
+
+/// Whether a number in a remark that begins at an index may be of the name of a well: before land, and not its first word.
+fn may_be_well(pieces: &Pieces<'_>, index: usize, place: usize, position: Position) -> bool {
+    position == Position::BeforeLand && place > index && is_of_well(pieces, place)
 }
 
 /// Whether a remark may begin at an index: first in a cell, or after a colon before any land; with a word, or a number
@@ -127,6 +129,9 @@ fn begins_remark(pieces: &Pieces<'_>, index: usize, position: Position) -> bool 
         || is_after_comma
         || is_after_stop
         || is_after_acreage;
+    if !is_apart && !pieces.is_share(index) {
+        return false;
+    }
     let is_new = match position {
         Position::AfterLand => adds_land(pieces.lower(index)) && !begins_tract(pieces, index),
         Position::BeforeLand => is_more(pieces.lower(index)),
@@ -147,7 +152,7 @@ fn begins_remark(pieces: &Pieces<'_>, index: usize, position: Position) -> bool 
             || is_initial(pieces, index)
             || pieces.end_of_code(index).is_some(),
     };
-    (is_apart || pieces.is_share(index)) && is_first && !is_new
+    is_first && !is_new
 }
 
 /// Whether a remark ends before a piece, or with it, if it is a colon.
