@@ -113,6 +113,11 @@ impl<'a> Draft<'a> {
         if let Some(end) = self.pieces.end_of_first_serial(index) {
             return Some((Rule::Label, end));
         }
+        // A mark begins nothing else, but for the one after a question.
+        if matches!(self.pieces.kind(index), Kind::BadByte) && !self.pieces.is_question_mark(index)
+        {
+            return None;
+        }
         if let Some(end) = self.pieces.end_of_meridian(index) {
             return Some((Rule::Meridian, end));
         }

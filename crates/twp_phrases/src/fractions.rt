@@ -86,6 +86,9 @@ impl<'a> Draft<'a> {
         let pieces = &self.pieces;
         let next = plus(index, 1);
         let is_joined = pieces.is_joined(index);
+        if self.is_digit(index, size) && !self.goes_on(next) {
+            return Some(next);
+        }
         if is_joined && pieces.is(index, b"/") && self.is_digit(next, size) {
             return Some(plus(next, 1));
         }
@@ -102,9 +105,6 @@ impl<'a> Draft<'a> {
             return Some(plus(index, 3));
         }
         if size.is_whole_word(pieces.lower(index)) {
-            return Some(next);
-        }
-        if is_joined && self.is_digit(index, size) && !self.goes_on(next) {
             return Some(next);
         }
         let is_slash = (pieces.is(next, b"/") || pieces.is(next, b"\xE2\x81\x84"))

@@ -33,6 +33,10 @@ impl<'a> Draft<'a> {
                 end = after;
                 continue;
             }
+            // Only `of` goes on, or the step before it again.
+            if !self.pieces.is(end, b"of") && !self.pieces.is(end, b"(") {
+                break;
+            }
             let extent = self.extent();
             let same = self.after_same_step(end)?;
             let steps = self.steps.len();

@@ -22,7 +22,10 @@ impl<'a> Draft<'a> {
             }
             Kind::Comma | Kind::Semicolon | Kind::Colon | Kind::And | Kind::The => true,
             Kind::BadByte => self.pieces.is(before, b"&") || self.pieces.is_dash(before),
-            _ => self.pieces.begins_column(index) || self.is_after_label(index),
+            _ => {
+                (!self.pieces.is_joined(index) && self.pieces.begins_column(index))
+                    || self.is_after_label(index)
+            }
         }
     }
 
@@ -30,7 +33,9 @@ impl<'a> Draft<'a> {
     pub(crate) fn is_after_label(&self, index: usize) -> bool {
         match self.phrases.last() {
             Some(phrase) => {
-                phrase.end == index && self.pieces.end_of_column_label(phrase.first) == Some(index)
+                matches!(phrase.names, Names::Nothing(Rule::Heading | Rule::Label))
+                    && phrase.end == index
+                    && self.pieces.end_of_column_label(phrase.first) == Some(index)
             }
             None => false,
         }
@@ -78,12 +83,7 @@ impl<'a> Draft<'a> {
         let digit = plus(part.first, 1);
         let is_digit = part.end == plus(part.first, 2) && self.pieces.has_digits(digit, 1);
         let is_south = is_digit && !self.names_land && self.pieces.is(part.first, b"s");
-        let is_location = self.pieces.number(part.end).is_some()
-            && self.pieces.is_dash(plus(part.end, 1));
-        let is_sure = is_location
-            || self.pieces.is(part.end, b"of")
-            || self.pieces.leads_to_section(part.end);
-        if is_south && !is_sure {
+        if is_south && !self.is_before_section(part.end) {
             self.doubt();
         }
         // After `S3:`, it may be a section.
@@ -110,6 +110,13 @@ impl<'a> Draft<'a> {
         {
             self.doubt();
         }
+    }
+
+    /// Whether what is after a part at an index says that it is one: an `of`, or the section of a location.
+    fn is_before_section(&self, index: usize) -> bool {
+        let is_location = self.pieces.number(index).is_some()
+            && self.pieces.is_dash(plus(index, 1));
+        is_location || self.pieces.is(index, b"of") || self.pieces.leads_to_section(index)
     }
 
     /// Whether the last part of a text may be the beginning of a word for a section: `Se`, or `se` after a part in capitals.
