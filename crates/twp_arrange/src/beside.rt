@@ -12,17 +12,15 @@ const LOTS_MOST: u16 = 7;
 impl<'a> Plan<'a> {
     /// Whether a phrase isn't sure for what is beside it, or there are two meridians.
     pub(crate) fn has_unsure_neighbors(&self) -> bool {
-        let phrases = self.draft.phrases.as_slice();
+        let mut before: Option<&Phrase> = None;
         let mut meridian: Option<u16> = None;
-        for index in 0..phrases.len() {
-            let Some(phrase) = phrases.get(index) else {
-                break;
-            };
-            if let Some(before) = index.checked_sub(1).and_then(|before| phrases.get(before)) {
+        for phrase in &self.draft.phrases {
+            if let Some(before) = before {
                 if self.are_unsure_neighbors(before, phrase) {
                     return true;
                 }
             }
+            before = Some(phrase);
             if let Some(number) = self.number_of_meridian(phrase) {
                 if meridian.is_some() && meridian != Some(number) {
                     return true;

@@ -59,7 +59,7 @@ impl<'a> Plan<'a> {
     /// missing, as in `Secs. 9 -`.
     fn has_empty_place(&self) -> bool {
         // The last section, if no land follows it so far.
-        let mut section: Option<Phrase> = None;
+        let mut section: Option<&Phrase> = None;
         let mut is_first = true;
         let mut is_before = false;
         for phrase in &self.draft.phrases {
@@ -69,7 +69,7 @@ impl<'a> Plan<'a> {
                         return true;
                     }
                     is_before = is_before || is_first;
-                    section = if is_before { Some(*phrase) } else { None };
+                    section = if is_before { Some(phrase) } else { None };
                     is_first = false;
                 }
                 Names::Part | Names::Lots | Names::All | Names::Except => {
@@ -95,7 +95,7 @@ impl<'a> Plan<'a> {
     }
 
     /// Whether a colon, or a cell without land, follows a section, or its word is for several.
-    fn is_place_empty(&self, section: Option<Phrase>) -> bool {
+    fn is_place_empty(&self, section: Option<&Phrase>) -> bool {
         match section {
             Some(section) => {
                 let count = section.numbers.end.saturating_sub(section.numbers.first);
@@ -108,7 +108,7 @@ impl<'a> Plan<'a> {
     }
 
     /// Whether a comma and wide white space follow a section.
-    fn is_before_gap(&self, section: Option<Phrase>) -> bool {
+    fn is_before_gap(&self, section: Option<&Phrase>) -> bool {
         match section {
             Some(section) => {
                 self.draft.pieces.is(section.end, b",")
@@ -150,7 +150,7 @@ impl<'a> Plan<'a> {
                     before = Some(phrase.names);
                 }
                 Names::Heading => {
-                    is_beside = is_loose && !self.is_row(*phrase);
+                    is_beside = is_loose && !self.is_row(phrase);
                     is_twice = false;
                 }
                 _ => {}
@@ -160,7 +160,7 @@ impl<'a> Plan<'a> {
     }
 
     /// Whether a township begins a line, or follows a semicolon.
-    fn is_row(&self, heading: Phrase) -> bool {
+    fn is_row(&self, heading: &Phrase) -> bool {
         let first = heading.first;
         first == 0
             || self.draft.pieces.has_before(first, b'\n')
