@@ -4,6 +4,7 @@ use crate::gaps::{Outline, change};
 use crate::writer::Writer;
 use std::alloc::{AllocError, Global};
 use std::mem;
+use twp_arrange::Plan;
 use twp_pieces::plus;
 use twp_read::TEXT_LIMIT;
 use twp_rules::{Change, Rule};
@@ -19,7 +20,9 @@ pub(crate) fn outline_of<'a>(
     if text.len() > TEXT_LIMIT {
         return Ok(None);
     }
-    let mut writer = Writer::of(alloc, text)?;
+    let mut writer = Writer {
+        plan: Plan::of(alloc, text)?,
+    };
     if writer.plan.draft.is_unsure {
         return Ok(None);
     }

@@ -11,6 +11,9 @@ use twp_phrases::{Form, Names, Phrase, PlacedStep, Span};
 use twp_pieces::plus;
 use twp_rules::{Change, Rule};
 
+/// There is room from the start for the changes in the phrases, one for each phrase, and so many more.
+const CHANGES_MORE: usize = 4;
+
 /// A place that can be read in two ways: between two parts, which are two, or one, and before or after an `of`.
 #[derive(Clone, Copy)]
 pub(crate) struct Joint {
@@ -50,7 +53,10 @@ impl<'a> Writer<'a> {
         list: &[Placed],
     ) -> Result<Outline<'a>, AllocError> {
         let mut out = Outline {
-            changes: Vec::with_capacity(alloc, plus(self.plan.draft.changes.len(), list.len()))?,
+            changes: Vec::with_capacity(
+                alloc,
+                plus(plus(self.plan.draft.changes.len(), list.len()), CHANGES_MORE),
+            )?,
             joints: Vec::new(alloc),
             options: Vec::new(alloc),
             has_except: has_except(list),
@@ -79,13 +85,8 @@ impl<'a> Writer<'a> {
             next = plus(index, 1);
         }
         // A joint in the land of several sections would be read in both ways for each of them.
-        for placed in list {
-            let numbers = placed.phrase.numbers;
-            let is_several = placed.phrase.names == Names::Sections
-                && numbers.end > plus(numbers.first, 1);
-            if is_several && !out.joints.is_empty() {
-                self.plan.draft.doubt();
-            }
+        if !out.joints.is_empty() && has_several_sections(list) {
+            self.plan.draft.doubt();
         }
         let left_out = list.get(next..).unwrap_or(&[]);
         let last = list.last().map_or(0, |placed| placed.phrase.end);
@@ -562,6 +563,17 @@ impl<'a> Writer<'a> {
         })?;
         Ok(())
     }
+}
+
+/// Whether a phrase names several sections.
+fn has_several_sections(list: &[Placed]) -> bool {
+    for placed in list {
+        let numbers = placed.phrase.numbers;
+        if placed.phrase.names == Names::Sections && numbers.end > plus(numbers.first, 1) {
+            return true;
+        }
+    }
+    false
 }
 
 /// How the only step of a part is written. Nothing, if it has more.
