@@ -3,15 +3,16 @@
 #![tactic(auto)]
 
 mod acreage;
-mod asides;
 mod beyond;
 mod figures;
 mod interests;
 mod joints;
 mod labels;
 mod lands;
+mod meridians;
 mod pieces;
 mod serials;
+mod states;
 
 pub use beyond::{Beyond, beyond_of};
 pub use pieces::{Pieces, plus};
