@@ -1,7 +1,7 @@
 //! Acreage that a text states. It may differ from that of the land, which counts; but with a quarter of it, or less, the
 //! text may mean a part of this land, or other land.
 
-use crate::arranging::{Placed, Role};
+use crate::placed::{Placed, Role};
 use crate::plan::Plan;
 use twp_grammar::Kind;
 use twp_phrases::{Names, Phrase};

@@ -1,6 +1,6 @@
 //! What joins two phrases, and whether it is sure what that means.
 
-use crate::arranging::{Placed, Role};
+use crate::placed::{Placed, Role};
 use crate::plan::Plan;
 use twp_grammar::Kind;
 use twp_phrases::{Form, Names, Phrase};

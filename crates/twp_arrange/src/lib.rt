@@ -3,13 +3,18 @@
 #![tactic(auto)]
 
 mod acreage;
+mod after_sections;
 mod arranging;
+mod before_sections;
 mod beside;
+mod exceptions;
 mod joining;
 mod parcels;
+mod placed;
 mod plan;
+mod sharing;
 mod together;
 
-pub use arranging::{Placed, Role, has_except};
 pub use joining::{Between, Gap, Joining, is_joint, is_written, mark_between};
+pub use placed::{Placed, Role, has_except};
 pub use plan::Plan;
