@@ -1,6 +1,6 @@
 //! The candidates for readings: the changes of the whole text, with each joint read in one of its two ways.
 
-use crate::gaps::{Outline, change};
+use crate::outline::{Outline, change};
 use crate::writer::Writer;
 use std::alloc::{AllocError, Global};
 use std::mem;

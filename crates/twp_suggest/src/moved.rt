@@ -1,6 +1,6 @@
 //! What is written before land: the township and range, and the section, where they are after it.
 
-use crate::gaps::Outline;
+use crate::outline::Outline;
 use crate::writer::Writer;
 use std::alloc::{AllocError, Global};
 use twp_arrange::{Placed, Role};

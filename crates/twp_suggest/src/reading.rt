@@ -5,7 +5,7 @@ ghost use Rattle.twp_suggest.specs.Readings.{AreSomeReadings, MayBeAdded};
 
 use crate::candidates::{made_by, outline_of};
 use crate::described::{Wording, described};
-use crate::gaps::Outline;
+use crate::outline::Outline;
 use crate::manner::Manner;
 use crate::on_plat::{find_land, township_of};
 use crate::unread::Unread;
