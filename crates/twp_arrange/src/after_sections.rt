@@ -129,7 +129,8 @@ impl<'a> Plan<'a> {
         None
     }
 
-    /// Whether it is sure which land a group has: several sections have none, or all of it is said to be theirs.
+    /// Whether it is sure which land a group has: several sections have none, or all of it is said to be
+    /// theirs.
     fn is_sure_group(&self, group: Option<Group>) -> bool {
         let Some(group) = group else {
             return true;

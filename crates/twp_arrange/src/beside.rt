@@ -1,4 +1,5 @@
-//! What is beside a part, a list, or a meridian that makes it unsure: `Kimball County, NE`, `SE Wyoming`, `Lots 1-4, 6 PM`.
+//! What is beside a part, a list, or a meridian that makes it unsure: `Kimball County, NE`, `SE Wyoming`,
+//! `Lots 1-4, 6 PM`.
 
 use crate::plan::Plan;
 use twp_grammar::Kind;
@@ -51,8 +52,8 @@ impl<'a> Plan<'a> {
             || (plus(part.first, 2) == part.end && size == 1)
     }
 
-    /// Whether a bare part may be of a region, or of somebody's name, which follows it, as in `SE Wyoming`, `NW Land Co.`,
-    /// or `W2 Royalty`.
+    /// Whether a bare part may be of a region, or of somebody's name, which follows it, as in `SE Wyoming`,
+    /// `NW Land Co.`, or `W2 Royalty`.
     fn may_be_of_name(&self, part: &Phrase, after: &Phrase, rule: Rule) -> bool {
         if part.end != after.first || !self.is_bare(part) {
             return false;
@@ -72,8 +73,8 @@ impl<'a> Plan<'a> {
         }
     }
 
-    /// Whether a bare `NE` may be Nebraska: after a meridian or a county and a comma, or after another name and a comma, at
-    /// the end of a line.
+    /// Whether a bare `NE` may be Nebraska: after a meridian or a county and a comma, or after another name
+    /// and a comma, at the end of a line.
     fn may_be_state(&self, before: &Phrase, part: &Phrase, rule: Rule) -> bool {
         let pieces = &self.draft.pieces;
         let is_after_comma = pieces.is(before.end, b",") && plus(before.end, 1) == part.first;
@@ -86,7 +87,8 @@ impl<'a> Plan<'a> {
         is_after_comma && follows && pieces.is(part.first, b"ne") && self.is_bare(part)
     }
 
-    /// Whether the word for a meridian is at an index without its number or name, so that the number before it may be that.
+    /// Whether the word for a meridian is at an index without its number or name, so that the number before
+    /// it may be that.
     fn is_bare_word_of_meridian(&self, index: usize) -> bool {
         let pieces = &self.draft.pieces;
         pieces.is(index, b"pm")

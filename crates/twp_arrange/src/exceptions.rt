@@ -6,8 +6,8 @@ use twp_phrases::{Names, Phrase};
 use twp_pieces::plus;
 
 impl<'a> Plan<'a> {
-    /// Doubts land that is excepted from one of several parts, and isn't of the last of them: it may be a part of that, as
-    /// in `S/2, NW/4 less SW/4`.
+    /// Doubts land that is excepted from one of several parts, and isn't of the last of them: it may be a
+    /// part of that, as in `S/2, NW/4 less SW/4`.
     pub(crate) fn doubt_exceptions(&mut self, list: &[Placed]) {
         let mut last: Option<Phrase> = None;
         let mut count: usize = 0;

@@ -1,5 +1,5 @@
-//! How the phrases of a text go together: which land belongs to which section, what is left out or moved, what joins two
-//! phrases, and what isn't sure of all of them.
+//! How the phrases of a text go together: which land belongs to which section, what is left out or moved,
+//! what joins two phrases, and what isn't sure of all of them.
 #![tactic(auto)]
 
 mod acreage;

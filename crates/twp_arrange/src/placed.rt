@@ -16,7 +16,8 @@ pub enum Role {
 pub struct Placed {
     pub phrase: Phrase,
     pub role: Role,
-    /// The numbers of its section, which is written before it: it is left out where it is, or the land is excepted.
+    /// The numbers of its section, which is written before it: it is left out where it is, or the land is
+    /// excepted.
     pub section: Option<Span>,
 }
 

@@ -7,8 +7,8 @@ use twp_phrases::Names;
 use twp_pieces::plus;
 
 impl<'a> Plan<'a> {
-    /// Leaves out several sections before a colon, or the end of their cell, and aliquot parts, which are for each of them,
-    /// and are written after each.
+    /// Leaves out several sections before a colon, or the end of their cell, and aliquot parts, which are for
+    /// each of them, and are written after each.
     pub(crate) fn share_sections(&mut self, list: &mut Vec<Placed>) {
         let mut shared: Option<usize> = None;
         // How many sections share parts, and how many parts: as many may be one for each.

@@ -1,4 +1,5 @@
-//! What the phrases of a text say together, if that isn't sure: each of them may be, and what they make isn't.
+//! What the phrases of a text say together, if that isn't sure: each of them may be, and what they make
+//! isn't.
 
 use crate::plan::Plan;
 use twp_grammar::Kind;
@@ -20,8 +21,8 @@ impl<'a> Plan<'a> {
         }
     }
 
-    /// Whether some land may be missing. A word that isn't known may be what was meant by it: with remarks, or with a status
-    /// as `open`, each section has some. After the label of each tract is land.
+    /// Whether some land may be missing. A word that isn't known may be what was meant by it: with remarks,
+    /// or with a status as `open`, each section has some. After the label of each tract is land.
     fn has_land_missing(&self) -> bool {
         let mut sections: usize = 0;
         let mut lands: usize = 0;
@@ -55,8 +56,8 @@ impl<'a> Plan<'a> {
         is_labelled || ((self.draft.has_remark || has_status) && sections != lands)
     }
 
-    /// Whether the place for the land of a section is empty, as in `Sec. 9: Ada County`, or the rest of several sections is
-    /// missing, as in `Secs. 9 -`.
+    /// Whether the place for the land of a section is empty, as in `Sec. 9: Ada County`, or the rest of
+    /// several sections is missing, as in `Secs. 9 -`.
     fn has_empty_place(&self) -> bool {
         // The last section, if no land follows it so far.
         let mut section: Option<&Phrase> = None;
@@ -118,8 +119,9 @@ impl<'a> Plan<'a> {
         }
     }
 
-    /// Whether a number that was taken for a section may be another one, since no land is beside it: where another section has
-    /// a word for it, as in `1 T2N R3W Sec 9`, or on both sides of a township, as in `8-2N-3W-9`.
+    /// Whether a number that was taken for a section may be another one, since no land is beside it: where
+    /// another section has a word for it, as in `1 T2N R3W Sec 9`, or on both sides of a township, as in
+    /// `8-2N-3W-9`.
     fn has_loose_section(&self) -> bool {
         let mut has_word = false;
         let mut has_loose = false;
@@ -167,8 +169,8 @@ impl<'a> Plan<'a> {
             || self.draft.pieces.is(first.saturating_sub(1), b";")
     }
 
-    /// Whether a tract has a label, and no section of its own, though land before it has no label: it may be in another
-    /// section, as in `Sec. 9: NE; Tract 2: SE`.
+    /// Whether a tract has a label, and no section of its own, though land before it has no label: it may be
+    /// in another section, as in `Sec. 9: NE; Tract 2: SE`.
     fn has_other_tract(&self) -> bool {
         let mut has_label = false;
         let mut is_first = false;

@@ -1,4 +1,5 @@
-//! Sides and corners with periods after their letters, or whose letters are apart: `N. 1/2`, `N.E. 1/4`, `S W 1/4`.
+//! Sides and corners with periods after their letters, or whose letters are apart: `N. 1/2`, `N.E. 1/4`,
+//! `S W 1/4`.
 
 use crate::draft::Draft;
 use crate::fractions::{is_written, rule_of};
@@ -9,7 +10,8 @@ use twp_rules::Rule;
 use twp_words::{Size, written_step};
 
 impl<'a> Draft<'a> {
-    /// The corner at an index whose letters are apart, or the side, with periods after them, and the fraction.
+    /// The corner at an index whose letters are apart, or the side, with periods after them, and the
+    /// fraction.
     pub(crate) fn dotted(&mut self, index: usize) -> Result<Option<usize>, AllocError> {
         let pieces = &self.pieces;
         let second = if self.pieces.is_hyphen_at_line_end(plus(index, 1)) {
@@ -79,7 +81,8 @@ impl<'a> Draft<'a> {
         Ok(None)
     }
 
-    /// The fraction after letters with periods: as it is in a description, or an old abbreviation, `Qr.` or `H.`
+    /// The fraction after letters with periods: as it is in a description, or an old abbreviation, `Qr.` or
+    /// `H.`
     fn dotted_fraction(&mut self, index: usize, size: Size) -> Result<Option<usize>, AllocError> {
         if is_written(size, self.pieces.kind(index)) {
             return Ok(Some(plus(index, 1)));

@@ -85,8 +85,8 @@ impl<'a> Draft<'a> {
             && (self.pieces.begins_part(land) || matches!(self.pieces.kind(land), Kind::Lot))
     }
 
-    /// An excepted part with `thereof` after it, to which the steps of the part are added from which it is excepted, as in
-    /// `NW1/4, except the SW1/4 thereof`. It is doubted if that may be another.
+    /// An excepted part with `thereof` after it, to which the steps of the part are added from which it is
+    /// excepted, as in `NW1/4, except the SW1/4 thereof`. It is doubted if that may be another.
     pub(crate) fn part_thereof(&mut self, part: Phrase) -> Result<Phrase, AllocError> {
         let whole = match self.whole_before_except() {
             Whole::Section => return Ok(part),
@@ -154,8 +154,8 @@ impl<'a> Draft<'a> {
         whole
     }
 
-    /// Whether a part is written with all steps of another, and more before them, as in `the NW1/4, except the SW1/4 of the
-    /// NW1/4 thereof`: it is of the section.
+    /// Whether a part is written with all steps of another, and more before them, as in
+    /// `the NW1/4, except the SW1/4 of the NW1/4 thereof`: it is of the section.
     pub fn ends_with_steps_of(&self, part: Phrase, whole: Phrase) -> bool {
         let steps = self.steps_of(part);
         let all = self.steps_of(whole);
@@ -181,8 +181,8 @@ impl<'a> Draft<'a> {
         false
     }
 
-    /// Whether a part is surely of another, and not of the section: the part is a half, or the other has quarters alone,
-    /// with the last of which the part doesn't end.
+    /// Whether a part is surely of another, and not of the section: the part is a half, or the other has
+    /// quarters alone, with the last of which the part doesn't end.
     fn is_surely_of(&self, part: Phrase, whole: Phrase) -> bool {
         let all = self.steps_of(whole);
         for step in all {

@@ -55,8 +55,8 @@ impl<'a> Draft<'a> {
         Ok(None)
     }
 
-    /// The fraction at an index with a space before its slash, or after it, as in `W1 /2`, which is left out: the index after
-    /// the fraction.
+    /// The fraction at an index with a space before its slash, or after it, as in `W1 /2`, which is left out:
+    /// the index after the fraction.
     fn spaced_fraction(&mut self, index: usize, size: Size) -> Result<Option<usize>, AllocError> {
         let slash = plus(index, 1);
         let digit = plus(index, 2);
@@ -80,8 +80,8 @@ impl<'a> Draft<'a> {
         Ok(Some(plus(digit, 1)))
     }
 
-    /// Where the fraction at an index ends that isn't written as in a description: a digit, a slash and a digit, a word
-    /// for a part, or what scanning makes of it.
+    /// Where the fraction at an index ends that isn't written as in a description: a digit, a slash and a
+    /// digit, a word for a part, or what scanning makes of it.
     fn end_of_fraction(&self, index: usize, size: Size) -> Option<usize> {
         let pieces = &self.pieces;
         let next = plus(index, 1);
@@ -152,8 +152,8 @@ impl<'a> Draft<'a> {
         None
     }
 
-    /// Whether a fraction with a hyphen is at an index, as in `W 1-2 of SE 1-4`: with an `of` before or after its letters,
-    /// since `SE 1-4` may be of four sections.
+    /// Whether a fraction with a hyphen is at an index, as in `W 1-2 of SE 1-4`: with an `of` before or after
+    /// its letters, since `SE 1-4` may be of four sections.
     fn is_hyphenated(&self, index: usize, size: Size) -> bool {
         let next = plus(index, 1);
         let digit = plus(index, 2);
@@ -167,7 +167,8 @@ impl<'a> Draft<'a> {
             && self.is_digit(digit, size)
     }
 
-    /// Whether the piece at an index is the digit that people write for a half or a quarter, joined to what is before it.
+    /// Whether the piece at an index is the digit that people write for a half or a quarter, joined to what
+    /// is before it.
     fn is_digit(&self, index: usize, size: Size) -> bool {
         self.pieces.number(index) == Some(size.digit())
             && self.pieces.has_digits(index, 1)

@@ -1,4 +1,5 @@
-//! Townships and ranges: `T. 2 N., R. 3 W.`, `T2N-R3W`, `2N 3W`, `0020N 0030W`, `Township Two North, Range Three West`.
+//! Townships and ranges: `T. 2 N., R. 3 W.`, `T2N-R3W`, `2N 3W`, `0020N 0030W`,
+//! `Township Two North, Range Three West`.
 
 use crate::draft::{Draft, Names, Numeral, Phrase};
 use std::alloc::AllocError;
@@ -81,8 +82,8 @@ impl<'a> Draft<'a> {
         Ok(Some(self.phrase(Names::Heading, index, end, from)))
     }
 
-    /// The index after the township or the range that is repeated in parentheses at an index, as in `Township Two North
-    /// (T2N)`, which are left out.
+    /// The index after the township or the range that is repeated in parentheses at an index, as in
+    /// `Township Two North (T2N)`, which are left out.
     fn after_same_tier(&mut self, index: usize) -> Result<usize, AllocError> {
         if !self.pieces.is(index, b"(") {
             return Ok(index);
@@ -191,7 +192,8 @@ impl<'a> Draft<'a> {
         Ok(Some(side))
     }
 
-    /// The number of four digits of a township or a range at an index. A register's last digit is of a fraction.
+    /// The number of four digits of a township or a range at an index. A register's last digit is of a
+    /// fraction.
     fn register_tier(&mut self, index: usize) -> Result<Option<usize>, AllocError> {
         let next = plus(index, 1);
         let digits = self.pieces.bytes(index);

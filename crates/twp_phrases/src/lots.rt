@@ -145,8 +145,8 @@ impl<'a> Draft<'a> {
         Ok(plus(close, 1))
     }
 
-    /// White space between the number of a lot and that of the next one, after a word in the plural, as in `LTS 2 3`. Other
-    /// lots may be the first and the last of several.
+    /// White space between the number of a lot and that of the next one, after a word in the plural, as in
+    /// `LTS 2 3`. Other lots may be the first and the last of several.
     pub(crate) fn join_of_lots(&self, index: usize, last: Numeral) -> Option<Joined> {
         let is_list = self.pieces.has_digits(index.saturating_sub(1), 1)
             && self.pieces.has_digits(index, 1)

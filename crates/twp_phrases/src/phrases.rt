@@ -9,8 +9,8 @@ use twp_pieces::plus;
 const JOINING_MOST: usize = 16;
 
 impl<'a> Draft<'a> {
-    /// Finds the phrases. Where a piece is in none, and doesn't join them, the text isn't sure, nor where many pieces join
-    /// two of them.
+    /// Finds the phrases. Where a piece is in none, and doesn't join them, the text isn't sure, nor where
+    /// many pieces join two of them.
     pub fn find_phrases(&mut self) -> Result<(), AllocError> {
         let mut index: usize = 0;
         for here in 0..self.pieces.len() {
@@ -83,8 +83,8 @@ impl<'a> Draft<'a> {
             || (self.pieces.is(index, b")") && self.has_open)
     }
 
-    /// Whether parentheses around land are opened at an index: after its section, before its section, or around an
-    /// exception.
+    /// Whether parentheses around land are opened at an index: after its section, before its section, or
+    /// around an exception.
     fn opens_land(&self, index: usize) -> bool {
         let next = plus(index, 1);
         if !self.pieces.is(index, b"(") || self.has_open {
@@ -125,8 +125,8 @@ impl<'a> Draft<'a> {
         }
     }
 
-    /// The phrase at an index that a word or a mark begins: the kind of phrase that most such pieces begin, before the
-    /// others are looked for.
+    /// The phrase at an index that a word or a mark begins: the kind of phrase that most such pieces begin,
+    /// before the others are looked for.
     fn phrase_of_mark_or_word(&mut self, index: usize) -> Result<Option<Phrase>, AllocError> {
         let from = self.extent();
         if let Some(phrase) = self.likely_phrase(index)? {
@@ -136,8 +136,8 @@ impl<'a> Draft<'a> {
         self.phrase_of_word(index)
     }
 
-    /// The phrase at an index of the kind that most such pieces begin. The results are handed on as they are, since a place
-    /// for each of them would be cleared at each piece.
+    /// The phrase at an index of the kind that most such pieces begin. The results are handed on as they are,
+    /// since a place for each of them would be cleared at each piece.
     fn likely_phrase(&mut self, index: usize) -> Result<Option<Phrase>, AllocError> {
         match self.pieces.kind(index) {
             Kind::Sec => self.sections(index),
@@ -177,8 +177,8 @@ impl<'a> Draft<'a> {
         matches!(self.pieces.kind(next), Kind::Sec) || self.pieces.begins_part(next)
     }
 
-    /// Whether `all` before an index is of a section: what ends an item, or a section or a part, with or without `of`, is
-    /// there.
+    /// Whether `all` before an index is of a section: what ends an item, or a section or a part, with or
+    /// without `of`, is there.
     fn is_after_all(&self, index: usize) -> bool {
         index >= self.pieces.len()
             || matches!(
@@ -197,8 +197,8 @@ impl<'a> Draft<'a> {
             || self.after_government(index) > index
     }
 
-    /// The phrase at an index that a number begins: a township and range, if a side is joined to the number, or what else
-    /// it may begin.
+    /// The phrase at an index that a number begins: a township and range, if a side is joined to the number,
+    /// or what else it may begin.
     fn phrase_of_number(&mut self, index: usize) -> Result<Option<Phrase>, AllocError> {
         let from = self.extent();
         let next = plus(index, 1);

@@ -7,8 +7,8 @@ use twp_remarks::{Position, begins_depths, end_of_remark};
 use twp_rules::Rule;
 
 impl<'a> Draft<'a> {
-    /// Whether a comma or a semicolon at an index has nothing before it, so that something may be missing there. A cell
-    /// after that of the section may be empty.
+    /// Whether a comma or a semicolon at an index has nothing before it, so that something may be missing
+    /// there. A cell after that of the section may be empty.
     pub(crate) fn is_empty_slot(&self, index: usize) -> bool {
         if !matches!(self.pieces.kind(index), Kind::Comma | Kind::Semicolon) {
             return false;
@@ -63,7 +63,8 @@ impl<'a> Draft<'a> {
         Some(self.phrase(Names::Nothing(Rule::Label), index, end, self.extent()))
     }
 
-    /// Whether a label before lots may be the name of a town's plat: it has no number, and no word for a lease or the like.
+    /// Whether a label before lots may be the name of a town's plat: it has no number, and no word for a
+    /// lease or the like.
     pub(crate) fn may_be_plat(&self, first: usize, end: usize) -> bool {
         let next = plus(
             end,
@@ -77,8 +78,8 @@ impl<'a> Draft<'a> {
             && !self.pieces.has_long_number(first, end)
     }
 
-    /// Doubts a part that may be something else: `S2` before any other land, a half after lots, a corner, a part with a
-    /// slash.
+    /// Doubts a part that may be something else: `S2` before any other land, a half after lots, a corner, a
+    /// part with a slash.
     pub(crate) fn doubt_part(&mut self, part: Phrase) {
         let digit = plus(part.first, 1);
         let is_digit = part.end == plus(part.first, 2) && self.pieces.has_digits(digit, 1);
@@ -119,7 +120,8 @@ impl<'a> Draft<'a> {
         is_location || self.pieces.is(index, b"of") || self.pieces.leads_to_section(index)
     }
 
-    /// Whether the last part of a text may be the beginning of a word for a section: `Se`, or `se` after a part in capitals.
+    /// Whether the last part of a text may be the beginning of a word for a section: `Se`, or `se` after a
+    /// part in capitals.
     pub(crate) fn may_be_cut_section(&self, part: Phrase) -> bool {
         let letters = self.pieces.bytes(part.first);
         let is_after_capital = match self.phrases.last() {

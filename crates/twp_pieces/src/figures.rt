@@ -1,4 +1,5 @@
-//! Numbers that aren't of land: dates, percentages, shares, codes; and those that may be of a section or a tract.
+//! Numbers that aren't of land: dates, percentages, shares, codes; and those that may be of a section or a
+//! tract.
 
 use crate::pieces::{Pieces, plus};
 use twp_grammar::Kind;
@@ -27,7 +28,8 @@ impl<'a> Pieces<'a> {
         self.end_of_tract(index).is_some()
     }
 
-    /// Where the label of a tract at an index ends: first on its line, or after a sentence, as `Tract 2:` or `Tr. 2:`.
+    /// Where the label of a tract at an index ends: first on its line, or after a sentence, as `Tract 2:` or
+    /// `Tr. 2:`.
     pub fn end_of_tract(&self, index: usize) -> Option<usize> {
         if !is_of_tract(self.lower(index)) {
             return None;
@@ -46,7 +48,8 @@ impl<'a> Pieces<'a> {
         }
     }
 
-    /// Whether a date is at an index, or the volume and the page of a record, as `3/14/1919`, `06-02-1948`, or `61/204`.
+    /// Whether a date is at an index, or the volume and the page of a record, as `3/14/1919`, `06-02-1948`,
+    /// or `61/204`.
     pub fn is_date(&self, index: usize) -> bool {
         let mark = plus(index, 1);
         let second = plus(index, 2);
@@ -58,8 +61,8 @@ impl<'a> Pieces<'a> {
                 || (self.number(last).is_some() && self.is_joined(last)))
     }
 
-    /// Whether a day and a month are at an index without a year, as `4-Jan`, or `Jan-4`: spreadsheets write so what was
-    /// `1-4`.
+    /// Whether a day and a month are at an index without a year, as `4-Jan`, or `Jan-4`: spreadsheets write
+    /// so what was `1-4`.
     pub fn is_day_of_month(&self, index: usize) -> bool {
         let dash = plus(index, 1);
         let last = plus(index, 2);
@@ -75,8 +78,9 @@ impl<'a> Pieces<'a> {
             && !(self.is_joined(year) && (self.is_dash(year) || self.is(year, b",")))
     }
 
-    /// Where letters and digits without white space end that have a number of four digits or more, as `G700284`, `M-50391`,
-    /// or `RP02N03W092400`: no land is written so, but for a township of a register, which begins with its four digits.
+    /// Where letters and digits without white space end that have a number of four digits or more, as
+    /// `G700284`, `M-50391`, or `RP02N03W092400`: no land is written so, but for a township of a register,
+    /// which begins with its four digits.
     pub fn end_of_code(&self, index: usize) -> Option<usize> {
         let mut has_long = false;
         let mut end = index;
@@ -103,7 +107,8 @@ impl<'a> Pieces<'a> {
         }
     }
 
-    /// Whether letters at an index are before the number of other land, or of lots, as in `TL1200` or `L34567`.
+    /// Whether letters at an index are before the number of other land, or of lots, as in `TL1200` or
+    /// `L34567`.
     pub(crate) fn begins_other_code(&self, index: usize) -> bool {
         let next = plus(index, 1);
         let is_number = matches!(self.kind(next), Kind::Number(_) | Kind::BadNumber);
@@ -145,8 +150,8 @@ impl<'a> Pieces<'a> {
         has_mark && is_of_share(self.lower(after))
     }
 
-    /// Whether the number at an index may be that of a section, or of a lot: not in a date, after the word for a record or
-    /// a tract, in a code, or in a share.
+    /// Whether the number at an index may be that of a section, or of a lot: not in a date, after the word
+    /// for a record or a tract, in a code, or in a share.
     pub fn may_be_section(&self, index: usize) -> bool {
         let before = index.saturating_sub(1);
         let next = plus(index, 1);
@@ -188,12 +193,14 @@ impl<'a> Pieces<'a> {
         }
     }
 
-    /// Whether the piece at an index is the first on its line, in its cell, or after a bar or wide white space.
+    /// Whether the piece at an index is the first on its line, in its cell, or after a bar or wide white
+    /// space.
     pub fn begins_column(&self, index: usize) -> bool {
         self.start(index) > plus(self.end_before(index), 1) || self.begins_cell(index)
     }
 
-    /// Whether some pieces begin with a number, and have no letters, and no number that is too large for a lot or a section.
+    /// Whether some pieces begin with a number, and have no letters, and no number that is too large for a
+    /// lot or a section.
     pub fn are_small_numbers(&self, first: usize, end: usize) -> bool {
         for index in first..end {
             let is_other = match self.kind(index) {

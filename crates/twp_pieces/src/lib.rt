@@ -1,5 +1,5 @@
-//! The pieces of a text that people write as a description of land, and the phrases among them that aren't land: the
-//! meridian, acreage, labels, and what lots and aliquot parts can't describe.
+//! The pieces of a text that people write as a description of land, and the phrases among them that aren't
+//! land: the meridian, acreage, labels, and what lots and aliquot parts can't describe.
 #![tactic(auto)]
 
 mod acreage;

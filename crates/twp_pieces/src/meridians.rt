@@ -71,7 +71,8 @@ impl<'a> Pieces<'a> {
                 || self.is(second, b"rd"))
     }
 
-    /// Where a meridian, a state, or a county ends after the word for it, as in `Mer: 08` or `County: Canyon`.
+    /// Where a meridian, a state, or a county ends after the word for it, as in `Mer: 08` or
+    /// `County: Canyon`.
     fn end_of_labelled_meridian(&self, index: usize) -> Option<usize> {
         let is_meridian_word = self.is(index, b"meridian") || self.is(index, b"mer");
         if !is_meridian_word

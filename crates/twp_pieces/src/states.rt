@@ -56,8 +56,8 @@ impl<'a> Pieces<'a> {
         }
     }
 
-    /// Where the county at an index ends, with the word for it, in its cell, or with its state. The marks around it are
-    /// looked at first, since its name has to be in none of several lists.
+    /// Where the county at an index ends, with the word for it, in its cell, or with its state. The marks
+    /// around it are looked at first, since its name has to be in none of several lists.
     fn end_of_county(&self, index: usize) -> Option<usize> {
         let second = plus(index, 1);
         let third = plus(index, 2);
@@ -126,7 +126,8 @@ impl<'a> Pieces<'a> {
             && !is_boundary(word)
     }
 
-    /// Whether a county is alone in a cell at an index: after a state and before another cell, with a bar between them.
+    /// Whether a county is alone in a cell at an index: after a state and before another cell, with a bar
+    /// between them.
     fn is_county_cell(&self, index: usize) -> bool {
         let bar = index.saturating_sub(1);
         self.is(bar, b"|")

@@ -32,7 +32,8 @@ pub enum Position {
     AfterLand,
 }
 
-/// Where the remark at an index ends: with its cell, or at a mark. None if a word of it may name land, or limit it.
+/// Where the remark at an index ends: with its cell, or at a mark. None if a word of it may name land, or
+/// limit it.
 pub fn end_of_remark(pieces: &Pieces<'_>, index: usize, position: Position) -> Option<usize> {
     if pieces.is(index, b"(") {
         return end_of_parentheses(pieces, index);
@@ -103,13 +104,14 @@ pub fn end_of_remark(pieces: &Pieces<'_>, index: usize, position: Position) -> O
     None
 }
 
-/// Whether a number in a remark that begins at an index may be of the name of a well: before land, and not its first word.
+/// Whether a number in a remark that begins at an index may be of the name of a well: before land, and not
+/// its first word.
 fn may_be_well(pieces: &Pieces<'_>, index: usize, place: usize, position: Position) -> bool {
     position == Position::BeforeLand && place > index && is_of_well(pieces, place)
 }
 
-/// Whether a remark may begin at an index: first in a cell, or after a colon before any land; with a word, or a number
-/// that is that of no section.
+/// Whether a remark may begin at an index: first in a cell, or after a colon before any land; with a word, or
+/// a number that is that of no section.
 fn begins_remark(pieces: &Pieces<'_>, index: usize, position: Position) -> bool {
     let before = index.saturating_sub(1);
     let is_after_colon = position == Position::BeforeLand
@@ -201,8 +203,8 @@ fn is_of_calendar(pieces: &Pieces<'_>, index: usize) -> bool {
     pieces.is_date(index) || is_month(pieces.lower(index))
 }
 
-/// Whether the piece at an index may say, after land, which part of it is meant: a word for that, a side, a number, the
-/// acreage that land is called by, or a size, as in `300 x 300`.
+/// Whether the piece at an index may say, after land, which part of it is meant: a word for that, a side, a
+/// number, the acreage that land is called by, or a size, as in `300 x 300`.
 fn limits_land_at(pieces: &Pieces<'_>, index: usize) -> bool {
     let word = pieces.lower(index);
     let next = plus(index, 1);
@@ -216,8 +218,8 @@ fn limits_land_at(pieces: &Pieces<'_>, index: usize) -> bool {
         || is_size_or_acreage(pieces, index)
 }
 
-/// Whether the piece at an index is of a size, as in `300 x 300`, or the acreage that land is called by, as in `the Smith
-/// 80`.
+/// Whether the piece at an index is of a size, as in `300 x 300`, or the acreage that land is called by, as
+/// in `the Smith 80`.
 pub(crate) fn is_size_or_acreage(pieces: &Pieces<'_>, index: usize) -> bool {
     let next = plus(index, 1);
     let is_size = (pieces.is(index, b"x") || pieces.is(index, b"by"))
@@ -240,8 +242,8 @@ fn adds_section(pieces: &Pieces<'_>, index: usize) -> bool {
         || pieces.is(index, b"all")
 }
 
-/// Whether the word at an index is of `made a part of`, `only insofar`, `Fee minerals:`, or `Proposed Reinstatement of
-/// Terminated Oil and Gas Lease`, which limit no land.
+/// Whether the word at an index is of `made a part of`, `only insofar`, `Fee minerals:`, or
+/// `Proposed Reinstatement of Terminated Oil and Gas Lease`, which limit no land.
 fn is_of_instrument(pieces: &Pieces<'_>, index: usize) -> bool {
     let is_part = pieces.is(index, b"part")
         && pieces.is(index.saturating_sub(1), b"a")
@@ -258,7 +260,8 @@ fn is_of_instrument(pieces: &Pieces<'_>, index: usize) -> bool {
     is_part || is_only || is_estate || is_proposed || is_terminated
 }
 
-/// Whether a colon at an index may end the label of other land: no word of two letters or more, and no price, follows.
+/// Whether a colon at an index may end the label of other land: no word of two letters or more, and no price,
+/// follows.
 fn may_end_label(pieces: &Pieces<'_>, index: usize) -> bool {
     let next = plus(index, 1);
     let is_word = matches!(pieces.kind(next), Kind::Other)
@@ -303,8 +306,8 @@ fn end_of_parentheses(pieces: &Pieces<'_>, index: usize) -> Option<usize> {
     None
 }
 
-/// Whether the piece at an index makes a remark of a cell: a word of three letters or more, or of two that are no
-/// corner with a slip, a date, or a number of five digits or more.
+/// Whether the piece at an index makes a remark of a cell: a word of three letters or more, or of two that
+/// are no corner with a slip, a date, or a number of five digits or more.
 fn says_something(pieces: &Pieces<'_>, index: usize) -> bool {
     let is_word = match pieces.lower(index) {
         [b'n' | b's' | b'e' | b'w' | b'm' | b'h', _] => {

@@ -47,8 +47,9 @@ impl<'a> Outline<'a> {
         choices.get(self.joints.len()).copied().unwrap_or(0)
     }
 
-    /// The changes of the candidate with a number, whose binary digits are the ways of the joints. The first way of each
-    /// joint comes before the second. Without joints, there is one candidate, which takes the changes.
+    /// The changes of the candidate with a number, whose binary digits are the ways of the joints. The first
+    /// way of each joint comes before the second. Without joints, there is one candidate, which takes the
+    /// changes.
     pub(crate) fn changes_of(
         &mut self,
         alloc: Global,

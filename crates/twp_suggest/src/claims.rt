@@ -63,8 +63,9 @@ impl<'a> Writer<'a> {
         Ok(true)
     }
 
-    /// Whether the last land before a claim, or all land of its section before it, is what is claimed. The phrases begin
-    /// with those of its section. Not inlined, since its sets of land would be cleared for each text.
+    /// Whether the last land before a claim, or all land of its section before it, is what is claimed. The
+    /// phrases begin with those of its section. Not inlined, since its sets of land would be cleared for each
+    /// text.
     #[inline(never)]
     fn holds(
         &self,

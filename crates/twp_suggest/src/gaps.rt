@@ -68,7 +68,8 @@ impl<'a> Writer<'a> {
         self.write_mark(gap, left_out, out)
     }
 
-    /// Writes a comma or a semicolon between two phrases: instead of the first mark, or after the first phrase.
+    /// Writes a comma or a semicolon between two phrases: instead of the first mark, or after the first
+    /// phrase.
     fn write_mark(
         &mut self,
         gap: Gap,
@@ -102,8 +103,8 @@ impl<'a> Writer<'a> {
         self.write_pieces(gap, left_out, Some(gap.end), is_comma, out)
     }
 
-    /// Writes the pieces between two phrases: a mark instead of one of them, and nothing instead of the others. With no
-    /// such piece, all of them stay.
+    /// Writes the pieces between two phrases: a mark instead of one of them, and nothing instead of the
+    /// others. With no such piece, all of them stay.
     fn write_pieces(
         &mut self,
         gap: Gap,
@@ -173,8 +174,8 @@ impl<'a> Writer<'a> {
             || pieces.is(index, b"/")
     }
 
-    /// Whether a word between phrases means nothing there: before a section or a township and range that is left out,
-    /// at the beginning, or `and` between lands or sections.
+    /// Whether a word between phrases means nothing there: before a section or a township and range that is
+    /// left out, at the beginning, or `and` between lands or sections.
     fn may_leave_out(&self, index: usize, gap: Gap, rest: &[Placed]) -> bool {
         let after = plus(index, 1);
         let after = if self.is_word(after) {

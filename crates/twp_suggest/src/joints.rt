@@ -21,8 +21,8 @@ pub(crate) enum Shared {
 }
 
 impl<'a> Writer<'a> {
-    /// Notes a joint between two parts: a comma is written, or all that is between them is left out. A half beside itself
-    /// is not sure.
+    /// Notes a joint between two parts: a comma is written, or all that is between them is left out. A half
+    /// beside itself is not sure.
     pub(crate) fn write_joint(
         &mut self,
         gap: Gap,
@@ -67,7 +67,8 @@ impl<'a> Writer<'a> {
         self.note_joint(begin, middle, out)
     }
 
-    /// Whether one of two parts may be the other again, or a part of it, in a cell of its own: `SWSE SWSE`, `N2SE SE`.
+    /// Whether one of two parts may be the other again, or a part of it, in a cell of its own: `SWSE SWSE`,
+    /// `N2SE SE`.
     fn may_be_again(&self, gap: Gap, one: Phrase, other: Phrase) -> bool {
         let draft = &self.plan.draft;
         let is_same = draft.steps_of(one).len() > 1 && draft.have_same_steps(one, other);
@@ -85,16 +86,16 @@ impl<'a> Writer<'a> {
             || (draft.pieces.has_break_before(gap.end) && draft.ends_with_steps_of(other, one))
     }
 
-    /// Whether white space is between the letter of a half and its fraction, as in `N 1/2`, so that white space after it
-    /// separates no parts.
+    /// Whether white space is between the letter of a half and its fraction, as in `N 1/2`, so that white
+    /// space after it separates no parts.
     fn is_spaced(&self, half: Phrase) -> bool {
         let fraction = plus(half.first, 1);
         matches!(self.plan.draft.pieces.kind(fraction), Kind::Half)
             && !self.plan.draft.pieces.is_joined(fraction)
     }
 
-    /// Notes a joint whose options are from one index on, and those of the second way from another. A text with too many
-    /// isn't sure.
+    /// Notes a joint whose options are from one index on, and those of the second way from another. A text
+    /// with too many isn't sure.
     fn note_joint(
         &mut self,
         begin: usize,

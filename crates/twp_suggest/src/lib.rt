@@ -1,5 +1,5 @@
-//! Readings of what people write as descriptions of land: which bytes of a text are left out, which are written
-//! instead, by which rule, and the description that comes of this.
+//! Readings of what people write as descriptions of land: which bytes of a text are left out, which are
+//! written instead, by which rule, and the description that comes of this.
 #![tactic(auto)]
 
 mod candidates;

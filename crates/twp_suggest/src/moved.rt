@@ -49,8 +49,8 @@ impl<'a> Writer<'a> {
         Ok(())
     }
 
-    /// Writes the section before its first land, where it isn't there. Several sections with aliquot parts each have
-    /// these parts.
+    /// Writes the section before its first land, where it isn't there. Several sections with aliquot parts
+    /// each have these parts.
     pub(crate) fn write_section(
         &mut self,
         alloc: Global,

@@ -11,7 +11,8 @@ use twp_rules::{Change, Rule};
 /// There is room from the start for the changes in the phrases, one for each phrase, and so many more.
 const CHANGES_MORE: usize = 4;
 
-/// A place that can be read in two ways: between two parts, which are two, or one, and before or after an `of`.
+/// A place that can be read in two ways: between two parts, which are two, or one, and before or after an
+/// `of`.
 #[derive(Clone, Copy)]
 pub(crate) struct Joint {
     /// How many changes are before it.
