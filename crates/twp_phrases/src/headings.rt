@@ -36,6 +36,10 @@ impl<'a> Draft<'a> {
             || self.pieces.is(next, b"twp")
             || self.pieces.is(next, b"tp")
             || self.pieces.is(next, b"twsp");
+        // Without a word for it, its side is beside its number.
+        if !has_word && !self.is_side(plus(next, 1)) {
+            return Ok(None);
+        }
         next = self.heading_word(next, has_word, b"T.", b"T. ")?;
         let Some(after) = self.tier(next, has_word)? else {
             return Ok(None);
@@ -157,6 +161,11 @@ impl<'a> Draft<'a> {
         self.heading_word(index, has_word, b"R.", inserted)
     }
 
+    /// Whether the side of a township or a range is at an index.
+    fn is_side(&self, index: usize) -> bool {
+        self.pieces.is_north_south(index) || self.pieces.is_east_west(index)
+    }
+
     /// The number of a township or a range at an index, before its side: the index after it.
     fn tier(&mut self, index: usize, has_word: bool) -> Result<Option<usize>, AllocError> {
         let next = plus(index, 1);
@@ -172,8 +181,7 @@ impl<'a> Draft<'a> {
         } else {
             number.end
         };
-        let is_side = self.pieces.is_north_south(side)
-            || self.pieces.is_east_west(side)
+        let is_side = self.is_side(side)
             || (has_word && (self.pieces.is(side, b"nr") || self.pieces.is(side, b"sr")));
         // A cell may have the number and the side apart, and nothing else.
         let is_joined = side == next
@@ -197,8 +205,7 @@ impl<'a> Draft<'a> {
     fn register_tier(&mut self, index: usize) -> Result<Option<usize>, AllocError> {
         let next = plus(index, 1);
         let digits = self.pieces.bytes(index);
-        let is_side = self.pieces.is_north_south(next) || self.pieces.is_east_west(next);
-        if !is_side || !self.pieces.is_joined(next) {
+        if !self.is_side(next) || !self.pieces.is_joined(next) {
             return Ok(None);
         }
         let Some(value) = self.pieces.number(index) else {
