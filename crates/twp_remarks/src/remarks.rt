@@ -45,7 +45,9 @@ pub fn end_of_remark(pieces: &Pieces<'_>, index: usize, position: Position) -> O
         return None;
     }
     let mut has_word = false;
-    let mut is_sure = begins_tract(pieces, index) || is_homesite_of_acreage(pieces, index);
+    let mut is_sure = position == Position::BeforeLand
+        || begins_tract(pieces, index)
+        || is_homesite_of_acreage(pieces, index);
     let mut next = index;
     for place in index..plus(index, PIECES_MOST) {
         let is_last = place >= pieces.len();
@@ -54,7 +56,7 @@ pub fn end_of_remark(pieces: &Pieces<'_>, index: usize, position: Position) -> O
             let is_whole = (!is_last || position == Position::AfterLand)
                 && !(position == Position::BeforeLand && is_title_of_other(pieces, last))
                 && !(place > plus(index, 1) && points_into(pieces.lower(last)));
-            return if has_word && is_whole && (is_sure || position == Position::BeforeLand) {
+            return if has_word && is_whole && is_sure {
                 let is_colon = matches!(pieces.kind(place), Kind::Colon)
                     && !pieces.begins_column(place);
                 Some(plus(place, usize::from(is_colon)))
@@ -74,11 +76,6 @@ pub fn end_of_remark(pieces: &Pieces<'_>, index: usize, position: Position) -> O
         let is_name = position == Position::BeforeLand
             && is_of_water(pieces.lower(place))
             && pieces.begins_column(plus(place, 1));
-        let is_price = pieces.is(place.saturating_sub(1), b"/");
-        let is_parcel = place > index
-            && names_parcel(pieces.lower(place))
-            && !pieces.is(index, b"total")
-            && !is_price;
         // Less than a quarter section may be less than the land that follows.
         let figure = place.saturating_sub(1);
         let is_area = position == Position::BeforeLand
@@ -87,7 +84,7 @@ pub fn end_of_remark(pieces: &Pieces<'_>, index: usize, position: Position) -> O
             && (pieces.is(plus(place, 1), b"of")
                 || !(pieces.number(figure).unwrap_or(0) >= QUARTER_ACRES));
         let is_after = position == Position::AfterLand
-            && (is_parcel
+            && (may_be_parcel(pieces, index, place)
                 || is_boundary(pieces.lower(place))
                 || limits_land_at(pieces, place)
                 || may_end_label(pieces, place));
@@ -102,6 +99,14 @@ pub fn end_of_remark(pieces: &Pieces<'_>, index: usize, position: Position) -> O
         is_sure = is_sure || is_known_at(pieces, place);
     }
     None
+}
+
+/// Whether other land may be named in a remark that begins at an index, and not in a sum or a price.
+fn may_be_parcel(pieces: &Pieces<'_>, index: usize, place: usize) -> bool {
+    place > index
+        && names_parcel(pieces.lower(place))
+        && !pieces.is(index, b"total")
+        && !pieces.is(place.saturating_sub(1), b"/")
 }
 
 /// Whether a number in a remark that begins at an index may be of the name of a well: before land, and not
