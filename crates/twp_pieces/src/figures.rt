@@ -67,15 +67,15 @@ impl<'a> Pieces<'a> {
         let dash = plus(index, 1);
         let last = plus(index, 2);
         let year = plus(index, 3);
-        let is_joined = self.is_dash(dash) && self.is_joined(dash) && self.is_joined(last);
+        if !self.is_dash(dash) || !self.is_joined(dash) || !self.is_joined(last) {
+            return false;
+        }
         let is_day = |place: usize| {
             self.number(place).is_some() && self.bytes(place).len() <= 2
         };
         let has_month = (is_day(index) && is_month(self.lower(last)))
             || (is_day(last) && is_month(self.lower(index)));
-        is_joined
-            && has_month
-            && !(self.is_joined(year) && (self.is_dash(year) || self.is(year, b",")))
+        has_month && !(self.is_joined(year) && (self.is_dash(year) || self.is(year, b",")))
     }
 
     /// Where letters and digits without white space end that have a number of four digits or more, as
@@ -84,6 +84,10 @@ impl<'a> Pieces<'a> {
     pub fn end_of_code(&self, index: usize) -> Option<usize> {
         let mut has_long = false;
         let mut end = index;
+        // Most words and numbers have white space after them.
+        if !matches!(self.kind(index), Kind::BadNumber) && !self.is_joined(plus(index, 1)) {
+            return None;
+        }
         for place in index..plus(index, CODE_MOST) {
             let is_number = matches!(self.kind(place), Kind::Number(_) | Kind::BadNumber);
             let is_part = is_number
@@ -123,11 +127,13 @@ impl<'a> Pieces<'a> {
     pub fn is_like_section(&self, index: usize) -> bool {
         let point = plus(index, 1);
         let number = plus(index, 2);
+        if !matches!(self.lower(index), [b's', _, _]) {
+            return false;
+        }
         let value = self.number(number).unwrap_or(0);
         let is_worn = matches!(self.lower(number), [b'i' | b'l' | b'o', ..])
             && self.bytes(number).len() <= 2;
-        matches!(self.lower(index), [b's', _, _])
-            && self.is(point, b".")
+        self.is(point, b".")
             && self.is_joined(point)
             && ((value >= 1 && value <= SECTIONS) || is_worn)
     }
