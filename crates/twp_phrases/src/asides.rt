@@ -115,7 +115,8 @@ impl<'a> Draft<'a> {
             return Some((Rule::Label, end));
         }
         // A mark begins nothing else, but for the one after a question.
-        if matches!(self.pieces.kind(index), Kind::BadByte) && !self.pieces.is_question_mark(index)
+        if matches!(self.pieces.kind(index), Kind::BadByte)
+            && !self.pieces.is_question_mark(index)
         {
             return None;
         }

@@ -43,7 +43,10 @@ impl<'a> Writer<'a> {
         let mut out = Outline {
             changes: Vec::with_capacity(
                 alloc,
-                plus(plus(self.plan.draft.changes.len(), list.len()), CHANGES_MORE),
+                plus(
+                    plus(self.plan.draft.changes.len(), list.len()),
+                    CHANGES_MORE,
+                ),
             )?,
             joints: Vec::new(alloc),
             options: Vec::new(alloc),

@@ -5,9 +5,9 @@ ghost use Rattle.twp_suggest.specs.Readings.{AreSomeReadings, MayBeAdded};
 
 use crate::candidates::{made_by, outline_of};
 use crate::described::{Wording, described};
-use crate::outline::Outline;
 use crate::manner::Manner;
 use crate::on_plat::{find_land, township_of};
+use crate::outline::Outline;
 use crate::unread::Unread;
 use std::alloc::{AllocError, Global};
 use twp_grammar::{State, first_token};
