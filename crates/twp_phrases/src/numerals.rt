@@ -6,33 +6,39 @@ use twp_grammar::Kind;
 use twp_pieces::{plus, tens_of, value_of};
 use twp_rules::Rule;
 
+/// Words for numbers, in lowercase, and their digits.
+static NUMERALS: [(&[u8], &[u8]); 21] = [
+    (b"one", b"1"),
+    (b"two", b"2"),
+    (b"three", b"3"),
+    (b"four", b"4"),
+    (b"five", b"5"),
+    (b"six", b"6"),
+    (b"seven", b"7"),
+    (b"eight", b"8"),
+    (b"nine", b"9"),
+    (b"ten", b"10"),
+    (b"eleven", b"11"),
+    (b"twelve", b"12"),
+    (b"thirteen", b"13"),
+    (b"fourteen", b"14"),
+    (b"fifteen", b"15"),
+    (b"sixteen", b"16"),
+    (b"seventeen", b"17"),
+    (b"eighteen", b"18"),
+    (b"nineteen", b"19"),
+    (b"twenty", b"20"),
+    (b"thirty", b"30"),
+];
+
 /// The digits of a word for a number, in lowercase.
 fn digits_of(word: &[u8]) -> Option<&'static [u8]> {
-    let digits: &'static [u8] = match word {
-        b"one" => b"1",
-        b"two" => b"2",
-        b"three" => b"3",
-        b"four" => b"4",
-        b"five" => b"5",
-        b"six" => b"6",
-        b"seven" => b"7",
-        b"eight" => b"8",
-        b"nine" => b"9",
-        b"ten" => b"10",
-        b"eleven" => b"11",
-        b"twelve" => b"12",
-        b"thirteen" => b"13",
-        b"fourteen" => b"14",
-        b"fifteen" => b"15",
-        b"sixteen" => b"16",
-        b"seventeen" => b"17",
-        b"eighteen" => b"18",
-        b"nineteen" => b"19",
-        b"twenty" => b"20",
-        b"thirty" => b"30",
-        _ => return None,
-    };
-    Some(digits)
+    for (name, digits) in &NUMERALS {
+        if *name == word {
+            return Some(*digits);
+        }
+    }
+    None
 }
 
 impl<'a> Draft<'a> {

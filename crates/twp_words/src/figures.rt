@@ -66,36 +66,43 @@ pub fn is_of_count(word: &[u8]) -> bool {
     is_among(word, words)
 }
 
+/// The words for numbers up to ninety, and their values.
+static COUNTS: [(&[u8], u64); 27] = [
+    (b"one", 1),
+    (b"two", 2),
+    (b"three", 3),
+    (b"four", 4),
+    (b"five", 5),
+    (b"six", 6),
+    (b"seven", 7),
+    (b"eight", 8),
+    (b"nine", 9),
+    (b"ten", 10),
+    (b"eleven", 11),
+    (b"twelve", 12),
+    (b"thirteen", 13),
+    (b"fourteen", 14),
+    (b"fifteen", 15),
+    (b"sixteen", 16),
+    (b"seventeen", 17),
+    (b"eighteen", 18),
+    (b"nineteen", 19),
+    (b"twenty", 20),
+    (b"thirty", 30),
+    (b"forty", 40),
+    (b"fifty", 50),
+    (b"sixty", 60),
+    (b"seventy", 70),
+    (b"eighty", 80),
+    (b"ninety", 90),
+];
+
 /// The value of a word for a number up to ninety.
 pub fn value_of_count(word: &[u8]) -> Option<u64> {
-    match word {
-        b"one" => Some(1),
-        b"two" => Some(2),
-        b"three" => Some(3),
-        b"four" => Some(4),
-        b"five" => Some(5),
-        b"six" => Some(6),
-        b"seven" => Some(7),
-        b"eight" => Some(8),
-        b"nine" => Some(9),
-        b"ten" => Some(10),
-        b"eleven" => Some(11),
-        b"twelve" => Some(12),
-        b"thirteen" => Some(13),
-        b"fourteen" => Some(14),
-        b"fifteen" => Some(15),
-        b"sixteen" => Some(16),
-        b"seventeen" => Some(17),
-        b"eighteen" => Some(18),
-        b"nineteen" => Some(19),
-        b"twenty" => Some(20),
-        b"thirty" => Some(30),
-        b"forty" => Some(40),
-        b"fifty" => Some(50),
-        b"sixty" => Some(60),
-        b"seventy" => Some(70),
-        b"eighty" => Some(80),
-        b"ninety" => Some(90),
-        _ => None,
+    for (name, value) in &COUNTS {
+        if is_same(word, name) {
+            return Some(*value);
+        }
     }
+    None
 }

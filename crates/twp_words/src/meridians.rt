@@ -57,27 +57,47 @@ pub fn is_state(word: &[u8]) -> bool {
     is_among(word, words)
 }
 
+/// Names of meridians of two words.
+static MERIDIANS_OF_TWO: [(&[u8], &[u8]); 14] = [
+    (b"salt", b"lake"),
+    (b"mount", b"diablo"),
+    (b"mt", b"diablo"),
+    (b"new", b"mexico"),
+    (b"black", b"hills"),
+    (b"san", b"bernardino"),
+    (b"wind", b"river"),
+    (b"copper", b"river"),
+    (b"sixth", b"principal"),
+    (b"fifth", b"principal"),
+    (b"fourth", b"principal"),
+    (b"third", b"principal"),
+    (b"second", b"principal"),
+    (b"first", b"principal"),
+];
+
+/// Names of states of two words.
+static STATES_OF_TWO: [(&[u8], &[u8]); 3] = [
+    (b"new", b"mexico"),
+    (b"north", b"dakota"),
+    (b"south", b"dakota"),
+];
+
 /// Whether two words are a meridian's name.
 pub fn is_meridian_of_two(first: &[u8], second: &[u8]) -> bool {
-    let last: &'static [u8] = match first {
-        b"salt" => b"lake",
-        b"mount" | b"mt" => b"diablo",
-        b"new" => b"mexico",
-        b"black" => b"hills",
-        b"san" => b"bernardino",
-        b"wind" | b"copper" => b"river",
-        b"sixth" | b"fifth" | b"fourth" | b"third" | b"second" | b"first" => b"principal",
-        _ => return false,
-    };
-    is_same(second, last)
+    are_among(first, second, &MERIDIANS_OF_TWO)
 }
 
 /// Whether two words are a state's name.
 pub fn is_state_of_two(first: &[u8], second: &[u8]) -> bool {
-    let last: &'static [u8] = match first {
-        b"new" => b"mexico",
-        b"north" | b"south" => b"dakota",
-        _ => return false,
-    };
-    is_same(second, last)
+    are_among(first, second, &STATES_OF_TWO)
+}
+
+/// Whether two words are one of these names.
+fn are_among(first: &[u8], second: &[u8], names: &[(&[u8], &[u8])]) -> bool {
+    for (one, other) in names {
+        if is_same(first, one) && is_same(second, other) {
+            return true;
+        }
+    }
+    false
 }
