@@ -152,6 +152,20 @@ class Lanes:
         return self.given
 
 
+class Compilers:
+    """Compiles a proved program by both of the kit's compilers at once, where rt has one wait for the other."""
+
+    def __init__(self, compile_by):
+        self.compile_by, self.second = compile_by, None
+
+    def __call__(self, crate, backend, words, to):
+        if backend == "rattle":
+            return self.second.result()
+        with ThreadPoolExecutor(1) as pool:
+            self.second = pool.submit(self.compile_by, crate, "rattle", words, to)
+            return self.compile_by(crate, backend, words, to)
+
+
 def stamp_of(crate):
     """The file that says of which sources a crate's library or program was built: for a library, that of rt itself."""
     return Path(crate.folder, "out", "proved" if crate.is_program else "rlib/stamp")
@@ -186,6 +200,10 @@ def prove(rt, crates):
             return proved_by(crate, flags, tests)
 
     rt.Crate.ci, rt.Crate.has_tests = ci, lambda crate: False
+    # Another kit may compile in another way, which then stays as it is.
+    if hasattr(rt.Crate, "compile_by"):
+        both = Compilers(rt.Crate.compile_by)
+        rt.Crate.compile_by = lambda *words: both(*words)
     rt.edits_of, rt.run = lambda crate: ([], []), lambda crate, tests, ending="": True
     rt.in_lanes = lambda tasks: Lanes(tasks, rt.processors(), SHARE_OF_MEMORY * rt.free()).run()
     # rt ci puts all that is in the crates' out/ aside; here, only what is built anew has to go.

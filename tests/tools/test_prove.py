@@ -5,13 +5,14 @@ import io
 import pathlib
 import sys
 import tempfile
+import threading
 import types
 import unittest
 
 sys.dont_write_bytecode = True
 sys.path.insert(0, str(pathlib.Path(__file__).resolve().parent.parent.parent / "tools"))
 
-from prove import Lanes, Progress, is_built, remove_built  # noqa: E402
+from prove import Compilers, Lanes, Progress, is_built, remove_built  # noqa: E402
 
 
 def crate(folder, name, is_program=False):
@@ -98,6 +99,19 @@ class Proving(unittest.TestCase):
         given = Lanes(tasks, processors=1, memory=1_000).run()
         self.assertEqual(given, dict.fromkeys(tasks, True))
         self.assertEqual(begun, [("grid", 1), ("land", 4), ("excerpt", 2)])
+
+    def test_a_program_is_compiled_by_both_compilers_at_once(self):
+        other = threading.Event()
+
+        def compile_by(crate, backend, words, to):
+            if backend == "rattle":
+                other.set()
+                return 2
+            return 0 if other.wait(10) else 1
+
+        both = Compilers(compile_by)
+        self.assertEqual(both("twp_cmd", "llvm", [], "out/twp_cmd"), 0)
+        self.assertEqual(both("twp_cmd", "rattle", [], "out/twp_cmd"), 2)
 
     def test_a_crate_waits_for_memory(self):
         tasks = {(name, "proof"): ([], 9_000, 10, lambda given, count: count) for name in ("one", "other")}
