@@ -5,6 +5,7 @@ use std::alloc::AllocError;
 use twp_grammar::Kind;
 use twp_pieces::plus;
 use twp_rules::Rule;
+use twp_words::excepts_land;
 
 impl<'a> Draft<'a> {
     /// `except`, or words like it, at an index.
@@ -42,22 +43,12 @@ impl<'a> Draft<'a> {
         {
             return Some(plus(third, 1));
         }
-        if pieces.is(index, b"except")
-            || pieces.is(index, b"excepting")
-            || pieces.is(index, b"less")
-            || pieces.is(index, b"excluding")
-            || pieces.is(index, b"exc")
-            || pieces.is(index, b"ex")
-            || pieces.is(index, b"ls")
-            || pieces.is(index, b"exclusive")
-            || pieces.is(index, b"minus")
-        {
-            let is_word = pieces.is(second, b"for")
-                || pieces.is(second, b"therefrom")
-                || pieces.is(second, b"of")
-                || ((pieces.is(index, b"exc") || pieces.is(index, b"ex"))
-                    && pieces.is(second, b"."));
-            return Some(if is_word { third } else { second });
+        if excepts_land(pieces.lower(index)) {
+            return Some(if self.goes_with_except(index) {
+                third
+            } else {
+                second
+            });
         }
         if pieces.is(index, b"but") {
             return if pieces.is(second, b"not") {
@@ -75,6 +66,16 @@ impl<'a> Draft<'a> {
             return Some(plus(third, 2));
         }
         None
+    }
+
+    /// Whether a word or a period follows a word for an exception at an index, and belongs to it.
+    fn goes_with_except(&self, index: usize) -> bool {
+        let second = plus(index, 1);
+        self.pieces.is(second, b"for")
+            || self.pieces.is(second, b"therefrom")
+            || self.pieces.is(second, b"of")
+            || (self.pieces.is(second, b".")
+                && (self.pieces.is(index, b"exc") || self.pieces.is(index, b"ex")))
     }
 
     /// Whether `but` at an index is after all of a section, and before land, as in `all but Lot 4`.

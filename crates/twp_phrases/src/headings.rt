@@ -98,14 +98,7 @@ impl<'a> Draft<'a> {
             && self.pieces.is(close, b")");
         let value = self.numbers.last().map(|last| last.value);
         let side = plus(index, 3);
-        let before = index.saturating_sub(1);
-        let is_north = self.pieces.is(before, b"n") || self.pieces.is(before, b"north");
-        let is_west = self.pieces.is(before, b"w") || self.pieces.is(before, b"west");
-        let is_side = if self.pieces.is_east_west(before) {
-            self.pieces.is_east_west(side) && self.pieces.is(side, b"w") == is_west
-        } else {
-            self.pieces.is_north_south(side) && self.pieces.is(side, b"n") == is_north
-        };
+        let is_side = self.is_same_side(index.saturating_sub(1), side);
         let is_letter = self.pieces.is(plus(index, 1), b"t") == self.pieces.is_north_south(side);
         let is_same = self.pieces.number(number) == value
             && value.is_some()
@@ -116,6 +109,16 @@ impl<'a> Draft<'a> {
         }
         self.leave_out(index, plus(close, 1), Rule::Repeated)?;
         Ok(plus(close, 1))
+    }
+
+    /// Whether the word for a side at one index, and the letter at another, are of the same side.
+    fn is_same_side(&self, word: usize, letter: usize) -> bool {
+        if self.pieces.is_east_west(word) {
+            let is_west = self.pieces.is(word, b"w") || self.pieces.is(word, b"west");
+            return self.pieces.is_east_west(letter) && self.pieces.is(letter, b"w") == is_west;
+        }
+        let is_north = self.pieces.is(word, b"n") || self.pieces.is(word, b"north");
+        self.pieces.is_north_south(letter) && self.pieces.is(letter, b"n") == is_north
     }
 
     /// Writes the letter of a township or a range for the word at an index, or where it is missing.
