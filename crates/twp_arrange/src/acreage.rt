@@ -1,7 +1,7 @@
-//! Acreage that a text states. It may differ from that of the land, which counts; but with a quarter of it, or less, the
-//! text may mean a part of this land, or other land.
+//! Acreage that a text states. It may differ from that of the land, which counts; but with a quarter of it,
+//! or less, the text may mean a part of this land, or other land.
 
-use crate::arranging::{Placed, Role};
+use crate::placed::{Placed, Role};
 use crate::plan::Plan;
 use twp_grammar::Kind;
 use twp_phrases::{Names, Phrase};
@@ -59,8 +59,8 @@ impl<'a> Plan<'a> {
         false
     }
 
-    /// The area of the land before an acreage with a word for what it is of, as in `containing 80 acres`, from the acreage
-    /// before it on.
+    /// The area of the land before an acreage with a word for what it is of, as in `containing 80 acres`,
+    /// from the acreage before it on.
     fn land_before(&self, list: &[Placed], index: usize) -> u64 {
         let mut sum: u64 = 0;
         let mut last: u64 = 0;
@@ -108,8 +108,8 @@ impl<'a> Plan<'a> {
         u64::from(u16::try_from(count).unwrap_or(1)).saturating_mul(LOT)
     }
 
-    /// The nominal area of the land before an acreage, or after it, in hundredths of an acre. That of lots, whose areas
-    /// differ, is a quarter of it.
+    /// The nominal area of the land before an acreage, or after it, in hundredths of an acre. That of lots,
+    /// whose areas differ, is a quarter of it.
     fn land_beside(&self, list: &[Placed], index: usize) -> Option<u64> {
         let mut area: Option<u64> = None;
         let mut first: usize = 0;
@@ -167,7 +167,8 @@ impl<'a> Plan<'a> {
         area
     }
 
-    /// The acreage of a phrase, in hundredths. None if it isn't one figure for all of the land: it is in words, or net.
+    /// The acreage of a phrase, in hundredths. None if it isn't one figure for all of the land: it is in
+    /// words, or net.
     fn stated(&self, phrase: Phrase) -> Option<u64> {
         let pieces = &self.draft.pieces;
         let mut found: Option<u64> = None;

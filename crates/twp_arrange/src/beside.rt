@@ -1,4 +1,5 @@
-//! What is beside a part, a list, or a meridian that makes it unsure: `Kimball County, NE`, `SE Wyoming`, `Lots 1-4, 6 PM`.
+//! What is beside a part, a list, or a meridian that makes it unsure: `Kimball County, NE`, `SE Wyoming`,
+//! `Lots 1-4, 6 PM`.
 
 use crate::plan::Plan;
 use twp_grammar::Kind;
@@ -12,17 +13,15 @@ const LOTS_MOST: u16 = 7;
 impl<'a> Plan<'a> {
     /// Whether a phrase isn't sure for what is beside it, or there are two meridians.
     pub(crate) fn has_unsure_neighbors(&self) -> bool {
-        let phrases = self.draft.phrases.as_slice();
+        let mut before: Option<&Phrase> = None;
         let mut meridian: Option<u16> = None;
-        for index in 0..phrases.len() {
-            let Some(phrase) = phrases.get(index) else {
-                break;
-            };
-            if let Some(before) = index.checked_sub(1).and_then(|before| phrases.get(before)) {
+        for phrase in &self.draft.phrases {
+            if let Some(before) = before {
                 if self.are_unsure_neighbors(before, phrase) {
                     return true;
                 }
             }
+            before = Some(phrase);
             if let Some(number) = self.number_of_meridian(phrase) {
                 if meridian.is_some() && meridian != Some(number) {
                     return true;
@@ -53,8 +52,8 @@ impl<'a> Plan<'a> {
             || (plus(part.first, 2) == part.end && size == 1)
     }
 
-    /// Whether a bare part may be of a region, or of somebody's name, which follows it, as in `SE Wyoming`, `NW Land Co.`,
-    /// or `W2 Royalty`.
+    /// Whether a bare part may be of a region, or of somebody's name, which follows it, as in `SE Wyoming`,
+    /// `NW Land Co.`, or `W2 Royalty`.
     fn may_be_of_name(&self, part: &Phrase, after: &Phrase, rule: Rule) -> bool {
         if part.end != after.first || !self.is_bare(part) {
             return false;
@@ -74,8 +73,8 @@ impl<'a> Plan<'a> {
         }
     }
 
-    /// Whether a bare `NE` may be Nebraska: after a meridian or a county and a comma, or after another name and a comma, at
-    /// the end of a line.
+    /// Whether a bare `NE` may be Nebraska: after a meridian or a county and a comma, or after another name
+    /// and a comma, at the end of a line.
     fn may_be_state(&self, before: &Phrase, part: &Phrase, rule: Rule) -> bool {
         let pieces = &self.draft.pieces;
         let is_after_comma = pieces.is(before.end, b",") && plus(before.end, 1) == part.first;
@@ -88,7 +87,8 @@ impl<'a> Plan<'a> {
         is_after_comma && follows && pieces.is(part.first, b"ne") && self.is_bare(part)
     }
 
-    /// Whether the word for a meridian is at an index without its number or name, so that the number before it may be that.
+    /// Whether the word for a meridian is at an index without its number or name, so that the number before
+    /// it may be that.
     fn is_bare_word_of_meridian(&self, index: usize) -> bool {
         let pieces = &self.draft.pieces;
         pieces.is(index, b"pm")

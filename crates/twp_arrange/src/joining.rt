@@ -1,6 +1,6 @@
 //! What joins two phrases, and whether it is sure what that means.
 
-use crate::arranging::{Placed, Role};
+use crate::placed::{Placed, Role};
 use crate::plan::Plan;
 use twp_grammar::Kind;
 use twp_phrases::{Form, Names, Phrase};
@@ -120,8 +120,9 @@ impl<'a> Plan<'a> {
         }
     }
 
-    /// Whether a step of one of two parts may be for both, as in `NE/4, NW/4 of SE/4`: one has an `of`, and the other one step.
-    /// They aren't in each other, `the` isn't before the second alone, and no acreage is that of both.
+    /// Whether a step of one of two parts may be for both, as in `NE/4, NW/4 of SE/4`: one has an `of`, and
+    /// the other one step. They aren't in each other, `the` isn't before the second alone, and no acreage is
+    /// that of both.
     fn may_share(&self, before: &Phrase, after: &Phrase) -> bool {
         let (first, second) = (self.draft.steps_of(*before), self.draft.steps_of(*after));
         let ([one, ..], [other, ..]) = (first, second) else {
@@ -162,7 +163,8 @@ impl<'a> Plan<'a> {
         false
     }
 
-    /// Whether the label of a tract follows a part of a section that was named before the first label, and not after one.
+    /// Whether the label of a tract follows a part of a section that was named before the first label, and
+    /// not after one.
     fn are_tracts(&self, part: &Phrase) -> bool {
         let pieces = &self.draft.pieces;
         let is_before = match self.draft.last_section {
@@ -176,7 +178,8 @@ impl<'a> Plan<'a> {
         is_before && pieces.is_label_of_tract(part.end)
     }
 
-    /// Whether two corners without a fraction are in cells of their own: the second may be a part of the first.
+    /// Whether two corners without a fraction are in cells of their own: the second may be a part of the
+    /// first.
     fn are_bare_cells(&self, before: &Phrase, after: &Phrase) -> bool {
         self.draft.pieces.has_before(after.first, b'\t')
             && matches!(
@@ -189,8 +192,8 @@ impl<'a> Plan<'a> {
             )
     }
 
-    /// Whether two corners without a fraction are in cells of their own, with commas between the cells of their row, as in
-    /// `2N,3W,14,NE,SE`: the second may be a part of the first.
+    /// Whether two corners without a fraction are in cells of their own, with commas between the cells of
+    /// their row, as in `2N,3W,14,NE,SE`: the second may be a part of the first.
     fn are_comma_cells(&self, before: &Phrase, after: &Phrase) -> bool {
         let pieces = &self.draft.pieces;
         let comma = before.first.saturating_sub(1);
@@ -208,8 +211,9 @@ impl<'a> Plan<'a> {
             && matches!(pieces.kind(after.end.saturating_sub(1)), Kind::Corner(_))
     }
 
-    /// Whether other pieces than commas and semicolons between two lands may mean something else: only an ampersand or a
-    /// plus sign doesn't, between parts that both have an `of`, or none, nor a colon after a section that is named again.
+    /// Whether other pieces than commas and semicolons between two lands may mean something else: only an
+    /// ampersand or a plus sign doesn't, between parts that both have an `of`, or none, nor a colon after a
+    /// section that is named again.
     fn is_unsure_list(&self, before: &Phrase, after: &Phrase, left_out: &[Placed]) -> bool {
         let mut next = before.end;
         let mut rest = left_out;
@@ -253,8 +257,8 @@ fn has_opposite(first: &[u8], second: &[u8], side: u8, other: u8) -> bool {
         || (first.contains(&other) && second.contains(&side))
 }
 
-/// Whether one phrase is left out by a rule after a part, as the parentheses in `the East Half (E/2)`, or the acreage in
-/// `NENE 40.00`.
+/// Whether one phrase is left out by a rule after a part, as the parentheses in `the East Half (E/2)`, or the
+/// acreage in `NENE 40.00`.
 fn is_left_out_after(before: &Phrase, left_out: &[Placed], rule: Rule) -> bool {
     match left_out {
         [placed] => {

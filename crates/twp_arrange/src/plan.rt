@@ -14,12 +14,11 @@ pub struct Plan<'a> {
 impl<'a> Plan<'a> {
     /// The phrases of a text.
     pub fn of(alloc: Global, text: &'a [u8]) -> Result<Plan<'a>, AllocError> {
-        let mut draft = Draft::new(alloc, text)?;
-        draft.find_phrases()?;
         let mut plan = Plan {
-            draft,
+            draft: Draft::new(alloc, text)?,
             has_exact_acreage: false,
         };
+        plan.draft.find_phrases()?;
         plan.doubt_together();
         Ok(plan)
     }

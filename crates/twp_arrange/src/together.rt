@@ -1,4 +1,5 @@
-//! What the phrases of a text say together, if that isn't sure: each of them may be, and what they make isn't.
+//! What the phrases of a text say together, if that isn't sure: each of them may be, and what they make
+//! isn't.
 
 use crate::plan::Plan;
 use twp_grammar::Kind;
@@ -20,8 +21,8 @@ impl<'a> Plan<'a> {
         }
     }
 
-    /// Whether some land may be missing. A word that isn't known may be what was meant by it: with remarks, or with a status
-    /// as `open`, each section has some. After the label of each tract is land.
+    /// Whether some land may be missing. A word that isn't known may be what was meant by it: with remarks,
+    /// or with a status as `open`, each section has some. After the label of each tract is land.
     fn has_land_missing(&self) -> bool {
         let mut sections: usize = 0;
         let mut lands: usize = 0;
@@ -55,11 +56,11 @@ impl<'a> Plan<'a> {
         is_labelled || ((self.draft.has_remark || has_status) && sections != lands)
     }
 
-    /// Whether the place for the land of a section is empty, as in `Sec. 9: Ada County`, or the rest of several sections is
-    /// missing, as in `Secs. 9 -`.
+    /// Whether the place for the land of a section is empty, as in `Sec. 9: Ada County`, or the rest of
+    /// several sections is missing, as in `Secs. 9 -`.
     fn has_empty_place(&self) -> bool {
         // The last section, if no land follows it so far.
-        let mut section: Option<Phrase> = None;
+        let mut section: Option<&Phrase> = None;
         let mut is_first = true;
         let mut is_before = false;
         for phrase in &self.draft.phrases {
@@ -69,7 +70,7 @@ impl<'a> Plan<'a> {
                         return true;
                     }
                     is_before = is_before || is_first;
-                    section = if is_before { Some(*phrase) } else { None };
+                    section = if is_before { Some(phrase) } else { None };
                     is_first = false;
                 }
                 Names::Part | Names::Lots | Names::All | Names::Except => {
@@ -95,7 +96,7 @@ impl<'a> Plan<'a> {
     }
 
     /// Whether a colon, or a cell without land, follows a section, or its word is for several.
-    fn is_place_empty(&self, section: Option<Phrase>) -> bool {
+    fn is_place_empty(&self, section: Option<&Phrase>) -> bool {
         match section {
             Some(section) => {
                 let count = section.numbers.end.saturating_sub(section.numbers.first);
@@ -108,7 +109,7 @@ impl<'a> Plan<'a> {
     }
 
     /// Whether a comma and wide white space follow a section.
-    fn is_before_gap(&self, section: Option<Phrase>) -> bool {
+    fn is_before_gap(&self, section: Option<&Phrase>) -> bool {
         match section {
             Some(section) => {
                 self.draft.pieces.is(section.end, b",")
@@ -118,8 +119,9 @@ impl<'a> Plan<'a> {
         }
     }
 
-    /// Whether a number that was taken for a section may be another one, since no land is beside it: where another section has
-    /// a word for it, as in `1 T2N R3W Sec 9`, or on both sides of a township, as in `8-2N-3W-9`.
+    /// Whether a number that was taken for a section may be another one, since no land is beside it: where
+    /// another section has a word for it, as in `1 T2N R3W Sec 9`, or on both sides of a township, as in
+    /// `8-2N-3W-9`.
     fn has_loose_section(&self) -> bool {
         let mut has_word = false;
         let mut has_loose = false;
@@ -150,7 +152,7 @@ impl<'a> Plan<'a> {
                     before = Some(phrase.names);
                 }
                 Names::Heading => {
-                    is_beside = is_loose && !self.is_row(*phrase);
+                    is_beside = is_loose && !self.is_row(phrase);
                     is_twice = false;
                 }
                 _ => {}
@@ -160,15 +162,15 @@ impl<'a> Plan<'a> {
     }
 
     /// Whether a township begins a line, or follows a semicolon.
-    fn is_row(&self, heading: Phrase) -> bool {
+    fn is_row(&self, heading: &Phrase) -> bool {
         let first = heading.first;
         first == 0
             || self.draft.pieces.has_before(first, b'\n')
             || self.draft.pieces.is(first.saturating_sub(1), b";")
     }
 
-    /// Whether a tract has a label, and no section of its own, though land before it has no label: it may be in another
-    /// section, as in `Sec. 9: NE; Tract 2: SE`.
+    /// Whether a tract has a label, and no section of its own, though land before it has no label: it may be
+    /// in another section, as in `Sec. 9: NE; Tract 2: SE`.
     fn has_other_tract(&self) -> bool {
         let mut has_label = false;
         let mut is_first = false;

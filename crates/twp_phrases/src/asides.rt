@@ -29,7 +29,8 @@ impl<'a> Draft<'a> {
         self.being(index)
     }
 
-    /// `being` at an index, also in parentheses, with all land that was named before it, as in `All, being Lots 1 thru 7, ..`
+    /// `being` at an index, also in parentheses, with all land that was named before it, as in
+    /// `All, being Lots 1 thru 7, ..`
     fn being(&mut self, index: usize) -> Result<Option<Phrase>, AllocError> {
         let from = self.extent();
         let is_in_parentheses = self.pieces.is(index, b"(");
@@ -112,6 +113,12 @@ impl<'a> Draft<'a> {
         }
         if let Some(end) = self.pieces.end_of_first_serial(index) {
             return Some((Rule::Label, end));
+        }
+        // A mark begins nothing else, but for the one after a question.
+        if matches!(self.pieces.kind(index), Kind::BadByte)
+            && !self.pieces.is_question_mark(index)
+        {
+            return None;
         }
         if let Some(end) = self.pieces.end_of_meridian(index) {
             return Some((Rule::Meridian, end));
@@ -239,7 +246,8 @@ impl<'a> Draft<'a> {
         }
     }
 
-    /// Whether a part is the last step of another, which has an `of`, as in `the West half of the Southwest quarter (SW¼)`.
+    /// Whether a part is the last step of another, which has an `of`, as in
+    /// `the West half of the Southwest quarter (SW¼)`.
     fn is_last_step(&self, whole: Phrase, part: Phrase) -> bool {
         match (self.steps_of(whole), self.steps_of(part)) {
             ([.., last], [step]) => whole.form == Form::WithOf && last.written == step.written,

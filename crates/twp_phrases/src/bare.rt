@@ -38,7 +38,8 @@ impl<'a> Draft<'a> {
         if !is_after && heading.is_none() {
             return Ok(None);
         }
-        // Before a township, `S2` may be the half of a section that was named, or of one that is missing, unless land follows.
+        // Before a township, `S2` may be the half of a section that was named, or of one that is missing,
+        // unless land follows.
         let is_before_land = match heading {
             Some(end) => self.pieces.is(end, b":"),
             None => false,
@@ -105,8 +106,8 @@ impl<'a> Draft<'a> {
         }
     }
 
-    /// Whether the number at an index is that of a section: before a location or a colon, after a township and range,
-    /// at the beginning of a row, or after land.
+    /// Whether the number at an index is that of a section: before a location or a colon, after a township
+    /// and range, at the beginning of a row, or after land.
     fn is_bare_section(&mut self, index: usize) -> Result<bool, AllocError> {
         let next = plus(index, 1);
         let before = index.saturating_sub(1);

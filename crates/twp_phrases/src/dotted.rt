@@ -1,4 +1,5 @@
-//! Sides and corners with periods after their letters, or whose letters are apart: `N. 1/2`, `N.E. 1/4`, `S W 1/4`.
+//! Sides and corners with periods after their letters, or whose letters are apart: `N. 1/2`, `N.E. 1/4`,
+//! `S W 1/4`.
 
 use crate::draft::Draft;
 use crate::fractions::{is_written, rule_of};
@@ -9,56 +10,85 @@ use twp_rules::Rule;
 use twp_words::{Size, written_step};
 
 impl<'a> Draft<'a> {
-    /// The corner at an index whose letters are apart, or the side, with periods after them, and the fraction.
+    /// The corner at an index whose letters are apart, or the side, with periods after them, and the
+    /// fraction.
     pub(crate) fn dotted(&mut self, index: usize) -> Result<Option<usize>, AllocError> {
-        let pieces = &self.pieces;
-        let second = if self.pieces.is_hyphen_at_line_end(plus(index, 1)) {
-            plus(index, 2)
-        } else {
-            self.after_stop(plus(index, 1))
-        };
-        let extent = self.extent();
-        let begin = pieces.start(index);
-        if !matches!(pieces.kind(index), Kind::NorthSouth(_))
-            || !matches!(pieces.kind(second), Kind::EastWest(_))
+        let second = self.second_letter(index);
+        if !matches!(self.pieces.kind(index), Kind::NorthSouth(_))
+            || !matches!(self.pieces.kind(second), Kind::EastWest(_))
         {
             return self.dotted_half(index);
         }
-        let is_one = pieces.bytes(index).len() == 1 && pieces.bytes(second).len() == 1;
-        let is_north = pieces.is(index, b"n");
-        let is_east = pieces.is(second, b"e");
-        let corner: &'static [u8] = match (is_north, is_east) {
-            (true, true) => b"NE1/4",
-            (true, false) => b"NW1/4",
-            (false, true) => b"SE1/4",
-            (false, false) => b"SW1/4",
-        };
-        let has_stop = second > plus(index, 1);
-        let (end, start) = (pieces.end(index), pieces.start(second));
-        if start > end {
-            self.leave_out_bytes(end, start)?;
-        }
+        let extent = self.extent();
+        self.leave_out_between(index, second)?;
         let fraction = self.after_stop(plus(second, 1));
         if fraction > plus(second, 1) {
             self.leave_out(plus(second, 1), fraction, Rule::OnePart)?;
         }
-        if let Some(after) = self.dotted_fraction(fraction, Size::Quarter)? {
-            if is_one {
-                self.push_step(begin, after, corner)?;
-                return Ok(Some(after));
-            }
-        }
-        self.shrink(extent);
-        let is_dotted = has_stop && fraction > plus(second, 1) && is_one;
-        if !is_dotted || !self.pieces.is_joined(second) {
+        let after = self.dotted_fraction(fraction, Size::Quarter)?;
+        if !self.are_letters(index, second) {
+            self.shrink(extent);
             return Ok(None);
         }
-        self.leave_out_bytes(end, start)?;
+        if let Some(after) = after {
+            let begin = self.pieces.start(index);
+            let corner = self.dotted_corner(index, second);
+            self.push_step(begin, after, corner)?;
+            return Ok(Some(after));
+        }
+        self.shrink(extent);
+        self.dotted_letters(index, second, fraction)
+    }
+
+    /// The corner at an index of whose letters each has a period, without a fraction, as `N.E.`
+    fn dotted_letters(
+        &mut self,
+        index: usize,
+        second: usize,
+        fraction: usize,
+    ) -> Result<Option<usize>, AllocError> {
+        let has_stops = second > plus(index, 1) && fraction > plus(second, 1);
+        if !has_stops || !self.pieces.is_joined(second) {
+            return Ok(None);
+        }
+        self.leave_out_between(index, second)?;
+        let begin = self.pieces.start(index);
         let place = self.pieces.end_before(fraction);
         let dot = self.pieces.end(second);
+        let corner = self.dotted_corner(index, second);
         self.write(dot, place, b"1/4", Rule::Quarter)?;
         self.push_step_to(begin, place, corner)?;
         Ok(Some(fraction))
+    }
+
+    /// The index of a corner's second letter: after a period, or after a hyphen at a line end.
+    fn second_letter(&self, index: usize) -> usize {
+        if self.pieces.is_hyphen_at_line_end(plus(index, 1)) {
+            plus(index, 2)
+        } else {
+            self.after_stop(plus(index, 1))
+        }
+    }
+
+    /// Leaves out what is between two letters of a corner.
+    fn leave_out_between(&mut self, index: usize, second: usize) -> Result<(), AllocError> {
+        let (end, start) = (self.pieces.end(index), self.pieces.start(second));
+        self.leave_out_bytes(end, start)
+    }
+
+    /// Whether two pieces are a letter each.
+    fn are_letters(&self, index: usize, second: usize) -> bool {
+        self.pieces.bytes(index).len() == 1 && self.pieces.bytes(second).len() == 1
+    }
+
+    /// The corner that two letters name, as it is written in a description.
+    fn dotted_corner(&self, index: usize, second: usize) -> &'static [u8] {
+        match (self.pieces.is(index, b"n"), self.pieces.is(second, b"e")) {
+            (true, true) => b"NE1/4",
+            (true, false) => b"NW1/4",
+            (false, true) => b"SE1/4",
+            (false, false) => b"SW1/4",
+        }
     }
 
     /// The half at an index, with a period after its letter.
@@ -79,7 +109,8 @@ impl<'a> Draft<'a> {
         Ok(None)
     }
 
-    /// The fraction after letters with periods: as it is in a description, or an old abbreviation, `Qr.` or `H.`
+    /// The fraction after letters with periods: as it is in a description, or an old abbreviation, `Qr.` or
+    /// `H.`
     fn dotted_fraction(&mut self, index: usize, size: Size) -> Result<Option<usize>, AllocError> {
         if is_written(size, self.pieces.kind(index)) {
             return Ok(Some(plus(index, 1)));

@@ -114,8 +114,8 @@ pub struct Claim {
 pub struct Draft<'a> {
     pub pieces: Pieces<'a>,
     pub phrases: Vec<Phrase>,
-    /// The changes in them. One by which white space within a part is left out may be of several bytes, each of which is
-    /// to be left out by a change of its own.
+    /// The changes in them. One by which white space within a part is left out may be of several bytes, each
+    /// of which is to be left out by a change of its own.
     pub changes: Vec<Change<'a>>,
     pub steps: Vec<PlacedStep>,
     pub numbers: Vec<Numeral>,

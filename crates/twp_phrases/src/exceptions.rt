@@ -5,6 +5,7 @@ use std::alloc::AllocError;
 use twp_grammar::Kind;
 use twp_pieces::plus;
 use twp_rules::Rule;
+use twp_words::excepts_land;
 
 impl<'a> Draft<'a> {
     /// `except`, or words like it, at an index.
@@ -42,22 +43,12 @@ impl<'a> Draft<'a> {
         {
             return Some(plus(third, 1));
         }
-        if pieces.is(index, b"except")
-            || pieces.is(index, b"excepting")
-            || pieces.is(index, b"less")
-            || pieces.is(index, b"excluding")
-            || pieces.is(index, b"exc")
-            || pieces.is(index, b"ex")
-            || pieces.is(index, b"ls")
-            || pieces.is(index, b"exclusive")
-            || pieces.is(index, b"minus")
-        {
-            let is_word = pieces.is(second, b"for")
-                || pieces.is(second, b"therefrom")
-                || pieces.is(second, b"of")
-                || ((pieces.is(index, b"exc") || pieces.is(index, b"ex"))
-                    && pieces.is(second, b"."));
-            return Some(if is_word { third } else { second });
+        if excepts_land(pieces.lower(index)) {
+            return Some(if self.goes_with_except(index) {
+                third
+            } else {
+                second
+            });
         }
         if pieces.is(index, b"but") {
             return if pieces.is(second, b"not") {
@@ -77,6 +68,16 @@ impl<'a> Draft<'a> {
         None
     }
 
+    /// Whether a word or a period follows a word for an exception at an index, and belongs to it.
+    fn goes_with_except(&self, index: usize) -> bool {
+        let second = plus(index, 1);
+        self.pieces.is(second, b"for")
+            || self.pieces.is(second, b"therefrom")
+            || self.pieces.is(second, b"of")
+            || (self.pieces.is(second, b".")
+                && (self.pieces.is(index, b"exc") || self.pieces.is(index, b"ex")))
+    }
+
     /// Whether `but` at an index is after all of a section, and before land, as in `all but Lot 4`.
     fn is_after_all_land(&self, index: usize) -> bool {
         let before = index.saturating_sub(1);
@@ -85,8 +86,8 @@ impl<'a> Draft<'a> {
             && (self.pieces.begins_part(land) || matches!(self.pieces.kind(land), Kind::Lot))
     }
 
-    /// An excepted part with `thereof` after it, to which the steps of the part are added from which it is excepted, as in
-    /// `NW1/4, except the SW1/4 thereof`. It is doubted if that may be another.
+    /// An excepted part with `thereof` after it, to which the steps of the part are added from which it is
+    /// excepted, as in `NW1/4, except the SW1/4 thereof`. It is doubted if that may be another.
     pub(crate) fn part_thereof(&mut self, part: Phrase) -> Result<Phrase, AllocError> {
         let whole = match self.whole_before_except() {
             Whole::Section => return Ok(part),
@@ -154,8 +155,8 @@ impl<'a> Draft<'a> {
         whole
     }
 
-    /// Whether a part is written with all steps of another, and more before them, as in `the NW1/4, except the SW1/4 of the
-    /// NW1/4 thereof`: it is of the section.
+    /// Whether a part is written with all steps of another, and more before them, as in
+    /// `the NW1/4, except the SW1/4 of the NW1/4 thereof`: it is of the section.
     pub fn ends_with_steps_of(&self, part: Phrase, whole: Phrase) -> bool {
         let steps = self.steps_of(part);
         let all = self.steps_of(whole);
@@ -181,8 +182,8 @@ impl<'a> Draft<'a> {
         false
     }
 
-    /// Whether a part is surely of another, and not of the section: the part is a half, or the other has quarters alone,
-    /// with the last of which the part doesn't end.
+    /// Whether a part is surely of another, and not of the section: the part is a half, or the other has
+    /// quarters alone, with the last of which the part doesn't end.
     fn is_surely_of(&self, part: Phrase, whole: Phrase) -> bool {
         let all = self.steps_of(whole);
         for step in all {

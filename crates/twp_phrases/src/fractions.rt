@@ -5,7 +5,20 @@ use std::alloc::AllocError;
 use twp_grammar::Kind;
 use twp_pieces::plus;
 use twp_rules::Rule;
-use twp_words::Size;
+use twp_words::{Size, is_in};
+
+/// A `1`, and what scanning makes of it.
+static ONES: [&[u8]; 9] = [
+    b"1",
+    b"l",
+    b"i",
+    b"'",
+    b"\xE2\x80\x99",
+    b"]",
+    b"!",
+    b"|",
+    b"\xC2\xB9",
+];
 
 impl<'a> Draft<'a> {
     /// The fraction at an index, after letters: the index after it.
@@ -55,8 +68,8 @@ impl<'a> Draft<'a> {
         Ok(None)
     }
 
-    /// The fraction at an index with a space before its slash, or after it, as in `W1 /2`, which is left out: the index after
-    /// the fraction.
+    /// The fraction at an index with a space before its slash, or after it, as in `W1 /2`, which is left out:
+    /// the index after the fraction.
     fn spaced_fraction(&mut self, index: usize, size: Size) -> Result<Option<usize>, AllocError> {
         let slash = plus(index, 1);
         let digit = plus(index, 2);
@@ -80,12 +93,15 @@ impl<'a> Draft<'a> {
         Ok(Some(plus(digit, 1)))
     }
 
-    /// Where the fraction at an index ends that isn't written as in a description: a digit, a slash and a digit, a word
-    /// for a part, or what scanning makes of it.
+    /// Where the fraction at an index ends that isn't written as in a description: a digit, a slash and a
+    /// digit, a word for a part, or what scanning makes of it.
     fn end_of_fraction(&self, index: usize, size: Size) -> Option<usize> {
         let pieces = &self.pieces;
         let next = plus(index, 1);
         let is_joined = pieces.is_joined(index);
+        if self.is_digit(index, size) && !self.goes_on(next) {
+            return Some(next);
+        }
         if is_joined && pieces.is(index, b"/") && self.is_digit(next, size) {
             return Some(plus(next, 1));
         }
@@ -104,35 +120,13 @@ impl<'a> Draft<'a> {
         if size.is_whole_word(pieces.lower(index)) {
             return Some(next);
         }
-        if is_joined && self.is_digit(index, size) && !self.goes_on(next) {
-            return Some(next);
-        }
-        let is_slash = (pieces.is(next, b"/") || pieces.is(next, b"\xE2\x81\x84"))
-            && pieces.is_joined(next);
-        let digit = plus(next, 1);
-        if is_slash
-            && (pieces.is(index, b"1")
-                || pieces.is(index, b"l")
-                || pieces.is(index, b"i")
-                || pieces.is(index, b"'")
-                || pieces.is(index, b"\xE2\x80\x99")
-                || pieces.is(index, b"]")
-                || pieces.is(index, b"!")
-                || pieces.is(index, b"|")
-                || pieces.is(index, b"\xC2\xB9"))
-        {
-            let is_lower = size.is_lowered(pieces.lower(digit)) && pieces.is_joined(digit);
-            let is_z = size == Size::Half && pieces.is(digit, b"z") && pieces.is_joined(digit);
-            if self.is_digit(digit, size) || is_lower || (is_z && pieces.is(index, b"1")) {
-                return Some(plus(digit, 1));
+        if self.is_before_slash(index) {
+            if self.is_slashed(index, size) {
+                return Some(plus(index, 3));
             }
-        }
-        if is_slash
-            && pieces.number(index) == Some(2)
-            && self.is_digit(digit, size)
-            && size == Size::Half
-        {
-            return Some(plus(digit, 1));
+            if is_joined && pieces.is(index, b"1") && self.is_end(plus(index, 2)) {
+                return Some(plus(index, 2));
+            }
         }
         let is_worn = pieces.is(index, b"v") || pieces.is(index, b"y");
         if is_joined && is_worn && self.is_digit(next, size) {
@@ -141,19 +135,35 @@ impl<'a> Draft<'a> {
         if is_joined && pieces.is(index, b"%") {
             return Some(next);
         }
-        if is_joined
-            && pieces.has_digits(index, 1)
-            && pieces.is(index, b"1")
-            && is_slash
-            && self.is_end(digit)
-        {
-            return Some(digit);
-        }
         None
     }
 
-    /// Whether a fraction with a hyphen is at an index, as in `W 1-2 of SE 1-4`: with an `of` before or after its letters,
-    /// since `SE 1-4` may be of four sections.
+    /// Whether a slash follows the piece at an index, without white space.
+    fn is_before_slash(&self, index: usize) -> bool {
+        let next = plus(index, 1);
+        (self.pieces.is(next, b"/") || self.pieces.is(next, b"\xE2\x81\x84"))
+            && self.pieces.is_joined(next)
+    }
+
+    /// Whether the pieces at an index, of which the second is a slash, are a fraction: with what scanning makes of a `1`
+    /// or of a `2`, or two halves.
+    fn is_slashed(&self, index: usize, size: Size) -> bool {
+        let digit = plus(index, 2);
+        if is_in(self.pieces.lower(index), &ONES) {
+            return self.is_digit(digit, size) || self.is_worn_digit(index, digit, size);
+        }
+        size == Size::Half && self.pieces.number(index) == Some(2) && self.is_digit(digit, size)
+    }
+
+    /// Whether the lowered digit of a fraction is at an index, or the `z` that scanning makes of a `2` after a `1`.
+    fn is_worn_digit(&self, one: usize, digit: usize, size: Size) -> bool {
+        let is_lower = size.is_lowered(self.pieces.lower(digit));
+        let is_z = size == Size::Half && self.pieces.is(digit, b"z") && self.pieces.is(one, b"1");
+        (is_lower || is_z) && self.pieces.is_joined(digit)
+    }
+
+    /// Whether a fraction with a hyphen is at an index, as in `W 1-2 of SE 1-4`: with an `of` before or after
+    /// its letters, since `SE 1-4` may be of four sections.
     fn is_hyphenated(&self, index: usize, size: Size) -> bool {
         let next = plus(index, 1);
         let digit = plus(index, 2);
@@ -167,7 +177,8 @@ impl<'a> Draft<'a> {
             && self.is_digit(digit, size)
     }
 
-    /// Whether the piece at an index is the digit that people write for a half or a quarter, joined to what is before it.
+    /// Whether the piece at an index is the digit that people write for a half or a quarter, joined to what
+    /// is before it.
     fn is_digit(&self, index: usize, size: Size) -> bool {
         self.pieces.number(index) == Some(size.digit())
             && self.pieces.has_digits(index, 1)

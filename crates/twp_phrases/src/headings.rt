@@ -1,4 +1,5 @@
-//! Townships and ranges: `T. 2 N., R. 3 W.`, `T2N-R3W`, `2N 3W`, `0020N 0030W`, `Township Two North, Range Three West`.
+//! Townships and ranges: `T. 2 N., R. 3 W.`, `T2N-R3W`, `2N 3W`, `0020N 0030W`,
+//! `Township Two North, Range Three West`.
 
 use crate::draft::{Draft, Names, Numeral, Phrase};
 use std::alloc::AllocError;
@@ -35,6 +36,10 @@ impl<'a> Draft<'a> {
             || self.pieces.is(next, b"twp")
             || self.pieces.is(next, b"tp")
             || self.pieces.is(next, b"twsp");
+        // Without a word for it, its side is beside its number.
+        if !has_word && !self.is_side(plus(next, 1)) {
+            return Ok(None);
+        }
         next = self.heading_word(next, has_word, b"T.", b"T. ")?;
         let Some(after) = self.tier(next, has_word)? else {
             return Ok(None);
@@ -81,8 +86,8 @@ impl<'a> Draft<'a> {
         Ok(Some(self.phrase(Names::Heading, index, end, from)))
     }
 
-    /// The index after the township or the range that is repeated in parentheses at an index, as in `Township Two North
-    /// (T2N)`, which are left out.
+    /// The index after the township or the range that is repeated in parentheses at an index, as in
+    /// `Township Two North (T2N)`, which are left out.
     fn after_same_tier(&mut self, index: usize) -> Result<usize, AllocError> {
         if !self.pieces.is(index, b"(") {
             return Ok(index);
@@ -93,14 +98,7 @@ impl<'a> Draft<'a> {
             && self.pieces.is(close, b")");
         let value = self.numbers.last().map(|last| last.value);
         let side = plus(index, 3);
-        let before = index.saturating_sub(1);
-        let is_north = self.pieces.is(before, b"n") || self.pieces.is(before, b"north");
-        let is_west = self.pieces.is(before, b"w") || self.pieces.is(before, b"west");
-        let is_side = if self.pieces.is_east_west(before) {
-            self.pieces.is_east_west(side) && self.pieces.is(side, b"w") == is_west
-        } else {
-            self.pieces.is_north_south(side) && self.pieces.is(side, b"n") == is_north
-        };
+        let is_side = self.is_same_side(index.saturating_sub(1), side);
         let is_letter = self.pieces.is(plus(index, 1), b"t") == self.pieces.is_north_south(side);
         let is_same = self.pieces.number(number) == value
             && value.is_some()
@@ -111,6 +109,16 @@ impl<'a> Draft<'a> {
         }
         self.leave_out(index, plus(close, 1), Rule::Repeated)?;
         Ok(plus(close, 1))
+    }
+
+    /// Whether the word for a side at one index, and the letter at another, are of the same side.
+    fn is_same_side(&self, word: usize, letter: usize) -> bool {
+        if self.pieces.is_east_west(word) {
+            let is_west = self.pieces.is(word, b"w") || self.pieces.is(word, b"west");
+            return self.pieces.is_east_west(letter) && self.pieces.is(letter, b"w") == is_west;
+        }
+        let is_north = self.pieces.is(word, b"n") || self.pieces.is(word, b"north");
+        self.pieces.is_north_south(letter) && self.pieces.is(letter, b"n") == is_north
     }
 
     /// Writes the letter of a township or a range for the word at an index, or where it is missing.
@@ -156,6 +164,11 @@ impl<'a> Draft<'a> {
         self.heading_word(index, has_word, b"R.", inserted)
     }
 
+    /// Whether the side of a township or a range is at an index.
+    fn is_side(&self, index: usize) -> bool {
+        self.pieces.is_north_south(index) || self.pieces.is_east_west(index)
+    }
+
     /// The number of a township or a range at an index, before its side: the index after it.
     fn tier(&mut self, index: usize, has_word: bool) -> Result<Option<usize>, AllocError> {
         let next = plus(index, 1);
@@ -171,8 +184,7 @@ impl<'a> Draft<'a> {
         } else {
             number.end
         };
-        let is_side = self.pieces.is_north_south(side)
-            || self.pieces.is_east_west(side)
+        let is_side = self.is_side(side)
             || (has_word && (self.pieces.is(side, b"nr") || self.pieces.is(side, b"sr")));
         // A cell may have the number and the side apart, and nothing else.
         let is_joined = side == next
@@ -191,12 +203,12 @@ impl<'a> Draft<'a> {
         Ok(Some(side))
     }
 
-    /// The number of four digits of a township or a range at an index. A register's last digit is of a fraction.
+    /// The number of four digits of a township or a range at an index. A register's last digit is of a
+    /// fraction.
     fn register_tier(&mut self, index: usize) -> Result<Option<usize>, AllocError> {
         let next = plus(index, 1);
         let digits = self.pieces.bytes(index);
-        let is_side = self.pieces.is_north_south(next) || self.pieces.is_east_west(next);
-        if !is_side || !self.pieces.is_joined(next) {
+        if !self.is_side(next) || !self.pieces.is_joined(next) {
             return Ok(None);
         }
         let Some(value) = self.pieces.number(index) else {

@@ -1,5 +1,5 @@
-//! The phrases of a text that people write as a description of land: what each names, and the changes in it. None of
-//! this is trusted: each change is checked against its rule, and the text that they make is read.
+//! The phrases of a text that people write as a description of land: what each names, and the changes in it.
+//! None of this is trusted: each change is checked against its rule, and the text that they make is read.
 #![tactic(auto)]
 
 mod asides;

@@ -6,9 +6,33 @@ use std::alloc::AllocError;
 use twp_grammar::Kind;
 use twp_pieces::plus;
 use twp_rules::Rule;
+use twp_words::is_in;
 
 /// So many acres, and less than one more, may be those of a part of a lot.
 const LEAST: u16 = 2;
+
+/// Words for lots that no description has, in lowercase, and what is written for them.
+static LOT_WORDS: [(&[u8], &[u8]); 6] = [
+    (b"l", b"lot "),
+    (b"lt", b"lot "),
+    (b"gl", b"lot "),
+    (b"lts", b"lots "),
+    (b"iots", b"lots"),
+    (b"iot", b"lot"),
+];
+
+/// What may be between the word for lots and their numbers.
+static BEFORE_NUMBERS: [&[u8]; 6] = [b"numbered", b".", b"no", b"nos", b":", b"#"];
+
+/// What is written for a word for lots that no description has.
+fn written_lot(word: &[u8]) -> Option<&'static [u8]> {
+    for (name, written) in &LOT_WORDS {
+        if *name == word {
+            return Some(*written);
+        }
+    }
+    None
+}
 
 impl<'a> Draft<'a> {
     /// The lots at an index.
@@ -41,39 +65,17 @@ impl<'a> Draft<'a> {
             word = plus(word, 1);
         }
         word = self.after_government(word);
-        if !matches!(self.pieces.kind(word), Kind::Lot)
-            && !(self.pieces.is(word, b"l")
-                || self.pieces.is(word, b"lt")
-                || self.pieces.is(word, b"gl")
-                || self.pieces.is(word, b"lts")
-                || self.pieces.is(word, b"iots")
-                || self.pieces.is(word, b"iot"))
-        {
+        let written = written_lot(self.pieces.lower(word));
+        if !matches!(self.pieces.kind(word), Kind::Lot) && written.is_none() {
             return Ok(None);
         }
         self.leave_out_each(index, word, Rule::LotWord)?;
-        let mut next = plus(word, 1);
-        if self.pieces.is(word, b"l")
-            || self.pieces.is(word, b"lt")
-            || self.pieces.is(word, b"gl")
-        {
-            self.replace(word, b"lot ", Rule::LotWord)?;
-        } else if self.pieces.is(word, b"lts") {
-            self.replace(word, b"lots ", Rule::LotWord)?;
-        } else if self.pieces.is(word, b"iots") {
-            self.replace(word, b"lots", Rule::LotWord)?;
-        } else if self.pieces.is(word, b"iot") {
-            self.replace(word, b"lot", Rule::LotWord)?;
+        if let Some(written) = written {
+            self.replace(word, written, Rule::LotWord)?;
         }
+        let mut next = plus(word, 1);
         for place in next..plus(next, 3) {
-            if place == next
-                && (self.pieces.is(place, b"numbered")
-                    || self.pieces.is(place, b".")
-                    || self.pieces.is(place, b"no")
-                    || self.pieces.is(place, b"nos")
-                    || self.pieces.is(place, b":")
-                    || self.pieces.is(place, b"#"))
-            {
+            if place == next && is_in(self.pieces.lower(place), &BEFORE_NUMBERS) {
                 self.replace(place, b"", Rule::LotWord)?;
                 next = plus(place, 1);
             }
@@ -145,8 +147,8 @@ impl<'a> Draft<'a> {
         Ok(plus(close, 1))
     }
 
-    /// White space between the number of a lot and that of the next one, after a word in the plural, as in `LTS 2 3`. Other
-    /// lots may be the first and the last of several.
+    /// White space between the number of a lot and that of the next one, after a word in the plural, as in
+    /// `LTS 2 3`. Other lots may be the first and the last of several.
     pub(crate) fn join_of_lots(&self, index: usize, last: Numeral) -> Option<Joined> {
         let is_list = self.pieces.has_digits(index.saturating_sub(1), 1)
             && self.pieces.has_digits(index, 1)

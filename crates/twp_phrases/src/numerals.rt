@@ -196,7 +196,8 @@ impl<'a> Draft<'a> {
         Ok(())
     }
 
-    /// Writes the digits of a number at a place where they aren't, from one index up to another, some of which are letters.
+    /// Writes the digits of a number at a place where they aren't, from one index up to another, some of
+    /// which are letters.
     fn copy_damaged(&mut self, place: usize, first: usize, end: usize) -> Result<(), AllocError> {
         for index in first..end {
             let (from, to) = (self.pieces.start(index), self.pieces.end(index));

@@ -33,6 +33,10 @@ impl<'a> Draft<'a> {
                 end = after;
                 continue;
             }
+            // Only `of` goes on, or the step before it again.
+            if !self.pieces.is(end, b"of") && !self.pieces.is(end, b"(") {
+                break;
+            }
             let extent = self.extent();
             let same = self.after_same_step(end)?;
             let steps = self.steps.len();
@@ -50,8 +54,8 @@ impl<'a> Draft<'a> {
         Ok(Some(Phrase { form, ..phrase }))
     }
 
-    /// The index after the step before an index in parentheses, if `of` follows them, as in `the West half (W½) of`. They
-    /// are left out.
+    /// The index after the step before an index in parentheses, if `of` follows them, as in
+    /// `the West half (W½) of`. They are left out.
     fn after_same_step(&mut self, index: usize) -> Result<usize, AllocError> {
         if !self.pieces.is(index, b"(") {
             return Ok(index);
@@ -77,7 +81,8 @@ impl<'a> Draft<'a> {
         Ok(end)
     }
 
-    /// The step at an index that is joined to the one before it, also by a backslash, or a slash between bare corners.
+    /// The step at an index that is joined to the one before it, also by a backslash, or a slash between bare
+    /// corners.
     fn step_joined(&mut self, index: usize) -> Result<Option<usize>, AllocError> {
         if !self.pieces.is_joined(index) {
             return Ok(None);
@@ -128,7 +133,8 @@ impl<'a> Draft<'a> {
         self.step(next)
     }
 
-    /// The step at an index, or the run of corners: the index after it. None, and nothing is written, if there is none.
+    /// The step at an index, or the run of corners: the index after it. None, and nothing is written, if
+    /// there is none.
     fn step(&mut self, index: usize) -> Result<Option<usize>, AllocError> {
         match self.pieces.kind(index) {
             Kind::NorthSouth(_) | Kind::EastWest(_) => self.half(index),

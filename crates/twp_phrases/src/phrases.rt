@@ -9,8 +9,8 @@ use twp_pieces::plus;
 const JOINING_MOST: usize = 16;
 
 impl<'a> Draft<'a> {
-    /// Finds the phrases. Where a piece is in none, and doesn't join them, the text isn't sure, nor where many pieces join
-    /// two of them.
+    /// Finds the phrases. Where a piece is in none, and doesn't join them, the text isn't sure, nor where
+    /// many pieces join two of them.
     pub fn find_phrases(&mut self) -> Result<(), AllocError> {
         let mut index: usize = 0;
         for here in 0..self.pieces.len() {
@@ -83,8 +83,8 @@ impl<'a> Draft<'a> {
             || (self.pieces.is(index, b")") && self.has_open)
     }
 
-    /// Whether parentheses around land are opened at an index: after its section, before its section, or around an
-    /// exception.
+    /// Whether parentheses around land are opened at an index: after its section, before its section, or
+    /// around an exception.
     fn opens_land(&self, index: usize) -> bool {
         let next = plus(index, 1);
         if !self.pieces.is(index, b"(") || self.has_open {
@@ -103,41 +103,72 @@ impl<'a> Draft<'a> {
         }
     }
 
-    /// The phrase at an index: of a piece that begins only one kind of phrase, that one, before the others are looked for.
+    /// The phrase at an index.
     fn phrase_at(&mut self, index: usize) -> Result<Option<Phrase>, AllocError> {
+        match self.pieces.kind(index) {
+            Kind::Number(_) => self.phrase_of_number(index),
+            _ if self.begins_none(index) => Ok(None),
+            _ => self.phrase_of_mark_or_word(index),
+        }
+    }
+
+    /// Whether the piece at an index begins no phrase: most marks, and words that only join two of them.
+    fn begins_none(&self, index: usize) -> bool {
+        match self.pieces.kind(index) {
+            Kind::Comma | Kind::Semicolon | Kind::Stop | Kind::Colon => true,
+            Kind::And => !self.pieces.is(plus(index, 1), b"containing"),
+            Kind::Half | Kind::Quarter => index > 0,
+            Kind::Of => self.is_before_land(index),
+            Kind::Other => self.pieces.is(index, b"in") && self.is_before_land(index),
+            Kind::BadByte => !self.pieces.may_begin_phrase(index),
+            _ => false,
+        }
+    }
+
+    /// The phrase at an index that a word or a mark begins: the kind of phrase that most such pieces begin,
+    /// before the others are looked for.
+    fn phrase_of_mark_or_word(&mut self, index: usize) -> Result<Option<Phrase>, AllocError> {
         let from = self.extent();
-        let found = match self.pieces.kind(index) {
-            Kind::Comma | Kind::Semicolon | Kind::Stop | Kind::Colon => return Ok(None),
-            Kind::And if !self.pieces.is(plus(index, 1), b"containing") => return Ok(None),
-            Kind::Half | Kind::Quarter if index > 0 => return Ok(None),
-            Kind::Of if self.is_before_land(index) => return Ok(None),
-            Kind::Other if self.pieces.is(index, b"in") && self.is_before_land(index) => {
-                return Ok(None);
-            }
-            Kind::BadByte if !self.pieces.may_begin_phrase(index) => return Ok(None),
-            Kind::Number(_) => return self.phrase_of_number(index),
-            Kind::Sec => self.sections(index)?,
-            Kind::Lot => self.lots(index)?,
-            Kind::All if self.is_after_all(plus(index, 1)) => self.all(index)?,
-            Kind::T => self.heading(index)?,
-            Kind::Corner(_) => self.sure_part(index)?,
-            Kind::NorthSouth(_) | Kind::EastWest(_) if !self.pieces.is(plus(index, 1), b".") => {
-                self.half_or_section(index)?
-            }
-            Kind::Other if self.pieces.begins_step(index) => self.sure_part(index)?,
-            Kind::Other if self.pieces.is_township_word(index) => self.heading(index)?,
-            Kind::Other if self.may_be_lots(index) => self.lots(index)?,
-            Kind::Other if self.pieces.is(index, b"less") || self.pieces.is(index, b"except") => {
-                self.except(index)?
-            }
-            Kind::The if self.pieces.begins_land(plus(index, 1)) => self.sure_part(index)?,
-            _ => None,
-        };
-        if found.is_some() {
-            return Ok(found);
+        if let Some(phrase) = self.likely_phrase(index)? {
+            return Ok(Some(phrase));
         }
         self.shrink(from);
         self.phrase_of_word(index)
+    }
+
+    /// The phrase at an index of the kind that most such pieces begin. The results are handed on as they are,
+    /// since a place for each of them would be cleared at each piece.
+    fn likely_phrase(&mut self, index: usize) -> Result<Option<Phrase>, AllocError> {
+        match self.pieces.kind(index) {
+            Kind::Sec => self.sections(index),
+            Kind::Lot => self.lots(index),
+            Kind::All if self.is_after_all(plus(index, 1)) => self.all(index),
+            Kind::T => self.heading(index),
+            Kind::Corner(_) => self.sure_part(index),
+            Kind::NorthSouth(_) | Kind::EastWest(_) if !self.pieces.is(plus(index, 1), b".") => {
+                self.half_or_section(index)
+            }
+            Kind::Other => self.likely_phrase_of_word(index),
+            Kind::The if self.pieces.begins_land(plus(index, 1)) => self.sure_part(index),
+            _ => Ok(None),
+        }
+    }
+
+    /// The same, of a word that no description has.
+    fn likely_phrase_of_word(&mut self, index: usize) -> Result<Option<Phrase>, AllocError> {
+        if self.pieces.begins_step(index) {
+            return self.sure_part(index);
+        }
+        if self.pieces.is_township_word(index) {
+            return self.heading(index);
+        }
+        if self.may_be_lots(index) {
+            return self.lots(index);
+        }
+        if self.pieces.is(index, b"less") || self.pieces.is(index, b"except") {
+            return self.except(index);
+        }
+        Ok(None)
     }
 
     /// Whether a section or an aliquot part follows the word at an index, which only joins them then.
@@ -146,8 +177,8 @@ impl<'a> Draft<'a> {
         matches!(self.pieces.kind(next), Kind::Sec) || self.pieces.begins_part(next)
     }
 
-    /// Whether `all` before an index is of a section: what ends an item, or a section or a part, with or without `of`, is
-    /// there.
+    /// Whether `all` before an index is of a section: what ends an item, or a section or a part, with or
+    /// without `of`, is there.
     fn is_after_all(&self, index: usize) -> bool {
         index >= self.pieces.len()
             || matches!(
@@ -166,8 +197,8 @@ impl<'a> Draft<'a> {
             || self.after_government(index) > index
     }
 
-    /// The phrase at an index that a number begins: a township and range, if a side is joined to the number, or what else
-    /// it may begin.
+    /// The phrase at an index that a number begins: a township and range, if a side is joined to the number,
+    /// or what else it may begin.
     fn phrase_of_number(&mut self, index: usize) -> Result<Option<Phrase>, AllocError> {
         let from = self.extent();
         let next = plus(index, 1);

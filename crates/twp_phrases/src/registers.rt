@@ -7,7 +7,8 @@ use twp_pieces::plus;
 use twp_rules::Rule;
 
 impl<'a> Draft<'a> {
-    /// What only a register has, at an index: the code of the meridian, a section after SN, the A of aliquot parts.
+    /// What only a register has, at an index: the code of the meridian, a section after SN, the A of aliquot
+    /// parts.
     pub fn of_register(&mut self, index: usize) -> Result<Option<Phrase>, AllocError> {
         if let Some(phrase) = self.meridian_of_register(index)? {
             return Ok(Some(phrase));

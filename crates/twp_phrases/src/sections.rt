@@ -111,8 +111,8 @@ impl<'a> Draft<'a> {
         Ok(Some(self.phrase(Names::Sections, index, number.end, from)))
     }
 
-    /// The index after what follows the word for sections at an index: `numbered`, a period, a second one, or a comma in its
-    /// place.
+    /// The index after what follows the word for sections at an index: `numbered`, a period, a second one, or
+    /// a comma in its place.
     fn after_section_word(&mut self, word: usize) -> Result<usize, AllocError> {
         let next = plus(word, 1);
         if self.pieces.is(next, b"numbered") {

@@ -7,8 +7,8 @@ use twp_remarks::{Position, begins_depths, end_of_remark};
 use twp_rules::Rule;
 
 impl<'a> Draft<'a> {
-    /// Whether a comma or a semicolon at an index has nothing before it, so that something may be missing there. A cell
-    /// after that of the section may be empty.
+    /// Whether a comma or a semicolon at an index has nothing before it, so that something may be missing
+    /// there. A cell after that of the section may be empty.
     pub(crate) fn is_empty_slot(&self, index: usize) -> bool {
         if !matches!(self.pieces.kind(index), Kind::Comma | Kind::Semicolon) {
             return false;
@@ -22,7 +22,10 @@ impl<'a> Draft<'a> {
             }
             Kind::Comma | Kind::Semicolon | Kind::Colon | Kind::And | Kind::The => true,
             Kind::BadByte => self.pieces.is(before, b"&") || self.pieces.is_dash(before),
-            _ => self.pieces.begins_column(index) || self.is_after_label(index),
+            _ => {
+                (!self.pieces.is_joined(index) && self.pieces.begins_column(index))
+                    || self.is_after_label(index)
+            }
         }
     }
 
@@ -30,7 +33,9 @@ impl<'a> Draft<'a> {
     pub(crate) fn is_after_label(&self, index: usize) -> bool {
         match self.phrases.last() {
             Some(phrase) => {
-                phrase.end == index && self.pieces.end_of_column_label(phrase.first) == Some(index)
+                matches!(phrase.names, Names::Nothing(Rule::Heading | Rule::Label))
+                    && phrase.end == index
+                    && self.pieces.end_of_column_label(phrase.first) == Some(index)
             }
             None => false,
         }
@@ -58,7 +63,8 @@ impl<'a> Draft<'a> {
         Some(self.phrase(Names::Nothing(Rule::Label), index, end, self.extent()))
     }
 
-    /// Whether a label before lots may be the name of a town's plat: it has no number, and no word for a lease or the like.
+    /// Whether a label before lots may be the name of a town's plat: it has no number, and no word for a
+    /// lease or the like.
     pub(crate) fn may_be_plat(&self, first: usize, end: usize) -> bool {
         let next = plus(
             end,
@@ -72,18 +78,13 @@ impl<'a> Draft<'a> {
             && !self.pieces.has_long_number(first, end)
     }
 
-    /// Doubts a part that may be something else: `S2` before any other land, a half after lots, a corner, a part with a
-    /// slash.
+    /// Doubts a part that may be something else: `S2` before any other land, a half after lots, a corner, a
+    /// part with a slash.
     pub(crate) fn doubt_part(&mut self, part: Phrase) {
         let digit = plus(part.first, 1);
         let is_digit = part.end == plus(part.first, 2) && self.pieces.has_digits(digit, 1);
         let is_south = is_digit && !self.names_land && self.pieces.is(part.first, b"s");
-        let is_location = self.pieces.number(part.end).is_some()
-            && self.pieces.is_dash(plus(part.end, 1));
-        let is_sure = is_location
-            || self.pieces.is(part.end, b"of")
-            || self.pieces.leads_to_section(part.end);
-        if is_south && !is_sure {
+        if is_south && !self.is_before_section(part.end) {
             self.doubt();
         }
         // After `S3:`, it may be a section.
@@ -112,7 +113,15 @@ impl<'a> Draft<'a> {
         }
     }
 
-    /// Whether the last part of a text may be the beginning of a word for a section: `Se`, or `se` after a part in capitals.
+    /// Whether what is after a part at an index says that it is one: an `of`, or the section of a location.
+    fn is_before_section(&self, index: usize) -> bool {
+        let is_location = self.pieces.number(index).is_some()
+            && self.pieces.is_dash(plus(index, 1));
+        is_location || self.pieces.is(index, b"of") || self.pieces.leads_to_section(index)
+    }
+
+    /// Whether the last part of a text may be the beginning of a word for a section: `Se`, or `se` after a
+    /// part in capitals.
     pub(crate) fn may_be_cut_section(&self, part: Phrase) -> bool {
         let letters = self.pieces.bytes(part.first);
         let is_after_capital = match self.phrases.last() {

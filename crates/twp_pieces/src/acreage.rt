@@ -195,8 +195,8 @@ impl<'a> Pieces<'a> {
         }
     }
 
-    /// Where the acreage at an index ends that stands alone at the end of a text or of a row, or before a comma after a
-    /// part: with decimals, or after a tab.
+    /// Where the acreage at an index ends that stands alone at the end of a text or of a row, or before a
+    /// comma after a part: with decimals, or after a tab.
     pub fn end_of_last_figure(&self, index: usize) -> Option<usize> {
         let end = self.end_of_decimal(index)?;
         let has_decimals = end > plus(index, 2) && self.is(end.saturating_sub(2), b".");

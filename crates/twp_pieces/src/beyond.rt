@@ -5,8 +5,8 @@ use std::alloc::{AllocError, Global};
 use twp_grammar::Kind;
 use twp_words::is_one_of;
 
-/// A phrase that says that lots and aliquot parts can't describe the land: from one place of the text up to another, and
-/// the reason, as in `a portion needs a survey`.
+/// A phrase that says that lots and aliquot parts can't describe the land: from one place of the text up to
+/// another, and the reason, as in `a portion needs a survey`.
 #[derive(Clone, Copy)]
 pub struct Beyond {
     pub start: usize,
@@ -14,8 +14,9 @@ pub struct Beyond {
     pub reason: &'static str,
 }
 
-/// The phrases: a word, the pieces before it and after it that it needs, and the reason. `<n>` is a number, and `<t>`
-/// one above 36, since the numbers up to 36 are those of sections; `<c>` is a capital corner or side.
+/// The phrases: a word, the pieces before it and after it that it needs, and the reason. `<n>` is a number,
+/// and `<t>` one above 36, since the numbers up to 36 are those of sections; `<c>` is a capital corner or
+/// side.
 const PHRASES: &str = "
 thence|||it is described by metes and bounds
 beginning commencing||at|it is described by metes and bounds
@@ -54,8 +55,8 @@ out||of|it is described by acreage
 /// What is said of a part of a lot.
 const PART_OF_LOT: &str = "part of a lot needs a survey";
 
-/// The first phrase of a text that says that lots and aliquot parts can't describe its land. It is for texts without
-/// readings.
+/// The first phrase of a text that says that lots and aliquot parts can't describe its land. It is for texts
+/// without readings.
 pub fn beyond_of(alloc: Global, text: &[u8]) -> Result<Option<Beyond>, AllocError> {
     let pieces = Pieces::of(alloc, text)?;
     for index in 0..pieces.len() {
@@ -132,7 +133,8 @@ impl<'a> Pieces<'a> {
         true
     }
 
-    /// Whether the piece at an index is one of these, which are separated by spaces, in letters of either case.
+    /// Whether the piece at an index is one of these, which are separated by spaces, in letters of either
+    /// case.
     fn is_one_of(&self, index: usize, texts: &str) -> bool {
         is_one_of(self.bytes(index), texts)
     }

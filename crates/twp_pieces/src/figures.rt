@@ -1,4 +1,5 @@
-//! Numbers that aren't of land: dates, percentages, shares, codes; and those that may be of a section or a tract.
+//! Numbers that aren't of land: dates, percentages, shares, codes; and those that may be of a section or a
+//! tract.
 
 use crate::pieces::{Pieces, plus};
 use twp_grammar::Kind;
@@ -27,7 +28,8 @@ impl<'a> Pieces<'a> {
         self.end_of_tract(index).is_some()
     }
 
-    /// Where the label of a tract at an index ends: first on its line, or after a sentence, as `Tract 2:` or `Tr. 2:`.
+    /// Where the label of a tract at an index ends: first on its line, or after a sentence, as `Tract 2:` or
+    /// `Tr. 2:`.
     pub fn end_of_tract(&self, index: usize) -> Option<usize> {
         if !is_of_tract(self.lower(index)) {
             return None;
@@ -46,7 +48,8 @@ impl<'a> Pieces<'a> {
         }
     }
 
-    /// Whether a date is at an index, or the volume and the page of a record, as `3/14/1919`, `06-02-1948`, or `61/204`.
+    /// Whether a date is at an index, or the volume and the page of a record, as `3/14/1919`, `06-02-1948`,
+    /// or `61/204`.
     pub fn is_date(&self, index: usize) -> bool {
         let mark = plus(index, 1);
         let second = plus(index, 2);
@@ -58,28 +61,33 @@ impl<'a> Pieces<'a> {
                 || (self.number(last).is_some() && self.is_joined(last)))
     }
 
-    /// Whether a day and a month are at an index without a year, as `4-Jan`, or `Jan-4`: spreadsheets write so what was
-    /// `1-4`.
+    /// Whether a day and a month are at an index without a year, as `4-Jan`, or `Jan-4`: spreadsheets write
+    /// so what was `1-4`.
     pub fn is_day_of_month(&self, index: usize) -> bool {
         let dash = plus(index, 1);
         let last = plus(index, 2);
         let year = plus(index, 3);
-        let is_joined = self.is_dash(dash) && self.is_joined(dash) && self.is_joined(last);
+        if !self.is_dash(dash) || !self.is_joined(dash) || !self.is_joined(last) {
+            return false;
+        }
         let is_day = |place: usize| {
             self.number(place).is_some() && self.bytes(place).len() <= 2
         };
         let has_month = (is_day(index) && is_month(self.lower(last)))
             || (is_day(last) && is_month(self.lower(index)));
-        is_joined
-            && has_month
-            && !(self.is_joined(year) && (self.is_dash(year) || self.is(year, b",")))
+        has_month && !(self.is_joined(year) && (self.is_dash(year) || self.is(year, b",")))
     }
 
-    /// Where letters and digits without white space end that have a number of four digits or more, as `G700284`, `M-50391`,
-    /// or `RP02N03W092400`: no land is written so, but for a township of a register, which begins with its four digits.
+    /// Where letters and digits without white space end that have a number of four digits or more, as
+    /// `G700284`, `M-50391`, or `RP02N03W092400`: no land is written so, but for a township of a register,
+    /// which begins with its four digits.
     pub fn end_of_code(&self, index: usize) -> Option<usize> {
         let mut has_long = false;
         let mut end = index;
+        // Most words and numbers have white space after them.
+        if !matches!(self.kind(index), Kind::BadNumber) && !self.is_joined(plus(index, 1)) {
+            return None;
+        }
         for place in index..plus(index, CODE_MOST) {
             let is_number = matches!(self.kind(place), Kind::Number(_) | Kind::BadNumber);
             let is_part = is_number
@@ -103,7 +111,8 @@ impl<'a> Pieces<'a> {
         }
     }
 
-    /// Whether letters at an index are before the number of other land, or of lots, as in `TL1200` or `L34567`.
+    /// Whether letters at an index are before the number of other land, or of lots, as in `TL1200` or
+    /// `L34567`.
     pub(crate) fn begins_other_code(&self, index: usize) -> bool {
         let next = plus(index, 1);
         let is_number = matches!(self.kind(next), Kind::Number(_) | Kind::BadNumber);
@@ -118,11 +127,13 @@ impl<'a> Pieces<'a> {
     pub fn is_like_section(&self, index: usize) -> bool {
         let point = plus(index, 1);
         let number = plus(index, 2);
+        if !matches!(self.lower(index), [b's', _, _]) {
+            return false;
+        }
         let value = self.number(number).unwrap_or(0);
         let is_worn = matches!(self.lower(number), [b'i' | b'l' | b'o', ..])
             && self.bytes(number).len() <= 2;
-        matches!(self.lower(index), [b's', _, _])
-            && self.is(point, b".")
+        self.is(point, b".")
             && self.is_joined(point)
             && ((value >= 1 && value <= SECTIONS) || is_worn)
     }
@@ -136,19 +147,23 @@ impl<'a> Pieces<'a> {
             let is_mark = matches!(self.kind(place), Kind::Half | Kind::Quarter)
                 || self.is(place, b"%")
                 || (place > index && (self.is(place, b"/") || self.is(place, b".")));
-            if place == after && (is_number || is_mark) {
-                has_mark = has_mark || is_mark;
-                after = plus(place, 1);
+            if !is_number && !is_mark {
+                break;
             }
+            has_mark = has_mark || is_mark;
+            after = plus(place, 1);
         }
         has_mark && is_of_share(self.lower(after))
     }
 
-    /// Whether the number at an index may be that of a section, or of a lot: not in a date, after the word for a record or
-    /// a tract, in a code, or in a share.
+    /// Whether the number at an index may be that of a section, or of a lot: not in a date, after the word
+    /// for a record or a tract, in a code, or in a share.
     pub fn may_be_section(&self, index: usize) -> bool {
         let before = index.saturating_sub(1);
         let next = plus(index, 1);
+        if !self.is_number_of_section(index) {
+            return false;
+        }
         let word = self.lower(before);
         let is_numbered = self.is(before, b".") && self.is(before.saturating_sub(1), b"no");
         let is_record = is_numbered
@@ -160,15 +175,9 @@ impl<'a> Pieces<'a> {
                 || self.is(before, b".")
                 || self.is(before, b",")
                 || self.is_dash(before));
-        let number = self.number(index).unwrap_or(0);
-        let is_in_digits = number >= 1 && number <= SECTIONS;
-        let is_followed = matches!(self.lower(next), [b'a'..=b'z', ..]) || self.is_dash(next);
-        let is_last_word = self.begins_column(next) || !is_followed;
-        let is_in_words = is_numeral(self.lower(index)) && is_last_word;
         let is_first = self.is_joined(next)
             && matches!(self.kind(next), Kind::Number(_) | Kind::BadNumber);
-        (is_in_digits || is_in_words)
-            && !is_first
+        !is_first
             && !(is_record || is_end || self.is_date(index) || self.is_share(index))
             && !is_of_time(self.lower(next))
             && !self.is(before, b"$")
@@ -176,12 +185,28 @@ impl<'a> Pieces<'a> {
             && !(self.is(next, b",") && self.has_digits(plus(index, 2), 3))
     }
 
-    /// Whether the piece at an index is the first on its line, in its cell, or after a bar or wide white space.
-    pub fn begins_column(&self, index: usize) -> bool {
-        self.begins_cell(index) || self.start(index) > plus(self.end_before(index), 1)
+    /// Whether the number of a section is at an index, in digits, or in words without more of them.
+    fn is_number_of_section(&self, index: usize) -> bool {
+        let next = plus(index, 1);
+        match self.kind(index) {
+            Kind::Number(number) => number >= 1 && number <= SECTIONS,
+            Kind::Other if is_numeral(self.lower(index)) => {
+                let is_followed = matches!(self.lower(next), [b'a'..=b'z', ..])
+                    || self.is_dash(next);
+                !is_followed || self.begins_column(next)
+            }
+            _ => false,
+        }
     }
 
-    /// Whether some pieces begin with a number, and have no letters, and no number that is too large for a lot or a section.
+    /// Whether the piece at an index is the first on its line, in its cell, or after a bar or wide white
+    /// space.
+    pub fn begins_column(&self, index: usize) -> bool {
+        self.start(index) > plus(self.end_before(index), 1) || self.begins_cell(index)
+    }
+
+    /// Whether some pieces begin with a number, and have no letters, and no number that is too large for a
+    /// lot or a section.
     pub fn are_small_numbers(&self, first: usize, end: usize) -> bool {
         for index in first..end {
             let is_other = match self.kind(index) {

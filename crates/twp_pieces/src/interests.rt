@@ -1,5 +1,5 @@
-//! Interests in land, and words for a property, before land: `An undivided one-half interest in`, `that certain real
-//! property in Canyon County, Idaho, to wit:`.
+//! Interests in land, and words for a property, before land: `An undivided one-half interest in`,
+//! `that certain real property in Canyon County, Idaho, to wit:`.
 
 use crate::pieces::{Pieces, plus};
 use twp_grammar::Kind;

@@ -1,5 +1,5 @@
-//! What begins at a piece, and what joins two of them: land, words for a township that was named before, a hyphen at the
-//! end of a line.
+//! What begins at a piece, and what joins two of them: land, words for a township that was named before, a
+//! hyphen at the end of a line.
 
 use crate::pieces::{Pieces, plus};
 use twp_grammar::Kind;
@@ -45,8 +45,8 @@ impl<'a> Pieces<'a> {
             && (self.begins_land(plus(first, 2)) || self.begins_land(plus(first, 3)))
     }
 
-    /// Whether a mark at an index may begin a phrase: parentheses, brackets, a section sign, the number of a file, a dash
-    /// before acreage or a long number, or a question mark after a request.
+    /// Whether a mark at an index may begin a phrase: parentheses, brackets, a section sign, the number of a
+    /// file, a dash before acreage or a long number, or a question mark after a request.
     pub fn may_begin_phrase(&self, index: usize) -> bool {
         let next = plus(index, 1);
         let is_number = matches!(self.kind(next), Kind::Number(_) | Kind::BadNumber)

@@ -107,7 +107,8 @@ impl<'a> Pieces<'a> {
         is_section && self.number(number).is_some() && self.begins_part(plus(index, 1))
     }
 
-    /// Whether land follows the name of its column at an index. After lots, `Subdivision` may be that of a town.
+    /// Whether land follows the name of its column at an index. After lots, `Subdivision` may be that of a
+    /// town.
     fn is_before_column(&self, index: usize) -> bool {
         let next = plus(index, usize::from(self.is(index, b":")));
         self.begins_part(next)
@@ -129,7 +130,8 @@ impl<'a> Pieces<'a> {
                 && self.is_joined(plus(index, 1)))
     }
 
-    /// Whether the township of a register begins at an index, as `0020N 0030W`, or `08 0020N 0030W` with its meridian.
+    /// Whether the township of a register begins at an index, as `0020N 0030W`, or `08 0020N 0030W` with its
+    /// meridian.
     pub fn begins_register(&self, index: usize) -> bool {
         let is_code = self.has_digits(index, 1) || self.has_digits(index, 2);
         let tier = plus(index, usize::from(is_code));
@@ -137,7 +139,8 @@ impl<'a> Pieces<'a> {
         self.has_digits(tier, 4) && self.is_north_south(plus(tier, 1)) && self.has_digits(range, 4)
     }
 
-    /// Where a request ends that a text begins with, as `can you run`: its words say nothing of land, which follows them.
+    /// Where a request ends that a text begins with, as `can you run`: its words say nothing of land, which
+    /// follows them.
     fn end_of_request(&self, index: usize) -> Option<usize> {
         if index > 0 || !begins_request(self.lower(index)) {
             return None;
@@ -158,7 +161,8 @@ impl<'a> Pieces<'a> {
         self.is(index, b"?") && plus(index, 1) == self.len() && self.end_of_request(0).is_some()
     }
 
-    /// Where the number of a row ends, which is alone in the first cell: the row names a section with a word for it.
+    /// Where the number of a row ends, which is alone in the first cell: the row names a section with a word
+    /// for it.
     fn end_of_row_number(&self, index: usize) -> Option<usize> {
         let next = plus(index, 1);
         let is_cell = self.has_before(next, b'\t') || self.is(next, b"|");
@@ -200,8 +204,8 @@ impl<'a> Pieces<'a> {
             || is_same(word, b"rg")
     }
 
-    /// Whether the text begins with the names of columns, of which one is for lots: a date below it may be the numbers of
-    /// lots, as spreadsheets change them.
+    /// Whether the text begins with the names of columns, of which one is for lots: a date below it may be
+    /// the numbers of lots, as spreadsheets change them.
     pub fn has_column_of_lots(&self) -> bool {
         let end = self.end_of_columns(0).unwrap_or(0);
         for place in 0..end {

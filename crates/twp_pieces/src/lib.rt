@@ -1,17 +1,18 @@
-//! The pieces of a text that people write as a description of land, and the phrases among them that aren't land: the
-//! meridian, acreage, labels, and what lots and aliquot parts can't describe.
+//! The pieces of a text that people write as a description of land, and the phrases among them that aren't
+//! land: the meridian, acreage, labels, and what lots and aliquot parts can't describe.
 #![tactic(auto)]
 
 mod acreage;
-mod asides;
 mod beyond;
 mod figures;
 mod interests;
 mod joints;
 mod labels;
 mod lands;
+mod meridians;
 mod pieces;
 mod serials;
+mod states;
 
 pub use beyond::{Beyond, beyond_of};
 pub use pieces::{Pieces, plus};

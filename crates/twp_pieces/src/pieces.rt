@@ -1,10 +1,11 @@
 //! The pieces of a text: its tokens, and the characters that begin none.
 
 use std::alloc::{AllocError, Global};
-use twp_grammar::{Kind, Token, Tokens};
+use twp_grammar::{Kind, Token, Tokens, first_token};
 use twp_words::{is_damaged_corner, is_damaged_half, is_same, size_of_character};
 
-/// The most characters, one after another, that begin no token: a text with more has no reading, and isn't cut further.
+/// The most characters, one after another, that begin no token: a text with more has no reading, and isn't
+/// cut further.
 const UNKNOWN_MOST: usize = 1_000;
 
 /// There is room from the start for this many pieces, and one more for each two bytes.
@@ -23,6 +24,9 @@ pub struct Pieces<'a> {
 #[derive(Clone, Copy)]
 struct Piece {
     kind: Kind,
+    /// How many bytes it has, up to the most that a `u16` can hold: words of another length are ruled out by
+    /// it.
+    size: u16,
     start: usize,
     end: usize,
 }
@@ -32,6 +36,7 @@ impl Piece {
     fn at(start: usize, size: usize, kind: Kind) -> Piece {
         Piece {
             kind,
+            size: u16::try_from(size).unwrap_or(u16::MAX),
             start,
             end: plus(start, size),
         }
@@ -49,9 +54,14 @@ impl<'a> Pieces<'a> {
         let lower = text.to_ascii_lowercase(alloc)?;
         // Most pieces have two bytes or more.
         let mut list = Vec::with_capacity(alloc, plus(text.len() / 2, PIECES_FIRST))?;
+        let mut at: usize = 0;
         let mut end = 0;
         let mut unknown: usize = 0;
-        for token in Tokens::new(text) {
+        for _ in 0..text.len() {
+            let Some(token) = first_token(text, at.min(text.len())) else {
+                break;
+            };
+            at = plus(token.at, token.text.len());
             if token.at < end {
                 continue;
             }
@@ -133,13 +143,13 @@ impl<'a> Pieces<'a> {
         }
     }
 
-    /// Whether the piece at an index is this text, which is in lowercase. Most pieces have another length, which is
-    /// compared first.
+    /// Whether the piece at an index is this text, which is in lowercase. Most pieces have another length,
+    /// which is compared first.
     #[inline(always)]
     pub fn is(&self, index: usize, text: &[u8]) -> bool {
         match self.list.get(index) {
             Some(piece) => {
-                piece.end.saturating_sub(piece.start) == text.len()
+                usize::from(piece.size) == text.len()
                     && self.lower.get(piece.start..piece.end).unwrap_or(b"") == text
             }
             None => text.is_empty(),
@@ -156,14 +166,20 @@ impl<'a> Pieces<'a> {
         index == 0 || self.has_break_before(index)
     }
 
-    /// Whether the piece at an index is the first on its line, or in its cell, also after a bar or a quote, or the text ends there.
+    /// Whether the piece at an index is the first on its line, or in its cell, also after a bar or a quote,
+    /// or the text ends there.
     pub fn begins_cell(&self, index: usize) -> bool {
         self.begins_line(index)
             || index >= self.len()
-            || self.is(index, b"|")
-            || self.is_quote_of_cell(index)
-            || self.is(index.saturating_sub(1), b"|")
-            || (index > 0 && self.is_quote_of_cell(index.saturating_sub(1)))
+            || self.is_edge_of_cell(index)
+            || self.is_edge_of_cell(index.saturating_sub(1))
+    }
+
+    /// Whether a bar, or the quote before a cell or after it, is at an index. Most pieces are of another
+    /// kind.
+    fn is_edge_of_cell(&self, index: usize) -> bool {
+        matches!(self.kind(index), Kind::BadByte)
+            && (self.is(index, b"|") || self.is_quote_of_cell(index))
     }
 
     /// Whether the quote before a cell, or the one after it, is at an index.
@@ -188,8 +204,8 @@ impl<'a> Pieces<'a> {
         false
     }
 
-    /// Whether an empty cell is between the piece at an index and the one before it: a tab, and the end of the line or of
-    /// the text.
+    /// Whether an empty cell is between the piece at an index and the one before it: a tab, and the end of
+    /// the line or of the text.
     pub fn has_empty_cell(&self, index: usize) -> bool {
         let white = self.text.get(self.end_before(index)..self.start(index));
         let mut has_tab = false;
@@ -223,7 +239,12 @@ impl<'a> Pieces<'a> {
 
     /// Whether the piece at an index is a number of so many digits.
     pub fn has_digits(&self, index: usize, count: usize) -> bool {
-        matches!(self.kind(index), Kind::Number(_)) && self.bytes(index).len() == count
+        match self.list.get(index) {
+            Some(piece) => {
+                matches!(piece.kind, Kind::Number(_)) && usize::from(piece.size) == count
+            }
+            None => false,
+        }
     }
 
     /// Whether the piece at an index names north or south.
@@ -239,9 +260,9 @@ impl<'a> Pieces<'a> {
     }
 }
 
-/// How many bytes of a token are its first piece, if there are two: those of the meridian in the six digits that a
-/// register begins with, the A before aliquot parts after a section of a register, and a corner with a damaged `1`
-/// after it.
+/// How many bytes of a token are its first piece, if there are two: those of the meridian in the six digits
+/// that a register begins with, the A before aliquot parts after a section of a register, and a corner with a
+/// damaged `1` after it.
 fn size_of_first(token: &Token<'_>, lower: &[u8], before: &[Piece]) -> Option<usize> {
     let bytes = token.text;
     match token.kind {
@@ -261,7 +282,8 @@ fn is_after_section(lower: &[u8], before: &[Piece]) -> bool {
     }
 }
 
-/// What a part of a token is: the token that it begins with, if that is all of it, and else what the token is.
+/// What a part of a token is: the token that it begins with, if that is all of it, and else what the token
+/// is.
 fn kind_of(bytes: &[u8], kind: Kind) -> Kind {
     match Tokens::new(bytes).next() {
         Some(token) if token.text.len() == bytes.len() => token.kind,

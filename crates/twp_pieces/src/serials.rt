@@ -5,8 +5,8 @@ use twp_grammar::Kind;
 use twp_words::limits_land;
 
 impl<'a> Pieces<'a> {
-    /// Where the serial number first on its line ends, whose letters may be those of a state: after a hyphen, or in a cell
-    /// of its own. No township of a register follows the letters.
+    /// Where the serial number first on its line ends, whose letters may be those of a state: after a hyphen,
+    /// or in a cell of its own. No township of a register follows the letters.
     pub fn end_of_first_serial(&self, index: usize) -> Option<usize> {
         let next = plus(index, 1);
         let is_joined = self.is_joined(next) && !self.begins_register(next);
@@ -21,7 +21,8 @@ impl<'a> Pieces<'a> {
         }
     }
 
-    /// Where the serial number of a case at an index ends, as `IDI-38114`, or `ID-031-2023-0012`, or that of a parcel.
+    /// Where the serial number of a case at an index ends, as `IDI-38114`, or `ID-031-2023-0012`, or that of
+    /// a parcel.
     pub fn end_of_serial(&self, index: usize) -> Option<usize> {
         if let Some(end) = self.end_of_code(index) {
             if self.begins_column(end) || self.begins_place(end) {

@@ -1,10 +1,12 @@
-//! What is looked at in a remark: names of wells, tracts, and persons, words that are known, and titles of other land.
+//! What is looked at in a remark: names of wells, tracts, and persons, words that are known, and titles of
+//! other land.
 
 use twp_grammar::Kind;
 use twp_pieces::{Pieces, plus};
 use twp_words::{is_acres, is_doubtful_title, is_feature, is_known, is_same};
 
-/// Whether the piece at an index is known to say nothing of which land is meant, as a date, a share, or an agency.
+/// Whether the piece at an index is known to say nothing of which land is meant, as a date, a share, or an
+/// agency.
 pub(crate) fn is_known_at(pieces: &Pieces<'_>, index: usize) -> bool {
     is_known(pieces.lower(index))
         || pieces.is(index, b">")
@@ -22,8 +24,8 @@ pub(crate) fn is_title_of_other(pieces: &Pieces<'_>, index: usize) -> bool {
         || (is_same(word, b"sale") && pieces.is(index.saturating_sub(1), b"timber"))
 }
 
-/// Whether the number at an index is of the name of a well, which may have the numbers of two sections, as `Hatch 14-1`,
-/// and another with letters for a horizontal well, as `Kestrel 22-27 2HX`.
+/// Whether the number at an index is of the name of a well, which may have the numbers of two sections, as
+/// `Hatch 14-1`, and another with letters for a horizontal well, as `Kestrel 22-27 2HX`.
 pub(crate) fn is_of_well(pieces: &Pieces<'_>, index: usize) -> bool {
     let before = index.saturating_sub(1);
     let next = plus(index, 1);
@@ -45,13 +47,15 @@ pub(crate) fn begins_tract(pieces: &Pieces<'_>, index: usize) -> bool {
         && next < pieces.len()
 }
 
-/// Whether the initial of a name is at an index, as in `H. J. Stoddard`: a letter that is no side, and a period.
+/// Whether the initial of a name is at an index, as in `H. J. Stoddard`: a letter that is no side, and a
+/// period.
 pub(crate) fn is_initial(pieces: &Pieces<'_>, index: usize) -> bool {
     let next = plus(index, 1);
     matches!(pieces.kind(index), Kind::Other) && pieces.is(next, b".") && pieces.is_joined(next)
 }
 
-/// Whether `homesite` alone is after acreage at the end of its cell, as in `5.00 AC HOMESITE`: the acreage is compared.
+/// Whether `homesite` alone is after acreage at the end of its cell, as in `5.00 AC HOMESITE`: the acreage is
+/// compared.
 pub(crate) fn is_homesite_of_acreage(pieces: &Pieces<'_>, index: usize) -> bool {
     pieces.is(index, b"homesite")
         && is_acres(pieces.lower(index.saturating_sub(1)))

@@ -32,7 +32,8 @@ pub enum Position {
     AfterLand,
 }
 
-/// Where the remark at an index ends: with its cell, or at a mark. None if a word of it may name land, or limit it.
+/// Where the remark at an index ends: with its cell, or at a mark. None if a word of it may name land, or
+/// limit it.
 pub fn end_of_remark(pieces: &Pieces<'_>, index: usize, position: Position) -> Option<usize> {
     if pieces.is(index, b"(") {
         return end_of_parentheses(pieces, index);
@@ -44,7 +45,9 @@ pub fn end_of_remark(pieces: &Pieces<'_>, index: usize, position: Position) -> O
         return None;
     }
     let mut has_word = false;
-    let mut is_sure = begins_tract(pieces, index) || is_homesite_of_acreage(pieces, index);
+    let mut is_sure = position == Position::BeforeLand
+        || begins_tract(pieces, index)
+        || is_homesite_of_acreage(pieces, index);
     let mut next = index;
     for place in index..plus(index, PIECES_MOST) {
         let is_last = place >= pieces.len();
@@ -53,7 +56,7 @@ pub fn end_of_remark(pieces: &Pieces<'_>, index: usize, position: Position) -> O
             let is_whole = (!is_last || position == Position::AfterLand)
                 && !(position == Position::BeforeLand && is_title_of_other(pieces, last))
                 && !(place > plus(index, 1) && points_into(pieces.lower(last)));
-            return if has_word && is_whole && (is_sure || position == Position::BeforeLand) {
+            return if has_word && is_whole && is_sure {
                 let is_colon = matches!(pieces.kind(place), Kind::Colon)
                     && !pieces.begins_column(place);
                 Some(plus(place, usize::from(is_colon)))
@@ -73,11 +76,6 @@ pub fn end_of_remark(pieces: &Pieces<'_>, index: usize, position: Position) -> O
         let is_name = position == Position::BeforeLand
             && is_of_water(pieces.lower(place))
             && pieces.begins_column(plus(place, 1));
-        let is_price = pieces.is(place.saturating_sub(1), b"/");
-        let is_parcel = names_parcel(pieces.lower(place))
-            && place > index
-            && !pieces.is(index, b"total")
-            && !is_price;
         // Less than a quarter section may be less than the land that follows.
         let figure = place.saturating_sub(1);
         let is_area = position == Position::BeforeLand
@@ -86,17 +84,14 @@ pub fn end_of_remark(pieces: &Pieces<'_>, index: usize, position: Position) -> O
             && (pieces.is(plus(place, 1), b"of")
                 || !(pieces.number(figure).unwrap_or(0) >= QUARTER_ACRES));
         let is_after = position == Position::AfterLand
-            && (is_parcel
+            && (may_be_parcel(pieces, index, place)
                 || is_boundary(pieces.lower(place))
                 || limits_land_at(pieces, place)
                 || may_end_label(pieces, place));
-        let is_of_well = position == Position::BeforeLand
-            && place > index
-            && is_of_well(pieces, place);
-        if (is_beyond_remark(pieces, place) && !is_name)
-            || is_after
+        if is_after
             || is_area
-            || (pieces.may_be_section(place) && !is_of_well)
+            || (pieces.may_be_section(place) && !may_be_well(pieces, index, place, position))
+            || (!is_name && is_beyond_remark(pieces, place))
         {
             return None;
         }
@@ -106,8 +101,22 @@ pub fn end_of_remark(pieces: &Pieces<'_>, index: usize, position: Position) -> O
     None
 }
 
-/// Whether a remark may begin at an index: first in a cell, or after a colon before any land; with a word, or a number
-/// that is that of no section.
+/// Whether other land may be named in a remark that begins at an index, and not in a sum or a price.
+fn may_be_parcel(pieces: &Pieces<'_>, index: usize, place: usize) -> bool {
+    place > index
+        && names_parcel(pieces.lower(place))
+        && !pieces.is(index, b"total")
+        && !pieces.is(place.saturating_sub(1), b"/")
+}
+
+/// Whether a number in a remark that begins at an index may be of the name of a well: before land, and not
+/// its first word.
+fn may_be_well(pieces: &Pieces<'_>, index: usize, place: usize, position: Position) -> bool {
+    position == Position::BeforeLand && place > index && is_of_well(pieces, place)
+}
+
+/// Whether a remark may begin at an index: first in a cell, or after a colon before any land; with a word, or
+/// a number that is that of no section.
 fn begins_remark(pieces: &Pieces<'_>, index: usize, position: Position) -> bool {
     let before = index.saturating_sub(1);
     let is_after_colon = position == Position::BeforeLand
@@ -127,6 +136,9 @@ fn begins_remark(pieces: &Pieces<'_>, index: usize, position: Position) -> bool 
         || is_after_comma
         || is_after_stop
         || is_after_acreage;
+    if !is_apart && !pieces.is_share(index) {
+        return false;
+    }
     let is_new = match position {
         Position::AfterLand => adds_land(pieces.lower(index)) && !begins_tract(pieces, index),
         Position::BeforeLand => is_more(pieces.lower(index)),
@@ -147,7 +159,7 @@ fn begins_remark(pieces: &Pieces<'_>, index: usize, position: Position) -> bool 
             || is_initial(pieces, index)
             || pieces.end_of_code(index).is_some(),
     };
-    (is_apart || pieces.is_share(index)) && is_first && !is_new
+    is_first && !is_new
 }
 
 /// Whether a remark ends before a piece, or with it, if it is a colon.
@@ -196,8 +208,8 @@ fn is_of_calendar(pieces: &Pieces<'_>, index: usize) -> bool {
     pieces.is_date(index) || is_month(pieces.lower(index))
 }
 
-/// Whether the piece at an index may say, after land, which part of it is meant: a word for that, a side, a number, the
-/// acreage that land is called by, or a size, as in `300 x 300`.
+/// Whether the piece at an index may say, after land, which part of it is meant: a word for that, a side, a
+/// number, the acreage that land is called by, or a size, as in `300 x 300`.
 fn limits_land_at(pieces: &Pieces<'_>, index: usize) -> bool {
     let word = pieces.lower(index);
     let next = plus(index, 1);
@@ -211,8 +223,8 @@ fn limits_land_at(pieces: &Pieces<'_>, index: usize) -> bool {
         || is_size_or_acreage(pieces, index)
 }
 
-/// Whether the piece at an index is of a size, as in `300 x 300`, or the acreage that land is called by, as in `the Smith
-/// 80`.
+/// Whether the piece at an index is of a size, as in `300 x 300`, or the acreage that land is called by, as
+/// in `the Smith 80`.
 pub(crate) fn is_size_or_acreage(pieces: &Pieces<'_>, index: usize) -> bool {
     let next = plus(index, 1);
     let is_size = (pieces.is(index, b"x") || pieces.is(index, b"by"))
@@ -235,8 +247,8 @@ fn adds_section(pieces: &Pieces<'_>, index: usize) -> bool {
         || pieces.is(index, b"all")
 }
 
-/// Whether the word at an index is of `made a part of`, `only insofar`, `Fee minerals:`, or `Proposed Reinstatement of
-/// Terminated Oil and Gas Lease`, which limit no land.
+/// Whether the word at an index is of `made a part of`, `only insofar`, `Fee minerals:`, or
+/// `Proposed Reinstatement of Terminated Oil and Gas Lease`, which limit no land.
 fn is_of_instrument(pieces: &Pieces<'_>, index: usize) -> bool {
     let is_part = pieces.is(index, b"part")
         && pieces.is(index.saturating_sub(1), b"a")
@@ -253,7 +265,8 @@ fn is_of_instrument(pieces: &Pieces<'_>, index: usize) -> bool {
     is_part || is_only || is_estate || is_proposed || is_terminated
 }
 
-/// Whether a colon at an index may end the label of other land: no word of two letters or more, and no price, follows.
+/// Whether a colon at an index may end the label of other land: no word of two letters or more, and no price,
+/// follows.
 fn may_end_label(pieces: &Pieces<'_>, index: usize) -> bool {
     let next = plus(index, 1);
     let is_word = matches!(pieces.kind(next), Kind::Other)
@@ -298,8 +311,8 @@ fn end_of_parentheses(pieces: &Pieces<'_>, index: usize) -> Option<usize> {
     None
 }
 
-/// Whether the piece at an index makes a remark of a cell: a word of three letters or more, or of two that are no
-/// corner with a slip, a date, or a number of five digits or more.
+/// Whether the piece at an index makes a remark of a cell: a word of three letters or more, or of two that
+/// are no corner with a slip, a date, or a number of five digits or more.
 fn says_something(pieces: &Pieces<'_>, index: usize) -> bool {
     let is_word = match pieces.lower(index) {
         [b'n' | b's' | b'e' | b'w' | b'm' | b'h', _] => {

@@ -18,7 +18,8 @@ const DEPTHS_MOST: usize = 24;
 enum Trailer {
     /// Terms, interests, and records, which end at a semicolon, or with the line.
     Terms,
-    /// Depths, of which some word must be a word for depths: what follows could be other land at other depths.
+    /// Depths, of which some word must be a word for depths: what follows could be other land at other
+    /// depths.
     Depths,
     /// Rights, which may name ways and waters.
     Rights,
@@ -50,7 +51,8 @@ pub fn end_of_trailer(pieces: &Pieces<'_>, index: usize) -> Option<usize> {
     if has_word { Some(pieces.len()) } else { None }
 }
 
-/// Where depths end in parentheses, as in `(surface to the base of the Niobrara only)`: at what isn't of depths.
+/// Where depths end in parentheses, as in `(surface to the base of the Niobrara only)`: at what isn't of
+/// depths.
 pub(crate) fn end_of_depths(pieces: &Pieces<'_>, index: usize) -> Option<usize> {
     if trailer_at(pieces, index) != Some(Trailer::Depths) {
         return None;
@@ -65,7 +67,8 @@ pub(crate) fn end_of_depths(pieces: &Pieces<'_>, index: usize) -> Option<usize> 
     None
 }
 
-/// Whether the word at an index is one of which what is said after land has some: otherwise it may be of other land.
+/// Whether the word at an index is one of which what is said after land has some: otherwise it may be of
+/// other land.
 fn is_word_of(pieces: &Pieces<'_>, trailer: Trailer, index: usize) -> bool {
     let word = pieces.lower(index);
     match trailer {
@@ -79,7 +82,8 @@ fn is_word_of(pieces: &Pieces<'_>, trailer: Trailer, index: usize) -> bool {
     }
 }
 
-/// Whether the piece at an index isn't of what is said after land: it may be of land, or change which is meant.
+/// Whether the piece at an index isn't of what is said after land: it may be of land, or change which is
+/// meant.
 fn is_beyond_trailer(pieces: &Pieces<'_>, trailer: Trailer, index: usize) -> bool {
     let word = pieces.lower(index);
     let is_limit = match trailer {

@@ -1,9 +1,10 @@
 //! The candidates for readings: the changes of the whole text, with each joint read in one of its two ways.
 
-use crate::gaps::{Outline, change};
+use crate::outline::{Outline, change};
 use crate::writer::Writer;
 use std::alloc::{AllocError, Global};
 use std::mem;
+use twp_arrange::Plan;
 use twp_pieces::plus;
 use twp_read::TEXT_LIMIT;
 use twp_rules::{Change, Rule};
@@ -19,7 +20,9 @@ pub(crate) fn outline_of<'a>(
     if text.len() > TEXT_LIMIT {
         return Ok(None);
     }
-    let mut writer = Writer::of(alloc, text)?;
+    let mut writer = Writer {
+        plan: Plan::of(alloc, text)?,
+    };
     if writer.plan.draft.is_unsure {
         return Ok(None);
     }
@@ -44,8 +47,9 @@ impl<'a> Outline<'a> {
         choices.get(self.joints.len()).copied().unwrap_or(0)
     }
 
-    /// The changes of the candidate with a number, whose binary digits are the ways of the joints. The first way of each
-    /// joint comes before the second. Without joints, there is one candidate, which takes the changes.
+    /// The changes of the candidate with a number, whose binary digits are the ways of the joints. The first
+    /// way of each joint comes before the second. Without joints, there is one candidate, which takes the
+    /// changes.
     pub(crate) fn changes_of(
         &mut self,
         alloc: Global,

@@ -1,7 +1,7 @@
 //! What a text says again in parentheses: it has to be the land before them.
 
 use crate::named::land_in;
-use crate::on_plat::{find_land, township_of};
+use crate::on_plat::{find_land, first_township};
 use crate::writer::Writer;
 use std::alloc::{AllocError, Global};
 use twp_arrange::{Placed, Role};
@@ -63,8 +63,10 @@ impl<'a> Writer<'a> {
         Ok(true)
     }
 
-    /// Whether the last land before a claim, or all land of its section before it, is what is claimed. The phrases begin
-    /// with those of its section.
+    /// Whether the last land before a claim, or all land of its section before it, is what is claimed. The
+    /// phrases begin with those of its section. Not inlined, since its sets of land would be cleared for each
+    /// text.
+    #[inline(never)]
     fn holds(
         &self,
         alloc: Global,
@@ -218,17 +220,15 @@ fn names(alloc: Global, text: &[u8], land: &Lanes) -> Result<bool, AllocError> {
     }
 }
 
-/// Whether the land of a text is on the plat only with its lots named.
+/// Whether the land of a text that names no township is on the plat only with its lots named.
 fn includes_lots(alloc: Global, text: &[u8]) -> Result<bool, AllocError> {
     if land_in(alloc, text)?.is_none() {
         return Ok(false);
     }
-    match township_of(alloc, text)? {
-        Some(township) => {
-            let mut land = Lanes::empty();
-            let is_on_plat = find_land(alloc, text, township, &mut land)?;
-            Ok(!is_on_plat)
-        }
-        None => Ok(false),
-    }
+    let Some(township) = first_township(&[]) else {
+        return Ok(false);
+    };
+    let mut land = Lanes::empty();
+    let is_on_plat = find_land(alloc, text, township, &mut land)?;
+    Ok(!is_on_plat)
 }

@@ -1,5 +1,5 @@
-//! The description that comes of a changed text: the text, or the canonical description of what is left without the
-//! land that it excepts.
+//! The description that comes of a changed text: the text, or the canonical description of what is left
+//! without the land that it excepts.
 ghost use Rattle.std.specs.Prelude.{◌≡◌, ◌≤◌, ◌++◌, IfOk, IfSome, OnOk, drop, length};
 ghost use Rattle.twp_suggest.specs.Readings.{AreLotsNamed, IsAccepted, IsDescribed, IsRemainder};
 ghost use Rattle.twp_suggest.specs.Readings.{as_written, except};
@@ -33,8 +33,8 @@ pub(crate) struct Wording {
     pub(crate) manner: Manner,
 }
 
-/// The description that comes of a changed text in its township, or in any if it names none. None if it names some land
-/// twice, or a part that is too fine. The land is looked for in `land`.
+/// The description that comes of a changed text in its township, or in any if it names none. None if it names
+/// some land twice, or a part that is too fine. The land is looked for in `land`.
 pub(crate) fn described(
     alloc: Global,
     made: Vec<u8>,
@@ -145,8 +145,9 @@ fn split_at_except(text: &[u8], at: usize) -> Option<Excepting<'_>>
     Some(Excepting { whole, excepted })
 }
 
-/// The canonical description of the land of a text without the land of another, which has to be on the plat of the same
-/// township, in the land of the first, and not all of it. Not inlined, since its sets of land would be cleared for each text.
+/// The canonical description of the land of a text without the land of another, which has to be on the plat
+/// of the same township, in the land of the first, and not all of it. Not inlined, since its sets of land
+/// would be cleared for each text.
 #[inline(never)]
 fn remainder(alloc: Global, whole: &[u8], excepted: &[u8]) -> Result<Vec<u8>, Unread>
     ensures { IfOk result (λ text. IsRemainder (whole.now ++ except ++ excepted.now) text.items) }

@@ -1,6 +1,6 @@
 //! What is written before land: the township and range, and the section, where they are after it.
 
-use crate::gaps::Outline;
+use crate::outline::Outline;
 use crate::writer::Writer;
 use std::alloc::{AllocError, Global};
 use twp_arrange::{Placed, Role};
@@ -49,8 +49,8 @@ impl<'a> Writer<'a> {
         Ok(())
     }
 
-    /// Writes the section before its first land, where it isn't there. Several sections with aliquot parts each have
-    /// these parts.
+    /// Writes the section before its first land, where it isn't there. Several sections with aliquot parts
+    /// each have these parts.
     pub(crate) fn write_section(
         &mut self,
         alloc: Global,

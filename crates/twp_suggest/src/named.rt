@@ -21,8 +21,8 @@ use twp_resolve::chain_block;
 #[derive(Clone, Copy, PartialEq, Eq)]
 struct Unnamed;
 
-/// The land that a text names, also by aliquot parts that include lots. None if it names none, or land twice, or a part of
-/// a lot.
+/// The land that a text names, also by aliquot parts that include lots. None if it names none, or land twice,
+/// or a part of a lot.
 pub(crate) fn land_in(alloc: Global, text: &[u8]) -> Result<Option<Lanes>, AllocError> {
     match read(alloc, text)? {
         Some(description) => Ok(land_with_lots(&description)),
@@ -52,8 +52,8 @@ pub(crate) fn why_unread(description: &Description) -> Unread {
     }
 }
 
-/// The land of the items of a description: all places of its items, none of which is named twice. None if they name what
-/// no township has, or land twice.
+/// The land of the items of a description: all places of its items, none of which is named twice. None if
+/// they name what no township has, or land twice.
 #[tactic(auto, using(crate::proofs::NamedFacts::named_none, crate::proofs::NamedFacts::named_next, crate::proofs::NamedFacts::named_all))]
 fn land_named<L: Land>(description: &Description) -> Option<L>
     ensures { IfSome result (λ land.

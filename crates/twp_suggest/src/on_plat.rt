@@ -24,8 +24,8 @@ pub(crate) fn read(alloc: Global, text: &[u8]) -> Result<Option<Description>, Al
     }
 }
 
-/// Whether a text names land on the plat of a township, which `land` is then. It is filled in place, since a copy takes
-/// longer than to read most texts.
+/// Whether a text names land on the plat of a township, which `land` is then. It is filled in place, since a
+/// copy takes longer than to read most texts.
 #[tactic(auto, using(crate::proofs::LandFacts::is_land))]
 pub(crate) fn find_land(
     alloc: Global,
@@ -69,7 +69,8 @@ pub(crate) fn first_township(items: &[Item]) -> Option<Township>
     }
 }
 
-/// The township that a text names, or any if it names none. None if there is no such township, or no such text.
+/// The township that a text names, or any if it names none. None if there is no such township, or no such
+/// text.
 pub(crate) fn township_of(alloc: Global, text: &[u8]) -> Result<Option<Township>, AllocError> {
     match read(alloc, text)? {
         Some(description) => Ok(first_township(description.items())),

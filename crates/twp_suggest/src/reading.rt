@@ -5,9 +5,9 @@ ghost use Rattle.twp_suggest.specs.Readings.{AreSomeReadings, MayBeAdded};
 
 use crate::candidates::{made_by, outline_of};
 use crate::described::{Wording, described};
-use crate::gaps::Outline;
 use crate::manner::Manner;
 use crate::on_plat::{find_land, township_of};
+use crate::outline::Outline;
 use crate::unread::Unread;
 use std::alloc::{AllocError, Global};
 use twp_grammar::{State, first_token};
@@ -26,8 +26,8 @@ pub struct Reading<'a> {
 /// The most readings that are given.
 const READINGS_MOST: usize = 8;
 
-/// The readings of a text as descriptions, in a fixed order: none where nothing is sure, one where the text can be
-/// read in only one way, and at most 8.
+/// The readings of a text as descriptions, in a fixed order: none where nothing is sure, one where the text
+/// can be read in only one way, and at most 8.
 #[tactic(auto, using(crate::proofs::ReadingFacts::none_of, crate::proofs::ReadingFacts::some_of, crate::proofs::ReadingFacts::no_readings))]
 pub fn readings_of<'a>(alloc: Global, text: &'a [u8]) -> Result<Vec<Reading<'a>>, AllocError>
     ensures { IfOk result (λ readings. AreReadings text.now readings.items) }
@@ -42,8 +42,8 @@ pub fn readings_of<'a>(alloc: Global, text: &'a [u8]) -> Result<Vec<Reading<'a>>
     Ok(readings)
 }
 
-/// The readings that the candidates lead to, with one set of land for all of them. Not inlined, since that would be cleared
-/// for each text.
+/// The readings that the candidates lead to, with one set of land for all of them. Not inlined, since that
+/// would be cleared for each text.
 #[tactic(auto, using(crate::proofs::ReadingFacts::no_readings))]
 #[inline(never)]
 fn readings_by<'a>(
@@ -128,8 +128,8 @@ fn is_clear(alloc: Global, text: &[u8]) -> Result<bool, AllocError>
     }
 }
 
-/// Whether a token of a text can't follow those before it in any description, or the text ends too early. Most texts
-/// go wrong at one of their first tokens, which takes much less time than to say how.
+/// Whether a token of a text can't follow those before it in any description, or the text ends too early.
+/// Most texts go wrong at one of their first tokens, which takes much less time than to say how.
 fn goes_wrong(text: &[u8]) -> bool
     ensures { IsTrue result → ¬ IsAccepted text.now }
 {
@@ -157,8 +157,8 @@ fn has_no_doubt(alloc: Global, text: &[u8]) -> Result<bool, AllocError>
     }
 }
 
-/// The reading that changes make, if they are allowed and the reader accepts what they make. None if that names some
-/// land twice, or a part that is too fine.
+/// The reading that changes make, if they are allowed and the reader accepts what they make. None if that
+/// names some land twice, or a part that is too fine.
 fn reading_with<'a>(
     alloc: Global,
     text: &'a [u8],

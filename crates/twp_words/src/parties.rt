@@ -47,6 +47,20 @@ pub fn begins_exception(word: &[u8]) -> bool {
     is_among(word, words)
 }
 
+/// Words by which land is excepted.
+pub fn excepts_land(word: &[u8]) -> bool {
+    let words: &str = match word.len() {
+        2 => "ex ls",
+        3 => "exc",
+        4 => "less",
+        5 => "minus",
+        6 => "except",
+        9 => "excepting excluding exclusive",
+        _ => return false,
+    };
+    is_among(word, words)
+}
+
 /// Whether a word may be corners with a slip.
 pub fn may_be_corners(word: &[u8]) -> bool {
     match word {

@@ -18,6 +18,16 @@ pub(crate) fn is_among(word: &[u8], words: &str) -> bool {
     false
 }
 
+/// Whether a word is in a list. Lists of more than a few words are rows of words of one length, which `is_among` compares.
+pub fn is_in(word: &[u8], list: &[&[u8]]) -> bool {
+    for text in list {
+        if is_same(word, text) {
+            return true;
+        }
+    }
+    false
+}
+
 /// Whether letters in lowercase are those of two corners or more.
 pub fn are_corners(letters: &[u8]) -> bool {
     if letters.len() < 4 || letters.len() % 2 != 0 {

@@ -1,0 +1,154 @@
+//! The changes of a whole text, and the places where it can be read in two ways.
+
+use crate::writer::Writer;
+use std::alloc::{AllocError, Global};
+use twp_arrange::{Placed, Role, has_except};
+use twp_grammar::Kind;
+use twp_phrases::{Names, Phrase, Span};
+use twp_pieces::plus;
+use twp_rules::{Change, Rule};
+
+/// There is room from the start for the changes in the phrases, one for each phrase, and so many more.
+const CHANGES_MORE: usize = 4;
+
+/// A place that can be read in two ways: between two parts, which are two, or one, and before or after an
+/// `of`.
+#[derive(Clone, Copy)]
+pub(crate) struct Joint {
+    /// How many changes are before it.
+    pub(crate) changes: usize,
+    /// The changes by the first way, among the options.
+    pub(crate) first: Span,
+    /// The changes by the second way.
+    pub(crate) second: Span,
+}
+
+/// The changes of a whole text, but for its joints, and those at its joints.
+#[derive(Drop)]
+pub(crate) struct Outline<'a> {
+    pub(crate) changes: Vec<Change<'a>>,
+    pub(crate) joints: Vec<Joint>,
+    pub(crate) options: Vec<Change<'a>>,
+    /// Whether there is an exception.
+    pub(crate) has_except: bool,
+}
+
+impl<'a> Writer<'a> {
+    /// The changes of the whole text, from left to right.
+    pub(crate) fn outline(
+        &mut self,
+        alloc: Global,
+        list: &[Placed],
+    ) -> Result<Outline<'a>, AllocError> {
+        let mut out = Outline {
+            changes: Vec::with_capacity(
+                alloc,
+                plus(
+                    plus(self.plan.draft.changes.len(), list.len()),
+                    CHANGES_MORE,
+                ),
+            )?,
+            joints: Vec::new(alloc),
+            options: Vec::new(alloc),
+            has_except: has_except(list),
+        };
+        let mut before: Option<&Placed> = None;
+        let mut next: usize = 0;
+        let heading = self.moved_heading(list);
+        for index in 0..list.len() {
+            let Some(placed) = list.get(index) else {
+                break;
+            };
+            if self.plan.draft.is_unsure {
+                break;
+            }
+            let Role::Kept(_) = placed.role else {
+                continue;
+            };
+            let left_out = list.get(next..index).unwrap_or(&[]);
+            self.write_gap(before, Some(placed), left_out, &mut out)?;
+            if before.is_none() {
+                self.write_heading(heading, placed, &mut out)?;
+            }
+            self.write_section(alloc, placed, list.get(index..).unwrap_or(&[]), &mut out)?;
+            self.copy_changes(&placed.phrase, &mut out)?;
+            before = Some(placed);
+            next = plus(index, 1);
+        }
+        // A joint in the land of several sections would be read in both ways for each of them.
+        if !out.joints.is_empty() && has_several_sections(list) {
+            self.plan.draft.doubt();
+        }
+        let left_out = list.get(next..).unwrap_or(&[]);
+        let last = list.last().map_or(0, |placed| placed.phrase.end);
+        if (left_out.is_empty() && self.may_be_cut_off(before)) || self.leads_nowhere(last) {
+            self.plan.draft.doubt();
+        }
+        self.write_gap(before, None, left_out, &mut out)?;
+        Ok(out)
+    }
+
+    /// Whether a mark after the last phrase says that more follows, which may have been cut off.
+    fn may_be_cut_off(&self, last: Option<&Placed>) -> bool {
+        let first = last.map_or(0, |placed| placed.phrase.end);
+        for index in first..self.plan.draft.pieces.len() {
+            if matches!(
+                self.plan.draft.pieces.kind(index),
+                Kind::Comma | Kind::Colon
+            ) || self.plan.draft.pieces.is(index, b"&")
+                || self.plan.draft.pieces.is_dash(index)
+            {
+                return true;
+            }
+        }
+        false
+    }
+
+    /// Whether a word or a mark after the last phrase leads to more, which is missing.
+    fn leads_nowhere(&self, last: usize) -> bool {
+        let pieces = &self.plan.draft.pieces;
+        let word = last.saturating_sub(1);
+        if pieces.is(word, b"in") || pieces.is(word, b"of") || pieces.is(word, b"under") {
+            return true;
+        }
+        for index in last..pieces.len() {
+            if self.is_word(index) || self.leads_on(index) {
+                return true;
+            }
+        }
+        false
+    }
+
+    /// The changes in a phrase.
+    fn copy_changes(&self, phrase: &Phrase, out: &mut Outline<'a>) -> Result<(), AllocError> {
+        let span = phrase.changes;
+        out.changes.extend_from_slice(
+            self.plan
+                .draft
+                .changes
+                .get(span.first..span.end)
+                .unwrap_or(&[]),
+        )
+    }
+}
+
+/// Whether a phrase names several sections.
+fn has_several_sections(list: &[Placed]) -> bool {
+    for placed in list {
+        let numbers = placed.phrase.numbers;
+        if placed.phrase.names == Names::Sections && numbers.end > plus(numbers.first, 1) {
+            return true;
+        }
+    }
+    false
+}
+
+/// A change.
+pub(crate) fn change<'a>(start: usize, end: usize, written: &'a [u8], rule: Rule) -> Change<'a> {
+    Change {
+        start,
+        end,
+        written,
+        rule,
+    }
+}
