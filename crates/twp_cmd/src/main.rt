@@ -5,7 +5,8 @@
 #![tactic(auto)]
 
 use std::process::ExitCode;
+use twp_perhaps::OnlyReading;
 
 fn main(rt: HostRuntime) -> ExitCode {
-    ExitCode::from(twp_program::run(&rt).status)
+    ExitCode::from(twp_program::run::<OnlyReading, _>(&rt).status)
 }

@@ -15,28 +15,29 @@ use std::io::ErrorKind;
 use std::rt::Files;
 use std::{env, io};
 use twp_acres::{RunFault, Verdict};
+use twp_explain_text::Suggests;
 use twp_grid::Device;
 use twp_read::Clarity;
 
 /// Runs the program, and reports on standard error why there is no answer. It returns the ending
-/// and its status together.
-pub fn run<R: Env + Files + Input + Print + Eprint + AllocGlobal>(rt: &R) -> Ended
+/// and its status together. `S` says what the explanation of a refused text may suggest at its end.
+pub fn run<S: Suggests, R: Env + Files + Input + Print + Eprint + AllocGlobal>(rt: &R) -> Ended
     ensures ends { EndsProgram result.ending }
     ensures status { IsStatusOf result.ending result.status }
 {
-    let ending = carry_out(rt);
+    let ending = carry_out::<S, R>(rt);
     let status = conclude(rt, &ending);
     Ended { ending, status }
 }
 
 /// Does the task that the words of the command line ask for, or answers standard input if there are
 /// no words.
-fn carry_out<R: Env + Files + Input + Print + Eprint + AllocGlobal>(rt: &R) -> Ending
+fn carry_out<S: Suggests, R: Env + Files + Input + Print + Eprint + AllocGlobal>(rt: &R) -> Ending
     ensures { EndsProgram result }
 {
     match words_of(rt) {
-        Ok(words) if words.len() > 1 => run_words(rt, words),
-        Ok(_) => Ending::after(run_standard_input(rt)),
+        Ok(words) if words.len() > 1 => run_words::<S, R>(rt, words),
+        Ok(_) => Ending::after(run_standard_input::<S, R>(rt)),
         Err(fault) => Ending::Failed(Failure::Run(fault)),
     }
 }
@@ -72,7 +73,9 @@ fn fault_of_words(kind: ErrorKind) -> RunFault
 
 /// Runs on the joined input from standard input.
 #[inline(never)]
-fn run_standard_input<R: Input + Print + Eprint + AllocGlobal>(rt: &R) -> Result<Verdict, Failure>
+fn run_standard_input<S: Suggests, R: Input + Print + Eprint + AllocGlobal>(
+    rt: &R,
+) -> Result<Verdict, Failure>
     ensures answers { IfOk result IsJoinedVerdict }
     ensures fails { IfErr result IsRunFailure }
 {
@@ -80,18 +83,21 @@ fn run_standard_input<R: Input + Print + Eprint + AllocGlobal>(rt: &R) -> Result
     let mut out = Device::new(io::writer(rt));
     let mut clarity = Clarity::Unclear;
     let outcome = outcome_of(run_joined_noting(rt.alloc(), &mut input, &mut out, &mut clarity));
-    show_joined(rt, &outcome, clarity, &input);
+    show_joined::<S, _, _>(rt, &outcome, clarity, &input);
     outcome
 }
 
 /// Does the task that the words of a command line ask for, the first of which is the program's
 /// name.
 #[inline(never)]
-pub fn run_words<R: Files + Print + Eprint + AllocGlobal>(rt: &R, words: Vec<String>) -> Ending
+pub fn run_words<S: Suggests, R: Files + Print + Eprint + AllocGlobal>(
+    rt: &R,
+    words: Vec<String>,
+) -> Ending
     ensures { EndsAs (map string_bytes words.items) result }
 {
     match read_task(rt.alloc(), words) {
-        Ok(task) => Ending::after(run_task(rt, task)),
+        Ok(task) => Ending::after(run_task::<S, R>(rt, task)),
         Err(fault) => Ending::after_fault(fault),
     }
 }

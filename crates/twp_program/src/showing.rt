@@ -17,7 +17,7 @@ use std::alloc::Global;
 use twp_acres::{Account, Verdict};
 use twp_diagnose::{Explanation, Given};
 use twp_explain::{Note, explain_land, explain_list, explain_plat, note_land, note_list};
-use twp_perhaps::OnlyReading;
+use twp_explain_text::Suggests;
 use twp_read::Clarity;
 
 /// The name of standard input in messages.
@@ -38,7 +38,7 @@ pub(crate) fn show_plat<R: Eprint + AllocGlobal, N>(
 /// Explains why a run refused a description on the plat of field notes, or writes the note on one
 /// that it accepted.
 #[inline(never)]
-pub(crate) fn show_land<R: Eprint + AllocGlobal, N, D>(
+pub(crate) fn show_land<S: Suggests, R: Eprint + AllocGlobal, N, D>(
     rt: &R,
     outcome: &Result<Verdict, Failure>,
     clarity: Clarity,
@@ -47,7 +47,10 @@ pub(crate) fn show_land<R: Eprint + AllocGlobal, N, D>(
     account: Account,
 ) {
     if let Some(verdict) = refused(outcome) {
-        explain(rt, of_land(rt.alloc(), notes, description, verdict));
+        explain(
+            rt,
+            of_land::<S, _, _>(rt.alloc(), notes, description, verdict),
+        );
     } else if may_be_noted(outcome, clarity) {
         show_note(rt, note_of_land(rt.alloc(), notes, description, account));
     }
@@ -56,7 +59,7 @@ pub(crate) fn show_land<R: Eprint + AllocGlobal, N, D>(
 /// Explains why a run refused a list of tracts on the plat of field notes, or writes the note on
 /// one that it accepted.
 #[inline(never)]
-pub(crate) fn show_list<R: Eprint + AllocGlobal, N, T>(
+pub(crate) fn show_list<S: Suggests, R: Eprint + AllocGlobal, N, T>(
     rt: &R,
     outcome: &Result<Verdict, Failure>,
     clarity: Clarity,
@@ -64,7 +67,7 @@ pub(crate) fn show_list<R: Eprint + AllocGlobal, N, T>(
     tracts: &OpenedText<Kept<T>>,
 ) {
     if let Some(verdict) = refused(outcome) {
-        explain(rt, of_list(rt.alloc(), notes, tracts, verdict));
+        explain(rt, of_list::<S, _, _>(rt.alloc(), notes, tracts, verdict));
     } else if may_be_noted(outcome, clarity) {
         show_note(rt, note_of_list(rt.alloc(), notes, tracts));
     }
@@ -72,14 +75,14 @@ pub(crate) fn show_list<R: Eprint + AllocGlobal, N, T>(
 
 /// Tells why the run of joined input refused it, or what is noted of input that it accepted.
 #[inline(never)]
-pub(crate) fn show_joined<R: Eprint + AllocGlobal, S>(
+pub(crate) fn show_joined<S: Suggests, R: Eprint + AllocGlobal, I>(
     rt: &R,
     outcome: &Result<Verdict, Failure>,
     clarity: Clarity,
-    input: &Kept<S>,
+    input: &Kept<I>,
 ) {
     if let Some(verdict) = refused(outcome) {
-        explain(rt, of_joined(rt.alloc(), input, verdict));
+        explain(rt, of_joined::<S, _>(rt.alloc(), input, verdict));
     } else if may_be_noted(outcome, clarity) {
         show_note(rt, note_of_joined(rt.alloc(), input));
     }
@@ -144,7 +147,7 @@ fn of_plat<N>(alloc: Global, notes: &OpenedNotes<Kept<N>>, verdict: Verdict) -> 
 }
 
 /// The explanation for field notes and a description.
-fn of_land<N, D>(
+fn of_land<S: Suggests, N, D>(
     alloc: Global,
     notes: &OpenedNotes<Kept<N>>,
     description: &OpenedText<Kept<D>>,
@@ -155,11 +158,11 @@ fn of_land<N, D>(
         (ShowsEither (IsFile notes.now.name (copy_of notes.now.source))
         (IsFile description.now.name (copy_of description.now.source))) }
 {
-    explain_land::<OnlyReading>(alloc, &notes.given()?, &description.given()?, verdict).ok()?
+    explain_land::<S>(alloc, &notes.given()?, &description.given()?, verdict).ok()?
 }
 
 /// The explanation for field notes and a list of tracts.
-fn of_list<N, T>(
+fn of_list<S: Suggests, N, T>(
     alloc: Global,
     notes: &OpenedNotes<Kept<N>>,
     tracts: &OpenedText<Kept<T>>,
@@ -171,17 +174,21 @@ fn of_list<N, T>(
         (ShowsEither (IsFile notes.now.name (copy_of notes.now.source))
         (IsFile tracts.now.name (copy_of tracts.now.source))) }
 {
-    explain_list::<OnlyReading>(alloc, &notes.given()?, &tracts.given()?, verdict).ok()?
+    explain_list::<S>(alloc, &notes.given()?, &tracts.given()?, verdict).ok()?
 }
 
 /// The explanation for joined input.
-fn of_joined<S>(alloc: Global, input: &Kept<S>, verdict: Verdict) -> Option<Explanation>
+fn of_joined<S: Suggests, I>(
+    alloc: Global,
+    input: &Kept<I>,
+    verdict: Verdict,
+) -> Option<Explanation>
     ensures explained { IfSome result (IsExplanationOf verdict) }
     ensures shows { IfSome result (ShowsEither (AreJoinedNotes (copy_of input.now))
         (IsJoinedDescription (copy_of input.now))) }
 {
     let JoinedTexts { description, notes } = joined_texts(input)?;
-    explain_land::<OnlyReading>(alloc, &notes, &description, verdict).ok()?
+    explain_land::<S>(alloc, &notes, &description, verdict).ok()?
 }
 
 /// The texts of joined input.

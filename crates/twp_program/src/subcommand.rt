@@ -21,11 +21,12 @@ use std::rt::Files;
 use twp_acres::{
     Account, Verdict, run_acres_noting, run_normal_noting, run_plat, run_report_noting,
 };
+use twp_explain_text::Suggests;
 use twp_grid::{Device, Sink, Source};
 use twp_read::Clarity;
 
 /// Opens the files of a task, in order, and runs it.
-pub(crate) fn run_task<R: Files + Print + Eprint + AllocGlobal>(
+pub(crate) fn run_task<S: Suggests, R: Files + Print + Eprint + AllocGlobal>(
     rt: &R,
     task: Task,
 ) -> Result<Verdict, Failure>
@@ -38,9 +39,9 @@ pub(crate) fn run_task<R: Files + Print + Eprint + AllocGlobal>(
             notes,
             description,
             account,
-        } => open_acres(rt, notes, description, account),
-        Task::Normal { notes, description } => open_normal(rt, notes, description),
-        Task::Report { notes, tracts } => open_report(rt, notes, tracts),
+        } => open_acres::<S, R>(rt, notes, description, account),
+        Task::Normal { notes, description } => open_normal::<S, R>(rt, notes, description),
+        Task::Report { notes, tracts } => open_report::<S, R>(rt, notes, tracts),
     }
 }
 
@@ -62,7 +63,7 @@ fn open_plat<R: Files + Print + Eprint + AllocGlobal>(
 
 /// `acres [--account ACCOUNT] NOTES DESCRIPTION`
 #[inline(never)]
-fn open_acres<R: Files + Print + Eprint + AllocGlobal>(
+fn open_acres<S: Suggests, R: Files + Print + Eprint + AllocGlobal>(
     rt: &R,
     notes: Name,
     description: Name,
@@ -83,13 +84,13 @@ fn open_acres<R: Files + Print + Eprint + AllocGlobal>(
         account,
         &mut clarity,
     );
-    show_land(rt, &outcome, clarity, &notes, &description, account);
+    show_land::<S, _, _, _>(rt, &outcome, clarity, &notes, &description, account);
     outcome
 }
 
 /// `normal NOTES DESCRIPTION`
 #[inline(never)]
-fn open_normal<R: Files + Print + Eprint + AllocGlobal>(
+fn open_normal<S: Suggests, R: Files + Print + Eprint + AllocGlobal>(
     rt: &R,
     notes: Name,
     description: Name,
@@ -108,13 +109,13 @@ fn open_normal<R: Files + Print + Eprint + AllocGlobal>(
         &mut out,
         &mut clarity,
     );
-    show_land(rt, &outcome, clarity, &notes, &description, Account::Exact);
+    show_land::<S, _, _, _>(rt, &outcome, clarity, &notes, &description, Account::Exact);
     outcome
 }
 
 /// `report NOTES TRACTS`
 #[inline(never)]
-fn open_report<R: Files + Print + Eprint + AllocGlobal>(
+fn open_report<S: Suggests, R: Files + Print + Eprint + AllocGlobal>(
     rt: &R,
     notes: Name,
     tracts: Name,
@@ -127,7 +128,7 @@ fn open_report<R: Files + Print + Eprint + AllocGlobal>(
     let mut out = Device::new(io::writer(rt));
     let mut clarity = Clarity::Unclear;
     let outcome = report(rt.alloc(), &mut notes, &mut tracts, &mut out, &mut clarity);
-    show_list(rt, &outcome, clarity, &notes, &tracts);
+    show_list::<S, _, _, _>(rt, &outcome, clarity, &notes, &tracts);
     outcome
 }
 
