@@ -39,10 +39,12 @@ NEEDED = (
     "Crate.has_tests",
     "rtlib.crates_below",
 )
-# A crate gets one more process for each of so many lines, up to a number. More processes run than there are processors:
-# a crate can't be given more once it has begun, and the one that all others wait for must not be left with one.
+# A crate gets one more process for each of so many lines, up to a number. It can't be given more once it has begun, so the
+# one that all others wait for gets them at once. With three processes a proof takes 1.4 times the processor time that it
+# takes with one, so the others share what is left of a number that is a bit more than that of the processors.
 LINES_FOR_A_PROCESS = 600
-PROCESSES_MOST = 4
+PROCESSES_MOST = 3
+PROCESSES_MORE = 2
 # The share of the free memory that is used, and the share that each further process takes of what a crate needs, which
 # is less than what rt counts with: what a crate needs is mostly what the first process loads.
 SHARE_OF_MEMORY = 0.85
@@ -107,35 +109,40 @@ class Progress:
 class Lanes:
     """Which of rt's tasks run. A task is what it waits for, its work in lines, its memory, and a call that gets what the
     others gave and how many processes it may use. As many tasks run as there are processors, first those with the
-    longest chain of others above them, and each with processes for its lines, as far as there is memory."""
+    longest chain of others above them; the longest of all with processes for its lines, as far as there is memory."""
 
     def __init__(self, tasks, processors, memory):
         self.tasks, self.processors, self.memory = tasks, processors, memory
         # For each running task: its name, and the number of processes. There are no tests, so their tasks have given that.
         self.running, self.given = {}, {it: True for it in tasks if it[1] == "tests"}
-        chain = {}
+        self.chain = {}
         for key in reversed(tasks):
-            above = [chain[it] for it in chain if key in tasks[it][0]]
-            chain[key] = tasks[key][1] + max(above, default=0)
-        self.waiting = sorted(tasks.keys() - self.given.keys(), key=lambda it: -chain[it])
+            above = [self.chain[it] for it in self.chain if key in tasks[it][0]]
+            self.chain[key] = tasks[key][1] + max(above, default=0)
+        self.waiting = sorted(tasks.keys() - self.given.keys(), key=lambda it: -self.chain[it])
 
     def memory_of(self, key, count):
         return self.tasks[key][2] * (1 + FURTHER * (count - 1))
 
-    def processes_for(self, key):
-        """How many processes a task gets now; 0 if it has to wait."""
-        room = self.memory - sum(self.memory_of(*it) for it in self.running.values())
-        if self.running and (len(self.running) == self.processors or room < self.memory_of(key, 1)):
+    def processes_for(self, key, ready):
+        """How many processes a task gets now, of so many that could begin; 0 if it has to wait."""
+        running = self.running.values()
+        room = self.memory - sum(self.memory_of(*it) for it in running)
+        free = self.processors + PROCESSES_MORE - sum(count for _, count in running)
+        if running and (len(running) == self.processors or free < 1 or room < self.memory_of(key, 1)):
             return 0
         count = min(PROCESSES_MOST, 1 + self.tasks[key][1] // LINES_FOR_A_PROCESS)
+        if self.chain[key] < max(self.chain[it] for it in [*self.waiting, *(it for it, _ in running)]):
+            count = min(count, max(1, free // ready))
         while count > 1 and room < self.memory_of(key, count):
             count -= 1
         return count
 
     def begin(self, pool):
         """Starts the tasks that are next."""
-        for key in [it for it in self.waiting if all(below in self.given for below in self.tasks[it][0])]:
-            count = self.processes_for(key)
+        ready = [it for it in self.waiting if all(below in self.given for below in self.tasks[it][0])]
+        for place, key in enumerate(ready):
+            count = self.processes_for(key, len(ready) - place)
             if count == 0:
                 return
             self.waiting.remove(key)
