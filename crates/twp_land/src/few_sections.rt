@@ -6,7 +6,7 @@ ghost use Rattle.twp_land.specs.steps.Numbered.{LieBetween};
 
 use crate::lanes::LaneRows;
 use crate::place_set::PlaceSet;
-use crate::plot::Plot;
+use crate::plot::{Plot, add_apart};
 use crate::reach::{NOWHERE, Reach};
 use twp_grid::{Block, Section};
 
@@ -85,7 +85,8 @@ impl<P: Plot> PlaceSet for FewSections<P> {
         }
     }
 
-    #[inline]
+    // Inlined into a loop over sections, it would be done for all sets before the first section.
+    #[inline(never)]
     fn meets(&self, section: Section, block: Block) -> bool {
         match self.plot(section) {
             Some(plot) => plot.meets(block),
@@ -125,10 +126,10 @@ impl<P: Plot> PlaceSet for FewSections<P> {
         true
     }
 
-    #[inline]
-    fn add(&mut self, section: Section, block: Block) {
+    #[inline(always)]
+    fn add_apart(&mut self, section: Section, block: Block) -> bool {
         let at = self.find(section.number()).unwrap();
-        self.plots[at].add(block);
+        add_apart(&mut self.plots[at], block)
     }
 
     #[inline]

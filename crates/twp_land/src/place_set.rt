@@ -1,4 +1,4 @@
-ghost use Rattle.std.specs.Prelude.{◌≡◌, ◌<◌, ◌≤◌, ◌↔◌, ℕ, Bool, true, IsTrue, MatchOption};
+ghost use Rattle.std.specs.Prelude.{◌≡◌, ◌<◌, ◌≤◌, ◌↔◌, ℕ, Bool, true, false, IsTrue, MatchOption};
 ghost use Rattle.twp_grid.specs.Winding.{IsSection};
 ghost use Rattle.twp_grid.specs.Places.{PLACE_DIGITS, places_across, IsPlace};
 ghost use Rattle.twp_land.specs.Lands.{no_places, union, block_places, count_held, Meets, HoldsAll};
@@ -41,10 +41,14 @@ pub trait PlaceSet: Drop {
         ensures before { (other : ℕ) → IsSection other → IsTrue (has_room self.old other)
             → IsTrue (has_room self.new other) };
 
-    /// Adds the places of a section's block.
-    fn add(&mut self, section: Section, block: Block)
+    /// Adds the places of a section's block, unless the set contains one of them. Returns whether it
+    /// contained none. The section is looked up only once for this.
+    fn add_apart(&mut self, section: Section, block: Block) -> bool
         requires { IsTrue (has_room self.old section) }
-        ensures places { places self.new ≡ union (places self.old) (block_places section block) }
+        ensures apart { IsTrue result → ¬ Meets (places self.old section) block }
+        ensures met { result ≡ false → Meets (places self.old section) block }
+        ensures places { IsTrue result
+            → places self.new ≡ union (places self.old) (block_places section block) }
         ensures room { has_room self.new ≡ has_room self.old };
 
     /// Removes all places.
@@ -94,9 +98,13 @@ impl<L: Land> PlaceSet for L {
         true
     }
 
-    #[inline]
-    fn add(&mut self, section: Section, block: Block) {
+    #[inline(always)]
+    fn add_apart(&mut self, section: Section, block: Block) -> bool {
+        if Land::meets(self, section, block) {
+            return false;
+        }
         Land::add(self, section, block);
+        true
     }
 
     #[inline]

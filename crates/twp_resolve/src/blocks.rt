@@ -19,9 +19,8 @@ pub(crate) fn add_block<L: PlaceSet>(
         (λ fault. (fault ≡ PlaceFault.Overlap at) × Meets (L.places land.old section) block) }
     ensures room { L.has_room land.new ≡ L.has_room land.old }
 {
-    if land.meets(section, block) {
+    if !land.add_apart(section, block) {
         return Err(PlaceFault::Overlap { at });
     }
-    land.add(section, block);
     Ok(())
 }

@@ -70,6 +70,7 @@ fn resolve_block<L: PlaceSet>(
 
 /// The block that an aliquot part's steps reach in a section, from the last step to the first.
 /// `None` if one of them would halve a side of one place.
+#[inline(always)]
 pub fn chain_block(steps: &Steps) -> Option<Block>
     ensures { SomeIff result (AreWithin PLACE_DIGITS (cuts_of steps.now))
         (reached PLACE_DIGITS (cuts_of steps.now)) }
