@@ -29,30 +29,25 @@ impl<'a> Plan<'a> {
         let mut unsure = false;
         // Whether land has to follow a section that was named before.
         let mut is_awaited = false;
-        let is_landless = |group: Option<Group>| group.map_or(false, |group| !group.has_land);
         for placed in list.iter_mut() {
             let phrase = placed.phrase;
-            if let Some(before) = self.excepting(group, phrase) {
-                placed.role = Role::Kept(count);
-                if phrase.names == Names::Except {
-                    // Set apart, it may be from the land of each section.
-                    let pieces = &self.draft.pieces;
-                    let before_it = phrase.first.saturating_sub(1);
-                    let is_apart = pieces.is(before_it, b";")
-                        || pieces.is(before_it, b",")
-                        || pieces.has_before(phrase.first, b'\n');
-                    unsure = unsure
-                        || is_excepting(group)
-                        || self.count_of(before.section) > 1
-                        || (count > 1 && is_apart);
-                } else if is_first_excepted {
-                    placed.section = Some(before.section.numbers);
-                }
-                is_first_excepted = phrase.names == Names::Except;
-                group = Some(before);
-                continue;
-            }
             match (phrase.names, group) {
+                (names, Some(before)) if is_of_exception(&before, names) => {
+                    placed.role = Role::Kept(count);
+                    if names == Names::Except {
+                        unsure = unsure
+                            || before.is_excepting
+                            || self.count_of(before.section) > 1
+                            || (count > 1 && self.is_set_apart(phrase));
+                    } else if is_first_excepted {
+                        placed.section = Some(before.section.numbers);
+                    }
+                    is_first_excepted = names == Names::Except;
+                    group = Some(Group {
+                        is_excepting: true,
+                        ..before
+                    });
+                }
                 (Names::Nothing(_) | Names::Heading, _) => {}
                 (Names::Sections, Some(before))
                     if before.has_land && self.is_same_section(before.section, phrase) => {
@@ -61,11 +56,11 @@ impl<'a> Plan<'a> {
                     is_awaited = !self.is_after_of(phrase);
                 }
                 (Names::Sections, before) => {
-                    unsure = unsure
-                        || is_awaited
-                        || !self.is_sure_group(before)
-                        || is_excepting(before);
-                    landless = plus(landless, usize::from(is_landless(before)));
+                    if let Some(before) = before {
+                        unsure = unsure || !self.is_sure_group(&before) || before.is_excepting;
+                        landless = plus(landless, usize::from(!before.has_land));
+                    }
+                    unsure = unsure || is_awaited;
                     count = count.saturating_add(1);
                     if placed.role == Role::Kept(0) {
                         placed.role = Role::Kept(count);
@@ -94,8 +89,11 @@ impl<'a> Plan<'a> {
                 (_, None) => unsure = true,
             }
         }
-        unsure = unsure || is_awaited || !self.is_sure_group(group) || is_first_excepted;
-        landless = plus(landless, usize::from(is_landless(group)));
+        if let Some(last) = group {
+            unsure = unsure || !self.is_sure_group(&last);
+            landless = plus(landless, usize::from(!last.has_land));
+        }
+        unsure = unsure || is_awaited || is_first_excepted;
         let is_missing = landless > 0
             && landless < count
             && !self.are_set_apart(list)
@@ -116,25 +114,18 @@ impl<'a> Plan<'a> {
             || pieces.is(section.first, b"same")
     }
 
-    /// The group whose exception a phrase begins or continues, if it does.
-    fn excepting(&self, group: Option<Group>, phrase: Phrase) -> Option<Group> {
-        let group = group?;
-        let is_land = matches!(phrase.names, Names::Part | Names::Lots | Names::All);
-        if phrase.names == Names::Except || (group.is_excepting && is_land) {
-            return Some(Group {
-                is_excepting: true,
-                ..group
-            });
-        }
-        None
+    /// Whether an exception is set apart from the land before it: it may be from the land of each section.
+    fn is_set_apart(&self, exception: Phrase) -> bool {
+        let pieces = &self.draft.pieces;
+        let before = exception.first.saturating_sub(1);
+        pieces.is(before, b";")
+            || pieces.is(before, b",")
+            || pieces.has_before(exception.first, b'\n')
     }
 
     /// Whether it is sure which land a group has: several sections have none, or all of it is said to be
     /// theirs.
-    fn is_sure_group(&self, group: Option<Group>) -> bool {
-        let Some(group) = group else {
-            return true;
-        };
+    fn is_sure_group(&self, group: &Group) -> bool {
         let is_plain = group.section.form != Form::Plural;
         let is_several = self.count_of(group.section) > 1;
         let is_unsure_list = is_plain
@@ -186,10 +177,8 @@ impl<'a> Plan<'a> {
     }
 }
 
-/// Whether what follows a group is excepted from it.
-fn is_excepting(group: Option<Group>) -> bool {
-    match group {
-        Some(group) => group.is_excepting,
-        None => false,
-    }
+/// Whether a phrase begins the exception of a group, or continues it.
+fn is_of_exception(group: &Group, names: Names) -> bool {
+    let is_land = matches!(names, Names::Part | Names::Lots | Names::All);
+    names == Names::Except || (group.is_excepting && is_land)
 }
