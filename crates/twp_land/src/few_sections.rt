@@ -85,8 +85,7 @@ impl<P: Plot> PlaceSet for FewSections<P> {
         }
     }
 
-    // Inlined into a loop over sections, it would be done for all sets before the first section.
-    #[inline(never)]
+    #[inline]
     fn meets(&self, section: Section, block: Block) -> bool {
         match self.plot(section) {
             Some(plot) => plot.meets(block),
