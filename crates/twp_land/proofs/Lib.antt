@@ -23,5 +23,3 @@ pub mod RelationFacts
 pub mod LotSections
 pub mod MadeLands
 pub mod WholeDecided
-pub mod NumberFacts
-pub mod NumberedLands

@@ -1,8 +1,7 @@
--- How the sets are stored: that of a township as one set for each section, by number, or for a few
--- sections, beside their numbers; that of a section by rows from the south, each by columns from the east, as
--- tests or as the bits of a lane.
+-- How the sets are stored: that of a township as one set for each section, by number; that of a
+-- section by rows from the south, each by columns from the east, as tests or as the bits of a lane.
 use Rattle.std.specs.Prelude.{◌≡◌, ℕ, ◌-◌, ◌==◌, ◌&&◌, ◌||◌, not, Bool, true, false}
-use Rattle.std.specs.Prelude.{List, [], ◌∷◌, cond, nat_le, slice_index_or}
+use Rattle.std.specs.Prelude.{List, [], nat_le, slice_index_or}
 use Rattle.std.specs.List.{slice_get}
 use Rattle.std.specs.Int.{bit_at}
 use Rattle.std.specs.Option.{option_map_or}
@@ -31,18 +30,6 @@ abbrev pub held_by_section : {P : Type 0} → (P → ℕ → ℕ → Bool) → L
 held_by_section held plots section column row =
     is_section section
     && option_map_or (λ plot. held plot column row) (slice_get plots (section - 1)) false
-
--- the places of one section: those beside the first of the numbers that is the section's
-abbrev pub held_beside : {P : Type 0} → (P → ℕ → ℕ → Bool) → List ℕ → List P → ℕ → ℕ → ℕ → Bool
-held_beside held (number ∷ numbers) (plot ∷ plots) section column row =
-    cond (number == section) (held plot column row) (held_beside held numbers plots section column row)
-held_beside held numbers plots section column row = false
-
--- the set whose part in each section is stored beside the section's number
-abbrev pub held_by_number : {P : Type 0} → (P → ℕ → ℕ → Bool) → List ℕ → List P
-    → ℕ → ℕ → ℕ → Bool
-held_by_number held numbers plots section column row =
-    is_section section && held_beside held numbers plots section column row
 
 -- the set that is stored as rows
 abbrev pub held_by_row : List (List Bool) → ℕ → ℕ → Bool

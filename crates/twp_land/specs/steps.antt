@@ -4,4 +4,3 @@ pub mod BitLanes
 pub mod Crossing
 pub mod Exchanges
 pub mod Relating
-pub mod Numbered

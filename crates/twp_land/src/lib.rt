@@ -1,18 +1,15 @@
 //! Land: sets of places in a township. The trait `Land` says what such a set does; `Grid` stores a
-//! test for each place, and `Lanes` a bit. `FewLanes` has room for the places of three sections; the
-//! trait `PlaceSet` says what it does, and what each `Land` does, too.
+//! test for each place, and `Lanes` a bit.
 #![tactic(auto)]
 
 mod bits;
 mod comparing;
-mod few_sections;
 mod land;
 mod land_rows;
 mod lanes;
 pub mod laws;
 mod lot_places;
 mod lots;
-mod place_set;
 mod plot;
 mod reach;
 mod relation;
@@ -24,13 +21,11 @@ mod sections;
 mod window;
 
 pub use comparing::{Comparison, compare};
-pub use few_sections::{FewLanes, FewSections};
 pub use land::Land;
 pub use land_rows::LandRows;
 pub use lanes::{LaneRows, Lanes};
 pub use lot_places::holds_of_lot;
 pub use lots::lots_whole;
-pub use place_set::PlaceSet;
 pub use plot::Plot;
 pub use row_combining::{write_difference, write_intersection, write_union};
 pub use row_comparing::compare_rows;

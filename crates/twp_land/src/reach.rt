@@ -1,7 +1,5 @@
 ghost use Rattle.std.specs.Prelude.{◌≡◌, min, max};
 
-use twp_grid::SECTIONS;
-
 /// The indexes from `first` up to, but not including, `end`. There are none unless `end` is greater
 /// than `first`.
 #[derive(Clone, Copy)]
@@ -9,12 +7,6 @@ pub(crate) struct Reach {
     pub(crate) first: usize,
     pub(crate) end: usize,
 }
-
-/// The range of no sections.
-pub(crate) const NOWHERE: Reach = Reach {
-    first: SECTIONS as usize,
-    end: 0,
-};
 
 impl Reach {
     /// Widens the range to include the indexes from one up to another.

@@ -6,11 +6,17 @@ ghost use Rattle.twp_land.specs.steps.Exchanges.{exchanged};
 
 use crate::land::Land;
 use crate::plot::Plot;
-use crate::reach::{NOWHERE, Reach};
+use crate::reach::Reach;
 use twp_grid::{Block, SECTIONS, Section};
 
 /// One set for each section.
 const SETS: usize = SECTIONS as usize;
+
+/// The range of no sets.
+const NOWHERE: Reach = Reach {
+    first: SETS,
+    end: 0,
+};
 
 /// A `Land` that stores a set of places for each section, by number. Sets outside its reach are
 /// empty, so operations on all of the land look only at the others.

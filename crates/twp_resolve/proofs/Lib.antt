@@ -8,4 +8,3 @@ pub mod ResolvingFacts
 pub mod SharedFacts
 pub mod LandLots
 pub mod DescribedLand
-pub mod RoomFacts

@@ -16,10 +16,10 @@ use crate::part_text::{first_quarter, half_at};
 use crate::written_parts::{full_quarters, is_full};
 use std::alloc::{AllocError, Global};
 use twp_grid::{Block, Corner, Section, Side};
-use twp_land::PlaceSet;
+use twp_land::Land;
 
 /// The blocks of the parts that the land in a section off its lots is written as, in their order.
-pub fn part_blocks<L: PlaceSet>(
+pub fn part_blocks<L: Land>(
     alloc: Global,
     land: &L,
     section: Section,
@@ -39,7 +39,7 @@ pub fn part_blocks<L: PlaceSet>(
 
 /// Appends the blocks of the written parts of a square that is not full.
 #[cycle(descent)]
-fn gather_square<L: PlaceSet>(
+fn gather_square<L: Land>(
     land: &L,
     section: Section,
     block: Block,
@@ -65,7 +65,7 @@ fn gather_square<L: PlaceSet>(
 
 /// Appends the blocks of the written parts that begin in a quarter of a square that is not full.
 #[cycle(descent)]
-fn gather_quarter<L: PlaceSet>(
+fn gather_quarter<L: Land>(
     land: &L,
     section: Section,
     block: Block,

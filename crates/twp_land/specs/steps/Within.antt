@@ -1,15 +1,13 @@
 -- Stored sets lie in the township: the proofs of the law of `Land` and `Plot`.
-use Rattle.std.proofs.Common.{◌≡◌, ◌==◌, ℕ, ◌-◌, Bool, true, false, List, Option, Some, None, nat_le}
-use Rattle.std.proofs.Common.{nat_lt, [], ◌∷◌, arith}
+use Rattle.std.proofs.Common.{◌≡◌, ℕ, ◌-◌, Bool, true, false, List, Option, Some, None, nat_le}
+use Rattle.std.proofs.Common.{nat_lt, arith}
 use Rattle.std.specs.List.{slice_get}
 use Rattle.std.specs.Option.{option_map_or}
 use Rattle.std.proofs.lemmas.Bool.Decides.{nat_tests}
-use Rattle.std.proofs.lemmas.Bool.{and_parts, cases_Bool}
-use Rattle.std.proofs.Common.{inl, inr}
+use Rattle.std.proofs.lemmas.Bool.{and_parts}
 use Rattle.twp_grid.specs.Winding.{SECTION_COUNT, IsSection}
 use Rattle.twp_grid.specs.Places.{PLACE_DIGITS, places_across, is_place, IsPlace}
 use Rattle.twp_land.specs.Storage.{is_section, held_by_section, held_by_row, held_by_lane}
-use Rattle.twp_land.specs.Storage.{held_beside, held_by_number}
 
 -- a place of the section, from its test
 place_of : (column row : ℕ) → is_place PLACE_DIGITS column row ≡ true
@@ -47,24 +45,3 @@ held_within {P = P} held plots section column row within is =
         → IsPlace PLACE_DIGITS column row
     of_plot None none = cc none
     of_plot (Some plot) held_there = within plot column row held_there
-
--- a set stored beside numbers contains only places of a section, which a stored part contains
-pub numbered_within : {P : Type 0} (held : P → ℕ → ℕ → Bool) (numbers : List ℕ) (plots : List P)
-    (section column row : ℕ)
-    → ((plot : P) (column row : ℕ) → held plot column row ≡ true → IsPlace PLACE_DIGITS column row)
-    → held_by_number held numbers plots section column row ≡ true
-    → IsSection section × IsPlace PLACE_DIGITS column row
-numbered_within {P = P} held numbers plots section column row within is =
-    let parts = and_parts (is_section section) _ is in
-    let sides = and_parts (nat_le 1 section) (nat_le section SECTION_COUNT) parts.0 in
-    let number : IsSection section = (grind (arith, nat_tests), grind (arith, nat_tests)) in
-    (number, of_plots numbers plots parts.1)
-  where
-    of_plots : (numbers : List ℕ) (plots : List P) → held_beside held numbers plots section column row ≡ true
-        → IsPlace PLACE_DIGITS column row
-    of_plots (n ∷ ns) (plot ∷ plots) there = elim (cases_Bool (n == section)) [
-      | inl here ↦ within plot column row (rw here at there)
-      | inr apart ↦ of_plots ns plots (rw apart at there)
-    ]
-    of_plots [] plots there = cc there
-    of_plots (n ∷ ns) [] there = cc there

@@ -1,31 +1,96 @@
--- A `Land` has room, so its content is the land of all items unless there is a fault.
-use Rattle.std.proofs.Common.{refl}
+-- The items are added one after another; the first of them with a fault has the first fault, and at
+-- the end the land is that of all items.
+use Rattle.std.proofs.Common.{sym, subst, refl, arith}
 use Rattle.std.proofs.lemmas.Result.{err_from_is_err_and}
 use Rattle.twp_grid.specs.Places.{PLACE_DIGITS}
+use Rattle.twp_land.specs.Lands.{HasWholeLots}
+use Rattle.twp_grammar.specs.OnPlat.{IsLandOfItems}
+use Rattle.twp_resolve.specs.steps.ResolvingSteps.{number_of_section}
+use Rattle.twp_resolve.proofs.LandLots.{land_has_whole_lots}
 use Rattle.twp_resolve.proofs.PlaceAnswers.{no_fault}
+use Rattle.twp_resolve.proofs.ResolvingFacts.{taken_none, taken_next, refused_here, taken_all}
+use Rattle.twp_resolve.proofs.ResolvingFacts.{not_known, may_be_taken, known_next}
 use Rattle.twp_resolve.proofs.resolving.resolve_into.Goals as goal
 
-pub returns-in_err-resolve_if_room-clause-on_plat : goal.returns-in_err-resolve_if_room-clause-on_plat
-returns-in_err-resolve_if_room-clause-on_plat g c =
+pub loop-item-init : goal.loop-item-init
+loop-item-init g c = record {
+  taken =
+      taken_none PLACE_DIGITS c.args.township c.items-items.result.now (g.L.Land.places c.clear.new.self)
+      c.clear.ensures;
+  known =
+      not_known c.items-items.result.now
+      (rw c.items-items.ensures.items c.items-items.ensures.sections_first);
+}
+
+pub resolve_item-requires : goal.resolve_item-requires
+resolve_item-requires g c =
+    may_be_taken c.loop-item.section c.items-items.result.now c.loop-item.item-index c.item-item.result
+    c.loop-item-test.true (sym c.item-item.is) c.loop-item.invariant.known
+
+pub returns-in_err-section-clause-refused : goal.returns-in_err-section-clause-refused
+returns-in_err-section-clause-refused g c =
     let gone = err_from_is_err_and c.from_residual.result c.from_residual.ensures.1 in
-    rw gone.1 (
+    rw (gone.1, gone.2, ← c.items-items.ensures.items)
+    (refused_here PLACE_DIGITS c.args.township c.items-items.result.now c.loop-item.item-index
+    (number_of_section c.loop-item.section) c.item-item.result (g.L.Land.places c.loop-item.land)
+    c.in_err-section.field-0.0
+    c.loop-item-test.true (sym c.item-item.is) c.loop-item.invariant.taken c.in_err-section.ensures.refused)
+
+pub returns-in_err-section-clause-on_plat : goal.returns-in_err-section-clause-on_plat
+returns-in_err-section-clause-on_plat g c =
+    let gone = err_from_is_err_and c.from_residual.result c.from_residual.ensures.1 in
+    let refused =
+    refused_here PLACE_DIGITS c.args.township c.items-items.result.now c.loop-item.item-index
+    (number_of_section c.loop-item.section) c.item-item.result (g.L.Land.places c.loop-item.land)
+    c.in_err-section.field-0.0
+    c.loop-item-test.true (sym c.item-item.is) c.loop-item.invariant.taken c.in_err-section.ensures.refused in
+    rw (gone.1, ← c.items-items.ensures.items) (
       λ ok. cc ok,
       λ on.
           absurd
-          (no_fault PLACE_DIGITS c.args.township c.args.description.now c.in_err-resolve_if_room.field-0.0 on
-          c.in_err-resolve_if_room.ensures.refused),
+          (no_fault PLACE_DIGITS c.args.township c.items-items.result.now c.in_err-section.field-0.0 on
+          refused),
     )
+
+pub loop-item-preserved : goal.loop-item-preserved
+loop-item-preserved g c =
+    let so_far = c.loop-item.invariant in
+    let taken =
+    taken_next PLACE_DIGITS c.args.township c.items-items.result.now c.loop-item.item-index
+    (number_of_section c.loop-item.section) c.item-item.result (g.L.Land.places c.loop-item.land)
+    (g.L.Land.places c.resolve_item.new.land)
+    c.loop-item-test.true (sym c.item-item.is) so_far.taken c.in_ok-section.ensures.taken in
+    record {
+      taken = rw c.in_ok-section.ensures.after taken;
+      known =
+          known_next PLACE_DIGITS c.args.township c.loop-item.section c.in_ok-section.section
+          c.items-items.result.now c.loop-item.item-index c.item-item.result
+          c.loop-item-test.true (sym c.item-item.is) so_far.known c.in_ok-section.ensures.taken.lies
+          c.in_ok-section.ensures.after;
+    }
 
 pub returns-clause-land : goal.returns-clause-land
 returns-clause-land g c =
-    c.in_ok-resolve_if_room.ensures.land (c.in_ok-resolve_if_room.ensures.always (λ set section. refl))
+    rw (← c.items-items.ensures.items)
+    (taken_all PLACE_DIGITS c.args.township c.items-items.result.now c.loop-item.item-index
+    (number_of_section c.loop-item.section) (g.L.Land.places c.loop-item.land) (omega arith)
+    c.loop-item.invariant.taken)
 
 pub returns-clause-whole_lots : goal.returns-clause-whole_lots
 returns-clause-whole_lots g c =
-    c.in_ok-resolve_if_room.ensures.whole_lots (c.in_ok-resolve_if_room.ensures.always (λ set section. refl))
+    let whole : IsLandOfItems PLACE_DIGITS c.args.township c.items-items.result.now
+    (g.L.Land.places c.loop-item.land) =
+    taken_all PLACE_DIGITS c.args.township c.items-items.result.now c.loop-item.item-index
+    (number_of_section c.loop-item.section) (g.L.Land.places c.loop-item.land) (omega arith)
+    c.loop-item.invariant.taken in
+    subst (HasWholeLots PLACE_DIGITS) (sym whole.land_is)
+    (land_has_whole_lots c.args.township c.items-items.result.now whole.on_plat)
 
 pub returns-clause-on_plat : goal.returns-clause-on_plat
 returns-clause-on_plat g c =
-    let land =
-    c.in_ok-resolve_if_room.ensures.land (c.in_ok-resolve_if_room.ensures.always (λ set section. refl)) in
-    (λ _. land.on_plat, λ _. refl)
+    let whole : IsLandOfItems PLACE_DIGITS c.args.township c.items-items.result.now
+    (g.L.Land.places c.loop-item.land) =
+    taken_all PLACE_DIGITS c.args.township c.items-items.result.now c.loop-item.item-index
+    (number_of_section c.loop-item.section) (g.L.Land.places c.loop-item.land) (omega arith)
+    c.loop-item.invariant.taken in
+    (λ _. rw (← c.items-items.ensures.items) whole.on_plat, λ _. refl)
