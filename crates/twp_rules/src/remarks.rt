@@ -5,7 +5,7 @@ ghost use Rattle.twp_rules.specs.Remarks.{land_words, limits_land, measure_words
 ghost use Rattle.twp_rules.specs.Remarks.{names_land, portion_words, share_words, side_words, taking_words, word_of};
 
 use crate::figures::from;
-use crate::same::is_one_of;
+use crate::same::is_text;
 
 /// Whether a text is a remark.
 pub fn is_remark(seen: &[u8]) -> bool
@@ -57,25 +57,20 @@ fn word_of(seen: &[u8]) -> &[u8]
     seen
 }
 
-/// The words `land_words` of the specification.
-static LAND_WORDS: [&[u8]; 10] = [
-    b"sec",
-    b"secs",
-    b"section",
-    b"sections",
-    b"lot",
-    b"lots",
-    b"ne",
-    b"nw",
-    b"se",
-    b"sw",
-];
-
 /// Whether a word names land.
 fn names_land(word: &[u8]) -> bool
     ensures { result ≡ names_land word.now }
 {
-    is_one_of(word, &LAND_WORDS)
+    is_text(word, b"sec")
+        || is_text(word, b"secs")
+        || is_text(word, b"section")
+        || is_text(word, b"sections")
+        || is_text(word, b"lot")
+        || is_text(word, b"lots")
+        || is_text(word, b"ne")
+        || is_text(word, b"nw")
+        || is_text(word, b"se")
+        || is_text(word, b"sw")
 }
 
 /// Whether a word takes land away, or tells where it ends.
@@ -91,156 +86,126 @@ fn limits_land(word: &[u8]) -> bool
         || is_measure_word(word)
 }
 
-/// The words `share_words` of the specification.
-static SHARE_WORDS: [&[u8]; 4] = [b"half", b"halves", b"quarter", b"quarters"];
-
 /// Whether a word is for a share, of land or of an interest in it.
 fn is_share_word(word: &[u8]) -> bool
     ensures { result ≡ is_word_of word.now share_words }
 {
-    is_one_of(word, &SHARE_WORDS)
+    is_text(word, b"half")
+        || is_text(word, b"halves")
+        || is_text(word, b"quarter")
+        || is_text(word, b"quarters")
 }
-
-/// The words `side_words` of the specification.
-static SIDE_WORDS: [&[u8]; 14] = [
-    b"n",
-    b"s",
-    b"e",
-    b"w",
-    b"north",
-    b"south",
-    b"east",
-    b"west",
-    b"northeast",
-    b"northwest",
-    b"southeast",
-    b"southwest",
-    b"corner",
-    b"cor",
-];
 
 /// Whether a word is for a side or a corner.
 fn is_side_word(word: &[u8]) -> bool
     ensures { result ≡ is_word_of word.now side_words }
 {
-    is_one_of(word, &SIDE_WORDS)
+    is_text(word, b"n")
+        || is_text(word, b"s")
+        || is_text(word, b"e")
+        || is_text(word, b"w")
+        || is_text(word, b"north")
+        || is_text(word, b"south")
+        || is_text(word, b"east")
+        || is_text(word, b"west")
+        || is_text(word, b"northeast")
+        || is_text(word, b"northwest")
+        || is_text(word, b"southeast")
+        || is_text(word, b"southwest")
+        || is_text(word, b"corner")
+        || is_text(word, b"cor")
 }
-
-/// The words `taking_words` of the specification.
-static TAKING_WORDS: [&[u8]; 15] = [
-    b"except",
-    b"excepting",
-    b"exception",
-    b"exceptions",
-    b"excepted",
-    b"excluding",
-    b"excludes",
-    b"excluded",
-    b"exclusive",
-    b"ex",
-    b"less",
-    b"save",
-    b"but",
-    b"not",
-    b"without",
-];
 
 /// Whether a word takes land away.
 fn is_taking_word(word: &[u8]) -> bool
     ensures { result ≡ is_word_of word.now taking_words }
 {
-    is_one_of(word, &TAKING_WORDS)
+    is_text(word, b"except")
+        || is_text(word, b"excepting")
+        || is_text(word, b"exception")
+        || is_text(word, b"exceptions")
+        || is_text(word, b"excepted")
+        || is_text(word, b"excluding")
+        || is_text(word, b"excludes")
+        || is_text(word, b"excluded")
+        || is_text(word, b"exclusive")
+        || is_text(word, b"ex")
+        || is_text(word, b"less")
+        || is_text(word, b"save")
+        || is_text(word, b"but")
+        || is_text(word, b"not")
+        || is_text(word, b"without")
 }
-
-/// The words `more_taking_words` of the specification.
-static MORE_TAKING_WORDS: [&[u8]; 10] = [
-    b"minus",
-    b"omitted",
-    b"deleted",
-    b"void",
-    b"cancelled",
-    b"withdrawn",
-    b"remaining",
-    b"balance",
-    b"former",
-    b"formerly",
-];
 
 /// Whether another word takes land away.
 fn is_more_taking_word(word: &[u8]) -> bool
     ensures { result ≡ is_word_of word.now more_taking_words }
 {
-    is_one_of(word, &MORE_TAKING_WORDS)
+    is_text(word, b"minus")
+        || is_text(word, b"omitted")
+        || is_text(word, b"deleted")
+        || is_text(word, b"void")
+        || is_text(word, b"cancelled")
+        || is_text(word, b"withdrawn")
+        || is_text(word, b"remaining")
+        || is_text(word, b"balance")
+        || is_text(word, b"former")
+        || is_text(word, b"formerly")
 }
-
-/// The words `portion_words` of the specification.
-static PORTION_WORDS: [&[u8]; 15] = [
-    b"portion",
-    b"portions",
-    b"part",
-    b"parts",
-    b"por",
-    b"pt",
-    b"ptn",
-    b"strip",
-    b"block",
-    b"blk",
-    b"claim",
-    b"claims",
-    b"lode",
-    b"tax",
-    b"survey",
-];
 
 /// Whether a word is for a part of land that is no aliquot part.
 fn is_portion_word(word: &[u8]) -> bool
     ensures { result ≡ is_word_of word.now portion_words }
 {
-    is_one_of(word, &PORTION_WORDS)
+    is_text(word, b"portion")
+        || is_text(word, b"portions")
+        || is_text(word, b"part")
+        || is_text(word, b"parts")
+        || is_text(word, b"por")
+        || is_text(word, b"pt")
+        || is_text(word, b"ptn")
+        || is_text(word, b"strip")
+        || is_text(word, b"block")
+        || is_text(word, b"blk")
+        || is_text(word, b"claim")
+        || is_text(word, b"claims")
+        || is_text(word, b"lode")
+        || is_text(word, b"tax")
+        || is_text(word, b"survey")
 }
-
-/// The words `bound_words` of the specification.
-static BOUND_WORDS: [&[u8]; 14] = [
-    b"beginning",
-    b"thence",
-    b"lying",
-    b"bounded",
-    b"within",
-    b"outside",
-    b"inside",
-    b"along",
-    b"across",
-    b"between",
-    b"above",
-    b"below",
-    b"adjacent",
-    b"adjoining",
-];
 
 /// Whether a word tells where land ends.
 fn is_bound_word(word: &[u8]) -> bool
     ensures { result ≡ is_word_of word.now bound_words }
 {
-    is_one_of(word, &BOUND_WORDS)
+    is_text(word, b"beginning")
+        || is_text(word, b"thence")
+        || is_text(word, b"lying")
+        || is_text(word, b"bounded")
+        || is_text(word, b"within")
+        || is_text(word, b"outside")
+        || is_text(word, b"inside")
+        || is_text(word, b"along")
+        || is_text(word, b"across")
+        || is_text(word, b"between")
+        || is_text(word, b"above")
+        || is_text(word, b"below")
+        || is_text(word, b"adjacent")
+        || is_text(word, b"adjoining")
 }
-
-/// The words `measure_words` of the specification.
-static MEASURE_WORDS: [&[u8]; 10] = [
-    b"feet",
-    b"foot",
-    b"ft",
-    b"rod",
-    b"rods",
-    b"chain",
-    b"chains",
-    b"centerline",
-    b"line",
-    b"point",
-];
 
 /// Whether a word is of a measure.
 fn is_measure_word(word: &[u8]) -> bool
     ensures { result ≡ is_word_of word.now measure_words }
 {
-    is_one_of(word, &MEASURE_WORDS)
+    is_text(word, b"feet")
+        || is_text(word, b"foot")
+        || is_text(word, b"ft")
+        || is_text(word, b"rod")
+        || is_text(word, b"rods")
+        || is_text(word, b"chain")
+        || is_text(word, b"chains")
+        || is_text(word, b"centerline")
+        || is_text(word, b"line")
+        || is_text(word, b"point")
 }

@@ -1,6 +1,5 @@
 //! Texts that are the same, in letters of either case.
-ghost use Rattle.std.specs.Prelude.{◌≡◌, All};
-ghost use Rattle.std.specs.List.{list_any};
+ghost use Rattle.std.specs.Prelude.{◌≡◌};
 ghost use Rattle.std.specs.Str.{str_to_ascii_lowercase};
 ghost use Rattle.twp_grammar.specs.Tokens.{same_bytes};
 
@@ -19,17 +18,4 @@ pub(crate) fn is_text(seen: &[u8], text: &[u8]) -> bool
     ensures { result ≡ same_bytes (str_to_ascii_lowercase seen.now) text.now }
 {
     seen.eq_ignore_ascii_case(text)
-}
-
-/// Whether a text in letters of either case is one of others, which are in lowercase.
-pub(crate) fn is_one_of(seen: &[u8], texts: &[&[u8]]) -> bool
-    requires { All (λ text. str_to_ascii_lowercase text.now ≡ text.now) texts.now }
-    ensures { result ≡ list_any (λ text. same_bytes (str_to_ascii_lowercase seen.now) text.now) texts.now }
-{
-    for text in texts {
-        if is_text(seen, text) {
-            return true;
-        }
-    }
-    false
 }
