@@ -5,7 +5,7 @@ import re
 import unittest
 
 ROOT = pathlib.Path(__file__).resolve().parent.parent.parent
-ROW = re.compile(r'^ +(\d+) => (?:\{\s+)?"([^"]*)"', re.M)
+ROW = re.compile(r'^ +(\d+) => (?:\{\s+)?\(?\s*"([^"]*)"', re.M)
 LISTS = re.compile(r"match word\.len\(\) \{\n(.*?)\n    \}", re.S)
 
 

@@ -5,20 +5,7 @@ use std::alloc::AllocError;
 use twp_grammar::Kind;
 use twp_pieces::plus;
 use twp_rules::Rule;
-use twp_words::{Size, is_in};
-
-/// A `1`, and what scanning makes of it.
-static ONES: [&[u8]; 9] = [
-    b"1",
-    b"l",
-    b"i",
-    b"'",
-    b"\xE2\x80\x99",
-    b"]",
-    b"!",
-    b"|",
-    b"\xC2\xB9",
-];
+use twp_words::Size;
 
 impl<'a> Draft<'a> {
     /// The fraction at an index, after letters: the index after it.
@@ -149,10 +136,24 @@ impl<'a> Draft<'a> {
     /// or of a `2`, or two halves.
     fn is_slashed(&self, index: usize, size: Size) -> bool {
         let digit = plus(index, 2);
-        if is_in(self.pieces.lower(index), &ONES) {
+        if self.is_worn_one(index) {
             return self.is_digit(digit, size) || self.is_worn_digit(index, digit, size);
         }
         size == Size::Half && self.pieces.number(index) == Some(2) && self.is_digit(digit, size)
+    }
+
+    /// Whether a `1` is at an index, or what scanning makes of it.
+    fn is_worn_one(&self, index: usize) -> bool {
+        let pieces = &self.pieces;
+        pieces.is(index, b"1")
+            || pieces.is(index, b"l")
+            || pieces.is(index, b"i")
+            || pieces.is(index, b"'")
+            || pieces.is(index, b"\xE2\x80\x99")
+            || pieces.is(index, b"]")
+            || pieces.is(index, b"!")
+            || pieces.is(index, b"|")
+            || pieces.is(index, b"\xC2\xB9")
     }
 
     /// Whether the lowered digit of a fraction is at an index, or the `z` that scanning makes of a `2` after a `1`.

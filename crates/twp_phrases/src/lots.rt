@@ -6,33 +6,9 @@ use std::alloc::AllocError;
 use twp_grammar::Kind;
 use twp_pieces::plus;
 use twp_rules::Rule;
-use twp_words::is_in;
 
 /// So many acres, and less than one more, may be those of a part of a lot.
 const LEAST: u16 = 2;
-
-/// Words for lots that no description has, in lowercase, and what is written for them.
-static LOT_WORDS: [(&[u8], &[u8]); 6] = [
-    (b"l", b"lot "),
-    (b"lt", b"lot "),
-    (b"gl", b"lot "),
-    (b"lts", b"lots "),
-    (b"iots", b"lots"),
-    (b"iot", b"lot"),
-];
-
-/// What may be between the word for lots and their numbers.
-static BEFORE_NUMBERS: [&[u8]; 6] = [b"numbered", b".", b"no", b"nos", b":", b"#"];
-
-/// What is written for a word for lots that no description has.
-fn written_lot(word: &[u8]) -> Option<&'static [u8]> {
-    for (name, written) in &LOT_WORDS {
-        if *name == word {
-            return Some(*written);
-        }
-    }
-    None
-}
 
 impl<'a> Draft<'a> {
     /// The lots at an index.
@@ -65,7 +41,7 @@ impl<'a> Draft<'a> {
             word = plus(word, 1);
         }
         word = self.after_government(word);
-        let written = written_lot(self.pieces.lower(word));
+        let written = self.written_lot(word);
         if !matches!(self.pieces.kind(word), Kind::Lot) && written.is_none() {
             return Ok(None);
         }
@@ -75,12 +51,41 @@ impl<'a> Draft<'a> {
         }
         let mut next = plus(word, 1);
         for place in next..plus(next, 3) {
-            if place == next && is_in(self.pieces.lower(place), &BEFORE_NUMBERS) {
+            if place == next && self.is_before_number(place) {
                 self.replace(place, b"", Rule::LotWord)?;
                 next = plus(place, 1);
             }
         }
         Ok(Some(next))
+    }
+
+    /// What is written for a word for lots that no description has.
+    fn written_lot(&self, index: usize) -> Option<&'static [u8]> {
+        let pieces = &self.pieces;
+        if pieces.is(index, b"l") || pieces.is(index, b"lt") || pieces.is(index, b"gl") {
+            return Some(b"lot ");
+        }
+        if pieces.is(index, b"lts") {
+            return Some(b"lots ");
+        }
+        if pieces.is(index, b"iots") {
+            return Some(b"lots");
+        }
+        if pieces.is(index, b"iot") {
+            return Some(b"lot");
+        }
+        None
+    }
+
+    /// Whether what may be between the word for lots and their numbers is at an index.
+    fn is_before_number(&self, index: usize) -> bool {
+        let pieces = &self.pieces;
+        pieces.is(index, b"numbered")
+            || pieces.is(index, b".")
+            || pieces.is(index, b"no")
+            || pieces.is(index, b"nos")
+            || pieces.is(index, b":")
+            || pieces.is(index, b"#")
     }
 
     /// The index after the words for the government at an index.

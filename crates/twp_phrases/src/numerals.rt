@@ -3,42 +3,36 @@
 use crate::draft::{Draft, Numeral};
 use std::alloc::AllocError;
 use twp_grammar::Kind;
-use twp_pieces::{plus, tens_of, value_of};
+use twp_pieces::{plus, tens_of, value_of, value_of_count};
 use twp_rules::Rule;
 
-/// Words for numbers, in lowercase, and their digits.
-static NUMERALS: [(&[u8], &[u8]); 21] = [
-    (b"one", b"1"),
-    (b"two", b"2"),
-    (b"three", b"3"),
-    (b"four", b"4"),
-    (b"five", b"5"),
-    (b"six", b"6"),
-    (b"seven", b"7"),
-    (b"eight", b"8"),
-    (b"nine", b"9"),
-    (b"ten", b"10"),
-    (b"eleven", b"11"),
-    (b"twelve", b"12"),
-    (b"thirteen", b"13"),
-    (b"fourteen", b"14"),
-    (b"fifteen", b"15"),
-    (b"sixteen", b"16"),
-    (b"seventeen", b"17"),
-    (b"eighteen", b"18"),
-    (b"nineteen", b"19"),
-    (b"twenty", b"20"),
-    (b"thirty", b"30"),
-];
-
-/// The digits of a word for a number, in lowercase.
+/// The digits of a word for a number up to twenty, or for thirty, in lowercase.
 fn digits_of(word: &[u8]) -> Option<&'static [u8]> {
-    for (name, digits) in &NUMERALS {
-        if *name == word {
-            return Some(*digits);
-        }
-    }
-    None
+    let digits: &'static [u8] = match value_of_count(word)? {
+        1 => b"1",
+        2 => b"2",
+        3 => b"3",
+        4 => b"4",
+        5 => b"5",
+        6 => b"6",
+        7 => b"7",
+        8 => b"8",
+        9 => b"9",
+        10 => b"10",
+        11 => b"11",
+        12 => b"12",
+        13 => b"13",
+        14 => b"14",
+        15 => b"15",
+        16 => b"16",
+        17 => b"17",
+        18 => b"18",
+        19 => b"19",
+        20 => b"20",
+        30 => b"30",
+        _ => return None,
+    };
+    Some(digits)
 }
 
 impl<'a> Draft<'a> {

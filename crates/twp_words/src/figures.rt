@@ -1,6 +1,6 @@
 //! Words of acreage and of numbers.
 
-use crate::same::{is_among, is_same};
+use crate::same::{index_among, is_among, is_same};
 
 /// Words for the unit of acreage.
 pub fn is_acres(word: &[u8]) -> bool {
@@ -66,43 +66,24 @@ pub fn is_of_count(word: &[u8]) -> bool {
     is_among(word, words)
 }
 
-/// The words for numbers up to ninety, and their values.
-static COUNTS: [(&[u8], u64); 27] = [
-    (b"one", 1),
-    (b"two", 2),
-    (b"three", 3),
-    (b"four", 4),
-    (b"five", 5),
-    (b"six", 6),
-    (b"seven", 7),
-    (b"eight", 8),
-    (b"nine", 9),
-    (b"ten", 10),
-    (b"eleven", 11),
-    (b"twelve", 12),
-    (b"thirteen", 13),
-    (b"fourteen", 14),
-    (b"fifteen", 15),
-    (b"sixteen", 16),
-    (b"seventeen", 17),
-    (b"eighteen", 18),
-    (b"nineteen", 19),
-    (b"twenty", 20),
-    (b"thirty", 30),
-    (b"forty", 40),
-    (b"fifty", 50),
-    (b"sixty", 60),
-    (b"seventy", 70),
-    (b"eighty", 80),
-    (b"ninety", 90),
-];
-
 /// The value of a word for a number up to ninety.
 pub fn value_of_count(word: &[u8]) -> Option<u64> {
-    for (name, value) in &COUNTS {
-        if is_same(word, name) {
-            return Some(*value);
-        }
-    }
-    None
+    let (words, values): (&str, &[u8]) = match word.len() {
+        3 => ("one six ten two", &[1, 6, 10, 2]),
+        4 => ("five four nine", &[5, 4, 9]),
+        5 => (
+            "eight fifty forty seven sixty three",
+            &[8, 50, 40, 7, 60, 3],
+        ),
+        6 => (
+            "eighty eleven ninety thirty twelve twenty",
+            &[80, 11, 90, 30, 12, 20],
+        ),
+        7 => ("fifteen seventy sixteen", &[15, 70, 16]),
+        8 => ("eighteen fourteen nineteen thirteen", &[18, 14, 19, 13]),
+        9 => ("seventeen", &[17]),
+        _ => return None,
+    };
+    let at = index_among(word, words)?;
+    Some(u64::from(*values.get(at)?))
 }

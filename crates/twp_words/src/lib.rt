@@ -41,7 +41,7 @@ pub use parties::{
     is_of_time, is_owner, is_partial, is_whose, may_be_corners,
 };
 pub use requests::{begins_request, is_of_request};
-pub use same::{are_corners, is_glued, is_in, is_one_of, is_same, size_of_character};
+pub use same::{are_corners, is_glued, is_one_of, is_same, size_of_character};
 pub use steps::{Size, written_step};
 pub use terms::{
     begins_terms, is_beyond_depths, is_beyond_terms, is_boundary, is_conveyance, is_of_depth,

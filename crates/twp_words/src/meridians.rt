@@ -57,47 +57,32 @@ pub fn is_state(word: &[u8]) -> bool {
     is_among(word, words)
 }
 
-/// Names of meridians of two words.
-static MERIDIANS_OF_TWO: [(&[u8], &[u8]); 14] = [
-    (b"salt", b"lake"),
-    (b"mount", b"diablo"),
-    (b"mt", b"diablo"),
-    (b"new", b"mexico"),
-    (b"black", b"hills"),
-    (b"san", b"bernardino"),
-    (b"wind", b"river"),
-    (b"copper", b"river"),
-    (b"sixth", b"principal"),
-    (b"fifth", b"principal"),
-    (b"fourth", b"principal"),
-    (b"third", b"principal"),
-    (b"second", b"principal"),
-    (b"first", b"principal"),
-];
-
-/// Names of states of two words.
-static STATES_OF_TWO: [(&[u8], &[u8]); 3] = [
-    (b"new", b"mexico"),
-    (b"north", b"dakota"),
-    (b"south", b"dakota"),
-];
-
 /// Whether two words are a meridian's name.
 pub fn is_meridian_of_two(first: &[u8], second: &[u8]) -> bool {
-    are_among(first, second, &MERIDIANS_OF_TWO)
+    (is_same(first, b"salt") && is_same(second, b"lake"))
+        || (is_same(first, b"mount") && is_same(second, b"diablo"))
+        || (is_same(first, b"mt") && is_same(second, b"diablo"))
+        || (is_same(first, b"new") && is_same(second, b"mexico"))
+        || (is_same(first, b"black") && is_same(second, b"hills"))
+        || (is_same(first, b"san") && is_same(second, b"bernardino"))
+        || (is_same(first, b"wind") && is_same(second, b"river"))
+        || (is_same(first, b"copper") && is_same(second, b"river"))
+        || (is_same(second, b"principal") && is_ordinal(first))
+}
+
+/// The numbers of principal meridians.
+fn is_ordinal(word: &[u8]) -> bool {
+    let words: &str = match word.len() {
+        5 => "fifth first sixth third",
+        6 => "fourth second",
+        _ => return false,
+    };
+    is_among(word, words)
 }
 
 /// Whether two words are a state's name.
 pub fn is_state_of_two(first: &[u8], second: &[u8]) -> bool {
-    are_among(first, second, &STATES_OF_TWO)
-}
-
-/// Whether two words are one of these names.
-fn are_among(first: &[u8], second: &[u8], names: &[(&[u8], &[u8])]) -> bool {
-    for (one, other) in names {
-        if is_same(first, one) && is_same(second, other) {
-            return true;
-        }
-    }
-    false
+    (is_same(first, b"new") && is_same(second, b"mexico"))
+        || (is_same(first, b"north") && is_same(second, b"dakota"))
+        || (is_same(first, b"south") && is_same(second, b"dakota"))
 }

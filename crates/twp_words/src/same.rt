@@ -10,22 +10,19 @@ pub fn is_same(word: &[u8], text: &[u8]) -> bool {
 /// once, not word by word.
 #[inline(never)]
 pub(crate) fn is_among(word: &[u8], words: &str) -> bool {
-    for one in words.as_bytes().chunks(word.len().saturating_add(1)) {
-        if one.first() == word.first() && one.starts_with(word) {
-            return true;
-        }
-    }
-    false
+    index_among(word, words).is_some()
 }
 
-/// Whether a word is in a list. Lists of more than a few words are rows of words of one length, which `is_among` compares.
-pub fn is_in(word: &[u8], list: &[&[u8]]) -> bool {
-    for text in list {
-        if is_same(word, text) {
-            return true;
+/// Which of these words a word is, counted from 0.
+pub(crate) fn index_among(word: &[u8], words: &str) -> Option<usize> {
+    let mut index: usize = 0;
+    for one in words.as_bytes().chunks(word.len().saturating_add(1)) {
+        if one.first() == word.first() && one.starts_with(word) {
+            return Some(index);
         }
+        index = index.saturating_add(1);
     }
-    false
+    None
 }
 
 /// Whether letters in lowercase are those of two corners or more.
