@@ -5,7 +5,7 @@ import re
 import unittest
 
 ROOT = pathlib.Path(__file__).resolve().parent.parent.parent
-ROW = re.compile(r'^ +(\d+) => (?:\{\s+)?\(?\s*"([^"]*)"', re.M)
+ROW = re.compile(r'^ +(\d+) => \w+\(\s*word,\s*"([^"]*)"', re.M)
 LISTS = re.compile(r"match word\.len\(\) \{\n(.*?)\n    \}", re.S)
 
 
@@ -30,7 +30,7 @@ class Words(unittest.TestCase):
         self.assertGreater(count, 1_500)
 
     def test_a_word_in_the_row_of_another_length_is_seen(self):
-        text = '    let words: &str = match word.len() {\n        2 => "id nev",\n        _ => return false,\n    };\n'
+        text = '    match word.len() {\n        2 => is_among(word, "id nev"),\n        _ => false,\n    }\n'
         self.assertEqual(list(rows_of(text)), [[(2, ["id", "nev"])]])
 
 

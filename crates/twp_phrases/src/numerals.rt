@@ -6,33 +6,20 @@ use twp_grammar::Kind;
 use twp_pieces::{plus, tens_of, value_of, value_of_count};
 use twp_rules::Rule;
 
+/// The numbers of one digit, and those of two up to twenty.
+const ONE_DIGIT: &[u8] = b"123456789";
+
+const TWO_DIGITS: &[u8] = b"1011121314151617181920";
+
 /// The digits of a word for a number up to twenty, or for thirty, in lowercase.
 fn digits_of(word: &[u8]) -> Option<&'static [u8]> {
-    let digits: &'static [u8] = match value_of_count(word)? {
-        1 => b"1",
-        2 => b"2",
-        3 => b"3",
-        4 => b"4",
-        5 => b"5",
-        6 => b"6",
-        7 => b"7",
-        8 => b"8",
-        9 => b"9",
-        10 => b"10",
-        11 => b"11",
-        12 => b"12",
-        13 => b"13",
-        14 => b"14",
-        15 => b"15",
-        16 => b"16",
-        17 => b"17",
-        18 => b"18",
-        19 => b"19",
-        20 => b"20",
-        30 => b"30",
-        _ => return None,
-    };
-    Some(digits)
+    let value = value_of_count(word)? as usize;
+    match value {
+        1..=9 => ONE_DIGIT.get(value - 1..value),
+        10..=20 => TWO_DIGITS.get(2 * (value - 10)..2 * (value - 10) + 2),
+        30 => Some(b"30"),
+        _ => None,
+    }
 }
 
 impl<'a> Draft<'a> {

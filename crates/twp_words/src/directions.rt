@@ -76,12 +76,14 @@ fn is_worn_southwest(word: &[u8]) -> bool {
 
 /// Words for a section with a slip, or as scanning leaves them.
 pub fn is_worn_section(word: &[u8]) -> bool {
-    let words: &str = match word.len() {
-        6 => "secton",
-        7 => "seciton seclion sectior sectiou sectlon sectoin seotion",
-        _ => return false,
-    };
-    is_among(word, words)
+    match word.len() {
+        6 => is_among(word, "secton"),
+        7 => is_among(
+            word,
+            "seciton seclion sectior sectiou sectlon sectoin seotion",
+        ),
+        _ => false,
+    }
 }
 
 /// The first digit of a number that has two words, of which this is the first, in lowercase.

@@ -12,33 +12,31 @@ pub fn is_acres(word: &[u8]) -> bool {
 
 /// Words that say that acreage follows.
 pub fn is_acreage_lead(word: &[u8]) -> bool {
-    let words: &str = match word.len() {
-        3 => "net tot",
-        5 => "being gross total",
-        7 => "contain gisacre",
-        8 => "contains gisacres totaling",
-        9 => "aggregate",
-        10 => "comprising containing",
-        11 => "aggregating",
-        _ => return false,
-    };
-    is_among(word, words)
+    match word.len() {
+        3 => is_among(word, "net tot"),
+        5 => is_among(word, "being gross total"),
+        7 => is_among(word, "contain gisacre"),
+        8 => is_among(word, "contains gisacres totaling"),
+        9 => is_among(word, "aggregate"),
+        10 => is_among(word, "comprising containing"),
+        11 => is_among(word, "aggregating"),
+        _ => false,
+    }
 }
 
 /// Other words before acreage.
 pub fn is_area_word(word: &[u8]) -> bool {
-    let words: &str = match word.len() {
-        1 => "a",
-        2 => "in of",
-        3 => "all and the",
-        4 => "area",
-        5 => "about areas lands",
-        7 => "mineral",
-        9 => "described",
-        13 => "approximately",
-        _ => return false,
-    };
-    is_among(word, words)
+    match word.len() {
+        1 => is_among(word, "a"),
+        2 => is_among(word, "in of"),
+        3 => is_among(word, "all and the"),
+        4 => is_among(word, "area"),
+        5 => is_among(word, "about areas lands"),
+        7 => is_among(word, "mineral"),
+        9 => is_among(word, "described"),
+        13 => is_among(word, "approximately"),
+        _ => false,
+    }
 }
 
 /// Words for a number that a section may have.
@@ -52,38 +50,47 @@ pub fn is_numeral(word: &[u8]) -> bool {
 
 /// The words of a number.
 pub fn is_of_count(word: &[u8]) -> bool {
-    let words: &str = match word.len() {
-        1 => "-",
-        3 => "and one six ten two",
-        4 => "five four nine",
-        5 => "eight fifty forty seven sixty three",
-        6 => "eighty eleven ninety thirty twelve twenty",
-        7 => "fifteen hundred seventy sixteen",
-        8 => "eighteen fourteen nineteen thirteen thousand",
-        9 => "seventeen",
-        _ => return false,
-    };
-    is_among(word, words)
+    match word.len() {
+        1 => is_among(word, "-"),
+        3 => is_among(word, "and one six ten two"),
+        4 => is_among(word, "five four nine"),
+        5 => is_among(word, "eight fifty forty seven sixty three"),
+        6 => is_among(word, "eighty eleven ninety thirty twelve twenty"),
+        7 => is_among(word, "fifteen hundred seventy sixteen"),
+        8 => is_among(word, "eighteen fourteen nineteen thirteen thousand"),
+        9 => is_among(word, "seventeen"),
+        _ => false,
+    }
 }
 
 /// The value of a word for a number up to ninety.
 pub fn value_of_count(word: &[u8]) -> Option<u64> {
-    let (words, values): (&str, &[u8]) = match word.len() {
-        3 => ("one six ten two", &[1, 6, 10, 2]),
-        4 => ("five four nine", &[5, 4, 9]),
-        5 => (
+    match word.len() {
+        3 => value_among(word, "one six ten two", &[1, 6, 10, 2]),
+        4 => value_among(word, "five four nine", &[5, 4, 9]),
+        5 => value_among(
+            word,
             "eight fifty forty seven sixty three",
             &[8, 50, 40, 7, 60, 3],
         ),
-        6 => (
+        6 => value_among(
+            word,
             "eighty eleven ninety thirty twelve twenty",
             &[80, 11, 90, 30, 12, 20],
         ),
-        7 => ("fifteen seventy sixteen", &[15, 70, 16]),
-        8 => ("eighteen fourteen nineteen thirteen", &[18, 14, 19, 13]),
-        9 => ("seventeen", &[17]),
-        _ => return None,
-    };
+        7 => value_among(word, "fifteen seventy sixteen", &[15, 70, 16]),
+        8 => value_among(
+            word,
+            "eighteen fourteen nineteen thirteen",
+            &[18, 14, 19, 13],
+        ),
+        9 => value_among(word, "seventeen", &[17]),
+        _ => None,
+    }
+}
+
+/// The value of a word, if it is one of these words, which have these values.
+fn value_among(word: &[u8], words: &str, values: &[u8]) -> Option<u64> {
     let at = index_among(word, words)?;
     Some(u64::from(*values.get(at)?))
 }

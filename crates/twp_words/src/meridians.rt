@@ -4,19 +4,18 @@ use crate::same::{is_among, is_same};
 
 /// Names of meridians of one word.
 pub fn is_meridian(word: &[u8]) -> bool {
-    let words: &str = match word.len() {
-        3 => "ute",
-        4 => "mont",
-        5 => "boise fifth first sixth third",
-        6 => "fourth indian navajo second uintah",
-        7 => "choctaw montana",
-        8 => "cimarron humboldt michigan",
-        9 => "chickasaw louisiana principal",
-        10 => "huntsville willamette",
-        11 => "tallahassee",
-        _ => return false,
-    };
-    is_among(word, words)
+    match word.len() {
+        3 => is_among(word, "ute"),
+        4 => is_among(word, "mont"),
+        5 => is_among(word, "boise fifth first sixth third"),
+        6 => is_among(word, "fourth indian navajo second uintah"),
+        7 => is_among(word, "choctaw montana"),
+        8 => is_among(word, "cimarron humboldt michigan"),
+        9 => is_among(word, "chickasaw louisiana principal"),
+        10 => is_among(word, "huntsville willamette"),
+        11 => is_among(word, "tallahassee"),
+        _ => false,
+    }
 }
 
 /// Names of meridians that are written without the word for it after a township and range.
@@ -29,32 +28,30 @@ pub fn is_bare_meridian(word: &[u8]) -> bool {
 
 /// Letters for a meridian.
 pub fn are_meridian_letters(word: &[u8]) -> bool {
-    let words: &str = match word.len() {
-        2 => "bm fm pm um wm",
-        3 => "bhm crm mdm mpm sbm slm usm",
-        4 => "gsrm mdbm nmpm sbbm slbm",
-        5 => "gsrbm",
-        _ => return false,
-    };
-    is_among(word, words)
+    match word.len() {
+        2 => is_among(word, "bm fm pm um wm"),
+        3 => is_among(word, "bhm crm mdm mpm sbm slm usm"),
+        4 => is_among(word, "gsrm mdbm nmpm sbbm slbm"),
+        5 => is_among(word, "gsrbm"),
+        _ => false,
+    }
 }
 
 /// States, and the letters for them, that have public land.
 pub fn is_state(word: &[u8]) -> bool {
-    let words: &str = match word.len() {
-        2 => "ak az ca co id mt nd nm nv sd ut wy",
-        3 => "nev wyo",
-        4 => "ariz colo kans minn mont nebr okla utah",
-        5 => "calif idaho",
-        6 => "alaska kansas nevada oregon",
-        7 => "alabama arizona florida montana wyoming",
-        8 => "arkansas colorado michigan nebraska oklahoma",
-        9 => "minnesota wisconsin",
-        10 => "california",
-        11 => "mississippi",
-        _ => return false,
-    };
-    is_among(word, words)
+    match word.len() {
+        2 => is_among(word, "ak az ca co id mt nd nm nv sd ut wy"),
+        3 => is_among(word, "nev wyo"),
+        4 => is_among(word, "ariz colo kans minn mont nebr okla utah"),
+        5 => is_among(word, "calif idaho"),
+        6 => is_among(word, "alaska kansas nevada oregon"),
+        7 => is_among(word, "alabama arizona florida montana wyoming"),
+        8 => is_among(word, "arkansas colorado michigan nebraska oklahoma"),
+        9 => is_among(word, "minnesota wisconsin"),
+        10 => is_among(word, "california"),
+        11 => is_among(word, "mississippi"),
+        _ => false,
+    }
 }
 
 /// Whether two words are a meridian's name.
@@ -72,12 +69,11 @@ pub fn is_meridian_of_two(first: &[u8], second: &[u8]) -> bool {
 
 /// The numbers of principal meridians.
 fn is_ordinal(word: &[u8]) -> bool {
-    let words: &str = match word.len() {
-        5 => "fifth first sixth third",
-        6 => "fourth second",
-        _ => return false,
-    };
-    is_among(word, words)
+    match word.len() {
+        5 => is_among(word, "fifth first sixth third"),
+        6 => is_among(word, "fourth second"),
+        _ => false,
+    }
 }
 
 /// Whether two words are a state's name.

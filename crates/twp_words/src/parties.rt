@@ -4,61 +4,56 @@ use crate::same::{is_among, is_same};
 
 /// Words for whose a right is.
 pub fn is_whose(word: &[u8]) -> bool {
-    let words: &str = match word.len() {
-        2 => "my",
-        3 => "her his our",
-        5 => "their",
-        _ => return false,
-    };
-    is_among(word, words)
+    match word.len() {
+        2 => is_among(word, "my"),
+        3 => is_among(word, "her his our"),
+        5 => is_among(word, "their"),
+        _ => false,
+    }
 }
 
 /// Words for who has an interest.
 pub fn is_owner(word: &[u8]) -> bool {
-    let words: &str = match word.len() {
-        6 => "lessor seller",
-        7 => "grantor lessors",
-        8 => "grantors",
-        _ => return false,
-    };
-    is_among(word, words)
+    match word.len() {
+        6 => is_among(word, "lessor seller"),
+        7 => is_among(word, "grantor lessors"),
+        8 => is_among(word, "grantors"),
+        _ => false,
+    }
 }
 
 /// Words that say of which kind acreage is.
 pub fn is_net_or_gross(word: &[u8]) -> bool {
-    let words: &str = match word.len() {
-        3 => "net",
-        5 => "gross total",
-        6 => "pooled",
-        7 => "mineral",
-        _ => return false,
-    };
-    is_among(word, words)
+    match word.len() {
+        3 => is_among(word, "net"),
+        5 => is_among(word, "gross total"),
+        6 => is_among(word, "pooled"),
+        7 => is_among(word, "mineral"),
+        _ => false,
+    }
 }
 
 /// Words that begin an exception.
 pub fn begins_exception(word: &[u8]) -> bool {
-    let words: &str = match word.len() {
-        4 => "less save",
-        6 => "except",
-        9 => "excepting exception excluding",
-        _ => return false,
-    };
-    is_among(word, words)
+    match word.len() {
+        4 => is_among(word, "less save"),
+        6 => is_among(word, "except"),
+        9 => is_among(word, "excepting exception excluding"),
+        _ => false,
+    }
 }
 
 /// Words by which land is excepted.
 pub fn excepts_land(word: &[u8]) -> bool {
-    let words: &str = match word.len() {
-        2 => "ex ls",
-        3 => "exc",
-        4 => "less",
-        5 => "minus",
-        6 => "except",
-        9 => "excepting excluding exclusive",
-        _ => return false,
-    };
-    is_among(word, words)
+    match word.len() {
+        2 => is_among(word, "ex ls"),
+        3 => is_among(word, "exc"),
+        4 => is_among(word, "less"),
+        5 => is_among(word, "minus"),
+        6 => is_among(word, "except"),
+        9 => is_among(word, "excepting excluding exclusive"),
+        _ => false,
+    }
 }
 
 /// Whether a word may be corners with a slip.
@@ -74,29 +69,27 @@ pub fn may_be_corners(word: &[u8]) -> bool {
 
 /// Words for years and months.
 pub fn is_of_time(word: &[u8]) -> bool {
-    let words: &str = match word.len() {
-        2 => "mo yr",
-        3 => "yrs",
-        4 => "year",
-        5 => "years",
-        _ => return false,
-    };
-    is_among(word, words)
+    match word.len() {
+        2 => is_among(word, "mo yr"),
+        3 => is_among(word, "yrs"),
+        4 => is_among(word, "year"),
+        5 => is_among(word, "years"),
+        _ => false,
+    }
 }
 
 /// Words with which parentheses begin that refer to something, or say what became of the land.
 pub fn begins_reference(word: &[u8]) -> bool {
-    let words: &str = match word.len() {
-        2 => "bk",
-        3 => "rec see",
-        4 => "book inst",
-        6 => "issued",
-        7 => "pending",
-        8 => "acquired patented",
-        9 => "custodial",
-        _ => return false,
-    };
-    is_among(word, words)
+    match word.len() {
+        2 => is_among(word, "bk"),
+        3 => is_among(word, "rec see"),
+        4 => is_among(word, "book inst"),
+        6 => is_among(word, "issued"),
+        7 => is_among(word, "pending"),
+        8 => is_among(word, "acquired patented"),
+        9 => is_among(word, "custodial"),
+        _ => false,
+    }
 }
 
 /// Words before the number of a paragraph, a day of a month, or the like.
@@ -106,30 +99,28 @@ pub fn is_of_record(word: &[u8]) -> bool {
 
 /// Words for notes, and for what is counted in a record.
 fn is_of_note(word: &[u8]) -> bool {
-    let words: &str = match word.len() {
-        3 => "par vol",
-        4 => "misc note",
-        7 => "comment",
-        8 => "addendum",
-        9 => "paragraph",
-        _ => return false,
-    };
-    is_among(word, words)
+    match word.len() {
+        3 => is_among(word, "par vol"),
+        4 => is_among(word, "misc note"),
+        7 => is_among(word, "comment"),
+        8 => is_among(word, "addendum"),
+        9 => is_among(word, "paragraph"),
+        _ => false,
+    }
 }
 
 /// The months.
 pub fn is_month(word: &[u8]) -> bool {
-    let words: &str = match word.len() {
-        3 => "apr aug dec feb jan jul jun mar may nov oct sep",
-        4 => "july june sept",
-        5 => "april march",
-        6 => "august",
-        7 => "january october",
-        8 => "december february november",
-        9 => "september",
-        _ => return false,
-    };
-    is_among(word, words)
+    match word.len() {
+        3 => is_among(word, "apr aug dec feb jan jul jun mar may nov oct sep"),
+        4 => is_among(word, "july june sept"),
+        5 => is_among(word, "april march"),
+        6 => is_among(word, "august"),
+        7 => is_among(word, "january october"),
+        8 => is_among(word, "december february november"),
+        9 => is_among(word, "september"),
+        _ => false,
+    }
 }
 
 /// Words for a part of the land, for other land, or for a correction: no remark has them.
@@ -142,44 +133,54 @@ pub fn is_partial(word: &[u8]) -> bool {
 
 /// Words of parts of land, of what is taken out of it, and of corrections.
 fn says_partial(word: &[u8]) -> bool {
-    let words: &str = match word.len() {
-        2 => "cf ff ms pb tl tr yd",
-        3 => {
-            "add dlc don ely exc fel fnl fsl fwl hes isn lss nil nly now out prt ptl pts rem \
-             sct sic sly sur tbd too top was wly yds"
-        }
-        4 => {
-            "aren back cont didn drop excl hasn idem kept more nope omit orig outs past same \
-             sctn shld some subd wasn"
-        }
-        5 => {
-            "added apart bench ditto doesn exept forty fract haven house lower maybe meets \
-             metes never owned piece short taken third under upper weren wrong yards"
-        }
-        6 => {
+    match word.len() {
+        2 => is_among(word, "cf ff ms pb tl tr yd"),
+        3 => is_among(
+            word,
+            "add dlc don ely exc fel fnl fsl fwl hes isn lss nil nly now out prt ptl pts \
+             rem sct sic sly sur tbd too top was wly yds",
+        ),
+        4 => is_among(
+            word,
+            "aren back cont didn drop excl hasn idem kept more nope omit orig outs past \
+             same sctn shld some subd wasn",
+        ),
+        5 => is_among(
+            word,
+            "added apart bench ditto doesn exept forty fract haven house lower maybe \
+             meets metes never owned piece short taken third under upper weren wrong \
+             yards",
+        ),
+        6 => is_among(
+            word,
             "beyond bottom cannot center deduct deeded denied eighty longer middle mostly \
-             partly placer retain saving should sliver square thirds thirty twenty unsure"
-        }
-        7 => {
-            "adjoins amended another correct dropped exclude further instead meaning mistake \
-             omitted retains revised scratch vacated"
-        }
-        8 => {
-            "actually canceled cemetery conveyed corrects deducted eastside excluded excludes \
-             likewise original previous rejected retained stricken triangle upstream westside \
-             withheld"
-        }
-        9 => {
-            "bordering condemned continued erroneous exclusion illegible incorrect partially \
-             rescinded"
-        }
-        10 => "downstream exclusions previously protracted segregated superseded terminated",
-        11 => "incorrectly subdivision",
-        12 => "misdescribed",
-        13 => "alternatively",
-        _ => return false,
-    };
-    is_among(word, words)
+             partly placer retain saving should sliver square thirds thirty twenty unsure",
+        ),
+        7 => is_among(
+            word,
+            "adjoins amended another correct dropped exclude further instead meaning \
+             mistake omitted retains revised scratch vacated",
+        ),
+        8 => is_among(
+            word,
+            "actually canceled cemetery conveyed corrects deducted eastside excluded \
+             excludes likewise original previous rejected retained stricken triangle \
+             upstream westside withheld",
+        ),
+        9 => is_among(
+            word,
+            "bordering condemned continued erroneous exclusion illegible incorrect \
+             partially rescinded",
+        ),
+        10 => is_among(
+            word,
+            "downstream exclusions previously protracted segregated superseded terminated",
+        ),
+        11 => is_among(word, "incorrectly subdivision"),
+        12 => is_among(word, "misdescribed"),
+        13 => is_among(word, "alternatively"),
+        _ => false,
+    }
 }
 
 /// Whether a word is made of that for a side, as `northerly`, `eastern`, or `Southhalf`.

@@ -6,8 +6,9 @@ pub fn is_same(word: &[u8], text: &[u8]) -> bool {
 }
 
 /// Whether a word is one of these words, which all have as many bytes as it has, and a space between them. A list in
-/// code has a row of words for each length: so only the few words of this length are compared, and the list is proved at
-/// once, not word by word.
+/// code calls this with a row of words for each length: so only the few words of this length are compared, and they are
+/// proved at once, not one by one. Rows that a `match` returned would become a table of pointers, each of which is set at
+/// every start of the program.
 #[inline(never)]
 pub(crate) fn is_among(word: &[u8], words: &str) -> bool {
     index_among(word, words).is_some()
