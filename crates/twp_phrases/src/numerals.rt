@@ -6,9 +6,10 @@ use twp_grammar::Kind;
 use twp_pieces::{plus, tens_of, value_of, value_of_count};
 use twp_rules::Rule;
 
-/// The numbers of one digit, and those of two up to twenty.
+/// The numbers of one digit.
 const ONE_DIGIT: &[u8] = b"123456789";
 
+/// The numbers from ten to twenty.
 const TWO_DIGITS: &[u8] = b"1011121314151617181920";
 
 /// The digits of a word for a number up to twenty, or for thirty, in lowercase.
