@@ -1,3 +1,5 @@
 pub mod SameTexts
+pub mod RowFacts
+pub mod EdgeFacts
 pub mod ChangeFacts
 pub mod RemarkFacts

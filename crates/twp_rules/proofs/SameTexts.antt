@@ -2,16 +2,18 @@
 use Rattle.std.proofs.Common.{◌≡◌, ◌==◌, ◌&&◌, Bool, true, false, List, [], ◌∷◌, ℕ, refl, sym, ap, subst, ◌∙◌}
 use Rattle.std.proofs.Common.{IsTrue, ◌↔◌, ◌≤◌, ◌-◌, length, drop, take}
 use Rattle.std.proofs.lemmas.Bool.{eqb-true, eq-eqb, false≢true, le-leb}
+use Rattle.std.proofs.lemmas.List.{length-map}
+use Rattle.std.specs.Char.{to_ascii_lowercase}
 use Rattle.std.specs.Str.{str_to_ascii_lowercase}
 use Rattle.twp_grammar.specs.Tokens.{same_bytes}
 use Rattle.twp_rules.specs.Rules.{ends_with, begins_with}
 
-both : (x y : Bool) → (x && y) ≡ true → (x ≡ true) × (y ≡ true)
+pub both : (x y : Bool) → (x && y) ≡ true → (x ≡ true) × (y ≡ true)
 both true y h = (refl, h)
 both false y h = cc h
 
 -- the same bytes are the same list
-same_tells : (xs ys : List ℕ) → same_bytes xs ys ≡ true → xs ≡ ys
+pub same_tells : (xs ys : List ℕ) → same_bytes xs ys ≡ true → xs ≡ ys
 same_tells [] [] h = refl
 same_tells [] (y ∷ ys) h = cc h
 same_tells (x ∷ xs) [] h = cc h
@@ -53,3 +55,14 @@ begins_when answer seen front first fits is_first is =
     ∙ ap (λ (bytes : List ℕ). same_bytes (str_to_ascii_lowercase bytes) front) (sym is_first)
     ∙ sym (ap (λ e. e && same_bytes (str_to_ascii_lowercase (take (length front) seen)) front)
     (le-leb (length front) (length seen) fits))
+
+-- texts of different lengths are different
+pub other_length : (seen text : List ℕ) → (length seen ≡ length text → ⊥)
+    → same_bytes (str_to_ascii_lowercase seen) text ≡ false
+other_length seen text other = by_test (same_bytes (str_to_ascii_lowercase seen) text) refl
+  where
+    by_test : (t : Bool) → same_bytes (str_to_ascii_lowercase seen) text ≡ t → t ≡ false
+    by_test true e =
+        absurd (other (sym (length-map seen to_ascii_lowercase)
+        ∙ ap length (same_tells (str_to_ascii_lowercase seen) text e)))
+    by_test false e = refl

@@ -3,3 +3,4 @@ pub mod Endings
 pub mod Remarks
 pub mod Rules
 pub mod Changes
+pub mod steps

@@ -9,13 +9,18 @@ ghost use Rattle.twp_rules.specs.Tables.{marks, more_marks, more_little_words, j
 ghost use Rattle.twp_rules.specs.Tables.{directions, worn_directions, section_words, worn_section_words};
 
 use crate::change::Change;
-use crate::endings::*;
+use crate::endings::labels::*;
+use crate::endings::meridians::*;
+use crate::endings::parts::*;
 use crate::figures::{has_no_digit, is_figure, is_figure_of_acres, without_white};
 use crate::remarks::{has_no_land, is_remark};
 use crate::rule::Rule;
 use crate::same::are_same;
 use crate::steps::is_copied_step;
-use crate::tables::*;
+use crate::tables::headings::*;
+use crate::tables::marks::*;
+use crate::tables::parts::*;
+use crate::tables::words::*;
 
 /// Whether the rule of a change allows it.
 pub(crate) fn is_allowed(text: &[u8], change: &Change<'_>) -> bool

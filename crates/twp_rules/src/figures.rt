@@ -4,7 +4,7 @@ ghost use Rattle.twp_grammar.specs.Tokens.{is_white};
 ghost use Rattle.twp_rules.specs.Rules.{has_no_digit, is_figure, is_figure_of_acres, is_of_figure};
 ghost use Rattle.twp_rules.specs.Rules.{without_white};
 
-use crate::endings::ends_with;
+use crate::same::ends_with;
 
 /// Whether a text has only digits, commas, points, and white space.
 pub(crate) fn is_figure(seen: &[u8]) -> bool

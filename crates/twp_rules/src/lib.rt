@@ -7,6 +7,7 @@ mod change;
 mod endings;
 mod figures;
 mod remarks;
+mod rows;
 mod rule;
 mod same;
 mod steps;

@@ -1,7 +1,8 @@
-//! Texts that are the same, in letters of either case.
+//! Texts that are the same, in letters of either case, or that begin or end with another.
 ghost use Rattle.std.specs.Prelude.{◌≡◌};
 ghost use Rattle.std.specs.Str.{str_to_ascii_lowercase};
 ghost use Rattle.twp_grammar.specs.Tokens.{same_bytes};
+ghost use Rattle.twp_rules.specs.Rules.{begins_with, ends_with};
 
 /// Whether two texts are the same.
 #[tactic(auto, using(crate::proofs::SameTexts::is_same))]
@@ -11,11 +12,40 @@ pub(crate) fn are_same(one: &[u8], other: &[u8]) -> bool
     one == other
 }
 
-/// Whether a text in letters of either case is another, which is in lowercase.
-#[tactic(auto, using(crate::proofs::SameTexts::is_same))]
+/// Whether a text, with its letters in lowercase, is another one.
+#[tactic(auto, using(crate::proofs::SameTexts::other_length))]
 pub(crate) fn is_text(seen: &[u8], text: &[u8]) -> bool
-    requires { str_to_ascii_lowercase text.now ≡ text.now }
     ensures { result ≡ same_bytes (str_to_ascii_lowercase seen.now) text.now }
 {
-    seen.eq_ignore_ascii_case(text)
+    if seen.len() != text.len() {
+        return false;
+    }
+    for index in 0..seen.len() {
+        if seen[index].to_ascii_lowercase() != text[index] {
+            return false;
+        }
+    }
+    true
+}
+
+/// Whether a text, with its letters in lowercase, ends with another one.
+pub(crate) fn ends_with(seen: &[u8], end: &[u8]) -> bool
+    ensures { result ≡ ends_with seen.now end.now }
+{
+    if seen.len() < end.len() {
+        return false;
+    }
+    let (_, last) = seen.split_at(seen.len() - end.len());
+    is_text(last, end)
+}
+
+/// Whether a text, with its letters in lowercase, begins with another one.
+pub(crate) fn begins_with(seen: &[u8], front: &[u8]) -> bool
+    ensures { result ≡ begins_with seen.now front.now }
+{
+    if seen.len() < front.len() {
+        return false;
+    }
+    let (first, _) = seen.split_at(front.len());
+    is_text(first, front)
 }

@@ -1,14 +1,12 @@
 //! Steps of aliquot parts that are written again.
 ghost use Rattle.std.specs.Prelude.{◌≡◌, ◌≤◌, ◌&&◌, [], ◌∷◌, codes, drop, length};
-ghost use Rattle.std.specs.Str.{str_to_ascii_lowercase};
 ghost use Rattle.twp_grammar.specs.Tokens.{same_bytes};
 ghost use Rattle.twp_rules.specs.Endings.{half_texts, quarter_texts};
 ghost use Rattle.twp_rules.specs.Rules.{is_one_of, is_step, is_copied_step, without_white};
 ghost use Rattle.twp_rules.specs.Rules.{begins_with, is_half, is_quarter, is_some_half, is_some_quarter};
 
-use crate::endings::begins_with;
 use crate::figures::without_white;
-use crate::same::{are_same, is_text};
+use crate::same::{are_same, begins_with, is_text};
 
 /// The texts `half_texts` of the specification.
 fn is_in_half_texts(seen: &[u8]) -> bool
@@ -48,7 +46,6 @@ fn after(seen: &[u8], count: usize) -> &[u8]
 
 /// Whether a text is a front and a half.
 fn has_half(seen: &[u8], front: &[u8]) -> bool
-    requires { str_to_ascii_lowercase front.now ≡ front.now }
     ensures { result ≡ (begins_with seen.now front.now
         && is_one_of (without_white (drop (length front.now) seen.now)) half_texts) }
 {
@@ -57,7 +54,6 @@ fn has_half(seen: &[u8], front: &[u8]) -> bool
 
 /// Whether a text is a front and a quarter.
 fn has_quarter(seen: &[u8], front: &[u8]) -> bool
-    requires { str_to_ascii_lowercase front.now ≡ front.now }
     ensures { result ≡ (begins_with seen.now front.now
         && is_one_of (without_white (drop (length front.now) seen.now)) quarter_texts) }
 {

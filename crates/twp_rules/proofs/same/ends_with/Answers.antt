@@ -1,6 +1,6 @@
 use Rattle.std.proofs.Common.{arith, sym}
 use Rattle.twp_rules.proofs.SameTexts.{ends_when}
-use Rattle.twp_rules.proofs.endings.ends_with.Goals as goal
+use Rattle.twp_rules.proofs.same.ends_with.Goals as goal
 
 pub returns : goal.returns
 returns c =

@@ -1,6 +1,6 @@
 use Rattle.std.proofs.Common.{arith, sym}
 use Rattle.twp_rules.proofs.SameTexts.{begins_when}
-use Rattle.twp_rules.proofs.endings.begins_with.Goals as goal
+use Rattle.twp_rules.proofs.same.begins_with.Goals as goal
 
 pub returns : goal.returns
 returns c =

@@ -1,0 +1,31 @@
+-- Rows of the tables, as the code has them. All rows of a table have as many bytes, filled up with `_` (95).
+-- In a row of what is written for a text, `=` (61) is after the text.
+use Rattle.std.specs.Prelude.{◌==◌, ℕ, List, [], ◌∷◌, if◌then◌else◌}
+use Rattle.twp_rules.specs.Tables.{Entry, ◌⇒◌}
+
+-- the bytes before a mark
+abbrev pub before : ℕ → List ℕ → List ℕ
+before mark [] = []
+before mark (byte ∷ bytes) = if byte == mark then [] else byte ∷ before mark bytes
+
+-- the bytes after it
+abbrev pub after : ℕ → List ℕ → List ℕ
+after mark [] = []
+after mark (byte ∷ bytes) = if byte == mark then bytes else after mark bytes
+
+-- the bytes without these at the beginning
+abbrev pub without : ℕ → List ℕ → List ℕ
+without mark [] = []
+without mark (byte ∷ bytes) = if byte == mark then without mark bytes else byte ∷ bytes
+
+-- what a row says: this is written for that
+abbrev pub entry_of : List ℕ → Entry
+entry_of row = before 61 row ⇒ before 95 (after 61 row)
+
+-- a text that others begin with
+abbrev pub front_of : List ℕ → List ℕ
+front_of row = before 95 row
+
+-- a text that others end with
+abbrev pub end_of : List ℕ → List ℕ
+end_of row = without 95 row

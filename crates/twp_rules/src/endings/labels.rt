@@ -1,0 +1,185 @@
+//! What acreage, labels, and what is said twice end with, and what they begin with.
+ghost use Rattle.std.specs.Prelude.{◌≡◌};
+ghost use Rattle.twp_rules.specs.Rules.{begins_with_one, ends_with_one};
+ghost use Rattle.twp_rules.specs.Endings.{acreage_ends, acreage_fronts, being_fronts, column_names, depths};
+ghost use Rattle.twp_rules.specs.Endings.{estates, interest_fronts, number_fronts, parenthesis_ends};
+ghost use Rattle.twp_rules.specs.Endings.{property_fronts, rights, terms};
+
+use crate::rows::{begins_with_one, ends_with_one};
+
+/// The texts `acreage_ends` of the specification.
+static ACREAGE_ENDS: [[u8; 6]; 16] = [
+    *b"_acres", *b"__acre", *b"____ac", *b"acres.", *b"___ac.", *b"__less", *b"___m/l", *b"_____)",
+    *b"pooled", *b"_total", *b"___net", *b"_gross", *b"____/-", *b"___acs", *b"__acs.", *b"_____]",
+];
+
+/// Whether a text ends with one of them.
+pub(crate) fn has_acreage_ends(seen: &[u8]) -> bool
+    ensures { result ≡ ends_with_one seen.now acreage_ends }
+{
+    ends_with_one(seen, &ACREAGE_ENDS)
+}
+
+/// The texts `acreage_fronts` of the specification.
+static ACREAGE_FRONTS: [[u8; 10]; 8] = [
+    *b"acres_____",
+    *b"acreage___",
+    *b"ac________",
+    *b"gross_____",
+    *b"net_______",
+    *b"total_____",
+    *b"containing",
+    *b"the area__",
+];
+
+/// Whether a text begins with one of them.
+pub(crate) fn has_acreage_fronts(seen: &[u8]) -> bool
+    ensures { result ≡ begins_with_one seen.now acreage_fronts }
+{
+    begins_with_one(seen, &ACREAGE_FRONTS)
+}
+
+/// The texts `parenthesis_ends` of the specification.
+static PARENTHESIS_ENDS: [[u8; 1]; 2] = [*b")", *b"]"];
+
+/// Whether a text ends with one of them.
+pub(crate) fn has_parenthesis_ends(seen: &[u8]) -> bool
+    ensures { result ≡ ends_with_one seen.now parenthesis_ends }
+{
+    ends_with_one(seen, &PARENTHESIS_ENDS)
+}
+
+/// The texts `being_fronts` of the specification.
+static BEING_FRONTS: [[u8; 5]; 3] = [*b"being", *b"aka__", *b"a/___"];
+
+/// Whether a text begins with one of them.
+pub(crate) fn has_being_fronts(seen: &[u8]) -> bool
+    ensures { result ≡ begins_with_one seen.now being_fronts }
+{
+    begins_with_one(seen, &BEING_FRONTS)
+}
+
+/// The texts `column_names` of the specification.
+static COLUMN_NAMES: [[u8; 14]; 11] = [
+    *b"sec___________",
+    *b"section_______",
+    *b"twp___________",
+    *b"township______",
+    *b"t_____________",
+    *b"tract_________",
+    *b"legal_________",
+    *b"mer___________",
+    *b"st____________",
+    *b"county________",
+    *b"school section",
+];
+
+/// Whether a text begins with one of them.
+pub(crate) fn has_column_names(seen: &[u8]) -> bool
+    ensures { result ≡ begins_with_one seen.now column_names }
+{
+    begins_with_one(seen, &COLUMN_NAMES)
+}
+
+/// The texts `rights` of the specification.
+static RIGHTS: [[u8; 13]; 6] = [
+    *b"subj_________",
+    *b"according____",
+    *b"together with",
+    *b"reserving____",
+    *b"excepting and",
+    *b"grantor______",
+];
+
+/// Whether a text begins with one of them.
+pub(crate) fn has_rights(seen: &[u8]) -> bool
+    ensures { result ≡ begins_with_one seen.now rights }
+{
+    begins_with_one(seen, &RIGHTS)
+}
+
+/// The texts `terms` of the specification.
+static TERMS: [[u8; 15]; 6] = [
+    *b"insofar________",
+    *b"limited________",
+    *b"as to__________",
+    *b"as shown_______",
+    *b"attached to____",
+    *b"in the district",
+];
+
+/// Whether a text begins with one of them.
+pub(crate) fn has_terms(seen: &[u8]) -> bool
+    ensures { result ≡ begins_with_one seen.now terms }
+{
+    begins_with_one(seen, &TERMS)
+}
+
+/// The texts `depths` of the specification.
+static DEPTHS: [[u8; 10]; 5] = [
+    *b"from the__",
+    *b"below_____",
+    *b"above_____",
+    *b"down to___",
+    *b"all depths",
+];
+
+/// Whether a text begins with one of them.
+pub(crate) fn has_depths(seen: &[u8]) -> bool
+    ensures { result ≡ begins_with_one seen.now depths }
+{
+    begins_with_one(seen, &DEPTHS)
+}
+
+/// The texts `estates` of the specification.
+static ESTATES: [[u8; 9]; 6] = [
+    *b"depths___",
+    *b"surface__",
+    *b"from surf",
+    *b"mineral__",
+    *b"oil______",
+    *b"only_____",
+];
+
+/// Whether a text begins with one of them.
+pub(crate) fn has_estates(seen: &[u8]) -> bool
+    ensures { result ≡ begins_with_one seen.now estates }
+{
+    begins_with_one(seen, &ESTATES)
+}
+
+/// The texts `number_fronts` of the specification.
+static NUMBER_FRONTS: [[u8; 5]; 4] = [*b"lease", *b"rp___", *b"pin__", *b"apn__"];
+
+/// Whether a text begins with one of them.
+pub(crate) fn has_number_fronts(seen: &[u8]) -> bool
+    ensures { result ≡ begins_with_one seen.now number_fronts }
+{
+    begins_with_one(seen, &NUMBER_FRONTS)
+}
+
+/// The texts `interest_fronts` of the specification.
+static INTEREST_FRONTS: [[u8; 8]; 4] = [*b"an und__", *b"und_____", *b"one-half", *b"one half"];
+
+/// Whether a text begins with one of them.
+pub(crate) fn has_interest_fronts(seen: &[u8]) -> bool
+    ensures { result ≡ begins_with_one seen.now interest_fronts }
+{
+    begins_with_one(seen, &INTEREST_FRONTS)
+}
+
+/// The texts `property_fronts` of the specification.
+static PROPERTY_FRONTS: [[u8; 15]; 5] = [
+    *b"all that_______",
+    *b"that certain___",
+    *b"all those______",
+    *b"the lands______",
+    *b"lands remaining",
+];
+
+/// Whether a text begins with one of them.
+pub(crate) fn has_property_fronts(seen: &[u8]) -> bool
+    ensures { result ≡ begins_with_one seen.now property_fronts }
+{
+    begins_with_one(seen, &PROPERTY_FRONTS)
+}

@@ -1,0 +1,184 @@
+//! Rows of the rules' tables, and what is in them. A table is an array of rows, and a row is an array of
+//! bytes, without a pointer, since each pointer of static data is set at every start of the program. All rows
+//! of a table have as many bytes, filled up with `_`. One function goes through the rows of all tables of a
+//! kind, so a row is data, and needs no proof of its own.
+ghost use Rattle.std.specs.Prelude.{◌≡◌, ◌-◌, drop, length, slice_index_or};
+ghost use Rattle.std.specs.List.{list_any};
+ghost use Rattle.std.specs.Char.{to_ascii_lowercase};
+ghost use Rattle.std.specs.Str.{str_to_ascii_lowercase};
+ghost use Rattle.twp_grammar.specs.Tokens.{same_bytes};
+ghost use Rattle.twp_rules.specs.Rules.{begins_with, ends_with, is_entry};
+ghost use Rattle.twp_rules.specs.steps.Rows.{before, end_of, entry_of, front_of};
+
+use crate::same::{begins_with, ends_with};
+
+/// Whether a rule that looks at one of the rows' texts writes this for it. A row is what the rule looks at, in
+/// lowercase, `=`, and what it writes instead, as in `*b"minus= except ____"`.
+pub(crate) fn is_among<const N: usize>(seen: &[u8], written: &[u8], rows: &[[u8; N]]) -> bool
+    ensures { result ≡ list_any (λ row. is_entry seen.now written.now (entry_of row)) rows.now }
+{
+    for row in rows {
+        if is_row(seen, written, row) {
+            return true;
+        }
+    }
+    false
+}
+
+/// Whether a text begins with one of the rows, which are in lowercase, as in `*b"acres__"`.
+pub(crate) fn begins_with_one<const N: usize>(seen: &[u8], rows: &[[u8; N]]) -> bool
+    ensures { result ≡ list_any (λ row. begins_with seen.now (front_of row)) rows.now }
+{
+    let first = byte_or(seen, 0, b'_').to_ascii_lowercase();
+    for row in rows {
+        if has_front(seen, first, row) {
+            return true;
+        }
+    }
+    false
+}
+
+/// Whether a text ends with one of the rows, which are in lowercase, as in `*b"__acres"`.
+pub(crate) fn ends_with_one<const N: usize>(seen: &[u8], rows: &[[u8; N]]) -> bool
+    ensures { result ≡ list_any (λ row. ends_with seen.now (end_of row)) rows.now }
+{
+    let last = last_byte(seen).to_ascii_lowercase();
+    for row in rows {
+        if has_end(seen, last, row) {
+            return true;
+        }
+    }
+    false
+}
+
+/// Whether this is a row: what it looks at, and what it writes.
+#[tactic(auto, using(crate::proofs::RowFacts::is_entry_by_parts))]
+fn is_row(seen: &[u8], written: &[u8], row: &[u8]) -> bool
+    ensures { result ≡ is_entry seen.now written.now (entry_of row.now) }
+{
+    looks_at(row, seen) && is_before_filling(written, from(row, seen.len() + 1))
+}
+
+/// Whether a text in lowercase is what is before a row's `=`. Most rows are ruled out by their length.
+#[tactic(auto, using(crate::proofs::RowFacts::other_size, crate::proofs::RowFacts::no_more_lower))]
+fn looks_at(row: &[u8], seen: &[u8]) -> bool
+    ensures { result ≡ same_bytes (str_to_ascii_lowercase seen.now) (before 61 row.now) }
+{
+    if byte_or(row, seen.len(), b'=') != b'=' {
+        return false;
+    }
+    for index in 0..seen.len() {
+        let byte = byte_or(row, index, b'=');
+        if byte == b'=' {
+            return false;
+        }
+        if byte != seen[index].to_ascii_lowercase() {
+            return false;
+        }
+    }
+    true
+}
+
+/// Whether a text is what is before the filling of the rest of a row. Most are ruled out by their length.
+#[tactic(auto, using(crate::proofs::RowFacts::no_more, crate::proofs::RowFacts::other_written))]
+fn is_before_filling(written: &[u8], rest: &[u8]) -> bool
+    ensures { result ≡ same_bytes written.now (before 95 rest.now) }
+{
+    let size = written.len();
+    if size > rest.len() {
+        return false;
+    }
+    if byte_or(rest, size, b'_') != b'_' {
+        return false;
+    }
+    for index in 0..size {
+        let byte = byte_or(rest, index, b'_');
+        if byte == b'_' {
+            return false;
+        }
+        if byte != written[index] {
+            return false;
+        }
+    }
+    true
+}
+
+/// Whether a text begins with this row. Most rows are ruled out by their first byte.
+#[tactic(auto, using(crate::proofs::EdgeFacts::other_first))]
+fn has_front(seen: &[u8], first: u8, row: &[u8]) -> bool
+    requires { first ≡ to_ascii_lowercase (slice_index_or seen.now 0 95) }
+    ensures { result ≡ begins_with seen.now (front_of row.now) }
+{
+    let byte = byte_or(row, 0, b'_');
+    if byte != b'_' && byte != first {
+        return false;
+    }
+    begins_with(seen, front_of(row))
+}
+
+/// Whether a text ends with this row. Most rows are ruled out by their last byte.
+#[tactic(auto, using(crate::proofs::EdgeFacts::other_last))]
+fn has_end(seen: &[u8], last: u8, row: &[u8]) -> bool
+    requires { last ≡ to_ascii_lowercase (slice_index_or seen.now (length seen.now - 1) 95) }
+    ensures { result ≡ ends_with seen.now (end_of row.now) }
+{
+    let byte = last_byte(row);
+    if byte != b'_' && byte != last {
+        return false;
+    }
+    ends_with(seen, end_of(row))
+}
+
+/// What is before a row's filling.
+fn front_of(row: &[u8]) -> &[u8]
+    ensures { result.now ≡ front_of row.now }
+{
+    for index in 0..row.len() {
+        if row[index] == b'_' {
+            let (front, _) = row.split_at(index);
+            return front;
+        }
+    }
+    row
+}
+
+/// What is after a row's filling.
+fn end_of(row: &[u8]) -> &[u8]
+    ensures { result.now ≡ end_of row.now }
+{
+    for index in 0..row.len() {
+        if row[index] != b'_' {
+            return from(row, index);
+        }
+    }
+    from(row, row.len())
+}
+
+/// The byte at a place, or another after the end.
+fn byte_or(text: &[u8], at: usize, other: u8) -> u8
+    ensures { result ≡ slice_index_or text.now at other }
+{
+    if at < text.len() { text[at] } else { other }
+}
+
+/// The last byte, or a filling if there is none.
+fn last_byte(text: &[u8]) -> u8
+    ensures { result ≡ slice_index_or text.now (length text.now - 1) 95 }
+{
+    if text.is_empty() {
+        b'_'
+    } else {
+        text[text.len() - 1]
+    }
+}
+
+/// The bytes of a text from a place on, if there are any.
+fn from(text: &[u8], at: usize) -> &[u8]
+    ensures { result.now ≡ drop at text.now }
+{
+    if at > text.len() {
+        return b"";
+    }
+    let (_, rest) = text.split_at(at);
+    rest
+}

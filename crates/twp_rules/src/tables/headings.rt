@@ -1,0 +1,212 @@
+//! The tables of the rules for townships, ranges, sections, and lots, and for their numbers.
+ghost use Rattle.std.specs.Prelude.{◌≡◌};
+ghost use Rattle.twp_rules.specs.Rules.{is_among};
+ghost use Rattle.twp_rules.specs.Tables.{fraction_digits, heading_marks, heading_words, headings, lot_marks};
+ghost use Rattle.twp_rules.specs.Tables.{lot_words, more_numerals, numerals, section_words};
+ghost use Rattle.twp_rules.specs.Tables.{worn_section_words, zeros};
+
+use crate::rows::is_among;
+
+/// The table `headings` of the specification.
+static HEADINGS: [[u8; 9]; 8] = [
+    *b"=T. _____",
+    *b"= R. ____",
+    *b"=R. _____",
+    *b"= _______",
+    *b"= N., R. ",
+    *b"= S., R. ",
+    *b"= E., ___",
+    *b"= W., ___",
+];
+
+/// Whether this is a row of it: what it looks at, and what it writes.
+pub(crate) fn is_in_headings(seen: &[u8], written: &[u8]) -> bool
+    ensures { result ≡ is_among seen.now written.now headings }
+{
+    is_among(seen, written, &HEADINGS)
+}
+
+/// The table `heading_words` of the specification.
+static HEADING_WORDS: [[u8; 14]; 14] = [
+    *b"township=T.___",
+    *b"twp=T.________",
+    *b"tp=T._________",
+    *b"twsp=T._______",
+    *b"range=R.______",
+    *b"rng=R.________",
+    *b"rge=R.________",
+    *b"rg=R._________",
+    *b"in=___________",
+    *b"of=___________",
+    *b"0sn=, sec. ___",
+    *b"a=____________",
+    *b"numbered=_____",
+    *b"aliquot part:=",
+];
+
+/// Whether this is a row of it: what it looks at, and what it writes.
+pub(crate) fn is_in_heading_words(seen: &[u8], written: &[u8]) -> bool
+    ensures { result ≡ is_among seen.now written.now heading_words }
+{
+    is_among(seen, written, &HEADING_WORDS)
+}
+
+/// The table `heading_marks` of the specification.
+static HEADING_MARKS: [[u8; 3]; 7] = [
+    *b".=_", *b",=_", *b":=_", *b"-= ", *b"/= ", *b"|= ", *b";= ",
+];
+
+/// Whether this is a row of it: what it looks at, and what it writes.
+pub(crate) fn is_in_heading_marks(seen: &[u8], written: &[u8]) -> bool
+    ensures { result ≡ is_among seen.now written.now heading_marks }
+{
+    is_among(seen, written, &HEADING_MARKS)
+}
+
+/// The table `section_words` of the specification.
+static SECTION_WORDS: [[u8; 12]; 14] = [
+    *b"=sec. ______",
+    *b"=secs. _____",
+    *b"s=sec. _____",
+    *b"sect=sec____",
+    *b"sect=secs___",
+    *b"sects=secs__",
+    *b"sec=secs____",
+    *b"section=secs",
+    *b",=._________",
+    *b"scc=sec_____",
+    *b"sce=sec_____",
+    *b"\xC2\xA7=sec______",
+    *b"\xC2\xA7=secs_____",
+    *b"seo=sec_____",
+];
+
+/// Whether this is a row of it: what it looks at, and what it writes.
+pub(crate) fn is_in_section_words(seen: &[u8], written: &[u8]) -> bool
+    ensures { result ≡ is_among seen.now written.now section_words }
+{
+    is_among(seen, written, &SECTION_WORDS)
+}
+
+/// The table `worn_section_words` of the specification.
+static WORN_SECTION_WORDS: [[u8; 11]; 8] = [
+    *b"secton=sec_",
+    *b"sectlon=sec",
+    *b"sectoin=sec",
+    *b"seciton=sec",
+    *b"sectiou=sec",
+    *b"seclion=sec",
+    *b"seotion=sec",
+    *b"sectior=sec",
+];
+
+/// Whether this is a row of it: what it looks at, and what it writes.
+pub(crate) fn is_in_worn_section_words(seen: &[u8], written: &[u8]) -> bool
+    ensures { result ≡ is_among seen.now written.now worn_section_words }
+{
+    is_among(seen, written, &WORN_SECTION_WORDS)
+}
+
+/// The table `lot_words` of the specification.
+static LOT_WORDS: [[u8; 11]; 16] = [
+    *b"l=lot _____",
+    *b"lt=lot ____",
+    *b"lts=lots __",
+    *b"government=",
+    *b"govt=______",
+    *b"gov=_______",
+    *b"t=_________",
+    *b"u=_________",
+    *b"s=_________",
+    *b"the=_______",
+    *b"numbered=__",
+    *b"no=________",
+    *b"nos=_______",
+    *b"gl=lot ____",
+    *b"iot=lot____",
+    *b"iots=lots__",
+];
+
+/// Whether this is a row of it: what it looks at, and what it writes.
+pub(crate) fn is_in_lot_words(seen: &[u8], written: &[u8]) -> bool
+    ensures { result ≡ is_among seen.now written.now lot_words }
+{
+    is_among(seen, written, &LOT_WORDS)
+}
+
+/// The table `lot_marks` of the specification.
+static LOT_MARKS: [[u8; 4]; 5] = [*b"'=__", *b"\xE2\x80\x99=", *b".=__", *b"#=__", *b":=__"];
+
+/// Whether this is a row of it: what it looks at, and what it writes.
+pub(crate) fn is_in_lot_marks(seen: &[u8], written: &[u8]) -> bool
+    ensures { result ≡ is_among seen.now written.now lot_marks }
+{
+    is_among(seen, written, &LOT_MARKS)
+}
+
+/// The table `numerals` of the specification.
+static NUMERALS: [[u8; 9]; 12] = [
+    *b"one=1____",
+    *b"two=2____",
+    *b"three=3__",
+    *b"four=4___",
+    *b"five=5___",
+    *b"six=6____",
+    *b"seven=7__",
+    *b"eight=8__",
+    *b"nine=9___",
+    *b"ten=10___",
+    *b"eleven=11",
+    *b"twelve=12",
+];
+
+/// Whether this is a row of it: what it looks at, and what it writes.
+pub(crate) fn is_in_numerals(seen: &[u8], written: &[u8]) -> bool
+    ensures { result ≡ is_among seen.now written.now numerals }
+{
+    is_among(seen, written, &NUMERALS)
+}
+
+/// The table `more_numerals` of the specification.
+static MORE_NUMERALS: [[u8; 12]; 13] = [
+    *b"thirteen=13_",
+    *b"fourteen=14_",
+    *b"fifteen=15__",
+    *b"sixteen=16__",
+    *b"seventeen=17",
+    *b"eighteen=18_",
+    *b"nineteen=19_",
+    *b"twenty=20___",
+    *b"thirty=30___",
+    *b"twenty-=2___",
+    *b"thirty-=3___",
+    *b"twenty =2___",
+    *b"thirty =3___",
+];
+
+/// Whether this is a row of it: what it looks at, and what it writes.
+pub(crate) fn is_in_more_numerals(seen: &[u8], written: &[u8]) -> bool
+    ensures { result ≡ is_among seen.now written.now more_numerals }
+{
+    is_among(seen, written, &MORE_NUMERALS)
+}
+
+/// The table `zeros` of the specification.
+static ZEROS: [[u8; 4]; 3] = [*b"0=__", *b"00=_", *b"000="];
+
+/// Whether this is a row of it: what it looks at, and what it writes.
+pub(crate) fn is_in_zeros(seen: &[u8], written: &[u8]) -> bool
+    ensures { result ≡ is_among seen.now written.now zeros }
+{
+    is_among(seen, written, &ZEROS)
+}
+
+/// The table `fraction_digits` of the specification.
+static FRACTION_DIGITS: [[u8; 2]; 1] = [*b"0="];
+
+/// Whether this is a row of it: what it looks at, and what it writes.
+pub(crate) fn is_in_fraction_digits(seen: &[u8], written: &[u8]) -> bool
+    ensures { result ≡ is_among seen.now written.now fraction_digits }
+{
+    is_among(seen, written, &FRACTION_DIGITS)
+}

@@ -1,0 +1,180 @@
+//! The tables of the rules for parts of a section: halves, quarters, sides, and corners.
+ghost use Rattle.std.specs.Prelude.{◌≡◌};
+ghost use Rattle.twp_rules.specs.Rules.{is_among};
+ghost use Rattle.twp_rules.specs.Tables.{damaged_corners, damages, directions, halves, quarter_abbreviations};
+ghost use Rattle.twp_rules.specs.Tables.{quarters, worn_directions, worn_halves, worn_quarters};
+
+use crate::rows::is_among;
+
+/// The table `halves` of the specification.
+static HALVES: [[u8; 12]; 8] = [
+    *b"2=1/2_______",
+    *b"/2=1/2______",
+    *b"half=1/2____",
+    *b"one-half=1/2",
+    *b"one half=1/2",
+    *b"1\xE2\x81\x842=1/2___",
+    *b"/ 2=1/2_____",
+    *b"1-2=1/2_____",
+];
+
+/// Whether this is a row of it: what it looks at, and what it writes.
+pub(crate) fn is_in_halves(seen: &[u8], written: &[u8]) -> bool
+    ensures { result ≡ is_among seen.now written.now halves }
+{
+    is_among(seen, written, &HALVES)
+}
+
+/// The table `worn_halves` of the specification.
+static WORN_HALVES: [[u8; 12]; 15] = [
+    *b"l/2=1/2_____",
+    *b"i/2=1/2_____",
+    *b"'/2=1/2_____",
+    *b"\xE2\x80\x99/2=1/2___",
+    *b"]/2=1/2_____",
+    *b"!/2=1/2_____",
+    *b"|/2=1/2_____",
+    *b"1/=1/2______",
+    *b"2/2=1/2_____",
+    *b"1/z=1/2_____",
+    *b"\xC2\xB9\xE2\x81\x84\xE2\x82\x82=1/2",
+    *b"h.=1/2______",
+    *b"v2=1/2______",
+    *b"y2=1/2______",
+    *b"%=1/2_______",
+];
+
+/// Whether this is a row of it: what it looks at, and what it writes.
+pub(crate) fn is_in_worn_halves(seen: &[u8], written: &[u8]) -> bool
+    ensures { result ≡ is_among seen.now written.now worn_halves }
+{
+    is_among(seen, written, &WORN_HALVES)
+}
+
+/// The table `quarters` of the specification.
+static QUARTERS: [[u8; 15]; 7] = [
+    *b"=1/4___________",
+    *b"4=1/4__________",
+    *b"/4=1/4_________",
+    *b"quarter=1/4____",
+    *b"one-quarter=1/4",
+    *b"one quarter=1/4",
+    *b"1\xE2\x81\x844=1/4______",
+];
+
+/// Whether this is a row of it: what it looks at, and what it writes.
+pub(crate) fn is_in_quarters(seen: &[u8], written: &[u8]) -> bool
+    ensures { result ≡ is_among seen.now written.now quarters }
+{
+    is_among(seen, written, &QUARTERS)
+}
+
+/// The table `quarter_abbreviations` of the specification.
+static QUARTER_ABBREVIATIONS: [[u8; 10]; 5] = [
+    *b"qr.=1/4___",
+    *b".=1/4_____",
+    *b"qtr=1/4___",
+    *b"qtr.=1/4__",
+    *b"quater=1/4",
+];
+
+/// Whether this is a row of it: what it looks at, and what it writes.
+pub(crate) fn is_in_quarter_abbreviations(seen: &[u8], written: &[u8]) -> bool
+    ensures { result ≡ is_among seen.now written.now quarter_abbreviations }
+{
+    is_among(seen, written, &QUARTER_ABBREVIATIONS)
+}
+
+/// The table `worn_quarters` of the specification.
+static WORN_QUARTERS: [[u8; 12]; 15] = [
+    *b"/ 4=1/4_____",
+    *b"1-4=1/4_____",
+    *b"^=1/4_______",
+    *b"l/4=1/4_____",
+    *b"i/4=1/4_____",
+    *b"'/4=1/4_____",
+    *b"\xE2\x80\x99/4=1/4___",
+    *b"]/4=1/4_____",
+    *b"!/4=1/4_____",
+    *b"|/4=1/4_____",
+    *b"1/=1/4______",
+    *b"v4=1/4______",
+    *b"y4=1/4______",
+    *b"%=1/4_______",
+    *b"\xC2\xB9\xE2\x81\x84\xE2\x82\x84=1/4",
+];
+
+/// Whether this is a row of it: what it looks at, and what it writes.
+pub(crate) fn is_in_worn_quarters(seen: &[u8], written: &[u8]) -> bool
+    ensures { result ≡ is_among seen.now written.now worn_quarters }
+{
+    is_among(seen, written, &WORN_QUARTERS)
+}
+
+/// The table `directions` of the specification.
+static DIRECTIONS: [[u8; 13]; 12] = [
+    *b"north=N______",
+    *b"south=S______",
+    *b"east=E_______",
+    *b"west=W_______",
+    *b"northeast=NE_",
+    *b"northwest=NW_",
+    *b"southeast=SE_",
+    *b"southwest=SW_",
+    *b"north east=NE",
+    *b"north west=NW",
+    *b"south east=SE",
+    *b"south west=SW",
+];
+
+/// Whether this is a row of it: what it looks at, and what it writes.
+pub(crate) fn is_in_directions(seen: &[u8], written: &[u8]) -> bool
+    ensures { result ≡ is_among seen.now written.now directions }
+{
+    is_among(seen, written, &DIRECTIONS)
+}
+
+/// The table `worn_directions` of the specification.
+static WORN_DIRECTIONS: [[u8; 12]; 14] = [
+    *b"nothwest=NW_",
+    *b"norhwest=NW_",
+    *b"nortwest=NW_",
+    *b"northwset=NW",
+    *b"notheast=NE_",
+    *b"norhteast=NE",
+    *b"norteast=NE_",
+    *b"northeat=NE_",
+    *b"sothwest=SW_",
+    *b"souhwest=SW_",
+    *b"soutwest=SW_",
+    *b"sotheast=SE_",
+    *b"souhteast=SE",
+    *b"souteast=SE_",
+];
+
+/// Whether this is a row of it: what it looks at, and what it writes.
+pub(crate) fn is_in_worn_directions(seen: &[u8], written: &[u8]) -> bool
+    ensures { result ≡ is_among seen.now written.now worn_directions }
+{
+    is_among(seen, written, &WORN_DIRECTIONS)
+}
+
+/// The table `damages` of the specification.
+static DAMAGES: [[u8; 3]; 3] = [*b"l=1", *b"i=1", *b"o=0"];
+
+/// Whether this is a row of it: what it looks at, and what it writes.
+pub(crate) fn is_in_damages(seen: &[u8], written: &[u8]) -> bool
+    ensures { result ≡ is_among seen.now written.now damages }
+{
+    is_among(seen, written, &DAMAGES)
+}
+
+/// The table `damaged_corners` of the specification.
+static DAMAGED_CORNERS: [[u8; 3]; 2] = [*b"5=S", *b"8=S"];
+
+/// Whether this is a row of it: what it looks at, and what it writes.
+pub(crate) fn is_in_damaged_corners(seen: &[u8], written: &[u8]) -> bool
+    ensures { result ≡ is_among seen.now written.now damaged_corners }
+{
+    is_among(seen, written, &DAMAGED_CORNERS)
+}
