@@ -1,5 +1,2 @@
-pub mod TextFacts
 pub mod LandFacts
-pub mod NamedFacts
-pub mod ClearFacts
 pub mod ReadingFacts

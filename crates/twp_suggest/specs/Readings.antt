@@ -1,96 +1,12 @@
 -- What the readings of a text are: changes of the text, each by a rule, and the descriptions that come of
 -- them.
-use Rattle.std.specs.Prelude.{◌≡◌, ◌==◌, ◌≤◌, ℕ, Bool, List, [], ◌∷◌, ◌++◌, length, map, codes}
-use Rattle.std.specs.Prelude.{All, AllPairs, if◌then◌else◌}
-use Rattle.twp_grid.specs.Places.{PLACE_DIGITS}
-use Rattle.twp_grid.specs.Townships.{Designation, designation, line_feed}
-use Rattle.twp_land.specs.Lands.{HasWholeLots, SamePlaces, difference}
-use Rattle.twp_grammar.specs.declared.item.Item.{Item}
-use Rattle.twp_grammar.specs.declared.item.Item.TheVariants.{Heading}
-use Rattle.twp_grammar.specs.ItemPlaces.{land_of, parts_of}
-use Rattle.twp_grammar.specs.OnPlat.{IsLandOfItems}
-use Rattle.twp_grammar.specs.Sentences.{IsReadAs}
-use Rattle.twp_read.specs.Doubts.{HasNoDoubtfulPlace}
+use Rattle.std.specs.Prelude.{◌≡◌, ◌≤◌, ℕ, Bool, List, [], ◌∷◌, length, map}
+use Rattle.std.specs.Prelude.{All, AllPairs}
+use Rattle.twp_grid.specs.Townships.{Designation}
+use Rattle.twp_land.specs.Lands.{SamePlaces}
+use Rattle.twp_described.specs.Descriptions.{IsAccepted, IsClear, IsDescribed, IsLandOfText}
 use Rattle.twp_rules.specs.Changes.{AreChangesFrom, changed_from, seen}
-use Rattle.twp_spell.specs.CanonicalText.{IsCanonicalText}
-use Rattle.twp_suggest.specs.declared.manner.Manner.{Manner}
-use Rattle.twp_suggest.specs.declared.manner.Manner.TheVariants.{Changed, LotsNamed, Remainder}
 use Rattle.twp_suggest.specs.declared.reading.Reading.{Reading}
-
--- the reader accepts the text
-pub record IsAccepted (text : List ℕ) : Type 0 where
-  pub items : List Item
-  pub read : IsReadAs text items
-
--- the text is read as items on the plat of a township, and these are their places
-pub record IsLandOfText (township : Designation) (text : List ℕ) (places : ℕ → ℕ → ℕ → Bool) : Type 0 where
-  pub items : List Item
-  pub read : IsReadAs text items
-  pub land : IsLandOfItems PLACE_DIGITS township items places
-
--- a text names no other places, in any township
-abbrev pub IsOnlyLandOfText : List ℕ → (ℕ → ℕ → ℕ → Bool) → Type 0
-IsOnlyLandOfText text places = (township : Designation) (others : ℕ → ℕ → ℕ → Bool)
-    → IsLandOfText township text others → others ≡ places
-
--- a text without its first line
-abbrev pub without_first_line : List ℕ → List ℕ
-without_first_line [] = []
-without_first_line (byte ∷ bytes) = if byte == line_feed then bytes else without_first_line bytes
-
--- a canonical text, whose first line names the township, as a description of land for which such items were
--- written: without its first line, unless they begin with a township
-abbrev pub as_written : List Item → List ℕ → List ℕ
-as_written (Heading number north_south range east_west at ∷ items) text = text
-as_written items text = without_first_line text
-
--- what is written between land and what it is without
-abbrev pub except : List ℕ
-except = codes " except "
-
--- THE REMAINDER: the canonical text of the land of the text before `except` without the land of the text
--- after it
-pub record IsRemainder (made text : List ℕ) : Type 0 where
-  pub whole : List ℕ
-  pub excepted : List ℕ
-  pub made_is : made ≡ whole ++ except ++ excepted
-  pub township : Designation
-  pub places : ℕ → ℕ → ℕ → Bool
-  pub less : ℕ → ℕ → ℕ → Bool
-  pub of_whole : IsLandOfText township whole places
-  pub of_excepted : IsLandOfText township excepted less
-  pub full : List ℕ
-  pub spelled : IsCanonicalText PLACE_DIGITS township (difference places less) full
-  pub text_is : text ≡ as_written of_whole.items full
-
--- the text is read as items, which name these places; an aliquot part may include lots
-pub record AreNamed (text : List ℕ) (places : ℕ → ℕ → ℕ → Bool) : Type 0 where
-  pub items : List Item
-  pub read : IsReadAs text items
-  pub places_are : places ≡ land_of PLACE_DIGITS (parts_of items)
-  pub whole : HasWholeLots PLACE_DIGITS places
-
--- a township that items begin with is this one
-abbrev pub NamesTownship : List Item → Designation → Type 0
-NamesTownship (Heading number north_south range east_west at ∷ items) township =
-    designation number north_south range east_west ≡ township
-NamesTownship items township = Unit {0}
-
--- LOTS NAMED: the canonical text of the land of a text in which an aliquot part may include whole lots
-pub record AreLotsNamed (made text : List ℕ) : Type 0 where
-  pub township : Designation
-  pub places : ℕ → ℕ → ℕ → Bool
-  pub named : AreNamed made places
-  pub of_township : NamesTownship named.items township
-  pub full : List ℕ
-  pub spelled : IsCanonicalText PLACE_DIGITS township places full
-  pub text_is : text ≡ as_written named.items full
-
--- how the description comes of the changed text
-abbrev pub IsDescribed : Manner → List ℕ → List ℕ → Type 0
-IsDescribed Changed made text = text ≡ made
-IsDescribed LotsNamed made text = AreLotsNamed made text
-IsDescribed Remainder made text = IsRemainder made text
 
 -- A READING of a text: what comes of its changes, which the reader accepts
 pub record IsReading (text : List ℕ) (reading : Reading) : Type 0 where
@@ -112,11 +28,6 @@ NameOtherLand one other = (township : Designation) (places more : ℕ → ℕ �
 pub record AreOther (one other : Reading) : Type 0 where
   pub texts : one.text.items ≡ other.text.items → ⊥
   pub land : NameOtherLand one.text.items other.text.items
-
--- a text that the reader accepts, and that can't be read in two ways
-pub record IsClear (text : List ℕ) : Type 0 where
-  pub accepted : IsAccepted text
-  pub clear : HasNoDoubtfulPlace text
 
 -- the text itself, without a change
 pub record IsItself (text : List ℕ) (readings : List Reading) : Type 0 where

@@ -1,10 +1,9 @@
 //! What a text says again in parentheses: it has to be the land before them.
 
-use crate::named::land_in;
-use crate::on_plat::{find_land, first_township};
 use crate::writer::Writer;
 use std::alloc::{AllocError, Global};
 use twp_arrange::{Placed, Role};
+use twp_described::{find_land, first_township, land_in};
 use twp_land::{Land, Lanes};
 use twp_phrases::{Claim, Claimed, Names, Phrase, Span};
 use twp_pieces::plus;

@@ -3,7 +3,6 @@
 use crate::joints::Shared;
 use crate::outline::Outline;
 use crate::writer::Writer;
-use std::alloc::AllocError;
 use twp_arrange::{Between, Gap, Joining, Placed, is_joint, is_written, mark_between};
 use twp_grammar::Kind;
 use twp_phrases::Names;
@@ -18,7 +17,7 @@ impl<'a> Writer<'a> {
         after: Option<&Placed>,
         left_out: &[Placed],
         out: &mut Outline<'a>,
-    ) -> Result<(), AllocError> {
+    ) {
         let gap = Gap {
             first: before.map_or(0, |placed| placed.phrase.end),
             end: after.map_or(self.plan.draft.pieces.len(), |placed| placed.phrase.first),
@@ -34,9 +33,9 @@ impl<'a> Writer<'a> {
                 Shared::Nothing if self.plan.is_unsure_gap(one, other, joining, left_out) => {
                     self.plan.draft.doubt();
                 }
-                Shared::Tail => self.write_tail(&one.phrase, &other.phrase, out)?,
+                Shared::Tail => self.write_tail(&one.phrase, &other.phrase, out),
                 Shared::Head => {
-                    self.write_between(before, after, gap, left_out, joining, out)?;
+                    self.write_between(before, after, gap, left_out, joining, out);
                     return self.write_head(&one.phrase, &other.phrase, out);
                 }
                 _ => {}
@@ -58,7 +57,7 @@ impl<'a> Writer<'a> {
         left_out: &[Placed],
         joining: Joining,
         out: &mut Outline<'a>,
-    ) -> Result<(), AllocError> {
+    ) {
         if is_written(before, after, gap.between, joining) {
             return self.write_pieces(gap, left_out, None, false, out);
         }
@@ -70,12 +69,7 @@ impl<'a> Writer<'a> {
 
     /// Writes a comma or a semicolon between two phrases: instead of the first mark, or after the first
     /// phrase.
-    fn write_mark(
-        &mut self,
-        gap: Gap,
-        left_out: &[Placed],
-        out: &mut Outline<'a>,
-    ) -> Result<(), AllocError> {
+    fn write_mark(&mut self, gap: Gap, left_out: &[Placed], out: &mut Outline<'a>) {
         let is_comma = gap.between == Between::Comma;
         let end = match left_out.first() {
             Some(placed) => placed.phrase.first,
@@ -94,12 +88,12 @@ impl<'a> Writer<'a> {
             (false, true) => (b";", Rule::Semicolon),
             (false, false) => (b"; ", Rule::Semicolon),
         };
-        out.changes.push(Change {
+        out.add(Change {
             start: place,
             end: place,
             written,
             rule,
-        })?;
+        });
         self.write_pieces(gap, left_out, Some(gap.end), is_comma, out)
     }
 
@@ -112,7 +106,7 @@ impl<'a> Writer<'a> {
         mark: Option<usize>,
         is_comma: bool,
         out: &mut Outline<'a>,
-    ) -> Result<(), AllocError> {
+    ) {
         let mut next = gap.first;
         let mut rest = left_out;
         for index in gap.first..gap.end {
@@ -120,7 +114,7 @@ impl<'a> Writer<'a> {
                 if placed.phrase.first == index {
                     next = placed.phrase.end;
                     rest = more;
-                    self.write_left_out(placed, out)?;
+                    self.write_left_out(placed, out);
                 }
             }
             if index < next {
@@ -132,11 +126,10 @@ impl<'a> Writer<'a> {
             }
             match mark {
                 None => {}
-                Some(place) if place == index => self.write_as_mark(index, is_comma, out)?,
-                Some(_) => self.write_nothing(index, out)?,
+                Some(place) if place == index => self.write_as_mark(index, is_comma, out),
+                Some(_) => self.write_nothing(index, out),
             }
         }
-        Ok(())
     }
 
     /// Whether a comma or a semicolon may be written instead of a piece.
@@ -177,6 +170,7 @@ impl<'a> Writer<'a> {
     /// Whether a word between phrases means nothing there: before a section or a township and range that is
     /// left out, at the beginning, or `and` between lands or sections.
     fn may_leave_out(&self, index: usize, gap: Gap, rest: &[Placed]) -> bool {
+        let pieces = &self.plan.draft.pieces;
         let after = plus(index, 1);
         let after = if self.is_word(after) {
             plus(after, 1)
@@ -187,33 +181,25 @@ impl<'a> Writer<'a> {
             [placed, ..] => {
                 let is_next = placed.phrase.first == after || placed.phrase.first == plus(index, 1);
                 let is_moved = matches!(placed.phrase.names, Names::Sections | Names::Heading);
-                is_next
-                    && is_moved
-                    && !(self.plan.draft.pieces.is(index, b"and")
-                        || self.plan.draft.pieces.is(index, b"&"))
+                is_next && is_moved && !(pieces.is(index, b"and") || pieces.is(index, b"&"))
             }
             [] => false,
         };
         let is_between = gap.between != Between::Nothing && gap.first > 0;
-        let is_and = (self.plan.draft.pieces.is(index, b"and")
-            || self.plan.draft.pieces.is(index, b"&"))
+        let is_and = (pieces.is(index, b"and") || pieces.is(index, b"&"))
             && is_between
             && rest.is_empty();
-        let is_the = (self.plan.draft.pieces.is(index, b"the")
-            || self.plan.draft.pieces.is(index, b"said"))
+        let is_the = (pieces.is(index, b"the") || pieces.is(index, b"said"))
             && gap.end > index
             && rest.is_empty();
-        let is_of = self.plan.draft.pieces.is(index, b"of")
-            && !self.plan.draft.pieces.is(index.saturating_sub(1), b"all");
+        let is_of = pieces.is(index, b"of") && !pieces.is(index.saturating_sub(1), b"all");
         let is_first = gap.first == 0
-            && !(is_of
-                || self.plan.draft.pieces.is(index, b"and")
-                || self.plan.draft.pieces.is(index, b"&"));
+            && !(is_of || pieces.is(index, b"and") || pieces.is(index, b"&"));
         is_before_moved || is_and || is_the || is_first
     }
 
     /// Leaves out a phrase, with the white space before it, but for words that a rule looks at as a whole.
-    fn write_left_out(&mut self, placed: &Placed, out: &mut Outline<'a>) -> Result<(), AllocError> {
+    fn write_left_out(&mut self, placed: &Placed, out: &mut Outline<'a>) {
         let rule = match placed.phrase.names {
             Names::Nothing(rule) => rule,
             Names::Heading => Rule::MovedHeading,
@@ -224,35 +210,29 @@ impl<'a> Writer<'a> {
             Rule::Heading | Rule::Label => self.plan.draft.pieces.start(first),
             _ => self.plan.draft.pieces.end_before(first),
         };
-        out.changes.push(Change {
+        out.add(Change {
             start,
             end: self.plan.draft.pieces.end_before(placed.phrase.end),
             written: b"",
             rule,
-        })?;
-        Ok(())
+        });
     }
 
     /// Writes a comma or a semicolon instead of a piece, if it is another.
-    fn write_as_mark(
-        &self,
-        index: usize,
-        is_comma: bool,
-        out: &mut Outline<'a>,
-    ) -> Result<(), AllocError> {
+    fn write_as_mark(&self, index: usize, is_comma: bool, out: &mut Outline<'a>) {
         let (written, rule): (&'static [u8], Rule) = if is_comma {
             (b",", Rule::Comma)
         } else {
             (b";", Rule::Semicolon)
         };
         if self.plan.draft.pieces.bytes(index) == written {
-            return Ok(());
+            return;
         }
         self.write_piece(index, written, rule, out)
     }
 
     /// Leaves out a piece.
-    fn write_nothing(&self, index: usize, out: &mut Outline<'a>) -> Result<(), AllocError> {
+    fn write_nothing(&self, index: usize, out: &mut Outline<'a>) {
         let is_mark = !matches!(
             self.plan.draft.pieces.kind(index),
             Kind::And | Kind::Of | Kind::The | Kind::Other
@@ -262,19 +242,13 @@ impl<'a> Writer<'a> {
     }
 
     /// Writes something instead of a piece.
-    fn write_piece(
-        &self,
-        index: usize,
-        written: &'static [u8],
-        rule: Rule,
-        out: &mut Outline<'a>,
-    ) -> Result<(), AllocError> {
-        out.changes.push(Change {
-            start: self.plan.draft.pieces.start(index),
-            end: self.plan.draft.pieces.end(index),
+    fn write_piece(&self, index: usize, written: &'static [u8], rule: Rule, out: &mut Outline<'a>) {
+        let pieces = &self.plan.draft.pieces;
+        out.add(Change {
+            start: pieces.start(index),
+            end: pieces.end(index),
             written,
             rule,
-        })?;
-        Ok(())
+        });
     }
 }

@@ -3,7 +3,6 @@
 use crate::candidates::JOINTS_MOST;
 use crate::outline::{Joint, Outline, change};
 use crate::writer::Writer;
-use std::alloc::AllocError;
 use twp_arrange::{Gap, Joining, Placed, is_joint};
 use twp_grammar::Kind;
 use twp_phrases::{Form, Phrase, PlacedStep, Span};
@@ -29,7 +28,7 @@ impl<'a> Writer<'a> {
         one: &Phrase,
         other: &Phrase,
         out: &mut Outline<'a>,
-    ) -> Result<(), AllocError> {
+    ) {
         let is_half = match self.plan.draft.steps_of(*one) {
             [step] => step.written.ends_with(b"2"),
             _ => false,
@@ -59,10 +58,10 @@ impl<'a> Writer<'a> {
         } else {
             stop
         };
-        out.options.push(change(stop, stop_end, b",", Rule::Comma))?;
+        out.add_option(change(stop, stop_end, b",", Rule::Comma));
         let middle = out.options.len();
         if start < end {
-            out.options.push(change(start, end, b"", Rule::OnePart))?;
+            out.add_option(change(start, end, b"", Rule::OnePart));
         }
         self.note_joint(begin, middle, out)
     }
@@ -89,23 +88,18 @@ impl<'a> Writer<'a> {
     /// Whether white space is between the letter of a half and its fraction, as in `N 1/2`, so that white
     /// space after it separates no parts.
     fn is_spaced(&self, half: Phrase) -> bool {
+        let pieces = &self.plan.draft.pieces;
         let fraction = plus(half.first, 1);
-        matches!(self.plan.draft.pieces.kind(fraction), Kind::Half)
-            && !self.plan.draft.pieces.is_joined(fraction)
+        matches!(pieces.kind(fraction), Kind::Half) && !pieces.is_joined(fraction)
     }
 
     /// Notes a joint whose options are from one index on, and those of the second way from another. A text
     /// with too many isn't sure.
-    fn note_joint(
-        &mut self,
-        begin: usize,
-        middle: usize,
-        out: &mut Outline<'a>,
-    ) -> Result<(), AllocError> {
+    fn note_joint(&mut self, begin: usize, middle: usize, out: &mut Outline<'a>) {
         if out.joints.len() >= JOINTS_MOST {
             self.plan.draft.doubt();
         }
-        out.joints.push(Joint {
+        let joint = Joint {
             changes: out.changes.len(),
             first: Span {
                 first: begin,
@@ -115,8 +109,8 @@ impl<'a> Writer<'a> {
                 first: middle,
                 end: out.options.len(),
             },
-        })?;
-        Ok(())
+        };
+        out.add_joint(joint);
     }
 
     /// Which steps of one of two parts with `and` between them may be for both.
@@ -127,10 +121,10 @@ impl<'a> Writer<'a> {
         joining: Joining,
         out: &Outline<'a>,
     ) -> Shared {
+        let pieces = &self.plan.draft.pieces;
         let (before, after) = (&one.phrase, &other.phrase);
-        let has_the = self.plan.draft.pieces.is(plus(before.end, 1), b"the");
-        let is_mark = self.plan.draft.pieces.is(before.end, b"&")
-            || (self.plan.draft.pieces.is(before.end, b"and") && has_the);
+        let has_the = pieces.is(plus(before.end, 1), b"the");
+        let is_mark = pieces.is(before.end, b"&") || (pieces.is(before.end, b"and") && has_the);
         let is_and = joining == Joining::And || (joining == Joining::Other && is_mark);
         let is_close = after.first <= plus(before.end, plus(1, usize::from(has_the)))
             && out.joints.len() <= 1;
@@ -145,37 +139,27 @@ impl<'a> Writer<'a> {
     }
 
     /// Notes that the `of` of a part may be for the one before it too.
-    pub(crate) fn write_tail(
-        &mut self,
-        one: &Phrase,
-        other: &Phrase,
-        out: &mut Outline<'a>,
-    ) -> Result<(), AllocError> {
+    pub(crate) fn write_tail(&mut self, one: &Phrase, other: &Phrase, out: &mut Outline<'a>) {
         let begin = out.options.len();
         let place = self.plan.draft.pieces.end_before(one.end);
         let mut is_after = false;
         for step in self.plan.draft.steps_of(*other) {
             is_after = is_after || step.is_after_of;
             if is_after {
-                out.options.push(copied(step, place))?;
+                out.add_option(copied(step, place));
             }
         }
         self.note_joint(begin, begin, out)
     }
 
     /// Notes that the steps before the last `of` of a part may be for the one after it too.
-    pub(crate) fn write_head(
-        &mut self,
-        one: &Phrase,
-        other: &Phrase,
-        out: &mut Outline<'a>,
-    ) -> Result<(), AllocError> {
+    pub(crate) fn write_head(&mut self, one: &Phrase, other: &Phrase, out: &mut Outline<'a>) {
         let begin = out.options.len();
         let place = self.plan.draft.pieces.start(other.first);
         let steps = self.plan.draft.steps_of(*one);
         let last = steps.iter().rposition(|step| step.is_after_of);
         for step in steps.get(..last.unwrap_or(0)).unwrap_or(&[]) {
-            out.options.push(copied(step, place))?;
+            out.add_option(copied(step, place));
         }
         self.note_joint(begin, begin, out)
     }

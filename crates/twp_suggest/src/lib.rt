@@ -4,19 +4,14 @@
 
 mod candidates;
 mod claims;
-mod described;
 mod gaps;
 mod joints;
-mod manner;
 mod moved;
-mod named;
-mod on_plat;
 mod outline;
 mod reading;
-mod unread;
 mod writer;
 
-pub use manner::Manner;
 pub use reading::{Reading, readings_of};
+pub use twp_described::Manner;
 pub use twp_pieces::{Beyond, beyond_of};
 pub use twp_rules::{Change, Rule};

@@ -35,18 +35,16 @@ impl<'a> Writer<'a> {
         heading: Option<Phrase>,
         placed: &Placed,
         out: &mut Outline<'a>,
-    ) -> Result<(), AllocError> {
+    ) {
         let Some(heading) = heading else {
-            return Ok(());
+            return;
         };
         let from = self.plan.draft.extent();
         let first = self.plan.draft.changes.len();
         let place = self.plan.draft.pieces.start(placed.phrase.first);
-        self.plan.draft.copy_heading(place, heading)?;
-        out.changes
-            .extend_from_slice(self.plan.draft.changes.get(first..).unwrap_or(&[]))?;
+        self.plan.draft.copy_heading(place, heading);
+        out.add_all(self.plan.draft.changes.get(first..).unwrap_or(&[]));
         self.plan.draft.shrink(from);
-        Ok(())
     }
 
     /// Writes the section before its first land, where it isn't there. Several sections with aliquot parts
@@ -71,9 +69,7 @@ impl<'a> Writer<'a> {
         } else {
             b"secs. "
         };
-        self.plan
-            .draft
-            .write(place, place, word, Rule::SectionWord)?;
+        self.plan.draft.write(place, place, word, Rule::SectionWord);
         let last = numbers.end.saturating_sub(1);
         let parts = if is_each {
             self.parts_of(alloc, placed.role, lands)?
@@ -92,19 +88,18 @@ impl<'a> Writer<'a> {
         }
         for index in numbers.first..numbers.end {
             if let Some(number) = self.plan.draft.numbers.get(index).copied() {
-                self.plan.draft.copy_numeral(place, number, 0)?;
-                self.plan.draft.write(place, place, b", ", Rule::Comma)?;
+                self.plan.draft.copy_numeral(place, number, 0);
+                self.plan.draft.write(place, place, b", ", Rule::Comma);
             }
             if is_each && index < last {
-                self.copy_parts(parts.as_slice(), place)?;
-                self.plan.draft.write(place, place, b"; ", Rule::Semicolon)?;
+                self.copy_parts(parts.as_slice(), place);
+                self.plan.draft.write(place, place, b"; ", Rule::Semicolon);
                 self.plan
                     .draft
-                    .write(place, place, b"sec. ", Rule::SectionWord)?;
+                    .write(place, place, b"sec. ", Rule::SectionWord);
             }
         }
-        out.changes
-            .extend_from_slice(self.plan.draft.changes.get(first..).unwrap_or(&[]))?;
+        out.add_all(self.plan.draft.changes.get(first..).unwrap_or(&[]));
         self.plan.draft.shrink(from);
         Ok(())
     }
@@ -133,21 +128,20 @@ impl<'a> Writer<'a> {
     }
 
     /// Writes aliquot parts at a place where they aren't.
-    fn copy_parts(&mut self, parts: &[Phrase], place: usize) -> Result<(), AllocError> {
+    fn copy_parts(&mut self, parts: &[Phrase], place: usize) {
         let mut is_first = true;
         for part in parts {
             if !is_first {
-                self.plan.draft.write(place, place, b", ", Rule::Comma)?;
+                self.plan.draft.write(place, place, b", ", Rule::Comma);
             }
             is_first = false;
             for index in part.steps.first..part.steps.end {
                 if let Some(step) = self.plan.draft.steps.get(index).copied() {
                     let rule = Rule::CopiedStep(step.start, step.end);
-                    self.plan.draft.write(place, place, step.written, rule)?;
+                    self.plan.draft.write(place, place, step.written, rule);
                 }
             }
         }
-        Ok(())
     }
 
     /// How many bytes aliquot parts have where they are written again, with commas between them.

@@ -31,6 +31,38 @@ pub(crate) struct Outline<'a> {
     pub(crate) options: Vec<Change<'a>>,
     /// Whether there is an exception.
     pub(crate) has_except: bool,
+    /// Whether memory was refused for something, which is then missing.
+    lacks_memory: bool,
+}
+
+impl<'a> Outline<'a> {
+    /// Adds a change.
+    pub(crate) fn add(&mut self, change: Change<'a>) {
+        if self.changes.push(change).is_err() {
+            self.lacks_memory = true;
+        }
+    }
+
+    /// Adds changes.
+    pub(crate) fn add_all(&mut self, changes: &[Change<'a>]) {
+        if self.changes.extend_from_slice(changes).is_err() {
+            self.lacks_memory = true;
+        }
+    }
+
+    /// Adds a change of a joint.
+    pub(crate) fn add_option(&mut self, change: Change<'a>) {
+        if self.options.push(change).is_err() {
+            self.lacks_memory = true;
+        }
+    }
+
+    /// Adds a joint.
+    pub(crate) fn add_joint(&mut self, joint: Joint) {
+        if self.joints.push(joint).is_err() {
+            self.lacks_memory = true;
+        }
+    }
 }
 
 impl<'a> Writer<'a> {
@@ -51,6 +83,7 @@ impl<'a> Writer<'a> {
             joints: Vec::new(alloc),
             options: Vec::new(alloc),
             has_except: has_except(list),
+            lacks_memory: false,
         };
         let mut before: Option<&Placed> = None;
         let mut next: usize = 0;
@@ -66,12 +99,12 @@ impl<'a> Writer<'a> {
                 continue;
             };
             let left_out = list.get(next..index).unwrap_or(&[]);
-            self.write_gap(before, Some(placed), left_out, &mut out)?;
+            self.write_gap(before, Some(placed), left_out, &mut out);
             if before.is_none() {
-                self.write_heading(heading, placed, &mut out)?;
+                self.write_heading(heading, placed, &mut out);
             }
             self.write_section(alloc, placed, list.get(index..).unwrap_or(&[]), &mut out)?;
-            self.copy_changes(&placed.phrase, &mut out)?;
+            self.copy_changes(&placed.phrase, &mut out);
             before = Some(placed);
             next = plus(index, 1);
         }
@@ -84,19 +117,22 @@ impl<'a> Writer<'a> {
         if (left_out.is_empty() && self.may_be_cut_off(before)) || self.leads_nowhere(last) {
             self.plan.draft.doubt();
         }
-        self.write_gap(before, None, left_out, &mut out)?;
+        self.write_gap(before, None, left_out, &mut out);
+        self.plan.draft.all_added()?;
+        if out.lacks_memory {
+            return Err(AllocError);
+        }
         Ok(out)
     }
 
     /// Whether a mark after the last phrase says that more follows, which may have been cut off.
     fn may_be_cut_off(&self, last: Option<&Placed>) -> bool {
+        let pieces = &self.plan.draft.pieces;
         let first = last.map_or(0, |placed| placed.phrase.end);
-        for index in first..self.plan.draft.pieces.len() {
-            if matches!(
-                self.plan.draft.pieces.kind(index),
-                Kind::Comma | Kind::Colon
-            ) || self.plan.draft.pieces.is(index, b"&")
-                || self.plan.draft.pieces.is_dash(index)
+        for index in first..pieces.len() {
+            if matches!(pieces.kind(index), Kind::Comma | Kind::Colon)
+                || pieces.is(index, b"&")
+                || pieces.is_dash(index)
             {
                 return true;
             }
@@ -120,15 +156,15 @@ impl<'a> Writer<'a> {
     }
 
     /// The changes in a phrase.
-    fn copy_changes(&self, phrase: &Phrase, out: &mut Outline<'a>) -> Result<(), AllocError> {
+    fn copy_changes(&self, phrase: &Phrase, out: &mut Outline<'a>) {
         let span = phrase.changes;
-        out.changes.extend_from_slice(
+        out.add_all(
             self.plan
                 .draft
                 .changes
                 .get(span.first..span.end)
                 .unwrap_or(&[]),
-        )
+        );
     }
 }
 

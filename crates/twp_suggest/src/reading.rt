@@ -1,18 +1,14 @@
 //! The readings of a text.
 ghost use Rattle.std.specs.Prelude.{◌≡◌, ◌↔◌, true, IsTrue, IfOk, IfSome, All};
-ghost use Rattle.twp_suggest.specs.Readings.{AreReadings, IsReading, IsAccepted, IsClear, AreOther};
+ghost use Rattle.twp_described.specs.Descriptions.{IsClear};
+ghost use Rattle.twp_suggest.specs.Readings.{AreReadings, IsReading, AreOther};
 ghost use Rattle.twp_suggest.specs.Readings.{AreSomeReadings, MayBeAdded};
 
 use crate::candidates::{made_by, outline_of};
-use crate::described::{Wording, described};
-use crate::manner::Manner;
-use crate::on_plat::{find_land, township_of};
 use crate::outline::Outline;
-use crate::unread::Unread;
 use std::alloc::{AllocError, Global};
-use twp_grammar::{State, first_token};
+use twp_described::{Manner, Unread, Wording, described, find_land, is_clear, township_of};
 use twp_land::{Land, Lanes};
-use twp_read::{Clarity, Description, doubts_in};
 use twp_rules::{Change, are_changes, changed};
 
 /// A reading of a text: the changes, from left to right, and the description that comes of them.
@@ -106,55 +102,6 @@ fn itself<'a>(alloc: Global, text: &'a [u8]) -> Result<Vec<Reading<'a>>, AllocEr
         manner: Manner::Changed,
     })?;
     Ok(readings)
-}
-
-/// Whether the reader accepts a text, and it has no doubtful place.
-#[tactic(auto, using(crate::proofs::ClearFacts::if_refused, crate::proofs::ClearFacts::if_wrong))]
-fn is_clear(alloc: Global, text: &[u8]) -> Result<bool, AllocError>
-    ensures { IfOk result (λ it. IsTrue it ↔ IsClear text.now) }
-{
-    if goes_wrong(text) {
-        return Ok(false);
-    }
-    match Description::read_noting(alloc, text) {
-        Ok(noted) => match noted.clarity {
-            Clarity::Clear => Ok(true),
-            Clarity::Unclear => has_no_doubt(alloc, text),
-        },
-        Err(fault) => match fault.refusal() {
-            Some(_) => Ok(false),
-            None => Err(AllocError),
-        },
-    }
-}
-
-/// Whether a token of a text can't follow those before it in any description, or the text ends too early.
-/// Most texts go wrong at one of their first tokens, which takes much less time than to say how.
-fn goes_wrong(text: &[u8]) -> bool
-    ensures { IsTrue result → ¬ IsAccepted text.now }
-{
-    let mut at = 0;
-    let mut state = State::Start;
-    while let Some(token) = first_token(text, at) {
-        let Some(after) = state.next(token.kind) else {
-            return true;
-        };
-        at = token.at + token.text.len();
-        state = after;
-    }
-    !state.is_final()
-}
-
-/// Whether a text that the reader accepts has no doubtful place.
-#[tactic(auto, using(crate::proofs::ClearFacts::with_doubt))]
-fn has_no_doubt(alloc: Global, text: &[u8]) -> Result<bool, AllocError>
-    requires { IsAccepted text.now }
-    ensures { IfOk result (λ it. IsTrue it ↔ IsClear text.now) }
-{
-    match doubts_in(alloc, text)? {
-        Some(_) => Ok(false),
-        None => Ok(true),
-    }
 }
 
 /// The reading that changes make, if they are allowed and the reader accepts what they make. None if that

@@ -1,0 +1,46 @@
+-- The land of a text: it is read as one list of items, which names one set of places.
+use Rattle.std.proofs.Common.{◌≡◌, ◌++◌, ℕ, Bool, List, refl, sym, ap}
+use Rattle.std.proofs.Common.{◌∙◌}
+use Rattle.twp_grid.specs.Places.{PLACE_DIGITS}
+use Rattle.twp_grid.specs.Townships.{Designation}
+use Rattle.twp_land.specs.Lands.{difference}
+use Rattle.twp_grammar.specs.declared.item.Item.{Item}
+use Rattle.twp_grammar.specs.ItemPlaces.{parts_of, land_of}
+use Rattle.twp_grammar.specs.OnPlat.{IsLandOfItems}
+use Rattle.twp_grammar.specs.Sentences.{IsReadAs}
+use Rattle.twp_spell.specs.CanonicalText.{IsCanonicalText}
+use Rattle.twp_described.specs.Descriptions.{IsLandOfText, IsOnlyLandOfText, IsRemainder, as_written, except}
+
+pub is_land : (township : Designation) (text : List ℕ) (items : List Item) (places : ℕ → ℕ → ℕ → Bool)
+    → IsReadAs text items → IsLandOfItems PLACE_DIGITS township items places
+    → IsLandOfText township text places
+is_land township text items places read land = record { items = items; read = read; land = land }
+
+pub is_only_land : (township : Designation) (text : List ℕ) (items : List Item) (places : ℕ → ℕ → ℕ → Bool)
+    → ((others : List Item) → IsReadAs text others → items ≡ others)
+    → IsLandOfItems PLACE_DIGITS township items places → IsOnlyLandOfText text places
+is_only_land township text items places only land = λ other others is.
+    is.land.land_is
+    ∙ ap (λ (named : List Item). land_of PLACE_DIGITS (parts_of named)) (sym (only is.items is.read))
+    ∙ sym land.land_is
+
+-- what is left of a text without its exception
+pub is_remainder : (whole excepted text full : List ℕ) (items : List Item) (township : Designation)
+    (places less : ℕ → ℕ → ℕ → Bool) → ((others : List Item) → IsReadAs whole others → items ≡ others)
+    → IsLandOfText township whole places → IsLandOfText township excepted less
+    → IsCanonicalText PLACE_DIGITS township (difference places less) full → text ≡ as_written items full
+    → IsRemainder (whole ++ except ++ excepted) text
+is_remainder whole excepted text full items township places less only of_whole of_excepted spelled written =
+    record {
+      whole = whole;
+      excepted = excepted;
+      made_is = refl;
+      township = township;
+      places = places;
+      less = less;
+      of_whole = of_whole;
+      of_excepted = of_excepted;
+      full = full;
+      spelled = spelled;
+      text_is = written ∙ ap (λ (its : List Item). as_written its full) (only of_whole.items of_whole.read);
+    }

@@ -1,0 +1,4 @@
+pub mod TextFacts
+pub mod LandFacts
+pub mod NamedFacts
+pub mod ClearFacts

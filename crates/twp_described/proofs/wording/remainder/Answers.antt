@@ -1,0 +1,13 @@
+use Rattle.twp_described.proofs.LandFacts.{is_land, is_remainder}
+use Rattle.twp_described.proofs.wording.remainder.Goals as goal
+
+pub returns : goal.returns
+returns c =
+    let read = rw c.in-Some.is at c.in_ok-description.ensures.read in
+    let only = rw c.in-Some.is at c.in_ok-description.ensures.only in
+    let land =
+    is_land c.in-Some-first_township.township c.args.whole.now _ _ read (c.in-Ok.ensures.land) in
+    let less = c.in_ok-has_less.ensures.land c.if-not-has_less.false in
+    is_remainder c.args.whole.now c.args.excepted.now c.in_ok-text.text.items c.in_ok-full.full.items _ _ _ _
+    only land less (rw c.take_away.ensures at c.in_ok-full.ensures.text)
+    (rw c.as_slice.ensures.value at c.in_ok-text.ensures)

@@ -1,0 +1,17 @@
+//! What a text describes, for those who change texts into descriptions: whether it is a description as it is, the land
+//! that it names, and the description that a changed text leads to.
+#![tactic(auto)]
+
+mod clear;
+mod manner;
+mod named;
+mod on_plat;
+mod unread;
+mod wording;
+
+pub use clear::is_clear;
+pub use manner::Manner;
+pub use named::land_in;
+pub use on_plat::{find_land, first_township, township_of};
+pub use unread::Unread;
+pub use wording::{Wording, described};

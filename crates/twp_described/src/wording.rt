@@ -1,0 +1,218 @@
+//! The description that comes of a changed text: the text, or the canonical description of what is left
+//! without the land that it excepts.
+ghost use Rattle.std.specs.Prelude.{◌≡◌, ◌≤◌, ◌++◌, IfOk, IfSome, OnOk, drop, length};
+ghost use Rattle.twp_described.specs.Descriptions.{AreLotsNamed, IsAccepted, IsDescribed, IsRemainder};
+ghost use Rattle.twp_described.specs.Descriptions.{as_written, except};
+ghost use Rattle.twp_described.specs.Descriptions.{without_first_line};
+
+use crate::manner::Manner;
+use crate::named::{land_with_lots, why_unread};
+use crate::on_plat::{find_land, first_township, read};
+use crate::unread::Unread;
+use std::alloc::{AllocError, Global};
+use twp_grammar::Item;
+use twp_land::{Land, Lanes};
+use twp_read::Description;
+use twp_resolve::{PlaceFault, resolve_into};
+use twp_spell::spell;
+
+/// What is between land and what it is without.
+const EXCEPT: &[u8] = b" except ";
+
+/// A text before `except`, and one after it.
+#[derive(Clone, Copy)]
+pub(crate) struct Excepting<'a> {
+    pub(crate) whole: &'a [u8],
+    pub(crate) excepted: &'a [u8],
+}
+
+/// A description that comes of a changed text, and how it does.
+#[derive(Drop)]
+pub struct Wording {
+    pub text: Vec<u8>,
+    pub manner: Manner,
+}
+
+/// The description that comes of a changed text in its township, or in any if it names none. None if it names
+/// some land twice, or a part that is too fine. The land is looked for in `land`.
+pub fn described(
+    alloc: Global,
+    made: Vec<u8>,
+    has_except: bool,
+    land: &mut Lanes,
+) -> Result<Option<Wording>, Unread>
+    ensures described { IfOk result (λ it. IfSome it (λ found.
+        IsDescribed found.manner made.items found.text.items)) }
+    ensures accepted { IfOk result (λ it. IfSome it (λ found. IsAccepted found.text.items)) }
+{
+    if has_except {
+        let text = without_excepted(alloc, made.as_slice())?;
+        accept(alloc, text.as_slice())?;
+        return Ok(Some(Wording {
+            text,
+            manner: Manner::Remainder,
+        }));
+    }
+    let Some(description) = read(alloc, made.as_slice())? else {
+        return Err(Unread::Refused);
+    };
+    let Some(township) = first_township(description.items()) else {
+        return Err(Unread::Refused);
+    };
+    match resolve_into(land, &description, township) {
+        Ok(()) => Ok(Some(Wording {
+            text: made,
+            manner: Manner::Changed,
+        })),
+        Err(PlaceFault::Overlap { .. } | PlaceFault::TooFine { .. }) => Ok(None),
+        Err(PlaceFault::OnLot { .. }) => {
+            let text = with_lots_named(alloc, made.as_slice())?;
+            accept(alloc, text.as_slice())?;
+            Ok(Some(Wording {
+                text,
+                manner: Manner::LotsNamed,
+            }))
+        }
+        Err(_) => Err(Unread::Refused),
+    }
+}
+
+/// Reads a canonical description.
+fn accept(alloc: Global, text: &[u8]) -> Result<(), Unread>
+    ensures { OnOk result (IsAccepted text.now) }
+{
+    match read(alloc, text)? {
+        Some(_) => Ok(()),
+        None => Err(Unread::Refused),
+    }
+}
+
+/// The canonical description of the land of a text in which aliquot parts include whole lots.
+#[tactic(auto, using(crate::proofs::NamedFacts::are_lots_named))]
+#[inline(never)]
+fn with_lots_named(alloc: Global, made: &[u8]) -> Result<Vec<u8>, Unread>
+    ensures { IfOk result (λ text. AreLotsNamed made.now text.items) }
+{
+    let Some(description) = read(alloc, made)? else {
+        return Err(Unread::Refused);
+    };
+    let Some(township) = first_township(description.items()) else {
+        return Err(Unread::Refused);
+    };
+    let Some(land) = land_with_lots(&description) else {
+        return Err(why_unread(&description));
+    };
+    let full = spell(alloc, &land, township)?;
+    let text = as_written(alloc, &description, full.as_slice())?;
+    Ok(text)
+}
+
+/// The canonical description of the land of a text that it doesn't except.
+fn without_excepted(alloc: Global, made: &[u8]) -> Result<Vec<u8>, Unread>
+    ensures { IfOk result (λ text. IsRemainder made.now text.items) }
+{
+    match around_except(made) {
+        Some(parts) => remainder(alloc, parts.whole, parts.excepted),
+        None => Err(Unread::Refused),
+    }
+}
+
+/// The texts before the first `except` and after it.
+pub(crate) fn around_except(text: &[u8]) -> Option<Excepting<'_>>
+    ensures { IfSome result (λ parts. text.now ≡ parts.whole.now ++ except ++ parts.excepted.now) }
+{
+    for at in 0..text.len() {
+        if let Some(parts) = split_at_except(text, at) {
+            return Some(parts);
+        }
+    }
+    None
+}
+
+/// The texts before a place and after the `except` there.
+fn split_at_except(text: &[u8], at: usize) -> Option<Excepting<'_>>
+    requires { at ≤ length text.now }
+    ensures { IfSome result (λ parts. text.now ≡ parts.whole.now ++ except ++ parts.excepted.now) }
+{
+    let (whole, rest) = text.split_at(at);
+    if rest.len() < EXCEPT.len() {
+        return None;
+    }
+    let (mark, excepted) = rest.split_at(EXCEPT.len());
+    if mark != EXCEPT {
+        return None;
+    }
+    Some(Excepting { whole, excepted })
+}
+
+/// The canonical description of the land of a text without the land of another, which has to be on the plat
+/// of the same township, in the land of the first, and not all of it. Not inlined, since its sets of land
+/// would be cleared for each text.
+#[inline(never)]
+fn remainder(alloc: Global, whole: &[u8], excepted: &[u8]) -> Result<Vec<u8>, Unread>
+    ensures { IfOk result (λ text. IsRemainder (whole.now ++ except ++ excepted.now) text.items) }
+{
+    let Some(description) = read(alloc, whole)? else {
+        return Err(Unread::Refused);
+    };
+    let Some(township) = first_township(description.items()) else {
+        return Err(Unread::Refused);
+    };
+    let mut land = Lanes::empty();
+    let Ok(()) = resolve_into(&mut land, &description, township) else {
+        return Err(why_unread(&description));
+    };
+    let mut less = Lanes::empty();
+    let has_less = find_land(alloc, excepted, township, &mut less)?;
+    if !has_less {
+        return Err(why_text_is_unread(alloc, excepted)?);
+    }
+    if !land.holds_land(&less) || land.same(&less) {
+        return Err(Unread::Unfit);
+    }
+    land.take_away(&less);
+    let full = spell(alloc, &land, township)?;
+    let text = as_written(alloc, &description, full.as_slice())?;
+    Ok(text)
+}
+
+/// Why the land of a text isn't on the plat.
+fn why_text_is_unread(alloc: Global, text: &[u8]) -> Result<Unread, AllocError> {
+    let Some(description) = read(alloc, text)? else {
+        return Ok(Unread::Refused);
+    };
+    Ok(why_unread(&description))
+}
+
+/// A canonical text as a description of land for which another was written.
+fn as_written(alloc: Global, description: &Description, full: &[u8]) -> Result<Vec<u8>, AllocError>
+    ensures { IfOk result (λ text. text.items ≡ as_written description.now full.now) }
+{
+    let mut text = Vec::new(alloc);
+    match description.items().first() {
+        Some(Item::Heading { .. }) => text.extend_from_slice(full)?,
+        _ => text.extend_from_slice(without_first_line(full))?,
+    }
+    Ok(text)
+}
+
+/// A text without its first line.
+fn without_first_line(text: &[u8]) -> &[u8]
+    ensures { result.now ≡ without_first_line text.now }
+{
+    for index in 0..text.len() {
+        if text[index] == b'\n' {
+            return after(text, index + 1);
+        }
+    }
+    after(text, text.len())
+}
+
+/// The bytes of a text from a place on.
+fn after(text: &[u8], from: usize) -> &[u8]
+    requires { from ≤ length text.now }
+    ensures { result.now ≡ drop from text.now }
+{
+    let (_, rest) = text.split_at(from);
+    rest
+}

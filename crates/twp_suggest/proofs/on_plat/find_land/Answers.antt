@@ -1,7 +1,0 @@
-use Rattle.twp_suggest.proofs.LandFacts.{is_only_land}
-use Rattle.twp_suggest.proofs.on_plat.find_land.Goals as goal
-
-pub returns-in-Ok-clause-only : goal.returns-in-Ok-clause-only
-returns-in-Ok-clause-only c = λ _.
-    is_only_land c.args.township c.args.text.now _ _ (rw c.in-Some.is at c.in_ok-description.ensures.only)
-    c.in-Ok.ensures.land
