@@ -1,7 +1,6 @@
 pub mod FindingFacts
 pub mod ListFacts
 pub mod MessageFacts
-pub mod NoteFacts
 pub mod ShownFacts
 pub mod SharingFacts
 pub mod TractFacts

@@ -4,6 +4,4 @@ pub mod ExplainedPlaces
 pub mod FoundFaults
 pub mod BlamedTracts
 pub mod OtherTracts
-pub mod ShownNotes
-pub mod NoteMarks
 pub mod steps

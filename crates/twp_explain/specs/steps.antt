@@ -1,3 +1,2 @@
 -- What private functions promise one another.
 pub mod Sharing
-pub mod ListDoubts

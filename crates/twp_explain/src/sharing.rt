@@ -1,7 +1,7 @@
 //! Which tracts of a list share land.
 ghost use Rattle.std.specs.Prelude.{◌≡◌, IfOk, IfSome, IsTrue};
 ghost use Rattle.csv.specs.Records.{fields_of};
-ghost use Rattle.twp_notes.specs.Records.{record_at};
+ghost use Rattle.twp_notes.specs.Records.{record_at, records_left, IsReading};
 ghost use Rattle.twp_acres.specs.Answers.{Describe};
 ghost use Rattle.twp_acres.specs.Tracts.{tract_records, description_in};
 ghost use Rattle.twp_diagnose.specs.RecordFields.{number_listed};
@@ -98,11 +98,30 @@ fn first_before<L: Land>(
     if !records.read(&mut row)? {
         return Ok(None);
     }
+    first_left(alloc, &mut records, &mut row, township, index, land, common)
+}
+
+/// The same of the records that a reader still has to read.
+fn first_left<L: Land>(
+    alloc: Global,
+    records: &mut Records<'_>,
+    row: &mut ByteRecord,
+    township: Township,
+    index: u32,
+    land: &L,
+    common: &mut L,
+) -> Result<Option<u32>, AllocError>
+    requires reading { IsReading records.old }
+    requires land { Describe township
+        (description_in (record_at (records_left records.old) index)) (L.places land.now) }
+    ensures { IfOk result (λ found. IfSome found (λ earlier. IsFirstSharing township
+        (records_left records.old) index earlier (L.places common.new))) }
+{
     'records: for earlier in 0..index {
-        if !records.read(&mut row)? {
+        if !records.read(row)? {
             return Ok(None);
         }
-        if !land_into(alloc, township, &row, common)? {
+        if !land_into(alloc, township, row, common)? {
             return Ok(None);
         }
         if common.meets_land(land) {
@@ -146,16 +165,27 @@ fn tract_at(alloc: Global, bytes: &[u8], index: u32) -> Result<Option<ByteRecord
 {
     let mut records = Records::new(alloc, bytes);
     let mut row = ByteRecord::new(alloc);
-    if !records.read(&mut row)? {
-        return Ok(None);
+    if records.read(&mut row)? && read_tract(&mut records, &mut row, index)? {
+        return Ok(Some(row));
     }
+    Ok(None)
+}
+
+/// Reads the record that so many others come before, and says whether there is one. The reader and the record
+/// are made elsewhere, since each way out of a function that makes them is proved to drop them.
+fn read_tract(
+    records: &mut Records<'_>,
+    row: &mut ByteRecord,
+    index: u32,
+) -> Result<bool, AllocError>
+    requires { IsReading records.old }
+    ensures { IfOk result (λ found. IsTrue found
+        → fields_of row.new ≡ record_at (records_left records.old) index) }
+{
     'records: for passed in 0..index {
-        if !records.read(&mut row)? {
-            return Ok(None);
+        if !records.read(row)? {
+            return Ok(false);
         }
     }
-    if !records.read(&mut row)? {
-        return Ok(None);
-    }
-    Ok(Some(row))
+    records.read(row)
 }

@@ -4,8 +4,8 @@ use Rattle.twp_notes.specs.Records.{records_of}
 use Rattle.twp_read.specs.Doubts.{HasNoDoubtfulPlace, AreDoubts}
 use Rattle.twp_read.specs.declared.doubt.DoubtfulPlace.{DoubtfulPlace}
 use Rattle.twp_read.specs.declared.doubt.Doubts.{Doubts}
-use Rattle.twp_explain.specs.ShownNotes.{AreClearBefore, description_of}
-use Rattle.twp_explain.specs.declared.note.ListDoubts.{ListDoubts}
+use Rattle.twp_explain_doubts.specs.ShownNotes.{AreClearBefore, description_of}
+use Rattle.twp_explain_doubts.specs.declared.note.ListDoubts.{ListDoubts}
 
 -- this is the first doubtful place of a text
 pub record IsFirstDoubt (text : List ℕ) (place : DoubtfulPlace) : Type 0 where

@@ -12,7 +12,7 @@ use Rattle.twp_diagnose.specs.declared.origin.Origin.{Origin}
 use Rattle.twp_read.specs.Doubts.{HasNoDoubtfulPlace, AreDoubts}
 use Rattle.twp_read.specs.declared.doubt.Doubts.{Doubts}
 use Rattle.twp_diagnose.specs.ShownMessages.{IsMessageAt}
-use Rattle.twp_explain.specs.declared.note.Note.{Note}
+use Rattle.twp_explain_doubts.specs.declared.note.Note.{Note}
 
 -- a note is of the first doubtful place of a text
 pub record IsOfFirst (text : List ℕ) (note : Note) : Type 0 where

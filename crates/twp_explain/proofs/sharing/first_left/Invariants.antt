@@ -1,15 +1,15 @@
 use Rattle.std.proofs.Common.{◌≡◌, ℕ, ◌<◌, drop}
 use Rattle.twp_notes.specs.Records.{records_left, record_at, IsReading}
-use Rattle.twp_acres.specs.Tracts.{tract_records, Overlap}
-use Rattle.twp_explain.proofs.sharing.first_before.Given as goal
+use Rattle.twp_acres.specs.Tracts.{Overlap}
+use Rattle.twp_explain.proofs.sharing.first_left.Given as goal
 
 -- the tracts so far don't overlap the one at the index, and the other records are left
 abbrev pub invariant-records : goal.invariant-records
 invariant-records g l = record {
   reading : IsReading l.records;
-  rest : records_left l.records ≡ drop l.earlier (tract_records l.bytes);
+  rest : records_left l.records ≡ drop l.earlier (records_left l.initial.records);
   apart : (tract : ℕ) → tract < l.earlier
-      → Overlap l.township (record_at (tract_records l.bytes) tract)
-      (record_at (tract_records l.bytes) l.index)
+      → Overlap l.township (record_at (records_left l.initial.records) tract)
+      (record_at (records_left l.initial.records) l.index)
       → ⊥;
 }

@@ -1,5 +1,5 @@
 -- The message is about the place.
-use Rattle.twp_explain.proofs.note.note_place.Goals as goal
+use Rattle.twp_explain_doubts.proofs.note.note_place.Goals as goal
 
 pub returns-clause-shows : goal.returns-clause-shows
 returns-clause-shows c = record {

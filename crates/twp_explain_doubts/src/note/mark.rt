@@ -1,6 +1,6 @@
 //! The mark that the sentence of a note begins with.
 ghost use Rattle.std.specs.Prelude.{◌↔◌, ◌+◌, ◌≤◌, length, IsTrue};
-ghost use Rattle.twp_explain.specs.NoteMarks.{HasMarkAt, IsSentenceOf, MARK as NOTE_MARK};
+ghost use Rattle.twp_explain_doubts.specs.NoteMarks.{HasMarkAt, IsSentenceOf, MARK as NOTE_MARK};
 
 use twp_excerpt::Span;
 

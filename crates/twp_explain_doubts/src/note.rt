@@ -3,9 +3,9 @@
 ghost use Rattle.std.specs.Prelude.{◌≡◌, ◌≤◌, ◌<◌, Some, None, length, IfOk, IfSome, MatchOption};
 ghost use Rattle.twp_diagnose.specs.Spots.{IsSpotAt};
 ghost use Rattle.twp_read.specs.Doubts.{AreDoubts};
-ghost use Rattle.twp_explain.specs.ShownNotes.{AreClear, IsNoteOf, IsNoteOfList, IsOfFirstTract};
-ghost use Rattle.twp_explain.specs.ShownNotes.{IsSpotOfNote, ShowsNoteIn};
-ghost use Rattle.twp_explain.specs.steps.ListDoubts.{AreOfList, Takes};
+ghost use Rattle.twp_explain_doubts.specs.ShownNotes.{AreClear, IsNoteOf, IsNoteOfList, IsOfFirstTract};
+ghost use Rattle.twp_explain_doubts.specs.ShownNotes.{IsSpotOfNote, ShowsNoteIn};
+ghost use Rattle.twp_explain_doubts.specs.steps.ListDoubts.{AreOfList, Takes};
 
 mod acres;
 mod heading;

@@ -1,15 +1,14 @@
 -- The next tract shares land with the one at the index, or doesn't.
 use Rattle.std.proofs.Common.{rules, sym, ◌∙◌}
-use Rattle.twp_notes.specs.Records.{record_at}
+use Rattle.twp_notes.specs.Records.{record_at, records_left}
 use Rattle.twp_notes.proofs.Taking.{next_record_is}
-use Rattle.twp_acres.specs.Tracts.{tract_records}
 use Rattle.twp_explain.proofs.SharingFacts.{no_overlap, none_more}
-use Rattle.twp_explain.proofs.sharing.first_before.Goals as goal
+use Rattle.twp_explain.proofs.sharing.first_left.Goals as goal
 
 pub records-preserved : goal.records-preserved
 records-preserved g c =
-    let rows = tract_records c.args.bytes.now in
-    let next = rw c.if-not-branch-2.false at c.in_ok-read-2.ensures in
+    let rows = records_left c.args.records.now in
+    let next = rw c.if-not-branch.false at c.in_ok-read.ensures in
     let is =
     next_record_is rows c.records.earlier _ _ (sym c.records.invariant.rest ∙ next.0) in
     record {
@@ -18,14 +17,14 @@ records-preserved g c =
       apart =
           none_more c.args.township rows c.args.index c.records.earlier c.records.invariant.apart
           (no_overlap c.args.township (record_at rows c.records.earlier) (record_at rows c.args.index) _ _
-          (rw (← is.is) at (c.in_ok-land_into.ensures c.if-not-branch-3.false)) c.requires
+          (rw (← is.is) at (c.in_ok-land_into.ensures c.if-not-branch-2.false)) c.requires.land
           (λ shared. absurd (cc (c.meets_land.ensures.1 shared, c.if-meets_land.false))));
     }
 
 pub returns-then-meets_land : goal.returns-then-meets_land
 returns-then-meets_land g c =
-    let rows = tract_records c.args.bytes.now in
-    let next = rw c.if-not-branch-2.false at c.in_ok-read-2.ensures in
+    let rows = records_left c.args.records.now in
+    let next = rw c.if-not-branch.false at c.in_ok-read.ensures in
     let is =
     next_record_is rows c.records.earlier _ _ (sym c.records.invariant.rest ∙ next.0) in
     record {
@@ -33,8 +32,8 @@ returns-then-meets_land g c =
       overlap = record {
         places = _;
         more = g.L.Land.places c.args.land.now;
-        land = rw (← is.is) at (c.in_ok-land_into.ensures c.if-not-branch-3.false);
-        other_land = c.requires;
+        land = rw (← is.is) at (c.in_ok-land_into.ensures c.if-not-branch-2.false);
+        other_land = c.requires.land;
         shared = c.meets_land.ensures.0 c.if-meets_land.true;
       };
       first = c.records.invariant.apart;

@@ -13,11 +13,11 @@ use Rattle.twp_diagnose.specs.declared.given.Given.{Given}
 use Rattle.twp_diagnose.specs.declared.listed.Listed.{Listed}
 use Rattle.twp_diagnose.specs.declared.origin.Origin.{Origin}
 use Rattle.twp_excerpt.specs.declared.spot.Spot.{Spot}
-use Rattle.twp_explain.specs.ShownNotes.{AreClear, AreClearBefore, IsNoteOf, IsNoteOfList}
-use Rattle.twp_explain.specs.ShownNotes.{IsOfFirstTract, IsSpotOfNote, description_of}
-use Rattle.twp_explain.specs.declared.note.Note.{Note}
-use Rattle.twp_explain.specs.declared.note.ListDoubts.{ListDoubts}
-use Rattle.twp_explain.specs.steps.ListDoubts.{AreFoundBefore, AreOfList, IsFirstDoubt, Takes}
+use Rattle.twp_explain_doubts.specs.ShownNotes.{AreClear, AreClearBefore, IsNoteOf, IsNoteOfList}
+use Rattle.twp_explain_doubts.specs.ShownNotes.{IsOfFirstTract, IsSpotOfNote, description_of}
+use Rattle.twp_explain_doubts.specs.declared.note.Note.{Note}
+use Rattle.twp_explain_doubts.specs.declared.note.ListDoubts.{ListDoubts}
+use Rattle.twp_explain_doubts.specs.steps.ListDoubts.{AreFoundBefore, AreOfList, IsFirstDoubt, Takes}
 use Rattle.twp_diagnose.proofs.SpotFacts.{same_spot_at}
 
 pub note_first : {E : Type 0} (text : List ℕ) (doubts : Doubts) (r : Result (Option Note) E)

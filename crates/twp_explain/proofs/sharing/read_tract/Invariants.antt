@@ -1,11 +1,10 @@
 use Rattle.std.proofs.Common.{◌≡◌, drop}
 use Rattle.twp_notes.specs.Records.{records_left, IsReading}
-use Rattle.twp_acres.specs.Tracts.{tract_records}
-use Rattle.twp_explain.proofs.sharing.tract_at.Given as goal
+use Rattle.twp_explain.proofs.sharing.read_tract.Given as goal
 
 -- so many tracts were passed, and the others are left
 abbrev pub invariant-records : goal.invariant-records
 invariant-records l = record {
   reading : IsReading l.records;
-  rest : records_left l.records ≡ drop l.passed (tract_records l.bytes);
+  rest : records_left l.records ≡ drop l.passed (records_left l.initial.records);
 }

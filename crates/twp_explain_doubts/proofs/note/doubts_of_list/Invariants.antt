@@ -1,7 +1,7 @@
 use Rattle.std.proofs.Common.{◌≡◌, ◌-◌, drop}
 use Rattle.twp_notes.specs.Records.{records_left, records_of, IsReading}
-use Rattle.twp_explain.specs.steps.ListDoubts.{AreFoundBefore}
-use Rattle.twp_explain.proofs.note.doubts_of_list.Given as goal
+use Rattle.twp_explain_doubts.specs.steps.ListDoubts.{AreFoundBefore}
+use Rattle.twp_explain_doubts.proofs.note.doubts_of_list.Given as goal
 
 -- the records so far were searched, and the others are left
 abbrev pub invariant-records : goal.invariant-records

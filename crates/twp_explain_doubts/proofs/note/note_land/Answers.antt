@@ -1,8 +1,8 @@
 -- The place is the first one of the text.
 use Rattle.std.proofs.lemmas.Option.{MatchOption-at_some}
 use Rattle.twp_read.specs.Doubts.{AreDoubts, HasNoDoubtfulPlace}
-use Rattle.twp_explain.proofs.NoteFacts.{note_first}
-use Rattle.twp_explain.proofs.note.note_description.Goals as goal
+use Rattle.twp_explain_doubts.proofs.NoteFacts.{note_first}
+use Rattle.twp_explain_doubts.proofs.note.note_land.Goals as goal
 
 pub returns-clause-note : goal.returns-clause-note
 returns-clause-note c =

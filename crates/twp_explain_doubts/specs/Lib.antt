@@ -1,0 +1,3 @@
+pub mod ShownNotes
+pub mod NoteMarks
+pub mod steps
