@@ -6,16 +6,11 @@
 //! - With the name of a call, it makes this call alone: `tests/program/growths.sh` refuses it
 //!   memory, and `tests/program/test_calls.py` compares its answer.
 //! - With a kind of land, or `text`, it does work whose instructions `make bench` counts.
-//!
-//! The tests of what no program can show are here too, so that the crates that they test are not proved a
-//! second time with them.
 #![tactic(auto)]
 
 mod counted;
 mod mixed;
 mod single;
-#[cfg(test)]
-mod tests;
 mod trials;
 
 use counted::LandTask;
