@@ -62,13 +62,12 @@ impl<'a> Plan<'a> {
     /// The area of the land before an acreage with a word for what it is of, as in `containing 80 acres`,
     /// from the acreage before it on.
     fn land_before(&self, list: &[Placed], index: usize) -> u64 {
+        let pieces = &self.draft.pieces;
         let mut sum: u64 = 0;
         let mut last: u64 = 0;
         let mut end: usize = usize::MAX;
         let first = list.get(index).map_or(0, |placed| placed.phrase.first);
-        if !(self.draft.pieces.is(first, b"containing")
-            || self.draft.pieces.is(first, b"comprising"))
-        {
+        if !(pieces.is(first, b"containing") || pieces.is(first, b"comprising")) {
             return 0;
         }
         for placed in list.get(..index).unwrap_or(&[]) {
@@ -207,18 +206,19 @@ impl<'a> Plan<'a> {
 
     /// The number in words at an index, in hundredths, and the index after it. Its hundredths aren't counted.
     fn count_at(&self, first: usize, end: usize) -> Option<(u64, usize)> {
+        let pieces = &self.draft.pieces;
         let mut whole: u64 = 0;
         let mut next = first;
         for index in first..end {
-            let word = self.draft.pieces.lower(index);
+            let word = pieces.lower(index);
             if !is_of_count(word) {
                 break;
             }
             if let Some(value) = value_of_count(word) {
                 whole = whole.saturating_add(value);
-            } else if self.draft.pieces.is(index, b"hundred") {
+            } else if pieces.is(index, b"hundred") {
                 whole = whole.saturating_mul(100);
-            } else if self.draft.pieces.is(index, b"thousand") {
+            } else if pieces.is(index, b"thousand") {
                 return None;
             }
             next = plus(index, 1);

@@ -159,6 +159,7 @@ impl<'a> Plan<'a> {
 
     /// Whether each section is whole, whichever of them `all` is said of, as in `Sec. 16 & Sec. 36: all`.
     fn are_all_whole(&self, list: &[Placed]) -> bool {
+        let pieces = &self.draft.pieces;
         let mut joined: Option<usize> = None;
         for placed in list {
             let phrase = placed.phrase;
@@ -166,8 +167,8 @@ impl<'a> Plan<'a> {
                 Names::Heading | Names::Nothing(Rule::Meridian) => {}
                 Names::All => joined = None,
                 Names::Sections if joined.is_none() || joined == Some(phrase.first) => {
-                    let is_and = matches!(self.draft.pieces.kind(phrase.end), Kind::And)
-                        || self.draft.pieces.is(phrase.end, b"&");
+                    let is_and = matches!(pieces.kind(phrase.end), Kind::And)
+                        || pieces.is(phrase.end, b"&");
                     joined = Some(plus(phrase.end, usize::from(is_and)));
                 }
                 _ => return false,

@@ -100,10 +100,9 @@ impl<'a> Plan<'a> {
 
     /// Whether a range of numbers is in a phrase.
     pub(crate) fn has_range(&self, phrase: Phrase) -> bool {
+        let pieces = &self.draft.pieces;
         for index in phrase.first..phrase.end {
-            if matches!(self.draft.pieces.kind(index), Kind::To)
-                || self.draft.pieces.is_dash(index)
-            {
+            if matches!(pieces.kind(index), Kind::To) || pieces.is_dash(index) {
                 return true;
             }
         }

@@ -66,6 +66,7 @@ impl<'a> Plan<'a> {
         joining: Joining,
         left_out: &[Placed],
     ) -> bool {
+        let pieces = &self.draft.pieces;
         let (before, after) = (&one.phrase, &other.phrase);
         if before.names == Names::Heading {
             return false;
@@ -92,9 +93,9 @@ impl<'a> Plan<'a> {
             Joining::Nothing
                 if before.names == Names::Lots
                     && is_left_out_after(before, left_out, Rule::Label)
-                    && self.draft.pieces.end_of_column_label(before.end).is_some() => false,
+                    && pieces.end_of_column_label(before.end).is_some() => false,
             Joining::Nothing if are_parts && is_left_out_after(before, left_out, Rule::Acreage) => {
-                !self.draft.pieces.begins_column(after.first)
+                !pieces.begins_column(after.first)
             }
             Joining::Nothing if are_parts && is_left_out_after(before, left_out, Rule::Label) => {
                 !self.are_tracts(before)
@@ -143,6 +144,7 @@ impl<'a> Plan<'a> {
 
     /// Whether `and`, or an ampersand, is among some pieces, but for what is left out.
     fn has_and(&self, first: usize, end: usize, left_out: &[Placed]) -> bool {
+        let pieces = &self.draft.pieces;
         let mut next = first;
         let mut rest = left_out;
         for index in first..end {
@@ -152,10 +154,10 @@ impl<'a> Plan<'a> {
                     rest = more;
                 }
             }
-            let is_and = matches!(self.draft.pieces.kind(index), Kind::And)
-                || self.draft.pieces.is(index, b"&")
-                || self.draft.pieces.is(index, b"also")
-                || self.draft.pieces.is(index, b"together");
+            let is_and = matches!(pieces.kind(index), Kind::And)
+                || pieces.is(index, b"&")
+                || pieces.is(index, b"also")
+                || pieces.is(index, b"together");
             if index >= next && is_and {
                 return true;
             }
@@ -181,15 +183,10 @@ impl<'a> Plan<'a> {
     /// Whether two corners without a fraction are in cells of their own: the second may be a part of the
     /// first.
     fn are_bare_cells(&self, before: &Phrase, after: &Phrase) -> bool {
-        self.draft.pieces.has_before(after.first, b'\t')
-            && matches!(
-                self.draft.pieces.kind(before.end.saturating_sub(1)),
-                Kind::Corner(_)
-            )
-            && matches!(
-                self.draft.pieces.kind(after.end.saturating_sub(1)),
-                Kind::Corner(_)
-            )
+        let pieces = &self.draft.pieces;
+        pieces.has_before(after.first, b'\t')
+            && matches!(pieces.kind(before.end.saturating_sub(1)), Kind::Corner(_))
+            && matches!(pieces.kind(after.end.saturating_sub(1)), Kind::Corner(_))
     }
 
     /// Whether two corners without a fraction are in cells of their own, with commas between the cells of
@@ -215,6 +212,7 @@ impl<'a> Plan<'a> {
     /// ampersand or a plus sign doesn't, between parts that both have an `of`, or none, nor a colon after a
     /// section that is named again.
     fn is_unsure_list(&self, before: &Phrase, after: &Phrase, left_out: &[Placed]) -> bool {
+        let pieces = &self.draft.pieces;
         let mut next = before.end;
         let mut rest = left_out;
         for index in before.end..after.first {
@@ -224,13 +222,13 @@ impl<'a> Plan<'a> {
                     rest = more;
                 }
             }
-            if index < next || (self.draft.pieces.is(index, b":") && has_section(left_out)) {
+            if index < next || (pieces.is(index, b":") && has_section(left_out)) {
                 continue;
             }
-            if !(self.draft.pieces.is(index, b"&")
-                || self.draft.pieces.is(index, b"+")
-                || self.draft.pieces.is(index, b",")
-                || self.draft.pieces.is(index, b";"))
+            if !(pieces.is(index, b"&")
+                || pieces.is(index, b"+")
+                || pieces.is(index, b",")
+                || pieces.is(index, b";"))
             {
                 return true;
             }

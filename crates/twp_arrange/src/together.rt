@@ -24,6 +24,7 @@ impl<'a> Plan<'a> {
     /// Whether some land may be missing. A word that isn't known may be what was meant by it: with remarks,
     /// or with a status as `open`, each section has some. After the label of each tract is land.
     fn has_land_missing(&self) -> bool {
+        let pieces = &self.draft.pieces;
         let mut sections: usize = 0;
         let mut lands: usize = 0;
         let mut is_land = false;
@@ -42,13 +43,13 @@ impl<'a> Plan<'a> {
                     is_labelled = false;
                 }
                 Names::Nothing(Rule::Label) => {
-                    let is_label = self.draft.pieces.is_label_of_tract(phrase.first);
+                    let is_label = pieces.is_label_of_tract(phrase.first);
                     if is_label && is_labelled {
                         return true;
                     }
                     is_labelled = is_labelled || is_label;
                     has_status = has_status
-                        || (sections > 0 && begins_terms(self.draft.pieces.lower(phrase.first)));
+                        || (sections > 0 && begins_terms(pieces.lower(phrase.first)));
                 }
                 _ => {}
             }
@@ -97,11 +98,12 @@ impl<'a> Plan<'a> {
 
     /// Whether a colon, or a cell without land, follows a section, or its word is for several.
     fn is_place_empty(&self, section: Option<&Phrase>) -> bool {
+        let pieces = &self.draft.pieces;
         match section {
             Some(section) => {
                 let count = section.numbers.end.saturating_sub(section.numbers.first);
-                matches!(self.draft.pieces.kind(section.end), Kind::Colon)
-                    || self.draft.pieces.has_empty_cell(section.end)
+                matches!(pieces.kind(section.end), Kind::Colon)
+                    || pieces.has_empty_cell(section.end)
                     || (section.form == Form::Plural && count == 1)
             }
             None => false,
@@ -110,10 +112,10 @@ impl<'a> Plan<'a> {
 
     /// Whether a comma and wide white space follow a section.
     fn is_before_gap(&self, section: Option<&Phrase>) -> bool {
+        let pieces = &self.draft.pieces;
         match section {
             Some(section) => {
-                self.draft.pieces.is(section.end, b",")
-                    && self.draft.pieces.begins_column(plus(section.end, 1))
+                pieces.is(section.end, b",") && pieces.begins_column(plus(section.end, 1))
             }
             None => false,
         }
@@ -163,10 +165,9 @@ impl<'a> Plan<'a> {
 
     /// Whether a township begins a line, or follows a semicolon.
     fn is_row(&self, heading: &Phrase) -> bool {
+        let pieces = &self.draft.pieces;
         let first = heading.first;
-        first == 0
-            || self.draft.pieces.has_before(first, b'\n')
-            || self.draft.pieces.is(first.saturating_sub(1), b";")
+        first == 0 || pieces.has_before(first, b'\n') || pieces.is(first.saturating_sub(1), b";")
     }
 
     /// Whether a tract has a label, and no section of its own, though land before it has no label: it may be

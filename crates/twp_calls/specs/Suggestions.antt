@@ -3,8 +3,8 @@ use Rattle.std.specs.Prelude.{◌≡◌, ℕ, ◌<◌, ◌≤◌, ◌++◌, ◌�
 use Rattle.std.specs.List.{AllZip}
 use Rattle.twp_suggest.specs.Readings.{AreReadings}
 use Rattle.twp_rules.specs.declared.change.Change.{Change}
-use Rattle.twp_suggest.specs.declared.manner.Manner.{Manner}
-use Rattle.twp_suggest.specs.declared.manner.Manner.TheVariants.{Changed, LotsNamed, Remainder}
+use Rattle.twp_described.specs.declared.manner.Manner.{Manner}
+use Rattle.twp_described.specs.declared.manner.Manner.TheVariants.{Changed, LotsNamed, Remainder}
 use Rattle.twp_suggest.specs.declared.reading.Reading.{Reading}
 use Rattle.twp_rules.specs.declared.rule.Rule.{Rule}
 use Rattle.twp_rules.specs.declared.rule.Rule.TheVariants.{Half, Quarter, Direction, Numeral, Copied}

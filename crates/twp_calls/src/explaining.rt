@@ -20,9 +20,8 @@ use std::alloc::{AllocError, Global};
 use twp_acres::{Account, Stop, account_on, area_on};
 use twp_diagnose::{Explanation, Given};
 use twp_excerpt::Spot;
-use twp_explain::{
-    Note, explain_description, explain_notes, explain_tracts, note_description, note_tracts,
-};
+use twp_explain::{explain_description, explain_notes, explain_tracts};
+use twp_explain_doubts::{Note, note_description, note_tracts};
 use twp_perhaps::OnlyReading;
 
 /// What a text is called that has no name of its own.

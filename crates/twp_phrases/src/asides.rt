@@ -1,7 +1,6 @@
 //! What is left out: the meridian, acreage, labels, and land that is repeated in parentheses.
 
 use crate::draft::{Claim, Claimed, Draft, Form, Names, Phrase, PlacedStep, Span};
-use std::alloc::AllocError;
 use twp_grammar::Kind;
 use twp_pieces::plus;
 use twp_remarks::end_of_trailer;
@@ -12,17 +11,18 @@ const SECTIONS: u16 = 36;
 
 impl<'a> Draft<'a> {
     /// What is left out at an index.
-    pub fn aside(&mut self, index: usize) -> Result<Option<Phrase>, AllocError> {
+    pub fn aside(&mut self, index: usize) -> Option<Phrase> {
+        let pieces = &self.pieces;
         let from = self.extent();
         if let Some((rule, end)) = self.end_of_aside(index) {
-            return Ok(Some(self.phrase(Names::Nothing(rule), index, end, from)));
+            return Some(self.phrase(Names::Nothing(rule), index, end, from));
         }
-        if matches!(self.pieces.kind(index), Kind::Number(_)) {
-            return Ok(None);
+        if matches!(pieces.kind(index), Kind::Number(_)) {
+            return None;
         }
-        if self.pieces.is(index, b"(") || self.pieces.is(index, b"[") {
-            if let Some(phrase) = self.repeated(index)? {
-                return Ok(Some(phrase));
+        if pieces.is(index, b"(") || pieces.is(index, b"[") {
+            if let Some(phrase) = self.repeated(index) {
+                return Some(phrase);
             }
             self.shrink(from);
         }
@@ -31,17 +31,18 @@ impl<'a> Draft<'a> {
 
     /// `being` at an index, also in parentheses, with all land that was named before it, as in
     /// `All, being Lots 1 thru 7, ..`
-    fn being(&mut self, index: usize) -> Result<Option<Phrase>, AllocError> {
+    fn being(&mut self, index: usize) -> Option<Phrase> {
+        let pieces = &self.pieces;
         let from = self.extent();
-        let is_in_parentheses = self.pieces.is(index, b"(");
+        let is_in_parentheses = pieces.is(index, b"(");
         let word = if is_in_parentheses {
             plus(index, 1)
         } else {
             index
         };
-        let first = self.pieces.after_being(word);
+        let first = pieces.after_being(word);
         if first == word || !self.names_land {
-            return Ok(None);
+            return None;
         }
         let mut end = first;
         let mut has_more = true;
@@ -49,109 +50,120 @@ impl<'a> Draft<'a> {
             if !has_more {
                 break;
             }
-            let land = match self.lots(end)? {
+            let land = match self.lots(end) {
                 Some(lots) => Some(lots),
-                None => self.part(end)?,
+                None => self.part(end),
             };
             let Some(land) = land else {
-                return Ok(None);
+                return None;
             };
-            let next = plus(land.end, 1);
-            has_more = (self.pieces.is(land.end, b",") || self.pieces.is(land.end, b"and"))
-                && (self.pieces.begins_part(next) || matches!(self.pieces.kind(next), Kind::Lot));
+            has_more = self.is_before_more_land(land.end);
             end = plus(land.end, usize::from(has_more));
         }
         let is_closed = self.pieces.is(end, b")");
-        let is_last = end >= self.pieces.len()
-            || self.pieces.is(end, b";")
-            || self.pieces.is(end, b".")
-            || self.pieces.is(end, b",")
-            || self.pieces.begins_line(end);
-        if is_closed != is_in_parentheses || !(is_closed || is_last) {
-            return Ok(None);
+        if is_closed != is_in_parentheses || !(is_closed || self.is_last_of_item(end)) {
+            return None;
         }
         let last = plus(end, usize::from(is_closed));
         let land = self.phrase(Names::Nothing(Rule::Repeated), index, last, from);
-        self.claims.push(Claim {
-            place: index,
-            what: Claimed::Land {
+        self.add_claim(
+            index,
+            Claimed::Land {
                 pieces: Span { first, end },
                 changes: land.changes,
             },
-        })?;
-        Ok(Some(land))
+        );
+        Some(land)
+    }
+
+    /// Whether a comma, or `and`, is at an index, and more land after it.
+    fn is_before_more_land(&self, index: usize) -> bool {
+        let pieces = &self.pieces;
+        let next = plus(index, 1);
+        (pieces.is(index, b",") || pieces.is(index, b"and"))
+            && (pieces.begins_part(next) || matches!(pieces.kind(next), Kind::Lot))
+    }
+
+    /// Whether an item or a line ends before an index.
+    fn is_last_of_item(&self, index: usize) -> bool {
+        let pieces = &self.pieces;
+        index >= pieces.len()
+            || pieces.is(index, b";")
+            || pieces.is(index, b".")
+            || pieces.is(index, b",")
+            || pieces.begins_line(index)
     }
 
     /// What is left out at an index, if it doesn't repeat land: its rule, and where it ends.
     fn end_of_aside(&self, index: usize) -> Option<(Rule, usize)> {
+        let pieces = &self.pieces;
         // After all of a section, or after acreage, the dash may be a minus.
         let may_be_minus = matches!(
             self.last_names(),
             Some(Names::All | Names::Nothing(Rule::Acreage))
         );
-        let is_figure = self.pieces.number(index).is_some();
+        let is_figure = pieces.number(index).is_some();
         if !is_figure {
             if let Some(found) = self.end_of_marked(index, may_be_minus) {
                 return Some(found);
             }
         }
         let before = index.saturating_sub(1);
-        let is_after_dash = self.pieces.is_dash(before) && is_figure;
+        let is_after_dash = pieces.is_dash(before) && is_figure;
         // After `also`, it may be of other land.
         let is_added = is_figure
-            && (self.pieces.is(before, b"also")
-                || self.pieces.is(before, b"and")
-                || self.pieces.is(before, b"&")
-                || self.pieces.is(before, b"+")
-                || self.pieces.is(before, b"plus"));
-        if let Some(end) = self.pieces.end_of_acreage(index) {
+            && (pieces.is(before, b"also")
+                || pieces.is(before, b"and")
+                || pieces.is(before, b"&")
+                || pieces.is(before, b"+")
+                || pieces.is(before, b"plus"));
+        if let Some(end) = pieces.end_of_acreage(index) {
             return if is_added || (may_be_minus && is_after_dash) {
                 None
             } else {
                 Some((Rule::Acreage, end))
             };
         }
-        if let Some(end) = self.pieces.end_of_first_serial(index) {
+        if let Some(end) = pieces.end_of_first_serial(index) {
             return Some((Rule::Label, end));
         }
         // A mark begins nothing else, but for the one after a question.
-        if matches!(self.pieces.kind(index), Kind::BadByte)
-            && !self.pieces.is_question_mark(index)
-        {
+        if matches!(pieces.kind(index), Kind::BadByte) && !pieces.is_question_mark(index) {
             return None;
         }
-        if let Some(end) = self.pieces.end_of_meridian(index) {
+        if let Some(end) = pieces.end_of_meridian(index) {
             return Some((Rule::Meridian, end));
         }
         if self.last_names() == Some(Names::Heading) {
-            if let Some(end) = self.pieces.end_of_bare_meridian(index) {
+            if let Some(end) = pieces.end_of_bare_meridian(index) {
                 return Some((Rule::Meridian, end));
             }
         }
         if self.names_land {
             if self.last_names() != Some(Names::Sections) {
-                if let Some(end) = self.pieces.end_of_share_in_cell(index) {
+                if let Some(end) = pieces.end_of_share_in_cell(index) {
                     return Some((Rule::Label, end));
                 }
             }
-            if let Some(end) = self.pieces.end_of_last_figure(index) {
+            if let Some(end) = pieces.end_of_last_figure(index) {
                 return Some((Rule::Acreage, end));
             }
             if let Some(end) = end_of_trailer(&self.pieces, index) {
                 return Some((Rule::Label, end));
             }
         }
-        if is_figure && !self.pieces.begins_line(index) {
+        if is_figure && !pieces.begins_line(index) {
             return None;
         }
-        let end = self.pieces.end_of_label(index)?;
+        let end = pieces.end_of_label(index)?;
         Some((Rule::Label, end))
     }
 
     /// The same, of what begins with a word for a column, or with a mark.
     fn end_of_marked(&self, index: usize, may_be_minus: bool) -> Option<(Rule, usize)> {
-        if let Some(end) = self.pieces.end_of_column_label(index) {
-            let is_part = self.pieces.is(plus(index, 1), b"part");
+        let pieces = &self.pieces;
+        if let Some(end) = pieces.end_of_column_label(index) {
+            let is_part = pieces.is(plus(index, 1), b"part");
             let rule = if is_part { Rule::Heading } else { Rule::Label };
             return Some((rule, end));
         }
@@ -159,24 +171,25 @@ impl<'a> Draft<'a> {
             return Some((Rule::Acreage, end));
         }
         if self.names_land && !may_be_minus {
-            if let Some(end) = self.pieces.end_of_dashed_acreage(index) {
+            if let Some(end) = pieces.end_of_dashed_acreage(index) {
                 return Some((Rule::Acreage, end));
             }
         }
-        let end = self.pieces.end_of_file_number(index)?;
+        let end = pieces.end_of_file_number(index)?;
         Some((Rule::Label, end))
     }
 
     /// Where a number in parentheses at an index ends, which is the acreage of the part before it.
     fn end_of_figure(&self, index: usize) -> Option<usize> {
-        if !self.pieces.is(index, b"(") || self.last_names() != Some(Names::Part) {
+        let pieces = &self.pieces;
+        if !pieces.is(index, b"(") || self.last_names() != Some(Names::Part) {
             return None;
         }
         let first = plus(index, 1);
-        let close = self.pieces.end_of_decimal(first)?;
-        let is_figure = self.pieces.is_figure_with_decimals(first)
-            || self.pieces.number(first).unwrap_or(0) > SECTIONS;
-        if is_figure && self.pieces.is(close, b")") {
+        let close = pieces.end_of_decimal(first)?;
+        let is_figure = pieces.is_figure_with_decimals(first)
+            || pieces.number(first).unwrap_or(0) > SECTIONS;
+        if is_figure && pieces.is(close, b")") {
             Some(plus(close, 1))
         } else {
             None
@@ -184,17 +197,17 @@ impl<'a> Draft<'a> {
     }
 
     /// The parentheses at an index with the land before them again.
-    fn repeated(&mut self, index: usize) -> Result<Option<Phrase>, AllocError> {
+    fn repeated(&mut self, index: usize) -> Option<Phrase> {
         let from = self.extent();
         let first = self.pieces.after_being(plus(index, 1));
         let Some(before) = self.phrases.last().copied() else {
-            return Ok(None);
+            return None;
         };
         let (what, close) = if matches!(self.pieces.kind(first), Kind::All) {
             (Claimed::WholeSection, plus(first, 1))
         } else {
-            let Some(part) = self.part_in_pieces(first)? else {
-                return Ok(None);
+            let Some(part) = self.part_in_pieces(first) else {
+                return None;
             };
             let is_same = before.names == Names::Part
                 && (self.have_same_steps(before, part) || self.is_last_step(before, part));
@@ -218,31 +231,31 @@ impl<'a> Draft<'a> {
             b")"
         };
         if !is_land || !self.pieces.is(close, mark) {
-            return Ok(None);
+            return None;
         }
         let end = plus(close, 1);
         self.shrink_changes(from);
         if !matches!(what, Claimed::Same) {
-            self.claims.push(Claim { place: index, what })?;
+            self.add_claim(index, what);
         }
-        Ok(Some(self.phrase(Names::Nothing(Rule::Repeated), index, end, from)))
+        Some(self.phrase(Names::Nothing(Rule::Repeated), index, end, from))
     }
 
     /// The aliquot part at an index, of which white space may be between two steps, as in `(N 1/2 NE 1/4)`.
-    fn part_in_pieces(&mut self, index: usize) -> Result<Option<Phrase>, AllocError> {
-        let Some(first) = self.part(index)? else {
-            return Ok(None);
+    fn part_in_pieces(&mut self, index: usize) -> Option<Phrase> {
+        let Some(first) = self.part(index) else {
+            return None;
         };
-        match self.part(first.end)? {
-            Some(second) => Ok(Some(Phrase {
+        match self.part(first.end) {
+            Some(second) => Some(Phrase {
                 end: second.end,
                 steps: Span {
                     first: first.steps.first,
                     end: second.steps.end,
                 },
                 ..first
-            })),
-            None => Ok(Some(first)),
+            }),
+            None => Some(first),
         }
     }
 

@@ -1,195 +1,267 @@
 //! Sections without a word for them: `S14 T2N R3W`, `14-2N-3W`, `14: NENE`.
 
-use crate::draft::{Draft, Form, Names, Phrase};
-use std::alloc::AllocError;
+use crate::draft::{Draft, Form, Names, Numeral, Phrase};
 use twp_grammar::Kind;
 use twp_pieces::plus;
 use twp_rules::Rule;
 
 impl<'a> Draft<'a> {
     /// The section of a location, as in `S14 T2N R3W`.
-    pub(crate) fn section_of_letter(&mut self, index: usize) -> Result<Option<Phrase>, AllocError> {
+    pub(crate) fn section_of_letter(&mut self, index: usize) -> Option<Phrase> {
         let from = self.extent();
-        let digits = plus(index, 1);
+        let Some(number) = self.number_of_letter(index) else {
+            return None;
+        };
         let next = plus(index, 2);
-        if !self.pieces.is(index, b"s")
-            || !self.pieces.is_joined(digits)
-            || (self.pieces.is_joined(next) && !self.pieces.is_after_tag(next))
-        {
-            return Ok(None);
-        }
-        let Some(number) = self.section_number(digits) else {
-            return Ok(None);
-        };
-        let is_list = match self.last_section {
-            Some(section) => self.pieces.is(section.first, b"s"),
-            None => false,
-        };
-        let is_after = (self.last_names() == Some(Names::Heading)
-            && (self.pieces.is(next, b":") || self.pieces.bytes(digits).len() >= 2))
-            || (is_list && self.pieces.is(next, b":"))
-            || self.pieces.is_section_before_land(index);
+        let is_after = self.is_sure_letter(index);
         let place = if self.pieces.is_dash(next) || self.pieces.is(next, b",") {
             plus(next, 1)
         } else {
             next
         };
-        let heading = self.end_of_heading(place)?;
+        let heading = self.end_of_heading(place);
         if !is_after && heading.is_none() {
-            return Ok(None);
+            return None;
         }
-        // Before a township, `S2` may be the half of a section that was named, or of one that is missing,
-        // unless land follows.
-        let is_before_land = match heading {
-            Some(end) => self.pieces.is(end, b":"),
-            None => false,
-        };
-        let is_half = self.pieces.is(digits, b"2") || self.pieces.is(digits, b"4");
-        if !is_after && is_half && !is_before_land {
+        if !is_after && self.may_be_half(index, heading) {
             if self.last_section.is_none() || self.pieces.is(index.saturating_sub(1), b";") {
                 self.doubt();
             }
-            return Ok(None);
+            return None;
         }
-        self.replace(index, b"sec. ", Rule::SectionWord)?;
-        self.write_numeral(number)?;
-        Ok(Some(self.phrase(Names::Sections, index, next, from)))
+        self.replace(index, b"sec. ", Rule::SectionWord);
+        self.write_numeral(number);
+        Some(self.phrase(Names::Sections, index, next, from))
+    }
+
+    /// The number of a section after the letter for it at an index.
+    fn number_of_letter(&self, index: usize) -> Option<Numeral> {
+        let pieces = &self.pieces;
+        let digits = plus(index, 1);
+        let next = plus(index, 2);
+        if !pieces.is(index, b"s")
+            || !pieces.is_joined(digits)
+            || (pieces.is_joined(next) && !pieces.is_after_tag(next))
+        {
+            return None;
+        }
+        self.section_number(digits)
+    }
+
+    /// Whether what is beside the letter of a section at an index says that it is one: a township before it,
+    /// or a section before it that is written so, and a colon after it, or land.
+    fn is_sure_letter(&self, index: usize) -> bool {
+        let pieces = &self.pieces;
+        let digits = plus(index, 1);
+        let is_before_colon = pieces.is(plus(index, 2), b":");
+        let is_list = match self.last_section {
+            Some(section) => pieces.is(section.first, b"s"),
+            None => false,
+        };
+        (self.last_names() == Some(Names::Heading)
+            && (is_before_colon || pieces.bytes(digits).len() >= 2))
+            || (is_list && is_before_colon)
+            || pieces.is_section_before_land(index)
+    }
+
+    /// Whether the letter and the number at an index, before a township that ends at another, may be a half or
+    /// a quarter of a section that was named, or of one that is missing: `S2`, unless land follows.
+    fn may_be_half(&self, index: usize, heading: Option<usize>) -> bool {
+        let pieces = &self.pieces;
+        let digits = plus(index, 1);
+        let is_before_land = match heading {
+            Some(end) => pieces.is(end, b":"),
+            None => false,
+        };
+        (pieces.is(digits, b"2") || pieces.is(digits, b"4")) && !is_before_land
     }
 
     /// The number of a section without a word for it.
-    pub(crate) fn bare_section(&mut self, index: usize) -> Result<Option<Phrase>, AllocError> {
+    pub(crate) fn bare_section(&mut self, index: usize) -> Option<Phrase> {
+        let pieces = &self.pieces;
         let from = self.extent();
         let Some(number) = self.section_number(index) else {
-            return Ok(None);
+            return None;
         };
-        if !matches!(self.pieces.kind(index), Kind::Number(_)) {
-            return Ok(None);
+        if !matches!(pieces.kind(index), Kind::Number(_)) {
+            return None;
         }
         let before = index.saturating_sub(1);
         let is_list = self.last_names() == Some(Names::All)
-            && (self.pieces.is(before, b"of") || matches!(self.pieces.kind(before), Kind::All));
-        if !is_list && !self.is_bare_section(index)? {
-            return Ok(None);
+            && (pieces.is(before, b"of") || matches!(pieces.kind(before), Kind::All));
+        if !is_list && !self.is_bare_section(index) {
+            return None;
         }
         let place = self.pieces.start(index);
         if self.pieces.is_joined(index) {
-            self.write(place, place, b" ", Rule::Heading)?;
+            self.write(place, place, b" ", Rule::Heading);
         }
-        self.write(place, place, b"sec. ", Rule::SectionWord)?;
-        self.write_numeral(number)?;
+        self.write(place, place, b"sec. ", Rule::SectionWord);
+        self.write_numeral(number);
         let end = if is_list {
-            self.numbers_after(number, Names::Sections, true)?
+            self.numbers_after(number, Names::Sections, true)
         } else {
             number.end
         };
         let phrase = self.phrase(Names::Sections, index, end, from);
         let form = if is_list { Form::Plural } else { Form::Plain };
-        Ok(Some(Phrase { form, ..phrase }))
+        Some(Phrase { form, ..phrase })
     }
 
     /// Whether the number at an index is after a township, or after a section with its land in parentheses.
     fn is_after_land_of_section(&self, index: usize) -> bool {
+        let pieces = &self.pieces;
         let mut before = index.saturating_sub(1);
         for _ in 0..2 {
-            if self.pieces.is(before, b",")
-                || self.pieces.is(before, b";")
-                || self.pieces.is(before, b"&")
-                || self.pieces.is(before, b"and")
+            if pieces.is(before, b",")
+                || pieces.is(before, b";")
+                || pieces.is(before, b"&")
+                || pieces.is(before, b"and")
             {
                 before = before.saturating_sub(1);
             }
         }
         match self.last_names() {
             Some(Names::Heading) => true,
-            Some(Names::Part | Names::All | Names::Lots) => self.pieces.is(before, b")"),
+            Some(Names::Part | Names::All | Names::Lots) => pieces.is(before, b")"),
             _ => false,
         }
     }
 
     /// Whether the number at an index is that of a section: before a location or a colon, after a township
     /// and range, at the beginning of a row, or after land.
-    fn is_bare_section(&mut self, index: usize) -> Result<bool, AllocError> {
+    fn is_bare_section(&mut self, index: usize) -> bool {
+        let next = plus(index, 1);
+        if self.pieces.is(next, b"/") && self.pieces.is_joined(next) {
+            return self.begins_row(index) && self.end_of_heading(plus(next, 1)).is_some();
+        }
+        if self.is_after_label_of_division(index) {
+            return true;
+        }
+        if self.pieces.is_dash(next) && self.end_of_heading(plus(next, 1)).is_some() {
+            return true;
+        }
+        if self.pieces.is_before_dash_and_land(next) && self.pieces.begins_line(index) {
+            return true;
+        }
+        if self.is_before_land_in_parentheses(index) {
+            return self.is_after_land_of_section(index);
+        }
+        let place = self.after_cell(index);
+        if self.pieces.begins_cell(index) && self.end_of_heading(place).is_some() {
+            return true;
+        }
+        if let Some(is_section) = self.is_section_by_marks(index) {
+            return is_section;
+        }
+        if let Some(is_section) = self.is_section_by_place(index) {
+            return is_section;
+        }
+        self.is_before_end_or_and(next) || self.end_of_heading(next).is_some()
+    }
+
+    /// Whether the piece at an index begins a row.
+    fn begins_row(&self, index: usize) -> bool {
+        self.pieces.begins_line(index) || self.pieces.is(index.saturating_sub(1), b";")
+    }
+
+    /// Whether the name of the column for a section, in the layers of the Public Land Survey System, is before
+    /// an index.
+    fn is_after_label_of_division(&self, index: usize) -> bool {
+        let pieces = &self.pieces;
+        let label = index.saturating_sub(2);
+        pieces.is(label, b"frstdivno") || pieces.is(label, b"frstdivlab")
+    }
+
+    /// Whether land in parentheses is after the number at an index.
+    fn is_before_land_in_parentheses(&self, index: usize) -> bool {
+        let pieces = &self.pieces;
+        let next = plus(index, 1);
+        pieces.is(next, b"(") && pieces.begins_land(plus(next, 1))
+    }
+
+    /// The index after the number at an index, and after a mark that separates cells.
+    fn after_cell(&self, index: usize) -> usize {
+        let pieces = &self.pieces;
+        let next = plus(index, 1);
+        let is_cell = pieces.is(next, b",") || pieces.is(next, b"|");
+        plus(next, usize::from(is_cell))
+    }
+
+    /// Whether the marks beside the number at an index say that it is that of a section, or that it isn't.
+    fn is_section_by_marks(&self, index: usize) -> Option<bool> {
+        let pieces = &self.pieces;
         let next = plus(index, 1);
         let before = index.saturating_sub(1);
         let last = self.last_names();
-        if self.pieces.is(next, b"/") && self.pieces.is_joined(next) {
-            let is_row = self.pieces.begins_line(index) || self.pieces.is(before, b";");
-            return Ok(is_row && self.end_of_heading(plus(next, 1))?.is_some());
+        let is_first = matches!(last, None | Some(Names::Heading | Names::Nothing(_)));
+        let is_after_semicolon = pieces.is(before, b";");
+        let is_apart = is_after_semicolon
+            || pieces.is(before, b",")
+            || pieces.is_dash(before)
+            || pieces.begins_line(index);
+        if pieces.is(next, b":") && (is_first || is_apart) {
+            return Some(plus(next, 1) < pieces.len());
         }
-        let label = before.saturating_sub(1);
-        if self.pieces.is(label, b"frstdivno") || self.pieces.is(label, b"frstdivlab") {
-            return Ok(true);
-        }
-        if self.pieces.is_dash(next) && self.end_of_heading(plus(next, 1))?.is_some() {
-            return Ok(true);
-        }
-        if self.pieces.is_before_dash_and_land(next) && self.pieces.begins_line(index) {
-            return Ok(true);
-        }
-        if self.pieces.is(next, b"(") && self.pieces.begins_land(plus(next, 1)) {
-            return Ok(self.is_after_land_of_section(index));
-        }
-        let is_cell = self.pieces.is(next, b",") || self.pieces.is(next, b"|");
-        let place = if is_cell { plus(next, 1) } else { next };
-        if self.pieces.begins_cell(index) && self.end_of_heading(place)?.is_some() {
-            return Ok(true);
-        }
-        let is_first = last.is_none() || matches!(last, Some(Names::Heading | Names::Nothing(_)));
-        let is_apart = (self.pieces.is(before, b";") || self.pieces.is(before, b","))
-            || self.pieces.is_dash(before)
-            || self.pieces.begins_line(index);
-        let is_alone = plus(next, 1) >= self.pieces.len();
-        if self.pieces.is(next, b":") && (is_first || is_apart) {
-            return Ok(!is_alone);
-        }
-        if self.pieces.is_before_dash_and_land(next) && is_apart {
-            return Ok(true);
+        if pieces.is_before_dash_and_land(next) && is_apart {
+            return Some(true);
         }
         let is_list = match self.last_section {
-            Some(section) => matches!(self.pieces.kind(section.first), Kind::Number(_)),
+            Some(section) => matches!(pieces.kind(section.first), Kind::Number(_)),
             None => false,
         };
-        if is_list
-            && self.pieces.is(before, b";")
+        let is_next = is_list
+            && is_after_semicolon
             && matches!(last, Some(Names::Part | Names::All))
-            && self.pieces.begins_land(next)
-            && !self.pieces.is_joined(next)
-        {
-            return Ok(true);
+            && pieces.begins_land(next)
+            && !pieces.is_joined(next);
+        if is_next { Some(true) } else { None }
+    }
+
+    /// Whether the place of the number at an index says that it is that of a section, or that it isn't: after a
+    /// township, at the beginning of a line, after a part.
+    fn is_section_by_place(&self, index: usize) -> Option<bool> {
+        let pieces = &self.pieces;
+        let next = plus(index, 1);
+        let before = index.saturating_sub(1);
+        let is_after_heading = self.last_names() == Some(Names::Heading);
+        let is_after_comma = pieces.is(before, b",");
+        if is_after_heading && !(is_after_comma && index > 0) {
+            return Some(true);
         }
-        let follows_comma = self.pieces.is(before, b",") && index > 0;
-        if last == Some(Names::Heading) && !follows_comma {
-            return Ok(true);
+        if is_after_heading && pieces.is(next, b",") {
+            let cell = plus(next, 1);
+            let land = self.after_government(plus(cell, usize::from(pieces.is(cell, b"\""))));
+            if pieces.begins_land(land) {
+                return Some(true);
+            }
         }
-        let cell = plus(next, 1);
-        let land = self.after_government(plus(cell, usize::from(self.pieces.is(cell, b"\""))));
-        if last == Some(Names::Heading)
-            && self.pieces.is(next, b",")
-            && self.pieces.begins_land(land)
-        {
-            return Ok(true);
-        }
-        if self.pieces.begins_line(index)
-            && self.pieces.bytes(index).len() >= 2
-            && (index > 0 || self.pieces.has_digits(index, 3))
+        if pieces.begins_line(index)
+            && pieces.bytes(index).len() >= 2
+            && (index > 0 || pieces.has_digits(index, 3))
         {
             // Alone on its line, it may be that of a page.
-            return Ok(next < self.pieces.len() && !self.pieces.has_before(next, b'\n'));
+            return Some(next < pieces.len() && !pieces.has_before(next, b'\n'));
         }
-        if last != Some(Names::Part)
-            || self.pieces.is_joined(index)
-            || (self.pieces.is(before, b",")
-                || self.pieces.is(before, b";")
-                || self.pieces.is(before, b":")
-                || self.pieces.is(before, b"."))
+        if self.last_names() != Some(Names::Part)
+            || pieces.is_joined(index)
+            || is_after_comma
+            || pieces.is(before, b";")
+            || pieces.is(before, b":")
+            || pieces.is(before, b".")
         {
-            return Ok(false);
+            return Some(false);
         }
-        let is_end = next >= self.pieces.len()
-            || (self.pieces.is(next, b";")
-                || self.pieces.is(next, b",")
-                || self.pieces.is(next, b"and")
-                || self.pieces.is(next, b"&"));
-        Ok(is_end || self.end_of_heading(next)?.is_some())
+        None
+    }
+
+    /// Whether an item ends before an index, or `and` is there.
+    fn is_before_end_or_and(&self, index: usize) -> bool {
+        let pieces = &self.pieces;
+        index >= pieces.len()
+            || pieces.is(index, b";")
+            || pieces.is(index, b",")
+            || pieces.is(index, b"and")
+            || pieces.is(index, b"&")
     }
 }

@@ -3,7 +3,6 @@
 
 use crate::draft::Draft;
 use crate::fractions::{is_written, rule_of};
-use std::alloc::AllocError;
 use twp_grammar::Kind;
 use twp_pieces::plus;
 use twp_rules::Rule;
@@ -12,53 +11,49 @@ use twp_words::{Size, written_step};
 impl<'a> Draft<'a> {
     /// The corner at an index whose letters are apart, or the side, with periods after them, and the
     /// fraction.
-    pub(crate) fn dotted(&mut self, index: usize) -> Result<Option<usize>, AllocError> {
+    pub(crate) fn dotted(&mut self, index: usize) -> Option<usize> {
+        let pieces = &self.pieces;
         let second = self.second_letter(index);
-        if !matches!(self.pieces.kind(index), Kind::NorthSouth(_))
-            || !matches!(self.pieces.kind(second), Kind::EastWest(_))
+        if !matches!(pieces.kind(index), Kind::NorthSouth(_))
+            || !matches!(pieces.kind(second), Kind::EastWest(_))
         {
             return self.dotted_half(index);
         }
         let extent = self.extent();
-        self.leave_out_between(index, second)?;
+        self.leave_out_between(index, second);
         let fraction = self.after_stop(plus(second, 1));
         if fraction > plus(second, 1) {
-            self.leave_out(plus(second, 1), fraction, Rule::OnePart)?;
+            self.leave_out(plus(second, 1), fraction, Rule::OnePart);
         }
-        let after = self.dotted_fraction(fraction, Size::Quarter)?;
+        let after = self.dotted_fraction(fraction, Size::Quarter);
         if !self.are_letters(index, second) {
             self.shrink(extent);
-            return Ok(None);
+            return None;
         }
         if let Some(after) = after {
             let begin = self.pieces.start(index);
             let corner = self.dotted_corner(index, second);
-            self.push_step(begin, after, corner)?;
-            return Ok(Some(after));
+            self.push_step(begin, after, corner);
+            return Some(after);
         }
         self.shrink(extent);
         self.dotted_letters(index, second, fraction)
     }
 
     /// The corner at an index of whose letters each has a period, without a fraction, as `N.E.`
-    fn dotted_letters(
-        &mut self,
-        index: usize,
-        second: usize,
-        fraction: usize,
-    ) -> Result<Option<usize>, AllocError> {
+    fn dotted_letters(&mut self, index: usize, second: usize, fraction: usize) -> Option<usize> {
         let has_stops = second > plus(index, 1) && fraction > plus(second, 1);
         if !has_stops || !self.pieces.is_joined(second) {
-            return Ok(None);
+            return None;
         }
-        self.leave_out_between(index, second)?;
+        self.leave_out_between(index, second);
         let begin = self.pieces.start(index);
         let place = self.pieces.end_before(fraction);
         let dot = self.pieces.end(second);
         let corner = self.dotted_corner(index, second);
-        self.write(dot, place, b"1/4", Rule::Quarter)?;
-        self.push_step_to(begin, place, corner)?;
-        Ok(Some(fraction))
+        self.write(dot, place, b"1/4", Rule::Quarter);
+        self.push_step_to(begin, place, corner);
+        Some(fraction)
     }
 
     /// The index of a corner's second letter: after a period, or after a hyphen at a line end.
@@ -71,19 +66,22 @@ impl<'a> Draft<'a> {
     }
 
     /// Leaves out what is between two letters of a corner.
-    fn leave_out_between(&mut self, index: usize, second: usize) -> Result<(), AllocError> {
-        let (end, start) = (self.pieces.end(index), self.pieces.start(second));
+    fn leave_out_between(&mut self, index: usize, second: usize) {
+        let pieces = &self.pieces;
+        let (end, start) = (pieces.end(index), pieces.start(second));
         self.leave_out_bytes(end, start)
     }
 
     /// Whether two pieces are a letter each.
     fn are_letters(&self, index: usize, second: usize) -> bool {
-        self.pieces.bytes(index).len() == 1 && self.pieces.bytes(second).len() == 1
+        let pieces = &self.pieces;
+        pieces.bytes(index).len() == 1 && pieces.bytes(second).len() == 1
     }
 
     /// The corner that two letters name, as it is written in a description.
     fn dotted_corner(&self, index: usize, second: usize) -> &'static [u8] {
-        match (self.pieces.is(index, b"n"), self.pieces.is(second, b"e")) {
+        let pieces = &self.pieces;
+        match (pieces.is(index, b"n"), pieces.is(second, b"e")) {
             (true, true) => b"NE1/4",
             (true, false) => b"NW1/4",
             (false, true) => b"SE1/4",
@@ -92,48 +90,48 @@ impl<'a> Draft<'a> {
     }
 
     /// The half at an index, with a period after its letter.
-    fn dotted_half(&mut self, index: usize) -> Result<Option<usize>, AllocError> {
+    fn dotted_half(&mut self, index: usize) -> Option<usize> {
+        let pieces = &self.pieces;
         let next = plus(index, 1);
-        if !matches!(self.pieces.kind(next), Kind::Stop) || !self.pieces.is_joined(next) {
-            return Ok(None);
+        if !matches!(pieces.kind(next), Kind::Stop) || !pieces.is_joined(next) {
+            return None;
         }
-        let begin = self.pieces.start(index);
-        let written = written_step(self.pieces.bytes(index));
+        let begin = pieces.start(index);
+        let written = written_step(pieces.bytes(index));
         let extent = self.extent();
-        self.leave_out(next, plus(next, 1), Rule::OnePart)?;
-        if let Some(after) = self.dotted_fraction(plus(next, 1), Size::Half)? {
-            self.push_step(begin, after, written)?;
-            return Ok(Some(after));
+        self.leave_out(next, plus(next, 1), Rule::OnePart);
+        if let Some(after) = self.dotted_fraction(plus(next, 1), Size::Half) {
+            self.push_step(begin, after, written);
+            return Some(after);
         }
         self.shrink(extent);
-        Ok(None)
+        None
     }
 
     /// The fraction after letters with periods: as it is in a description, or an old abbreviation, `Qr.` or
     /// `H.`
-    fn dotted_fraction(&mut self, index: usize, size: Size) -> Result<Option<usize>, AllocError> {
+    fn dotted_fraction(&mut self, index: usize, size: Size) -> Option<usize> {
         if is_written(size, self.pieces.kind(index)) {
-            return Ok(Some(plus(index, 1)));
+            return Some(plus(index, 1));
         }
-        if let Some(end) = self.fraction(index, size)? {
-            return Ok(Some(end));
+        if let Some(end) = self.fraction(index, size) {
+            return Some(end);
         }
         if size.is_word(self.pieces.lower(index)) {
             let after = self.after_stop(plus(index, 1));
             let start = self.pieces.end_before(index);
             let end = self.pieces.end_before(after);
-            self.write(start, end, size.fraction(), rule_of(size))?;
-            return Ok(Some(after));
+            self.write(start, end, size.fraction(), rule_of(size));
+            return Some(after);
         }
-        Ok(None)
+        None
     }
 
     /// Leaves out bytes within a part.
-    pub(crate) fn leave_out_bytes(&mut self, start: usize, end: usize) -> Result<(), AllocError> {
+    pub(crate) fn leave_out_bytes(&mut self, start: usize, end: usize) {
         if start < end {
-            self.write(start, end, b"", Rule::OnePart)?;
+            self.write(start, end, b"", Rule::OnePart);
         }
-        Ok(())
     }
 
     /// The index after a period at an index, if there is one.

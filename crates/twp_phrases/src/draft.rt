@@ -133,6 +133,8 @@ pub struct Draft<'a> {
     pub has_open: bool,
     /// The last section that was found.
     pub last_section: Option<Phrase>,
+    /// Whether memory was refused for something, which is then missing.
+    lacks_memory: bool,
 }
 
 /// There is room from the start for this many phrases, changes, steps, and numbers: most texts have fewer.
@@ -175,6 +177,7 @@ impl<'a> Draft<'a> {
             is_unsure: false,
             has_open: false,
             last_section: None,
+            lacks_memory: false,
         })
     }
 
@@ -229,64 +232,91 @@ impl<'a> Draft<'a> {
         }
     }
 
+    /// Fails if memory was refused for something that was to be added. A single addition doesn't fail: the
+    /// search for phrases continues without what is missing, and its caller checks once at the end.
+    pub fn all_added(&self) -> Result<(), AllocError> {
+        if self.lacks_memory {
+            return Err(AllocError);
+        }
+        Ok(())
+    }
+
+    /// Adds a phrase.
+    pub(crate) fn add_phrase(&mut self, phrase: Phrase) {
+        if self.phrases.push(phrase).is_err() {
+            self.lacks_memory = true;
+        }
+    }
+
+    /// Adds a change.
+    fn add_change(&mut self, change: Change<'a>) {
+        if self.changes.push(change).is_err() {
+            self.lacks_memory = true;
+        }
+    }
+
+    /// Adds a step of an aliquot part.
+    pub(crate) fn add_step(&mut self, step: PlacedStep) {
+        if self.steps.push(step).is_err() {
+            self.lacks_memory = true;
+        }
+    }
+
+    /// Adds a number.
+    pub(crate) fn add_number(&mut self, number: Numeral) {
+        if self.numbers.push(number).is_err() {
+            self.lacks_memory = true;
+        }
+    }
+
+    /// Adds what has to be so of the land before a place.
+    pub(crate) fn add_claim(&mut self, place: usize, what: Claimed) {
+        if self.claims.push(Claim { place, what }).is_err() {
+            self.lacks_memory = true;
+        }
+    }
+
     /// Writes something instead of the bytes from one place up to another.
-    pub fn write(
-        &mut self,
-        start: usize,
-        end: usize,
-        written: &'static [u8],
-        rule: Rule,
-    ) -> Result<(), AllocError> {
-        self.changes.push(Change {
+    pub fn write(&mut self, start: usize, end: usize, written: &'static [u8], rule: Rule) {
+        self.add_change(Change {
             start,
             end,
             written,
             rule,
-        })?;
-        Ok(())
+        });
     }
 
     /// Writes bytes of the text, from one place up to another, at a place where they aren't.
-    pub fn copy(&mut self, place: usize, from: usize, to: usize) -> Result<(), AllocError> {
-        self.changes.push(Change {
+    pub fn copy(&mut self, place: usize, from: usize, to: usize) {
+        self.add_change(Change {
             start: place,
             end: place,
             written: self.pieces.text.get(from..to).unwrap_or(b""),
             rule: Rule::Copied(from, to),
-        })?;
-        Ok(())
+        });
     }
 
     /// Writes something instead of a piece.
-    pub fn replace(
-        &mut self,
-        index: usize,
-        written: &'static [u8],
-        rule: Rule,
-    ) -> Result<(), AllocError> {
-        let start = self.pieces.start(index);
-        let end = self.pieces.end(index);
+    pub fn replace(&mut self, index: usize, written: &'static [u8], rule: Rule) {
+        let pieces = &self.pieces;
+        let start = pieces.start(index);
+        let end = pieces.end(index);
         self.write(start, end, written, rule)
     }
 
     /// Leaves out the pieces from one index up to another.
-    pub fn leave_out(&mut self, first: usize, end: usize, rule: Rule) -> Result<(), AllocError> {
-        let start = self.pieces.start(first);
-        let stop = self.pieces.end_before(end);
+    pub fn leave_out(&mut self, first: usize, end: usize, rule: Rule) {
+        let pieces = &self.pieces;
+        let start = pieces.start(first);
+        let stop = pieces.end_before(end);
         self.write(start, stop, b"", rule)
     }
 
     /// Leaves out each piece from one index up to another.
-    pub fn leave_out_each(
-        &mut self,
-        first: usize,
-        end: usize,
-        rule: Rule,
-    ) -> Result<(), AllocError> {
+    pub fn leave_out_each(&mut self, first: usize, end: usize, rule: Rule) {
         for index in first..end {
-            self.leave_out(index, plus(index, 1), rule)?;
+            self.leave_out(index, plus(index, 1), rule);
         }
-        Ok(())
     }
 
     /// Notes that the text isn't sure.

@@ -1,7 +1,6 @@
 //! `except`, and words like it: `less and except`, `save and except`, `L&E`.
 
 use crate::draft::{Draft, Names, Phrase, Span};
-use std::alloc::AllocError;
 use twp_grammar::Kind;
 use twp_pieces::plus;
 use twp_rules::Rule;
@@ -9,24 +8,25 @@ use twp_words::excepts_land;
 
 impl<'a> Draft<'a> {
     /// `except`, or words like it, at an index.
-    pub(crate) fn except(&mut self, index: usize) -> Result<Option<Phrase>, AllocError> {
+    pub(crate) fn except(&mut self, index: usize) -> Option<Phrase> {
+        let pieces = &self.pieces;
         let from = self.extent();
         let Some(end) = self.after_except(index) else {
-            return Ok(None);
+            return None;
         };
-        if self.pieces.is(index, b"l") {
-            let start = self.pieces.start(index);
-            let stop = self.pieces.end_before(end);
-            self.write(start, stop, b" except ", Rule::Exception)?;
+        if pieces.is(index, b"l") {
+            let start = pieces.start(index);
+            let stop = pieces.end_before(end);
+            self.write(start, stop, b" except ", Rule::Exception);
         } else {
-            self.replace(index, b" except ", Rule::Exception)?;
+            self.replace(index, b" except ", Rule::Exception);
             for place in plus(index, 1)..end {
                 let is_mark = self.pieces.is(place, b".");
                 let rule = if is_mark { Rule::Mark } else { Rule::Word };
-                self.leave_out(place, plus(place, 1), rule)?;
+                self.leave_out(place, plus(place, 1), rule);
             }
         }
-        Ok(Some(self.phrase(Names::Except, index, end, from)))
+        Some(self.phrase(Names::Except, index, end, from))
     }
 
     /// The index after words for an exception at an index.
@@ -70,46 +70,47 @@ impl<'a> Draft<'a> {
 
     /// Whether a word or a period follows a word for an exception at an index, and belongs to it.
     fn goes_with_except(&self, index: usize) -> bool {
+        let pieces = &self.pieces;
         let second = plus(index, 1);
-        self.pieces.is(second, b"for")
-            || self.pieces.is(second, b"therefrom")
-            || self.pieces.is(second, b"of")
-            || (self.pieces.is(second, b".")
-                && (self.pieces.is(index, b"exc") || self.pieces.is(index, b"ex")))
+        pieces.is(second, b"for")
+            || pieces.is(second, b"therefrom")
+            || pieces.is(second, b"of")
+            || (pieces.is(second, b".") && (pieces.is(index, b"exc") || pieces.is(index, b"ex")))
     }
 
     /// Whether `but` at an index is after all of a section, and before land, as in `all but Lot 4`.
     fn is_after_all_land(&self, index: usize) -> bool {
+        let pieces = &self.pieces;
         let before = index.saturating_sub(1);
         let land = plus(index, 1);
-        (self.pieces.is(before, b"all") || self.pieces.is(before, b"everything"))
-            && (self.pieces.begins_part(land) || matches!(self.pieces.kind(land), Kind::Lot))
+        (pieces.is(before, b"all") || pieces.is(before, b"everything"))
+            && (pieces.begins_part(land) || matches!(pieces.kind(land), Kind::Lot))
     }
 
     /// An excepted part with `thereof` after it, to which the steps of the part are added from which it is
     /// excepted, as in `NW1/4, except the SW1/4 thereof`. It is doubted if that may be another.
-    pub(crate) fn part_thereof(&mut self, part: Phrase) -> Result<Phrase, AllocError> {
+    pub(crate) fn part_thereof(&mut self, part: Phrase) -> Phrase {
         let whole = match self.whole_before_except() {
-            Whole::Section => return Ok(part),
+            Whole::Section => return part,
             Whole::Part(whole) => whole,
             Whole::Unsure => {
                 self.doubt();
-                return Ok(part);
+                return part;
             }
         };
         if self.ends_with_steps_of(part, whole) {
-            return Ok(part);
+            return part;
         }
         if !self.is_surely_of(part, whole) {
             self.doubt();
-            return Ok(part);
+            return part;
         }
         let place = self.pieces.end_before(part.end);
         for index in whole.steps.first..whole.steps.end {
             if let Some(step) = self.steps.get(index).copied() {
                 let rule = Rule::CopiedStep(step.start, step.end);
-                self.write(place, place, step.written, rule)?;
-                self.steps.push(step)?;
+                self.write(place, place, step.written, rule);
+                self.add_step(step);
             }
         }
         let changes = Span {
@@ -120,11 +121,11 @@ impl<'a> Draft<'a> {
             end: self.steps.len(),
             ..part.steps
         };
-        Ok(Phrase {
+        Phrase {
             changes,
             steps,
             ..part
-        })
+        }
     }
 
     /// The land before an exception, which is the last phrase: the only part of its section.

@@ -1,7 +1,6 @@
 //! The fractions of halves and quarters: `1/2`, `/2`, `2`, `half`, and what scanning makes of them.
 
 use crate::draft::Draft;
-use std::alloc::AllocError;
 use twp_grammar::Kind;
 use twp_pieces::plus;
 use twp_rules::Rule;
@@ -9,38 +8,35 @@ use twp_words::Size;
 
 impl<'a> Draft<'a> {
     /// The fraction at an index, after letters: the index after it.
-    pub(crate) fn fraction(
-        &mut self,
-        index: usize,
-        size: Size,
-    ) -> Result<Option<usize>, AllocError> {
+    pub(crate) fn fraction(&mut self, index: usize, size: Size) -> Option<usize> {
+        let pieces = &self.pieces;
         let next = plus(index, 1);
-        let kind = self.pieces.kind(index);
+        let kind = pieces.kind(index);
         if is_written(size, kind) {
-            return Ok(Some(next));
+            return Some(next);
         }
         if !matches!(
             kind,
             Kind::Stop | Kind::BadByte | Kind::Number(_) | Kind::Other
         ) {
-            return Ok(None);
+            return None;
         }
         if matches!(kind, Kind::Stop)
-            && self.pieces.is_joined(index)
-            && is_written(size, self.pieces.kind(next))
+            && pieces.is_joined(index)
+            && is_written(size, pieces.kind(next))
         {
-            self.leave_out(index, next, Rule::OnePart)?;
-            return Ok(Some(plus(index, 2)));
+            self.leave_out(index, next, Rule::OnePart);
+            return Some(plus(index, 2));
         }
         if self.pieces.is(index, b"\\")
             && self.pieces.is_joined(index)
             && is_written(size, self.pieces.kind(next))
         {
-            self.leave_out(index, next, Rule::Mark)?;
-            return Ok(Some(plus(index, 2)));
+            self.leave_out(index, next, Rule::Mark);
+            return Some(plus(index, 2));
         }
-        if let Some(after) = self.spaced_fraction(index, size)? {
-            return Ok(Some(after));
+        if let Some(after) = self.spaced_fraction(index, size) {
+            return Some(after);
         }
         if let Some(after) = self.end_of_fraction(index, size) {
             let start = if self.pieces.is_joined(index) {
@@ -49,19 +45,19 @@ impl<'a> Draft<'a> {
                 self.pieces.end_before(index)
             };
             let end = self.pieces.end_before(after);
-            self.write(start, end, size.fraction(), rule_of(size))?;
-            return Ok(Some(after));
+            self.write(start, end, size.fraction(), rule_of(size));
+            return Some(after);
         }
-        Ok(None)
+        None
     }
 
     /// The fraction at an index with a space before its slash, or after it, as in `W1 /2`, which is left out:
     /// the index after the fraction.
-    fn spaced_fraction(&mut self, index: usize, size: Size) -> Result<Option<usize>, AllocError> {
+    fn spaced_fraction(&mut self, index: usize, size: Size) -> Option<usize> {
         let slash = plus(index, 1);
         let digit = plus(index, 2);
         if !self.pieces.is(index, b"1") || !self.pieces.is(slash, b"/") {
-            return Ok(None);
+            return None;
         }
         let pieces = &self.pieces;
         let (one, bar) = (pieces.end(index), pieces.start(slash));
@@ -73,11 +69,11 @@ impl<'a> Draft<'a> {
         let is_spaced = bar > one || last > after;
         let is_digit = pieces.has_digits(digit, 1) && pieces.number(digit) == Some(size.digit());
         if !is_near || !is_spaced || !is_digit || self.goes_on(plus(digit, 1)) {
-            return Ok(None);
+            return None;
         }
-        self.leave_out_bytes(one, bar)?;
-        self.leave_out_bytes(after, last)?;
-        Ok(Some(plus(digit, 1)))
+        self.leave_out_bytes(one, bar);
+        self.leave_out_bytes(after, last);
+        Some(plus(digit, 1))
     }
 
     /// Where the fraction at an index ends that isn't written as in a description: a digit, a slash and a
@@ -127,9 +123,9 @@ impl<'a> Draft<'a> {
 
     /// Whether a slash follows the piece at an index, without white space.
     fn is_before_slash(&self, index: usize) -> bool {
+        let pieces = &self.pieces;
         let next = plus(index, 1);
-        (self.pieces.is(next, b"/") || self.pieces.is(next, b"\xE2\x81\x84"))
-            && self.pieces.is_joined(next)
+        (pieces.is(next, b"/") || pieces.is(next, b"\xE2\x81\x84")) && pieces.is_joined(next)
     }
 
     /// Whether the pieces at an index, of which the second is a slash, are a fraction: with what scanning makes of a `1`
@@ -158,50 +154,53 @@ impl<'a> Draft<'a> {
 
     /// Whether the lowered digit of a fraction is at an index, or the `z` that scanning makes of a `2` after a `1`.
     fn is_worn_digit(&self, one: usize, digit: usize, size: Size) -> bool {
-        let is_lower = size.is_lowered(self.pieces.lower(digit));
-        let is_z = size == Size::Half && self.pieces.is(digit, b"z") && self.pieces.is(one, b"1");
-        (is_lower || is_z) && self.pieces.is_joined(digit)
+        let pieces = &self.pieces;
+        let is_lower = size.is_lowered(pieces.lower(digit));
+        let is_z = size == Size::Half && pieces.is(digit, b"z") && pieces.is(one, b"1");
+        (is_lower || is_z) && pieces.is_joined(digit)
     }
 
     /// Whether a fraction with a hyphen is at an index, as in `W 1-2 of SE 1-4`: with an `of` before or after
     /// its letters, since `SE 1-4` may be of four sections.
     fn is_hyphenated(&self, index: usize, size: Size) -> bool {
+        let pieces = &self.pieces;
         let next = plus(index, 1);
         let digit = plus(index, 2);
-        let is_of = self.pieces.is(plus(index, 3), b"of")
-            || self.pieces.is(index.saturating_sub(2), b"of")
-            || self.pieces.is(index.saturating_sub(3), b"of");
+        let is_of = pieces.is(plus(index, 3), b"of")
+            || pieces.is(index.saturating_sub(2), b"of")
+            || pieces.is(index.saturating_sub(3), b"of");
         is_of
-            && self.pieces.is(index, b"1")
-            && self.pieces.is(next, b"-")
-            && self.pieces.is_joined(next)
+            && pieces.is(index, b"1")
+            && pieces.is(next, b"-")
+            && pieces.is_joined(next)
             && self.is_digit(digit, size)
     }
 
     /// Whether the piece at an index is the digit that people write for a half or a quarter, joined to what
     /// is before it.
     fn is_digit(&self, index: usize, size: Size) -> bool {
-        self.pieces.number(index) == Some(size.digit())
-            && self.pieces.has_digits(index, 1)
-            && self.pieces.is_joined(index)
+        let pieces = &self.pieces;
+        pieces.number(index) == Some(size.digit())
+            && pieces.has_digits(index, 1)
+            && pieces.is_joined(index)
     }
 
     /// Whether the piece at an index continues a number.
     fn goes_on(&self, index: usize) -> bool {
-        self.pieces.is_joined(index)
-            && ((self.pieces.is(index, b"/") || self.pieces.is(index, b"-"))
-                || (self.pieces.is(index, b".")
-                    && self.pieces.is_joined(plus(index, 1))
-                    && self.pieces.number(plus(index, 1)).is_some()))
+        let pieces = &self.pieces;
+        pieces.is_joined(index)
+            && ((pieces.is(index, b"/") || pieces.is(index, b"-"))
+                || (pieces.is(index, b".")
+                    && pieces.is_joined(plus(index, 1))
+                    && pieces.number(plus(index, 1)).is_some()))
     }
 
     /// Whether an item ends before an index.
     fn is_end(&self, index: usize) -> bool {
-        index >= self.pieces.len()
-            || (self.pieces.is(index, b",")
-                || self.pieces.is(index, b";")
-                || self.pieces.is(index, b"."))
-            || self.pieces.begins_line(index)
+        let pieces = &self.pieces;
+        index >= pieces.len()
+            || (pieces.is(index, b",") || pieces.is(index, b";") || pieces.is(index, b"."))
+            || pieces.begins_line(index)
     }
 }
 

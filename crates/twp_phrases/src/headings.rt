@@ -2,79 +2,69 @@
 //! `Township Two North, Range Three West`.
 
 use crate::draft::{Draft, Names, Numeral, Phrase};
-use std::alloc::AllocError;
 use twp_grammar::Kind;
 use twp_pieces::plus;
 use twp_rules::Rule;
 
 impl<'a> Draft<'a> {
     /// The township and range at an index.
-    pub fn heading(&mut self, index: usize) -> Result<Option<Phrase>, AllocError> {
+    pub fn heading(&mut self, index: usize) -> Option<Phrase> {
+        let pieces = &self.pieces;
         let from = self.extent();
         let mut next = index;
-        if self.pieces.is(next, b"all")
-            && (self.pieces.is(plus(next, 1), b"in") || self.pieces.is(plus(next, 1), b"of"))
+        if pieces.is(next, b"all")
+            && (pieces.is(plus(next, 1), b"in") || pieces.is(plus(next, 1), b"of"))
         {
-            self.leave_out(next, plus(next, 1), Rule::Word)?;
+            self.leave_out(next, plus(next, 1), Rule::Word);
             next = plus(next, 1);
         }
         if self.pieces.is(next, b"of") {
-            self.leave_out(next, plus(next, 1), Rule::Heading)?;
+            self.leave_out(next, plus(next, 1), Rule::Heading);
             next = plus(next, 1);
         }
         if self.pieces.is(next, b"in") {
-            self.leave_out(next, plus(next, 1), Rule::Heading)?;
+            self.leave_out(next, plus(next, 1), Rule::Heading);
             next = plus(next, 1);
         }
         if let Some(end) = self.pieces.after_same_township(next) {
             self.shrink(from);
             let names = Names::Nothing(Rule::MovedHeading);
-            return Ok(Some(self.phrase(names, index, end, from)));
+            return Some(self.phrase(names, index, end, from));
         }
-        let has_word = self.pieces.is(next, b"t")
-            || self.pieces.is(next, b"township")
-            || self.pieces.is(next, b"twp")
-            || self.pieces.is(next, b"tp")
-            || self.pieces.is(next, b"twsp");
+        let has_word = self.has_township_word(next);
         // Without a word for it, its side is beside its number.
         if !has_word && !self.is_side(plus(next, 1)) {
-            return Ok(None);
+            return None;
         }
-        next = self.heading_word(next, has_word, b"T.", b"T. ")?;
-        let Some(after) = self.tier(next, has_word)? else {
-            return Ok(None);
+        next = self.heading_word(next, has_word, b"T.", b"T. ");
+        let Some(after) = self.tier(next, has_word) else {
+            return None;
         };
         next = after;
         let is_run = self.pieces.is(next, b"nr") || self.pieces.is(next, b"sr");
         if is_run {
             let place = self.pieces.start(next).saturating_add(1);
-            self.write(place, place, b" ", Rule::Heading)?;
+            self.write(place, place, b" ", Rule::Heading);
             next = plus(next, 1);
         } else {
             if !self.pieces.is_north_south(next) {
-                return Ok(None);
+                return None;
             }
-            next = self.side(next)?;
-            next = self.after_same_tier(next)?;
-            next = self.before_range(next, has_word)?;
-            if (self.pieces.is(next, b"r")
-                || self.pieces.is(next, b"range")
-                || self.pieces.is(next, b"rng")
-                || self.pieces.is(next, b"rge")
-                || self.pieces.is(next, b"rg"))
-                != has_word
-            {
-                return Ok(None);
+            next = self.side(next);
+            next = self.after_same_tier(next);
+            next = self.before_range(next, has_word);
+            if self.has_range_word(next) != has_word {
+                return None;
             }
-            next = self.range_word(next, has_word)?;
+            next = self.range_word(next, has_word);
         }
-        let Some(after) = self.tier(next, has_word)? else {
-            return Ok(None);
+        let Some(after) = self.tier(next, has_word) else {
+            return None;
         };
         if !self.pieces.is_east_west(after) {
-            return Ok(None);
+            return None;
         }
-        let end = self.side(after)?;
+        let end = self.side(after);
         // A digit that is joined to a side may be of a half, as in `R3 W2`.
         if self.pieces.is_joined(end)
             && (self.pieces.is(end, b"2")
@@ -82,43 +72,73 @@ impl<'a> Draft<'a> {
         {
             self.doubt();
         }
-        let end = self.after_same_tier(end)?;
-        Ok(Some(self.phrase(Names::Heading, index, end, from)))
+        let end = self.after_same_tier(end);
+        Some(self.phrase(Names::Heading, index, end, from))
     }
 
     /// The index after the township or the range that is repeated in parentheses at an index, as in
     /// `Township Two North (T2N)`, which are left out.
-    fn after_same_tier(&mut self, index: usize) -> Result<usize, AllocError> {
-        if !self.pieces.is(index, b"(") {
-            return Ok(index);
+    fn after_same_tier(&mut self, index: usize) -> usize {
+        match self.end_of_same_tier(index) {
+            Some(end) => {
+                self.leave_out(index, end, Rule::Repeated);
+                end
+            }
+            None => index,
+        }
+    }
+
+    /// Where the parentheses at an index end, if they repeat the township or the range before them.
+    fn end_of_same_tier(&self, index: usize) -> Option<usize> {
+        let pieces = &self.pieces;
+        if !pieces.is(index, b"(") {
+            return None;
         }
         let number = plus(index, 2);
         let close = plus(index, 4);
-        let is_tier = (self.pieces.is(plus(index, 1), b"t") || self.pieces.is(plus(index, 1), b"r"))
-            && self.pieces.is(close, b")");
+        let is_tier = (pieces.is(plus(index, 1), b"t") || pieces.is(plus(index, 1), b"r"))
+            && pieces.is(close, b")");
         let value = self.numbers.last().map(|last| last.value);
         let side = plus(index, 3);
         let is_side = self.is_same_side(index.saturating_sub(1), side);
-        let is_letter = self.pieces.is(plus(index, 1), b"t") == self.pieces.is_north_south(side);
-        let is_same = self.pieces.number(number) == value
-            && value.is_some()
-            && is_side
-            && is_letter;
-        if !is_tier || !is_same {
-            return Ok(index);
+        let is_letter = pieces.is(plus(index, 1), b"t") == pieces.is_north_south(side);
+        let is_same = pieces.number(number) == value && value.is_some() && is_side && is_letter;
+        if is_tier && is_same {
+            Some(plus(close, 1))
+        } else {
+            None
         }
-        self.leave_out(index, plus(close, 1), Rule::Repeated)?;
-        Ok(plus(close, 1))
+    }
+
+    /// Whether a word for a township is at an index.
+    fn has_township_word(&self, index: usize) -> bool {
+        let pieces = &self.pieces;
+        pieces.is(index, b"t")
+            || pieces.is(index, b"township")
+            || pieces.is(index, b"twp")
+            || pieces.is(index, b"tp")
+            || pieces.is(index, b"twsp")
+    }
+
+    /// Whether a word for a range is at an index.
+    fn has_range_word(&self, index: usize) -> bool {
+        let pieces = &self.pieces;
+        pieces.is(index, b"r")
+            || pieces.is(index, b"range")
+            || pieces.is(index, b"rng")
+            || pieces.is(index, b"rge")
+            || pieces.is(index, b"rg")
     }
 
     /// Whether the word for a side at one index, and the letter at another, are of the same side.
     fn is_same_side(&self, word: usize, letter: usize) -> bool {
-        if self.pieces.is_east_west(word) {
-            let is_west = self.pieces.is(word, b"w") || self.pieces.is(word, b"west");
-            return self.pieces.is_east_west(letter) && self.pieces.is(letter, b"w") == is_west;
+        let pieces = &self.pieces;
+        if pieces.is_east_west(word) {
+            let is_west = pieces.is(word, b"w") || pieces.is(word, b"west");
+            return pieces.is_east_west(letter) && pieces.is(letter, b"w") == is_west;
         }
-        let is_north = self.pieces.is(word, b"n") || self.pieces.is(word, b"north");
-        self.pieces.is_north_south(letter) && self.pieces.is(letter, b"n") == is_north
+        let is_north = pieces.is(word, b"n") || pieces.is(word, b"north");
+        pieces.is_north_south(letter) && pieces.is(letter, b"n") == is_north
     }
 
     /// Writes the letter of a township or a range for the word at an index, or where it is missing.
@@ -128,37 +148,37 @@ impl<'a> Draft<'a> {
         has_word: bool,
         letter: &'static [u8],
         inserted: &'static [u8],
-    ) -> Result<usize, AllocError> {
+    ) -> usize {
         if !has_word {
             let place = self.pieces.start(index);
-            self.write(place, place, inserted, Rule::Heading)?;
-            return Ok(index);
+            self.write(place, place, inserted, Rule::Heading);
+            return index;
         }
         let next = plus(index, 1);
         let is_letter = self.pieces.bytes(index).len() == 1;
         if !is_letter {
-            self.replace(index, letter, Rule::Heading)?;
+            self.replace(index, letter, Rule::Heading);
         }
         if self.pieces.is(next, b"numbered") {
-            self.leave_out(next, plus(next, 1), Rule::Heading)?;
-            return Ok(plus(next, 1));
+            self.leave_out(next, plus(next, 1), Rule::Heading);
+            return plus(next, 1);
         }
         match self.pieces.kind(next) {
-            Kind::Stop if is_letter => Ok(plus(next, 1)),
+            Kind::Stop if is_letter => plus(next, 1),
             Kind::Stop | Kind::Colon | Kind::Comma => {
-                self.leave_out(next, plus(next, 1), Rule::Heading)?;
-                Ok(plus(next, 1))
+                self.leave_out(next, plus(next, 1), Rule::Heading);
+                plus(next, 1)
             }
             _ if self.pieces.is(next, b"-") => {
-                self.replace(next, b" ", Rule::Heading)?;
-                Ok(plus(next, 1))
+                self.replace(next, b" ", Rule::Heading);
+                plus(next, 1)
             }
-            _ => Ok(next),
+            _ => next,
         }
     }
 
     /// The same for a range.
-    fn range_word(&mut self, index: usize, has_word: bool) -> Result<usize, AllocError> {
+    fn range_word(&mut self, index: usize, has_word: bool) -> usize {
         let is_joined = self.pieces.is_joined(index);
         let inserted: &'static [u8] = if is_joined { b" R. " } else { b"R. " };
         self.heading_word(index, has_word, b"R.", inserted)
@@ -166,17 +186,18 @@ impl<'a> Draft<'a> {
 
     /// Whether the side of a township or a range is at an index.
     fn is_side(&self, index: usize) -> bool {
-        self.pieces.is_north_south(index) || self.pieces.is_east_west(index)
+        let pieces = &self.pieces;
+        pieces.is_north_south(index) || pieces.is_east_west(index)
     }
 
     /// The number of a township or a range at an index, before its side: the index after it.
-    fn tier(&mut self, index: usize, has_word: bool) -> Result<Option<usize>, AllocError> {
+    fn tier(&mut self, index: usize, has_word: bool) -> Option<usize> {
         let next = plus(index, 1);
         if self.pieces.has_digits(index, 4) {
             return self.register_tier(index);
         }
         let Some(number) = self.numeral(index) else {
-            return Ok(None);
+            return None;
         };
         let has_dash = has_word && self.pieces.is(number.end, b"-");
         let side = if has_dash {
@@ -191,124 +212,127 @@ impl<'a> Draft<'a> {
             && (self.pieces.is_joined(side)
                 || (self.pieces.begins_line(index) && self.pieces.begins_line(plus(side, 1))));
         if !is_side || (!has_word && !is_joined) || number.value == 0 || number.value > 99 {
-            return Ok(None);
+            return None;
         }
-        self.write_numeral(number)?;
+        self.write_numeral(number);
         if has_dash {
-            self.replace(number.end, b" ", Rule::Heading)?;
+            self.replace(number.end, b" ", Rule::Heading);
             if let Some(last) = self.numbers.last_mut() {
                 last.end = side;
             }
         }
-        Ok(Some(side))
+        Some(side)
     }
 
     /// The number of four digits of a township or a range at an index. A register's last digit is of a
     /// fraction.
-    fn register_tier(&mut self, index: usize) -> Result<Option<usize>, AllocError> {
+    fn register_tier(&mut self, index: usize) -> Option<usize> {
+        let pieces = &self.pieces;
         let next = plus(index, 1);
-        let digits = self.pieces.bytes(index);
-        if !self.is_side(next) || !self.pieces.is_joined(next) {
-            return Ok(None);
+        let digits = pieces.bytes(index);
+        if !self.is_side(next) || !pieces.is_joined(next) {
+            return None;
         }
-        let Some(value) = self.pieces.number(index) else {
-            return Ok(None);
+        let Some(value) = pieces.number(index) else {
+            return None;
         };
         if value % 10 != 0 || value == 0 || digits.first() != Some(&b'0') {
             self.doubt();
-            return Ok(None);
+            return None;
         }
         let start = self.pieces.start(index);
         let end = self.pieces.end(index);
         let zeros: usize = if value < 100 { 2 } else { 1 };
-        self.write(start, start.saturating_add(zeros), b"", Rule::Zeros)?;
-        self.write(end.saturating_sub(1), end, b"", Rule::FractionDigit)?;
-        self.numbers.push(Numeral {
+        self.write(start, start.saturating_add(zeros), b"", Rule::Zeros);
+        self.write(end.saturating_sub(1), end, b"", Rule::FractionDigit);
+        self.add_number(Numeral {
             value: value / 10,
             first: index,
             last: index,
             end: next,
-        })?;
-        Ok(Some(next))
+        });
+        Some(next)
     }
 
     /// Writes the side at an index, and passes over a period after it.
-    fn side(&mut self, index: usize) -> Result<usize, AllocError> {
+    fn side(&mut self, index: usize) -> usize {
         if self.pieces.is(index, b"north") {
-            self.replace(index, b"N", Rule::Direction)?;
+            self.replace(index, b"N", Rule::Direction);
         } else if self.pieces.is(index, b"south") {
-            self.replace(index, b"S", Rule::Direction)?;
+            self.replace(index, b"S", Rule::Direction);
         } else if self.pieces.is(index, b"east") {
-            self.replace(index, b"E", Rule::Direction)?;
+            self.replace(index, b"E", Rule::Direction);
         } else if self.pieces.is(index, b"west") {
-            self.replace(index, b"W", Rule::Direction)?;
+            self.replace(index, b"W", Rule::Direction);
         }
         let next = plus(index, 1);
         if matches!(self.pieces.kind(next), Kind::Stop) && self.pieces.is_joined(next) {
             let second = plus(next, 1);
             if self.pieces.is(second, b".") && self.pieces.is_joined(second) {
-                self.leave_out(second, plus(second, 1), Rule::Heading)?;
-                return Ok(plus(second, 1));
+                self.leave_out(second, plus(second, 1), Rule::Heading);
+                return plus(second, 1);
             }
-            return Ok(second);
+            return second;
         }
-        Ok(next)
+        next
     }
 
     /// Passes over a comma between a township and its range, and leaves out another mark and `of`.
-    fn before_range(&mut self, index: usize, has_word: bool) -> Result<usize, AllocError> {
+    fn before_range(&mut self, index: usize, has_word: bool) -> usize {
+        let pieces = &self.pieces;
         let mut next = index;
-        if matches!(self.pieces.kind(next), Kind::Comma) {
+        if matches!(pieces.kind(next), Kind::Comma) {
             next = plus(next, 1);
         }
-        if self.pieces.is_dash(next)
-            || self.pieces.is(next, b";")
-            || self.pieces.is(next, b"/")
-            || self.pieces.is(next, b"|")
+        if pieces.is_dash(next)
+            || pieces.is(next, b";")
+            || pieces.is(next, b"/")
+            || pieces.is(next, b"|")
         {
-            self.replace(next, b" ", Rule::Heading)?;
+            self.replace(next, b" ", Rule::Heading);
             next = plus(next, 1);
         }
         if self.pieces.is(next, b"of") && has_word {
-            self.leave_out(next, plus(next, 1), Rule::Heading)?;
+            self.leave_out(next, plus(next, 1), Rule::Heading);
             next = plus(next, 1);
         }
-        Ok(next)
+        next
     }
 
     /// Where the township and range at an index end, if they are there.
-    pub fn end_of_heading(&mut self, index: usize) -> Result<Option<usize>, AllocError> {
+    pub fn end_of_heading(&mut self, index: usize) -> Option<usize> {
         let from = self.extent();
         let is_unsure = self.is_unsure;
-        let found = self.heading(index)?;
+        let found = self.heading(index);
         self.shrink(from);
         self.is_unsure = is_unsure;
-        Ok(found.map(|heading| heading.end))
+        found.map(|heading| heading.end)
     }
 
     /// Writes a township and range at a place where they aren't.
-    pub fn copy_heading(&mut self, place: usize, heading: Phrase) -> Result<(), AllocError> {
+    pub fn copy_heading(&mut self, place: usize, heading: Phrase) {
+        let pieces = &self.pieces;
         let first = heading.numbers.first;
         let (Some(tier), Some(range)) = (
             self.numbers.get(first).copied(),
             self.numbers.get(plus(first, 1)).copied(),
         ) else {
-            return Ok(());
+            return;
         };
-        let north = self.pieces.is(tier.end, b"n")
-            || self.pieces.is(tier.end, b"north")
-            || self.pieces.is(tier.end, b"nr");
-        let east = self.pieces.is_east_west(range.end)
-            && (self.pieces.is(range.end, b"e") || self.pieces.is(range.end, b"east"));
-        self.write(place, place, b"T. ", Rule::Heading)?;
-        self.copy_tier(place, tier)?;
+        let north = pieces.is(tier.end, b"n")
+            || pieces.is(tier.end, b"north")
+            || pieces.is(tier.end, b"nr");
+        let east = pieces.is_east_west(range.end)
+            && (pieces.is(range.end, b"e") || pieces.is(range.end, b"east"));
+        self.write(place, place, b"T. ", Rule::Heading);
+        self.copy_tier(place, tier);
         self.write(
             place,
             place,
             if north { b" N., R. " } else { b" S., R. " },
             Rule::Heading,
-        )?;
-        self.copy_tier(place, range)?;
+        );
+        self.copy_tier(place, range);
         self.write(
             place,
             place,
@@ -318,7 +342,7 @@ impl<'a> Draft<'a> {
     }
 
     /// Writes the number of a township or a range at a place where it isn't.
-    fn copy_tier(&mut self, place: usize, number: Numeral) -> Result<(), AllocError> {
+    fn copy_tier(&mut self, place: usize, number: Numeral) {
         let dropped = usize::from(self.pieces.has_digits(number.first, 4));
         self.copy_numeral(place, number, dropped)
     }

@@ -2,7 +2,6 @@
 
 use crate::draft::{Draft, Names, Numeral, Phrase};
 use crate::numbered::{Join, Joined};
-use std::alloc::AllocError;
 use twp_grammar::Kind;
 use twp_pieces::plus;
 use twp_rules::Rule;
@@ -12,51 +11,52 @@ const LEAST: u16 = 2;
 
 impl<'a> Draft<'a> {
     /// The lots at an index.
-    pub fn lots(&mut self, index: usize) -> Result<Option<Phrase>, AllocError> {
+    pub fn lots(&mut self, index: usize) -> Option<Phrase> {
         let from = self.extent();
-        let Some(next) = self.lot_word(index)? else {
-            return Ok(None);
+        let Some(next) = self.lot_word(index) else {
+            return None;
         };
         let Some(number) = self.numeral(next) else {
-            return Ok(None);
+            return None;
         };
         if number.value == 0
             || (self.pieces.is_joined(number.end) && self.pieces.kind(number.end) == Kind::Other)
         {
-            return Ok(None);
+            return None;
         }
-        self.write_numeral(number)?;
+        self.write_numeral(number);
         let before = next.saturating_sub(1);
         let is_plural = self.pieces.is(before, b"lots")
             || self.pieces.is(before, b"lts")
             || self.pieces.is(before, b"iots");
-        let end = self.numbers_after(number, Names::Lots, is_plural)?;
-        Ok(Some(self.phrase(Names::Lots, index, end, from)))
+        let end = self.numbers_after(number, Names::Lots, is_plural);
+        Some(self.phrase(Names::Lots, index, end, from))
     }
 
     /// Writes the word for lots at an index: the index after it.
-    fn lot_word(&mut self, index: usize) -> Result<Option<usize>, AllocError> {
+    fn lot_word(&mut self, index: usize) -> Option<usize> {
+        let pieces = &self.pieces;
         let mut word = index;
-        if self.pieces.is(word, b"the") {
+        if pieces.is(word, b"the") {
             word = plus(word, 1);
         }
         word = self.after_government(word);
         let written = self.written_lot(word);
-        if !matches!(self.pieces.kind(word), Kind::Lot) && written.is_none() {
-            return Ok(None);
+        if !matches!(pieces.kind(word), Kind::Lot) && written.is_none() {
+            return None;
         }
-        self.leave_out_each(index, word, Rule::LotWord)?;
+        self.leave_out_each(index, word, Rule::LotWord);
         if let Some(written) = written {
-            self.replace(word, written, Rule::LotWord)?;
+            self.replace(word, written, Rule::LotWord);
         }
         let mut next = plus(word, 1);
         for place in next..plus(next, 3) {
             if place == next && self.is_before_number(place) {
-                self.replace(place, b"", Rule::LotWord)?;
+                self.replace(place, b"", Rule::LotWord);
                 next = plus(place, 1);
             }
         }
-        Ok(Some(next))
+        Some(next)
     }
 
     /// What is written for a word for lots that no description has.
@@ -90,30 +90,31 @@ impl<'a> Draft<'a> {
 
     /// The index after the words for the government at an index.
     pub fn after_government(&self, index: usize) -> usize {
+        let pieces = &self.pieces;
         let mut next = index;
-        if self.pieces.is(next, b"u") && self.pieces.is(plus(next, 2), b"s") {
+        if pieces.is(next, b"u") && pieces.is(plus(next, 2), b"s") {
             next = plus(next, 3);
-            if self.pieces.is(next, b".") {
+            if pieces.is(next, b".") {
                 next = plus(next, 1);
             }
         }
-        if matches!(self.pieces.kind(next), Kind::Lot) {
+        if matches!(pieces.kind(next), Kind::Lot) {
             return next;
         }
-        if self.pieces.is(next, b"government") || self.pieces.is(next, b"govt") {
+        if pieces.is(next, b"government") || pieces.is(next, b"govt") {
             let mark = plus(next, 1);
-            return if self.pieces.is(mark, b".") {
+            return if pieces.is(mark, b".") {
                 plus(mark, 1)
             } else {
                 mark
             };
         }
-        if self.pieces.is(next, b"gov") {
+        if pieces.is(next, b"gov") {
             let mark = plus(next, 1);
-            if self.pieces.is(mark, b"'") || self.pieces.is(mark, b"\xE2\x80\x99") {
+            if pieces.is(mark, b"'") || pieces.is(mark, b"\xE2\x80\x99") {
                 return plus(mark, 2);
             }
-            return if self.pieces.is(mark, b".") {
+            return if pieces.is(mark, b".") {
                 plus(mark, 1)
             } else {
                 mark
@@ -123,45 +124,54 @@ impl<'a> Draft<'a> {
     }
 
     /// The index after the acreage of a lot in parentheses, which is left out.
-    pub(crate) fn after_acreage(
-        &mut self,
-        index: usize,
-        names: Names,
-    ) -> Result<usize, AllocError> {
-        if names != Names::Lots || !self.pieces.is(index, b"(") {
-            return Ok(index);
+    pub(crate) fn after_acreage(&mut self, index: usize, names: Names) -> usize {
+        if names != Names::Lots {
+            return index;
         }
-        let point = plus(index, 2);
-        let has_point = self.pieces.number(plus(index, 1)).is_some()
-            && matches!(self.pieces.kind(point), Kind::Stop)
-            && self.pieces.number(plus(index, 3)).is_some();
-        let unit = plus(index, 4);
-        let close = if self.pieces.is(unit, b"acres") || self.pieces.is(unit, b"ac") {
-            plus(unit, 1)
-        } else {
-            unit
+        let Some(end) = self.end_of_lot_acreage(index) else {
+            return index;
         };
-        if !has_point || !self.pieces.is(close, b")") {
-            return Ok(index);
-        }
         // So little may be a part of the lot.
         if self.pieces.number(plus(index, 1)).unwrap_or(0) <= LEAST {
             self.doubt();
         }
-        self.leave_out(index, plus(close, 1), Rule::Acreage)?;
-        Ok(plus(close, 1))
+        self.leave_out(index, end, Rule::Acreage);
+        end
+    }
+
+    /// Where the acreage in parentheses at an index ends.
+    fn end_of_lot_acreage(&self, index: usize) -> Option<usize> {
+        let pieces = &self.pieces;
+        if !pieces.is(index, b"(") {
+            return None;
+        }
+        let has_point = pieces.number(plus(index, 1)).is_some()
+            && matches!(pieces.kind(plus(index, 2)), Kind::Stop)
+            && pieces.number(plus(index, 3)).is_some();
+        let unit = plus(index, 4);
+        let close = if pieces.is(unit, b"acres") || pieces.is(unit, b"ac") {
+            plus(unit, 1)
+        } else {
+            unit
+        };
+        if has_point && pieces.is(close, b")") {
+            Some(plus(close, 1))
+        } else {
+            None
+        }
     }
 
     /// White space between the number of a lot and that of the next one, after a word in the plural, as in
     /// `LTS 2 3`. Other lots may be the first and the last of several.
     pub(crate) fn join_of_lots(&self, index: usize, last: Numeral) -> Option<Joined> {
-        let is_list = self.pieces.has_digits(index.saturating_sub(1), 1)
-            && self.pieces.has_digits(index, 1)
-            && self.pieces.number(index) == Some(last.value.saturating_add(1))
-            && !self.pieces.has_break_before(index)
-            && !self.pieces.is_joined(index)
-            && !self.pieces.is_dash(plus(index, 1))
-            && !self.pieces.is(plus(index, 1), b"/");
+        let pieces = &self.pieces;
+        let is_list = pieces.has_digits(index.saturating_sub(1), 1)
+            && pieces.has_digits(index, 1)
+            && pieces.number(index) == Some(last.value.saturating_add(1))
+            && !pieces.has_break_before(index)
+            && !pieces.is_joined(index)
+            && !pieces.is_dash(plus(index, 1))
+            && !pieces.is(plus(index, 1), b"/");
         if is_list {
             Some(Joined {
                 join: Join::Nothing,

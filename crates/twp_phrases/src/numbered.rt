@@ -2,7 +2,6 @@
 
 use crate::draft::{Draft, Names, Numeral};
 use crate::sections::SECTIONS;
-use std::alloc::AllocError;
 use twp_grammar::Kind;
 use twp_pieces::{plus, tens_of};
 use twp_rules::Rule;
@@ -29,17 +28,12 @@ const LOTS: u16 = 20;
 
 impl<'a> Draft<'a> {
     /// Writes the numbers that follow one, and what joins them: the index after the last one.
-    pub fn numbers_after(
-        &mut self,
-        number: Numeral,
-        names: Names,
-        is_plural: bool,
-    ) -> Result<usize, AllocError> {
+    pub fn numbers_after(&mut self, number: Numeral, names: Names, is_plural: bool) -> usize {
         if self.pieces.is_figure_with_decimals(number.last) {
             self.doubt();
         }
         let mut last = number;
-        let mut end = self.after_acreage(number.end, names)?;
+        let mut end = self.after_acreage(number.end, names);
         for _ in 0..self.pieces.len() {
             if names == Names::Lots && self.pieces.end_of_dashed_acreage(end).is_some() {
                 break;
@@ -83,19 +77,20 @@ impl<'a> Draft<'a> {
             if join == Join::And && is_tens && more.value < 10 {
                 self.doubt();
             }
-            self.write_join(end, next, join)?;
-            self.write_numeral(more)?;
+            self.write_join(end, next, join);
+            self.write_numeral(more);
             last = more;
-            end = self.after_acreage(more.end, names)?;
-            end = self.after_inclusive(end, join)?;
+            end = self.after_acreage(more.end, names);
+            end = self.after_inclusive(end, join);
         }
-        Ok(end)
+        end
     }
 
     /// What joins the numbers before an index and after it.
     pub(crate) fn join_at(&self, index: usize) -> Option<Joined> {
+        let pieces = &self.pieces;
         let next = plus(index, 1);
-        match self.pieces.kind(index) {
+        match pieces.kind(index) {
             Kind::And => Some(Joined {
                 join: Join::And,
                 end: next,
@@ -105,7 +100,7 @@ impl<'a> Draft<'a> {
                 end: next,
             }),
             Kind::Comma => {
-                let end = if self.pieces.is(next, b"and") || self.pieces.is(next, b"&") {
+                let end = if pieces.is(next, b"and") || pieces.is(next, b"&") {
                     plus(next, 1)
                 } else {
                     next
@@ -115,11 +110,11 @@ impl<'a> Draft<'a> {
                     end,
                 })
             }
-            _ if self.pieces.is(index, b"&") => Some(Joined {
+            _ if pieces.is(index, b"&") => Some(Joined {
                 join: Join::And,
                 end: next,
             }),
-            _ if self.pieces.is_dash(index) => Some(Joined {
+            _ if pieces.is_dash(index) => Some(Joined {
                 join: Join::Dash,
                 end: next,
             }),
@@ -135,15 +130,16 @@ impl<'a> Draft<'a> {
         names: Names,
         is_plural: bool,
     ) -> bool {
+        let pieces = &self.pieces;
         let after = more.end;
-        let is_location = self.pieces.is_joined(after)
-            && (self.pieces.is_north_south(after)
-                || self.pieces.is_east_west(after)
-                || (self.pieces.is(after, b"nr") || self.pieces.is(after, b"sr")));
+        let is_location = pieces.is_joined(after)
+            && (pieces.is_north_south(after)
+                || pieces.is_east_west(after)
+                || (pieces.is(after, b"nr") || pieces.is(after, b"sr")));
         if is_location || (names == Names::Sections && more.value > SECTIONS) || more.value == 0 {
             return false;
         }
-        let before_colon = matches!(self.pieces.kind(after), Kind::Colon);
+        let before_colon = matches!(pieces.kind(after), Kind::Colon);
         let is_apart = before_colon && join == Join::Comma;
         match names {
             Names::Sections => !is_apart || is_plural,
@@ -152,45 +148,45 @@ impl<'a> Draft<'a> {
     }
 
     /// Writes what joins two numbers, where it isn't written so.
-    fn write_join(&mut self, index: usize, next: usize, join: Join) -> Result<(), AllocError> {
+    fn write_join(&mut self, index: usize, next: usize, join: Join) {
         if join == Join::Nothing {
             let place = self.pieces.end_before(index);
-            self.write(place, place, b",", Rule::Comma)?;
+            self.write(place, place, b",", Rule::Comma);
         } else if join == Join::Dash {
-            self.replace(index, b" thru ", Rule::Through)?;
+            self.replace(index, b" thru ", Rule::Through);
         } else if self.pieces.is(index, b"&") {
-            self.replace(index, b" and ", Rule::And)?;
+            self.replace(index, b" and ", Rule::And);
         } else if next > plus(index, 1) && self.pieces.is(plus(index, 1), b"&") {
-            self.replace(plus(index, 1), b" and ", Rule::And)?;
+            self.replace(plus(index, 1), b" and ", Rule::And);
         }
-        Ok(())
     }
 
     /// The index after `inclusive`, if it follows a range.
-    fn after_inclusive(&mut self, index: usize, join: Join) -> Result<usize, AllocError> {
+    fn after_inclusive(&mut self, index: usize, join: Join) -> usize {
+        let pieces = &self.pieces;
         if !matches!(join, Join::To | Join::Dash) {
-            return Ok(index);
+            return index;
         }
-        let word = if matches!(self.pieces.kind(index), Kind::Comma) {
+        let word = if matches!(pieces.kind(index), Kind::Comma) {
             plus(index, 1)
         } else {
             index
         };
-        if matches!(self.pieces.kind(word), Kind::Inclusive) {
-            return Ok(plus(word, 1));
+        if matches!(pieces.kind(word), Kind::Inclusive) {
+            return plus(word, 1);
         }
-        if !self.pieces.is(word, b"incl") {
-            return Ok(index);
+        if !pieces.is(word, b"incl") {
+            return index;
         }
         if word > index {
-            self.leave_out(index, word, Rule::Mark)?;
+            self.leave_out(index, word, Rule::Mark);
         }
-        self.leave_out(word, plus(word, 1), Rule::Word)?;
+        self.leave_out(word, plus(word, 1), Rule::Word);
         let mark = plus(word, 1);
         if self.pieces.is(mark, b".") && self.pieces.is_joined(mark) {
-            self.leave_out(mark, plus(mark, 1), Rule::Mark)?;
-            return Ok(plus(mark, 1));
+            self.leave_out(mark, plus(mark, 1), Rule::Mark);
+            return plus(mark, 1);
         }
-        Ok(mark)
+        mark
     }
 }

@@ -1,7 +1,6 @@
 //! Numbers in digits and in words.
 
 use crate::draft::{Draft, Numeral};
-use std::alloc::AllocError;
 use twp_grammar::Kind;
 use twp_pieces::{plus, tens_of, value_of, value_of_count};
 use twp_rules::Rule;
@@ -26,8 +25,9 @@ fn digits_of(word: &[u8]) -> Option<&'static [u8]> {
 impl<'a> Draft<'a> {
     /// The number at an index, in digits or in words. What repeats it in parentheses is part of it.
     pub fn numeral(&self, index: usize) -> Option<Numeral> {
-        let found = match self.pieces.kind(index) {
-            Kind::Number(value) if self.pieces.bytes(index).len() <= 3 => Numeral {
+        let pieces = &self.pieces;
+        let found = match pieces.kind(index) {
+            Kind::Number(value) if pieces.bytes(index).len() <= 3 => Numeral {
                 value,
                 first: index,
                 last: index,
@@ -46,9 +46,9 @@ impl<'a> Draft<'a> {
         };
         let found = self.with_damaged_digit(found);
         let end = found.end;
-        let is_repeated = self.pieces.is(end, b"(")
-            && self.pieces.number(plus(end, 1)) == Some(found.value)
-            && self.pieces.is(plus(end, 2), b")");
+        let is_repeated = pieces.is(end, b"(")
+            && pieces.number(plus(end, 1)) == Some(found.value)
+            && pieces.is(plus(end, 2), b")");
         Some(Numeral {
             end: if is_repeated { plus(end, 3) } else { end },
             ..found
@@ -66,15 +66,13 @@ impl<'a> Draft<'a> {
 
     /// A number of one digit with another after it, one of which is a letter.
     fn with_damaged_digit(&self, number: Numeral) -> Numeral {
+        let pieces = &self.pieces;
         let next = number.end;
-        if number.value > 9
-            || self.pieces.bytes(number.first).len() != 1
-            || !self.pieces.is_joined(next)
-        {
+        if number.value > 9 || pieces.bytes(number.first).len() != 1 || !pieces.is_joined(next) {
             return number;
         }
-        let digit = match self.pieces.number(next) {
-            Some(value) if self.pieces.has_digits(next, 1) => value,
+        let digit = match pieces.number(next) {
+            Some(value) if pieces.has_digits(next, 1) => value,
             Some(_) => return number,
             None => match self.damaged_digit(next) {
                 Some(value) => value,
@@ -91,7 +89,8 @@ impl<'a> Draft<'a> {
 
     /// The number at an index that is written in words.
     fn numeral_in_words(&self, index: usize) -> Option<Numeral> {
-        let word = self.pieces.lower(index);
+        let pieces = &self.pieces;
+        let word = pieces.lower(index);
         let value = value_of(digits_of(word)?);
         let alone = Numeral {
             value,
@@ -103,10 +102,10 @@ impl<'a> Draft<'a> {
             return Some(alone);
         }
         let mut next = plus(index, 1);
-        if self.pieces.is(next, b"-") {
+        if pieces.is(next, b"-") {
             next = plus(next, 1);
         }
-        match digits_of(self.pieces.lower(next)) {
+        match digits_of(pieces.lower(next)) {
             Some(digits) if digits.len() == 1 => Some(Numeral {
                 value: value.saturating_add(value_of(digits)),
                 first: index,
@@ -119,25 +118,25 @@ impl<'a> Draft<'a> {
 
     /// Where the digits of a number begin that aren't zeros before it.
     fn without_zeros(&self, index: usize) -> usize {
-        let digits = self.pieces.bytes(index);
+        let pieces = &self.pieces;
+        let digits = pieces.bytes(index);
         let zeros = digits.iter().take_while(|digit| **digit == b'0').count();
         let zeros = zeros.min(digits.len().saturating_sub(1));
-        plus(self.pieces.start(index), zeros)
+        plus(pieces.start(index), zeros)
     }
 
     /// Writes a number in digits, without zeros before them, where it is, and leaves out what repeats it.
-    pub fn write_numeral(&mut self, number: Numeral) -> Result<(), AllocError> {
-        self.write_digits(number)?;
+    pub fn write_numeral(&mut self, number: Numeral) {
+        self.write_digits(number);
         let last = plus(number.last, 1);
         if number.end > last {
-            self.leave_out(last, number.end, Rule::Repeated)?;
+            self.leave_out(last, number.end, Rule::Repeated);
         }
-        self.numbers.push(number)?;
-        Ok(())
+        self.add_number(number);
     }
 
     /// The same, without what repeats it.
-    fn write_digits(&mut self, number: Numeral) -> Result<(), AllocError> {
+    fn write_digits(&mut self, number: Numeral) {
         let Numeral { first, last, .. } = number;
         let start = self.pieces.start(first);
         if self.is_damaged(number) {
@@ -146,15 +145,15 @@ impl<'a> Draft<'a> {
         if matches!(self.pieces.kind(first), Kind::Number(_)) {
             let begin = self.without_zeros(first);
             if begin > start {
-                self.write(start, begin, b"", Rule::Zeros)?;
+                self.write(start, begin, b"", Rule::Zeros);
             }
-            return Ok(());
+            return;
         }
         let mut from = start;
         if last > first {
             from = self.pieces.start(last);
             let tens = tens_of(self.pieces.lower(first)).unwrap_or(b"");
-            self.write(start, from, tens, Rule::Numeral)?;
+            self.write(start, from, tens, Rule::Numeral);
         }
         let digits = digits_of(self.pieces.lower(last)).unwrap_or(b"");
         let end = self.pieces.end(last);
@@ -167,38 +166,31 @@ impl<'a> Draft<'a> {
     }
 
     /// Writes the digits that are letters, from one index up to another.
-    fn mend_digits(&mut self, first: usize, end: usize) -> Result<(), AllocError> {
+    fn mend_digits(&mut self, first: usize, end: usize) {
         for index in first..end {
             match self.damaged_digit(index) {
-                Some(0) => self.replace(index, b"0", Rule::Damage)?,
-                Some(_) => self.replace(index, b"1", Rule::Damage)?,
+                Some(0) => self.replace(index, b"0", Rule::Damage),
+                Some(_) => self.replace(index, b"1", Rule::Damage),
                 None => {}
             }
         }
-        Ok(())
     }
 
     /// Writes the digits of a number at a place where they aren't, from one index up to another, some of
     /// which are letters.
-    fn copy_damaged(&mut self, place: usize, first: usize, end: usize) -> Result<(), AllocError> {
+    fn copy_damaged(&mut self, place: usize, first: usize, end: usize) {
         for index in first..end {
             let (from, to) = (self.pieces.start(index), self.pieces.end(index));
             match self.damaged_digit(index) {
-                Some(0) => self.write(place, place, b"0", Rule::Copied(from, to))?,
-                Some(_) => self.write(place, place, b"1", Rule::Copied(from, to))?,
-                None => self.copy(place, from, to)?,
+                Some(0) => self.write(place, place, b"0", Rule::Copied(from, to)),
+                Some(_) => self.write(place, place, b"1", Rule::Copied(from, to)),
+                None => self.copy(place, from, to),
             }
         }
-        Ok(())
     }
 
     /// Writes a number at a place where it isn't, without the last so many digits.
-    pub fn copy_numeral(
-        &mut self,
-        place: usize,
-        number: Numeral,
-        dropped: usize,
-    ) -> Result<(), AllocError> {
+    pub fn copy_numeral(&mut self, place: usize, number: Numeral, dropped: usize) {
         let Numeral { first, last, .. } = number;
         if self.is_damaged(number) {
             return self.copy_damaged(place, first, plus(last, 1));
@@ -212,7 +204,7 @@ impl<'a> Draft<'a> {
         if last > first {
             let to = self.pieces.start(last);
             let tens = tens_of(self.pieces.lower(first)).unwrap_or(b"");
-            self.write(place, place, tens, Rule::Copied(from, to))?;
+            self.write(place, place, tens, Rule::Copied(from, to));
             from = to;
         }
         let digits = digits_of(self.pieces.lower(last)).unwrap_or(b"");

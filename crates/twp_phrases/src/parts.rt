@@ -1,7 +1,6 @@
 //! Aliquot parts: `NE1/4`, `S2NE4`, `N/2`, `NENE`, `the North Half of the Southwest Quarter`.
 
 use crate::draft::{Draft, Form, Names, Phrase, PlacedStep};
-use std::alloc::AllocError;
 use twp_grammar::Kind;
 use twp_pieces::{are_corners, plus};
 use twp_rules::Rule;
@@ -12,16 +11,16 @@ const STEPS_MOST: usize = 10;
 
 impl<'a> Draft<'a> {
     /// The aliquot part at an index: steps joined without white space, or by `of`.
-    pub fn part(&mut self, index: usize) -> Result<Option<Phrase>, AllocError> {
+    pub fn part(&mut self, index: usize) -> Option<Phrase> {
         let from = self.extent();
         let mut first = self.pieces.after_fractional(index);
-        self.leave_out_each(index, first, Rule::Word)?;
+        self.leave_out_each(index, first, Rule::Word);
         if first == index && self.pieces.is(index, b"the") {
-            self.leave_out(index, plus(index, 1), Rule::Word)?;
+            self.leave_out(index, plus(index, 1), Rule::Word);
             first = plus(index, 1);
         }
-        let Some(mut end) = self.step(first)? else {
-            return Ok(None);
+        let Some(mut end) = self.step(first) else {
+            return None;
         };
         let mut form = Form::Plain;
         for _ in 0..self.pieces.len() {
@@ -29,7 +28,7 @@ impl<'a> Draft<'a> {
                 self.doubt();
                 break;
             }
-            if let Some(after) = self.step_joined(end)? {
+            if let Some(after) = self.step_joined(end) {
                 end = after;
                 continue;
             }
@@ -38,9 +37,9 @@ impl<'a> Draft<'a> {
                 break;
             }
             let extent = self.extent();
-            let same = self.after_same_step(end)?;
+            let same = self.after_same_step(end);
             let steps = self.steps.len();
-            let Some(after) = self.step_after_of(same)? else {
+            let Some(after) = self.step_after_of(same) else {
                 self.shrink(extent);
                 break;
             };
@@ -51,23 +50,23 @@ impl<'a> Draft<'a> {
             end = after;
         }
         let phrase = self.phrase(Names::Part, index, end, from);
-        Ok(Some(Phrase { form, ..phrase }))
+        Some(Phrase { form, ..phrase })
     }
 
     /// The index after the step before an index in parentheses, if `of` follows them, as in
     /// `the West half (W½) of`. They are left out.
-    fn after_same_step(&mut self, index: usize) -> Result<usize, AllocError> {
+    fn after_same_step(&mut self, index: usize) -> usize {
         if !self.pieces.is(index, b"(") {
-            return Ok(index);
+            return index;
         }
         let before = self.steps.last().copied();
         let extent = self.extent();
-        let close = self.step(plus(index, 1))?;
+        let close = self.step(plus(index, 1));
         let same = self.steps.last().copied();
         let count = self.extent().steps_after(extent);
         self.shrink(extent);
         let (Some(close), Some(before), Some(same)) = (close, before, same) else {
-            return Ok(index);
+            return index;
         };
         let end = plus(close, 1);
         if count != 1
@@ -75,54 +74,56 @@ impl<'a> Draft<'a> {
             || !self.pieces.is(close, b")")
             || !self.pieces.is(end, b"of")
         {
-            return Ok(index);
+            return index;
         }
-        self.leave_out(index, end, Rule::Repeated)?;
-        Ok(end)
+        self.leave_out(index, end, Rule::Repeated);
+        end
     }
 
     /// The step at an index that is joined to the one before it, also by a backslash, or a slash between bare
     /// corners.
-    fn step_joined(&mut self, index: usize) -> Result<Option<usize>, AllocError> {
-        if !self.pieces.is_joined(index) {
-            return Ok(None);
+    fn step_joined(&mut self, index: usize) -> Option<usize> {
+        let pieces = &self.pieces;
+        if !pieces.is_joined(index) {
+            return None;
         }
-        if self.pieces.is_hyphen_at_line_end(index) {
+        if pieces.is_hyphen_at_line_end(index) {
             let next = plus(index, 1);
             let extent = self.extent();
-            let from = self.pieces.start(index);
-            let to = self.pieces.start(next);
-            self.leave_out_bytes(from, to)?;
-            let end = self.step(next)?;
+            let from = pieces.start(index);
+            let to = pieces.start(next);
+            self.leave_out_bytes(from, to);
+            let end = self.step(next);
             if end.is_none() {
                 self.shrink(extent);
             }
-            return Ok(end);
+            return end;
         }
         let is_slash = self.pieces.is(index, b"/")
             && matches!(self.pieces.kind(index.saturating_sub(1)), Kind::Corner(_))
             && matches!(self.pieces.kind(plus(index, 1)), Kind::Corner(_));
         if self.pieces.is(index, b"\\") || is_slash {
-            self.leave_out(index, plus(index, 1), Rule::Mark)?;
+            self.leave_out(index, plus(index, 1), Rule::Mark);
             let next = plus(index, 1);
             if self.pieces.is_joined(next) {
-                if let Some(end) = self.step(next)? {
-                    return Ok(Some(end));
+                if let Some(end) = self.step(next) {
+                    return Some(end);
                 }
             }
-            return Ok(Some(next));
+            return Some(next);
         }
         self.step(index)
     }
 
     /// The step after an `of`, and `the`, if that is there.
-    fn step_after_of(&mut self, index: usize) -> Result<Option<usize>, AllocError> {
-        if !self.pieces.is(index, b"of") {
-            return Ok(None);
+    fn step_after_of(&mut self, index: usize) -> Option<usize> {
+        let pieces = &self.pieces;
+        if !pieces.is(index, b"of") {
+            return None;
         }
         let next = plus(index, 1);
-        if self.pieces.is(next, b"said") {
-            self.leave_out(next, plus(next, 1), Rule::Word)?;
+        if pieces.is(next, b"said") {
+            self.leave_out(next, plus(next, 1), Rule::Word);
             return self.step(plus(next, 1));
         }
         let next = if self.pieces.is(next, b"the") {
@@ -135,77 +136,68 @@ impl<'a> Draft<'a> {
 
     /// The step at an index, or the run of corners: the index after it. None, and nothing is written, if
     /// there is none.
-    fn step(&mut self, index: usize) -> Result<Option<usize>, AllocError> {
+    fn step(&mut self, index: usize) -> Option<usize> {
         match self.pieces.kind(index) {
             Kind::NorthSouth(_) | Kind::EastWest(_) => self.half(index),
             Kind::Corner(_) => self.corners(index),
             Kind::Number(5 | 8) if self.pieces.has_digits(index, 1) => self.damaged_corner(index),
             Kind::Other if are_corners(self.pieces.lower(index)) => self.corners(index),
             Kind::Other => self.step_in_words(index),
-            _ => Ok(None),
+            _ => None,
         }
     }
 
     /// Notes a step from a place up to an index.
-    pub(crate) fn push_step(
-        &mut self,
-        start: usize,
-        end: usize,
-        written: &'static [u8],
-    ) -> Result<(), AllocError> {
+    pub(crate) fn push_step(&mut self, start: usize, end: usize, written: &'static [u8]) {
         let stop = self.pieces.end_before(end);
         self.push_step_to(start, stop, written)
     }
 
     /// Notes a step from one place up to another.
-    pub(crate) fn push_step_to(
-        &mut self,
-        start: usize,
-        end: usize,
-        written: &'static [u8],
-    ) -> Result<(), AllocError> {
-        self.steps.push(PlacedStep {
+    pub(crate) fn push_step_to(&mut self, start: usize, end: usize, written: &'static [u8]) {
+        self.add_step(PlacedStep {
             start,
             end,
             written,
             is_after_of: false,
-        })?;
-        Ok(())
+        });
     }
 
     /// The half at an index, or a corner whose letters are apart.
-    fn half(&mut self, index: usize) -> Result<Option<usize>, AllocError> {
-        let written = written_step(self.pieces.bytes(index));
-        let start = self.pieces.start(index);
-        if let Some(end) = self.fraction(plus(index, 1), Size::Half)? {
-            self.push_step(start, end, written)?;
-            return Ok(Some(end));
+    fn half(&mut self, index: usize) -> Option<usize> {
+        let pieces = &self.pieces;
+        let written = written_step(pieces.bytes(index));
+        let start = pieces.start(index);
+        if let Some(end) = self.fraction(plus(index, 1), Size::Half) {
+            self.push_step(start, end, written);
+            return Some(end);
         }
         self.dotted(index)
     }
 
     /// The run of corners at an index. The last one may lack its fraction.
-    fn corners(&mut self, index: usize) -> Result<Option<usize>, AllocError> {
-        let start = self.pieces.start(index);
-        let count = self.pieces.bytes(index).len() / 2;
+    fn corners(&mut self, index: usize) -> Option<usize> {
+        let pieces = &self.pieces;
+        let start = pieces.start(index);
+        let count = pieces.bytes(index).len() / 2;
         for number in 1..count.min(plus(STEPS_MOST, 2)) {
             let place = start.saturating_add(number.saturating_mul(2));
             let first = place.saturating_sub(2);
             let corner = self.corner_before(place);
-            self.write(place, place, b"1/4", Rule::Quarter)?;
-            self.push_step_to(first, place, corner)?;
+            self.write(place, place, b"1/4", Rule::Quarter);
+            self.push_step_to(first, place, corner);
         }
         let end = self.pieces.end(index);
         let first = end.saturating_sub(2);
         let corner = self.corner_before(end);
         let next = plus(index, 1);
-        if let Some(after) = self.fraction(next, Size::Quarter)? {
-            self.push_step(first, after, corner)?;
-            return Ok(Some(after));
+        if let Some(after) = self.fraction(next, Size::Quarter) {
+            self.push_step(first, after, corner);
+            return Some(after);
         }
-        self.write(end, end, b"1/4", Rule::Quarter)?;
-        self.push_step_to(first, end, corner)?;
-        Ok(Some(next))
+        self.write(end, end, b"1/4", Rule::Quarter);
+        self.push_step_to(first, end, corner);
+        Some(next)
     }
 
     /// The quarter in the corner whose letters end at a place.
@@ -215,24 +207,23 @@ impl<'a> Draft<'a> {
     }
 
     /// The corner at an index whose `S` was read as a `5`.
-    fn damaged_corner(&mut self, index: usize) -> Result<Option<usize>, AllocError> {
+    fn damaged_corner(&mut self, index: usize) -> Option<usize> {
+        let pieces = &self.pieces;
         let letter = plus(index, 1);
-        if !matches!(self.pieces.kind(letter), Kind::EastWest(_))
-            || !self.pieces.is_joined(letter)
-        {
-            return Ok(None);
+        if !matches!(pieces.kind(letter), Kind::EastWest(_)) || !pieces.is_joined(letter) {
+            return None;
         }
-        if !matches!(self.pieces.kind(plus(letter, 1)), Kind::Quarter) {
-            return Ok(None);
+        if !matches!(pieces.kind(plus(letter, 1)), Kind::Quarter) {
+            return None;
         }
-        self.replace(index, b"S", Rule::Damage)?;
+        self.replace(index, b"S", Rule::Damage);
         let corner: &'static [u8] = if self.pieces.is(letter, b"e") {
             b"SE1/4"
         } else {
             b"SW1/4"
         };
         let start = self.pieces.start(index);
-        self.push_step(start, plus(letter, 2), corner)?;
-        Ok(Some(plus(letter, 2)))
+        self.push_step(start, plus(letter, 2), corner);
+        Some(plus(letter, 2))
     }
 }

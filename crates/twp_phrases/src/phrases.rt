@@ -12,15 +12,21 @@ impl<'a> Draft<'a> {
     /// Finds the phrases. Where a piece is in none, and doesn't join them, the text isn't sure, nor where
     /// many pieces join two of them.
     pub fn find_phrases(&mut self) -> Result<(), AllocError> {
+        self.add_phrases();
+        self.all_added()
+    }
+
+    /// Adds the phrases.
+    fn add_phrases(&mut self) {
         let mut index: usize = 0;
         for here in 0..self.pieces.len() {
             if here < index {
                 continue;
             }
             if self.is_unsure {
-                return Ok(());
+                return;
             }
-            match self.phrase_at(here)? {
+            match self.phrase_at(here) {
                 Some(phrase) => {
                     index = phrase.end;
                     // Land at some depths, and other land.
@@ -32,7 +38,7 @@ impl<'a> Draft<'a> {
                     if phrase.names == Names::Sections {
                         self.last_section = Some(phrase);
                     }
-                    self.phrases.push(phrase)?;
+                    self.add_phrase(phrase);
                 }
                 None if self.joins_phrases(here) && here < plus(index, JOINING_MOST) => {
                     if self.is_empty_slot(here) {
@@ -47,22 +53,22 @@ impl<'a> Draft<'a> {
         if self.has_open {
             self.doubt();
         }
-        Ok(())
     }
 
     /// Whether a piece only joins phrases.
     pub fn joins_phrases(&self, index: usize) -> bool {
-        match self.pieces.kind(index) {
+        let pieces = &self.pieces;
+        match pieces.kind(index) {
             Kind::Comma | Kind::Semicolon | Kind::Colon => true,
-            Kind::Stop => !self.pieces.is_ellipsis(index),
+            Kind::Stop => !pieces.is_ellipsis(index),
             Kind::And | Kind::Of | Kind::The => true,
             Kind::BadByte => self.is_joining_mark(index) || self.opens_land(index),
             Kind::Other => {
-                self.pieces.is(index, b"in")
-                    || self.pieces.is(index, b"said")
-                    || self.pieces.is(index, b"thereof")
-                    || self.pieces.is(index, b"also")
-                    || self.pieces.joins_together(index)
+                pieces.is(index, b"in")
+                    || pieces.is(index, b"said")
+                    || pieces.is(index, b"thereof")
+                    || pieces.is(index, b"also")
+                    || pieces.joins_together(index)
             }
             _ => false,
         }
@@ -70,67 +76,69 @@ impl<'a> Draft<'a> {
 
     /// Whether a mark that no description has only joins phrases.
     fn is_joining_mark(&self, index: usize) -> bool {
-        self.pieces.is_dash(index)
-            || self.pieces.is(index, b"&")
-            || self.pieces.is(index, b"/")
-            || self.pieces.is(index, b"\"")
-            || self.pieces.is(index, b"|")
-            || self.pieces.is(index, b"+")
-            || self.pieces.is(index, b"\\")
-            || self.pieces.is(index, b"\xE2\x80\x9C")
-            || self.pieces.is(index, b"\xE2\x80\x9D")
-            || self.pieces.is(index, b"\xE2\x80\xA2")
-            || (self.pieces.is(index, b")") && self.has_open)
+        let pieces = &self.pieces;
+        pieces.is_dash(index)
+            || pieces.is(index, b"&")
+            || pieces.is(index, b"/")
+            || pieces.is(index, b"\"")
+            || pieces.is(index, b"|")
+            || pieces.is(index, b"+")
+            || pieces.is(index, b"\\")
+            || pieces.is(index, b"\xE2\x80\x9C")
+            || pieces.is(index, b"\xE2\x80\x9D")
+            || pieces.is(index, b"\xE2\x80\xA2")
+            || (pieces.is(index, b")") && self.has_open)
     }
 
     /// Whether parentheses around land are opened at an index: after its section, before its section, or
     /// around an exception.
     fn opens_land(&self, index: usize) -> bool {
+        let pieces = &self.pieces;
         let next = plus(index, 1);
-        if !self.pieces.is(index, b"(") || self.has_open {
+        if !pieces.is(index, b"(") || self.has_open {
             return false;
         }
         match self.last_names() {
-            Some(Names::Sections) => self.pieces.begins_land(next)
-                || self.after_except(next).is_some(),
+            Some(Names::Sections) => pieces.begins_land(next) || self.after_except(next).is_some(),
             Some(Names::Part | Names::All) => {
                 self.after_except(next).is_some()
-                    || self.pieces.begins_tier(next)
-                    || matches!(self.pieces.kind(next), Kind::Sec)
-                    || (self.pieces.number(next).is_some() && self.pieces.is_dash(plus(next, 1)))
+                    || pieces.begins_tier(next)
+                    || matches!(pieces.kind(next), Kind::Sec)
+                    || (pieces.number(next).is_some() && pieces.is_dash(plus(next, 1)))
             }
             _ => false,
         }
     }
 
     /// The phrase at an index.
-    fn phrase_at(&mut self, index: usize) -> Result<Option<Phrase>, AllocError> {
+    fn phrase_at(&mut self, index: usize) -> Option<Phrase> {
         match self.pieces.kind(index) {
             Kind::Number(_) => self.phrase_of_number(index),
-            _ if self.begins_none(index) => Ok(None),
+            _ if self.begins_none(index) => None,
             _ => self.phrase_of_mark_or_word(index),
         }
     }
 
     /// Whether the piece at an index begins no phrase: most marks, and words that only join two of them.
     fn begins_none(&self, index: usize) -> bool {
-        match self.pieces.kind(index) {
+        let pieces = &self.pieces;
+        match pieces.kind(index) {
             Kind::Comma | Kind::Semicolon | Kind::Stop | Kind::Colon => true,
-            Kind::And => !self.pieces.is(plus(index, 1), b"containing"),
+            Kind::And => !pieces.is(plus(index, 1), b"containing"),
             Kind::Half | Kind::Quarter => index > 0,
             Kind::Of => self.is_before_land(index),
-            Kind::Other => self.pieces.is(index, b"in") && self.is_before_land(index),
-            Kind::BadByte => !self.pieces.may_begin_phrase(index),
+            Kind::Other => pieces.is(index, b"in") && self.is_before_land(index),
+            Kind::BadByte => !pieces.may_begin_phrase(index),
             _ => false,
         }
     }
 
     /// The phrase at an index that a word or a mark begins: the kind of phrase that most such pieces begin,
     /// before the others are looked for.
-    fn phrase_of_mark_or_word(&mut self, index: usize) -> Result<Option<Phrase>, AllocError> {
+    fn phrase_of_mark_or_word(&mut self, index: usize) -> Option<Phrase> {
         let from = self.extent();
-        if let Some(phrase) = self.likely_phrase(index)? {
-            return Ok(Some(phrase));
+        if let Some(phrase) = self.likely_phrase(index) {
+            return Some(phrase);
         }
         self.shrink(from);
         self.phrase_of_word(index)
@@ -138,7 +146,7 @@ impl<'a> Draft<'a> {
 
     /// The phrase at an index of the kind that most such pieces begin. The results are handed on as they are,
     /// since a place for each of them would be cleared at each piece.
-    fn likely_phrase(&mut self, index: usize) -> Result<Option<Phrase>, AllocError> {
+    fn likely_phrase(&mut self, index: usize) -> Option<Phrase> {
         match self.pieces.kind(index) {
             Kind::Sec => self.sections(index),
             Kind::Lot => self.lots(index),
@@ -150,12 +158,12 @@ impl<'a> Draft<'a> {
             }
             Kind::Other => self.likely_phrase_of_word(index),
             Kind::The if self.pieces.begins_land(plus(index, 1)) => self.sure_part(index),
-            _ => Ok(None),
+            _ => None,
         }
     }
 
     /// The same, of a word that no description has.
-    fn likely_phrase_of_word(&mut self, index: usize) -> Result<Option<Phrase>, AllocError> {
+    fn likely_phrase_of_word(&mut self, index: usize) -> Option<Phrase> {
         if self.pieces.begins_step(index) {
             return self.sure_part(index);
         }
@@ -168,167 +176,165 @@ impl<'a> Draft<'a> {
         if self.pieces.is(index, b"less") || self.pieces.is(index, b"except") {
             return self.except(index);
         }
-        Ok(None)
+        None
     }
 
     /// Whether a section or an aliquot part follows the word at an index, which only joins them then.
     fn is_before_land(&self, index: usize) -> bool {
+        let pieces = &self.pieces;
         let next = plus(index, 1);
-        matches!(self.pieces.kind(next), Kind::Sec) || self.pieces.begins_part(next)
+        matches!(pieces.kind(next), Kind::Sec) || pieces.begins_part(next)
     }
 
     /// Whether `all` before an index is of a section: what ends an item, or a section or a part, with or
     /// without `of`, is there.
     fn is_after_all(&self, index: usize) -> bool {
-        index >= self.pieces.len()
-            || matches!(
-                self.pieces.kind(index),
-                Kind::Semicolon | Kind::Stop | Kind::Sec
-            )
-            || (matches!(self.pieces.kind(index), Kind::Of) && self.is_before_land(index))
+        let pieces = &self.pieces;
+        index >= pieces.len()
+            || matches!(pieces.kind(index), Kind::Semicolon | Kind::Stop | Kind::Sec)
+            || (matches!(pieces.kind(index), Kind::Of) && self.is_before_land(index))
     }
 
     /// Whether words for lots, or the government's, are at an index.
     fn may_be_lots(&self, index: usize) -> bool {
-        self.pieces.is(index, b"l")
-            || self.pieces.is(index, b"lt")
-            || self.pieces.is(index, b"gl")
-            || self.pieces.is(index, b"lts")
+        let pieces = &self.pieces;
+        pieces.is(index, b"l")
+            || pieces.is(index, b"lt")
+            || pieces.is(index, b"gl")
+            || pieces.is(index, b"lts")
             || self.after_government(index) > index
     }
 
     /// The phrase at an index that a number begins: a township and range, if a side is joined to the number,
     /// or what else it may begin.
-    fn phrase_of_number(&mut self, index: usize) -> Result<Option<Phrase>, AllocError> {
+    fn phrase_of_number(&mut self, index: usize) -> Option<Phrase> {
+        let pieces = &self.pieces;
         let from = self.extent();
         let next = plus(index, 1);
-        let is_short = self.pieces.bytes(index).len() <= 2 && self.pieces.is_joined(next);
+        let is_short = pieces.bytes(index).len() <= 2 && pieces.is_joined(next);
         let is_unsure = self.is_unsure;
-        if (is_short && self.pieces.is_north_south(next)) || self.pieces.begins_register(index) {
-            if let Some(phrase) = self.of_register(index)? {
-                return Ok(Some(phrase));
+        if (is_short && pieces.is_north_south(next)) || pieces.begins_register(index) {
+            if let Some(phrase) = self.of_register(index) {
+                return Some(phrase);
             }
             self.shrink(from);
-            if let Some(phrase) = self.heading(index)? {
+            if let Some(phrase) = self.heading(index) {
                 let end = phrase.end;
                 // Those of a parcel's code go on with digits.
                 if !self.pieces.is_joined(end) || self.pieces.number(end).is_none() {
-                    return Ok(Some(phrase));
+                    return Some(phrase);
                 }
                 self.is_unsure = is_unsure;
             }
             self.shrink(from);
         }
         if matches!(self.pieces.kind(next), Kind::Colon) && self.section_number(index).is_some() {
-            if let Some(phrase) = self.bare_section(index)? {
-                return Ok(Some(phrase));
+            if let Some(phrase) = self.bare_section(index) {
+                return Some(phrase);
             }
             self.shrink(from);
         }
-        if let Some(phrase) = self.aside(index)? {
-            return Ok(Some(phrase));
+        if let Some(phrase) = self.aside(index) {
+            return Some(phrase);
         }
         self.shrink(from);
-        if let Some(phrase) = self.of_register(index)? {
-            return Ok(Some(phrase));
+        if let Some(phrase) = self.of_register(index) {
+            return Some(phrase);
         }
         self.shrink(from);
-        if let Some(phrase) = self.heading(index)? {
-            return Ok(Some(phrase));
+        if let Some(phrase) = self.heading(index) {
+            return Some(phrase);
         }
         self.shrink(from);
         if self.pieces.is_damaged_section_word(index) {
-            if let Some(phrase) = self.sections(index)? {
-                return Ok(Some(phrase));
+            if let Some(phrase) = self.sections(index) {
+                return Some(phrase);
             }
             self.shrink(from);
         }
         if matches!(self.pieces.kind(index), Kind::Number(5 | 8)) {
-            if let Some(phrase) = self.sure_part(index)? {
-                return Ok(Some(phrase));
+            if let Some(phrase) = self.sure_part(index) {
+                return Some(phrase);
             }
             self.shrink(from);
         }
-        if let Some(phrase) = self.bare_section(index)? {
-            return Ok(Some(phrase));
+        if let Some(phrase) = self.bare_section(index) {
+            return Some(phrase);
         }
         self.shrink(from);
-        Ok(self.remark(index))
+        self.remark(index)
     }
 
     /// The phrase at an index that a word or a mark begins.
-    fn phrase_of_word(&mut self, index: usize) -> Result<Option<Phrase>, AllocError> {
+    fn phrase_of_word(&mut self, index: usize) -> Option<Phrase> {
         let from = self.extent();
-        if let Some(phrase) = self.aside(index)? {
-            return Ok(Some(phrase));
+        if let Some(phrase) = self.aside(index) {
+            return Some(phrase);
         }
         self.shrink(from);
         if let Some(phrase) = self.letter_of_register(index) {
-            return Ok(Some(phrase));
+            return Some(phrase);
         }
-        if let Some(phrase) = self.heading(index)? {
-            return Ok(Some(phrase));
-        }
-        self.shrink(from);
-        if let Some(phrase) = self.sections(index)? {
-            return Ok(Some(phrase));
+        if let Some(phrase) = self.heading(index) {
+            return Some(phrase);
         }
         self.shrink(from);
-        if let Some(phrase) = self.section_of_letter(index)? {
-            return Ok(Some(phrase));
+        if let Some(phrase) = self.sections(index) {
+            return Some(phrase);
         }
         self.shrink(from);
-        if let Some(phrase) = self.lots(index)? {
-            return Ok(Some(phrase));
+        if let Some(phrase) = self.section_of_letter(index) {
+            return Some(phrase);
         }
         self.shrink(from);
-        if let Some(phrase) = self.all(index)? {
-            return Ok(Some(phrase));
+        if let Some(phrase) = self.lots(index) {
+            return Some(phrase);
         }
         self.shrink(from);
-        if let Some(phrase) = self.sure_part(index)? {
-            return Ok(Some(phrase));
+        if let Some(phrase) = self.all(index) {
+            return Some(phrase);
         }
         self.shrink(from);
-        if let Some(phrase) = self.except(index)? {
-            return Ok(Some(phrase));
+        if let Some(phrase) = self.sure_part(index) {
+            return Some(phrase);
         }
         self.shrink(from);
-        Ok(self.remark(index))
+        if let Some(phrase) = self.except(index) {
+            return Some(phrase);
+        }
+        self.shrink(from);
+        self.remark(index)
     }
 
     /// The section of a location, or the aliquot part, at an index.
-    fn half_or_section(&mut self, index: usize) -> Result<Option<Phrase>, AllocError> {
+    fn half_or_section(&mut self, index: usize) -> Option<Phrase> {
         let from = self.extent();
-        if let Some(phrase) = self.section_of_letter(index)? {
-            return Ok(Some(phrase));
+        if let Some(phrase) = self.section_of_letter(index) {
+            return Some(phrase);
         }
         self.shrink(from);
         self.sure_part(index)
     }
 
     /// The aliquot part at an index, which is doubted if it may be something else.
-    fn sure_part(&mut self, index: usize) -> Result<Option<Phrase>, AllocError> {
-        let Some(part) = self.part(index)? else {
-            return Ok(None);
+    fn sure_part(&mut self, index: usize) -> Option<Phrase> {
+        let Some(part) = self.part(index) else {
+            return None;
         };
         self.doubt_part(part);
         if self.pieces.after_fractional(index) > index {
-            self.claims.push(Claim {
-                place: part.end,
-                what: Claimed::WithLots,
-            })?;
+            self.add_claim(part.end, Claimed::WithLots);
         }
         if !self.pieces.is(part.end, b"thereof") {
-            return Ok(Some(part));
+            return Some(part);
         }
         match self.last_names() {
-            Some(Names::Except) => Ok(Some(self.part_thereof(part)?)),
+            Some(Names::Except) => Some(self.part_thereof(part)),
             Some(Names::Part | Names::Lots) => {
                 self.doubt();
-                Ok(Some(part))
+                Some(part)
             }
-            _ => Ok(Some(part)),
+            _ => Some(part),
         }
     }
 }

@@ -1,7 +1,6 @@
 //! Rows of registers: `08 0020N 0030W 014 ALIQ NENE`, `ID 8 2N 3W 14 A NENE`, `ID080020N0030W0SN140 ANENE`.
 
 use crate::draft::{Draft, Names, Numeral, Phrase};
-use std::alloc::AllocError;
 use twp_grammar::Kind;
 use twp_pieces::plus;
 use twp_rules::Rule;
@@ -9,48 +8,50 @@ use twp_rules::Rule;
 impl<'a> Draft<'a> {
     /// What only a register has, at an index: the code of the meridian, a section after SN, the A of aliquot
     /// parts.
-    pub fn of_register(&mut self, index: usize) -> Result<Option<Phrase>, AllocError> {
-        if let Some(phrase) = self.meridian_of_register(index)? {
-            return Ok(Some(phrase));
+    pub fn of_register(&mut self, index: usize) -> Option<Phrase> {
+        if let Some(phrase) = self.meridian_of_register(index) {
+            return Some(phrase);
         }
         if let Some(phrase) = self.letter_of_register(index) {
-            return Ok(Some(phrase));
+            return Some(phrase);
         }
         self.section_of_register(index)
     }
 
     /// The code of the meridian, before a township and range.
-    fn meridian_of_register(&mut self, index: usize) -> Result<Option<Phrase>, AllocError> {
+    fn meridian_of_register(&mut self, index: usize) -> Option<Phrase> {
+        let pieces = &self.pieces;
         let from = self.extent();
         let next = plus(index, 1);
-        let is_code = self.pieces.has_digits(index, 1) || self.pieces.has_digits(index, 2);
+        let is_code = pieces.has_digits(index, 1) || pieces.has_digits(index, 2);
         let is_after_label = self.last_names() == Some(Names::Nothing(Rule::Label));
-        let tier = if self.pieces.is(next, b"t") {
+        let tier = if pieces.is(next, b"t") {
             plus(next, 1)
         } else {
             next
         };
-        let is_after_row = self.pieces.is(index.saturating_sub(1), b";");
-        let is_row = (self.pieces.begins_line(index) || is_after_label || is_after_row)
-            && self.pieces.has_digits(tier, 4);
+        let is_after_row = pieces.is(index.saturating_sub(1), b";");
+        let is_row = (pieces.begins_line(index) || is_after_label || is_after_row)
+            && pieces.has_digits(tier, 4);
         let is_after_state = self.last_names() == Some(Names::Nothing(Rule::Meridian));
-        if !is_code || !(is_row || is_after_state) || !self.end_of_heading(next)?.is_some() {
-            return Ok(None);
+        if !is_code || !(is_row || is_after_state) || !self.end_of_heading(next).is_some() {
+            return None;
         }
         let names = Names::Nothing(Rule::Meridian);
-        Ok(Some(self.phrase(names, index, next, from)))
+        Some(self.phrase(names, index, next, from))
     }
 
     /// The A before aliquot parts, after a section.
     pub(crate) fn letter_of_register(&self, index: usize) -> Option<Phrase> {
+        let pieces = &self.pieces;
         let next = plus(index, 1);
-        let is_before_part = match self.pieces.kind(next) {
+        let is_before_part = match pieces.kind(next) {
             Kind::NorthSouth(_) | Kind::EastWest(_) | Kind::Corner(_) | Kind::Other => true,
             _ => false,
         };
-        if !self.pieces.is(index, b"a")
+        if !pieces.is(index, b"a")
             || !is_before_part
-            || next >= self.pieces.len()
+            || next >= pieces.len()
             || self.last_names() != Some(Names::Sections)
         {
             return None;
@@ -59,32 +60,33 @@ impl<'a> Draft<'a> {
     }
 
     /// The section after SN, whose number has a digit more.
-    fn section_of_register(&mut self, index: usize) -> Result<Option<Phrase>, AllocError> {
+    fn section_of_register(&mut self, index: usize) -> Option<Phrase> {
+        let pieces = &self.pieces;
         let from = self.extent();
         let digits = plus(index, 2);
-        let is_section = self.pieces.is(index, b"0")
-            && self.pieces.is(plus(index, 1), b"sn")
-            && self.pieces.has_digits(digits, 3)
+        let is_section = pieces.is(index, b"0")
+            && pieces.is(plus(index, 1), b"sn")
+            && pieces.has_digits(digits, 3)
             && self.last_names() == Some(Names::Heading);
-        let value = self.pieces.number(digits).unwrap_or(0);
+        let value = pieces.number(digits).unwrap_or(0);
         if !is_section || value % 10 != 0 || value == 0 || value > 360 {
-            return Ok(None);
+            return None;
         }
-        let word = self.pieces.start(index);
-        let start = self.pieces.start(digits);
-        let end = self.pieces.end(digits);
-        self.write(word, start, b", sec. ", Rule::Heading)?;
+        let word = pieces.start(index);
+        let start = pieces.start(digits);
+        let end = pieces.end(digits);
+        self.write(word, start, b", sec. ", Rule::Heading);
         if value < 100 {
-            self.write(start, start.saturating_add(1), b"", Rule::Zeros)?;
+            self.write(start, start.saturating_add(1), b"", Rule::Zeros);
         }
-        self.write(end.saturating_sub(1), end, b"", Rule::FractionDigit)?;
+        self.write(end.saturating_sub(1), end, b"", Rule::FractionDigit);
         let next = plus(index, 3);
-        self.numbers.push(Numeral {
+        self.add_number(Numeral {
             value: value / 10,
             first: digits,
             last: digits,
             end: next,
-        })?;
-        Ok(Some(self.phrase(Names::Sections, index, next, from)))
+        });
+        Some(self.phrase(Names::Sections, index, next, from))
     }
 }

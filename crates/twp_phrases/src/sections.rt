@@ -2,7 +2,6 @@
 
 use crate::draft::{Draft, Form, Names, Numeral, Phrase};
 use crate::numbered::Joined;
-use std::alloc::AllocError;
 use twp_grammar::Kind;
 use twp_pieces::{is_worn_section, plus};
 use twp_rules::Rule;
@@ -12,62 +11,90 @@ pub(crate) const SECTIONS: u16 = 36;
 
 impl<'a> Draft<'a> {
     /// The section or sections at an index, after the word for them.
-    pub fn sections(&mut self, index: usize) -> Result<Option<Phrase>, AllocError> {
+    pub fn sections(&mut self, index: usize) -> Option<Phrase> {
         let from = self.extent();
-        let is_first = matches!(self.pieces.kind(index), Kind::Sec);
-        let is_said = !is_first
-            && (self.pieces.is(index, b"said") || self.pieces.is(index, b"same"));
-        let is_after_land = matches!(self.last_names(), Some(Names::Part | Names::Lots));
-        let word = if is_first {
-            index
-        } else if self.pieces.is(index, b"fractional") || is_said {
-            plus(index, 1)
-        } else if is_after_land {
-            self.pieces.after_all_in(index)
-        } else {
-            index
-        };
+        let word = self.place_of_section_word(index);
         if self.pieces.is_damaged_section_word(word) {
             return self.damaged_section(word);
         }
-        let is_known = is_first || matches!(self.pieces.kind(word), Kind::Sec);
-        let is_worn = !is_known && is_worn_section(self.pieces.lower(word));
-        if !is_known
-            && !is_worn
-            && !(self.pieces.is(word, b"sect")
-                || self.pieces.is(word, b"sects")
-                || self.pieces.is(word, b"scc")
-                || self.pieces.is(word, b"sce")
-                || self.pieces.is(word, b"seo")
-                || self.pieces.is(word, b"\xC2\xA7"))
-        {
-            return Ok(None);
-        }
-        if is_said {
-            if let Some(phrase) = self.section_again(index, word) {
-                return Ok(Some(phrase));
-            }
+        let is_worn = self.is_worn_word(word);
+        if !is_worn && !self.is_section_word(word) {
+            return None;
         }
         if word > index {
+            if self.is_said(index) {
+                if let Some(phrase) = self.section_again(index, word) {
+                    return Some(phrase);
+                }
+            }
             if self.pieces.is(index, b"both") && self.count_of_parts() != 2 {
                 self.doubt();
             }
-            self.leave_out_each(index, word, Rule::Word)?;
+            self.leave_out_each(index, word, Rule::Word);
         }
         if is_worn {
-            self.replace(word, b"sec", Rule::SectionWord)?;
+            self.replace(word, b"sec", Rule::SectionWord);
         }
-        let next = self.after_section_word(word)?;
+        let next = self.after_section_word(word);
         let Some(number) = self.section_number(next) else {
-            return Ok(None);
+            return None;
         };
-        let is_plural = self.pieces.is(word, b"secs")
-            || self.pieces.is(word, b"sections")
-            || self.pieces.is(word, b"sects");
-        let end = self.section_list(word, number, is_plural)?;
+        let is_plural = self.is_plural_word(word);
+        let end = self.section_list(word, number, is_plural);
         let phrase = self.phrase(Names::Sections, index, end, from);
         let form = if is_plural { Form::Plural } else { Form::Plain };
-        Ok(Some(Phrase { form, ..phrase }))
+        Some(Phrase { form, ..phrase })
+    }
+
+    /// Where the word for sections has to be, if words for them begin at an index.
+    fn place_of_section_word(&self, index: usize) -> usize {
+        let pieces = &self.pieces;
+        if matches!(pieces.kind(index), Kind::Sec) {
+            return index;
+        }
+        if pieces.is(index, b"fractional") || self.is_said(index) {
+            return plus(index, 1);
+        }
+        match self.last_names() {
+            Some(Names::Part | Names::Lots) => pieces.after_all_in(index),
+            _ => index,
+        }
+    }
+
+    /// Whether a word for the section that was named is at an index.
+    fn is_said(&self, index: usize) -> bool {
+        let pieces = &self.pieces;
+        pieces.is(index, b"said") || pieces.is(index, b"same")
+    }
+
+    /// Whether what scanning makes of a word for sections is at an index.
+    fn is_worn_word(&self, index: usize) -> bool {
+        let pieces = &self.pieces;
+        !matches!(pieces.kind(index), Kind::Sec) && is_worn_section(pieces.lower(index))
+    }
+
+    /// Whether a word for sections is at an index, as in a description or otherwise.
+    fn is_section_word(&self, index: usize) -> bool {
+        let pieces = &self.pieces;
+        matches!(pieces.kind(index), Kind::Sec)
+            || pieces.is(index, b"sects")
+            || pieces.is(index, b"seo")
+            || self.is_short_word(index)
+    }
+
+    /// Whether a word for one section, or its sign, is at an index, that no description has.
+    fn is_short_word(&self, index: usize) -> bool {
+        let pieces = &self.pieces;
+        pieces.is(index, b"sect")
+            || pieces.is(index, b"scc")
+            || pieces.is(index, b"sce")
+            || pieces.is(index, b"\xC2\xA7")
+    }
+
+    /// Whether a word for several sections is at an index.
+    fn is_plural_word(&self, index: usize) -> bool {
+        let pieces = &self.pieces;
+        pieces.is(index, b"secs") || pieces.is(index, b"sections") || pieces.is(index, b"sects")
     }
 
     /// How many parts and lots follow the last section so far.
@@ -85,8 +112,9 @@ impl<'a> Draft<'a> {
 
     /// The section that was named before, if words for it at an index have no number.
     fn section_again(&self, index: usize, word: usize) -> Option<Phrase> {
+        let pieces = &self.pieces;
         let next = plus(word, 1);
-        let end = if self.pieces.is(next, b".") && self.pieces.is_joined(next) {
+        let end = if pieces.is(next, b".") && pieces.is_joined(next) {
             plus(next, 1)
         } else {
             next
@@ -100,53 +128,53 @@ impl<'a> Draft<'a> {
     }
 
     /// The section at an index whose word begins with such a digit.
-    fn damaged_section(&mut self, index: usize) -> Result<Option<Phrase>, AllocError> {
+    fn damaged_section(&mut self, index: usize) -> Option<Phrase> {
         let from = self.extent();
-        self.replace(index, b"S", Rule::Damage)?;
-        let next = self.after_section_word(plus(index, 1))?;
+        self.replace(index, b"S", Rule::Damage);
+        let next = self.after_section_word(plus(index, 1));
         let Some(number) = self.section_number(next) else {
-            return Ok(None);
+            return None;
         };
-        self.write_numeral(number)?;
-        Ok(Some(self.phrase(Names::Sections, index, number.end, from)))
+        self.write_numeral(number);
+        Some(self.phrase(Names::Sections, index, number.end, from))
     }
 
     /// The index after what follows the word for sections at an index: `numbered`, a period, a second one, or
     /// a comma in its place.
-    fn after_section_word(&mut self, word: usize) -> Result<usize, AllocError> {
+    fn after_section_word(&mut self, word: usize) -> usize {
         let next = plus(word, 1);
         if self.pieces.is(next, b"numbered") {
-            self.leave_out(next, plus(next, 1), Rule::Word)?;
-            return Ok(plus(next, 1));
+            self.leave_out(next, plus(next, 1), Rule::Word);
+            return plus(next, 1);
         }
         if matches!(self.pieces.kind(next), Kind::Colon) {
-            self.leave_out(next, plus(next, 1), Rule::Mark)?;
-            return Ok(plus(next, 1));
+            self.leave_out(next, plus(next, 1), Rule::Mark);
+            return plus(next, 1);
         }
         if self.pieces.is(next, b".") && self.pieces.number(plus(next, 1)).is_some() {
-            return Ok(plus(next, 1));
+            return plus(next, 1);
         }
         if !self.pieces.is_joined(next) {
-            return Ok(next);
+            return next;
         }
         if matches!(self.pieces.kind(next), Kind::Stop) {
             let second = plus(next, 1);
             let is_mark = self.pieces.is(second, b".") || self.pieces.is(second, b":");
             if is_mark && self.pieces.is_joined(second) {
-                self.leave_out(second, plus(second, 1), Rule::Mark)?;
-                return Ok(plus(second, 1));
+                self.leave_out(second, plus(second, 1), Rule::Mark);
+                return plus(second, 1);
             }
-            return Ok(second);
+            return second;
         }
         if self.pieces.is(next, b",") && self.pieces.number(plus(next, 1)).is_some() {
-            self.replace(next, b".", Rule::SectionWord)?;
-            return Ok(plus(next, 1));
+            self.replace(next, b".", Rule::SectionWord);
+            return plus(next, 1);
         }
         if self.pieces.is(next, b"#") {
-            self.leave_out(next, plus(next, 1), Rule::Mark)?;
-            return Ok(plus(next, 1));
+            self.leave_out(next, plus(next, 1), Rule::Mark);
+            return plus(next, 1);
         }
-        Ok(next)
+        next
     }
 
     /// The number of a section at an index.
@@ -158,33 +186,28 @@ impl<'a> Draft<'a> {
     }
 
     /// Writes the word at an index, a section's number, and those that follow it: the index after them.
-    fn section_list(
-        &mut self,
-        word: usize,
-        number: Numeral,
-        is_plural: bool,
-    ) -> Result<usize, AllocError> {
-        if self.has_more(number, is_plural) {
-            if self.pieces.is(word, b"sec")
-                || self.pieces.is(word, b"section")
-                || self.pieces.is(word, b"sect")
-                || self.pieces.is(word, b"sects")
-                || self.pieces.is(word, b"scc")
-                || self.pieces.is(word, b"sce")
-                || self.pieces.is(word, b"\xC2\xA7")
-            {
-                self.replace(word, b"secs", Rule::SectionWord)?;
-            }
-        } else if self.pieces.is(word, b"sect")
-            || self.pieces.is(word, b"scc")
-            || self.pieces.is(word, b"sce")
-            || self.pieces.is(word, b"seo")
-            || self.pieces.is(word, b"\xC2\xA7")
-        {
-            self.replace(word, b"sec", Rule::SectionWord)?;
+    fn section_list(&mut self, word: usize, number: Numeral, is_plural: bool) -> usize {
+        if let Some(written) = self.written_word(word, self.has_more(number, is_plural)) {
+            self.replace(word, written, Rule::SectionWord);
         }
-        self.write_numeral(number)?;
+        self.write_numeral(number);
         self.numbers_after(number, Names::Sections, is_plural)
+    }
+
+    /// What is written for the word for sections at an index, if it isn't written so: there are several, or one.
+    fn written_word(&self, index: usize, has_more: bool) -> Option<&'static [u8]> {
+        let pieces = &self.pieces;
+        if has_more {
+            let is_single = self.is_short_word(index)
+                || pieces.is(index, b"sec")
+                || pieces.is(index, b"section")
+                || pieces.is(index, b"sects");
+            return if is_single { Some(b"secs") } else { None };
+        }
+        if self.is_short_word(index) || pieces.is(index, b"seo") {
+            return Some(b"sec");
+        }
+        None
     }
 
     /// Whether more numbers of sections follow one.

@@ -10,20 +10,19 @@ impl<'a> Draft<'a> {
     /// Whether a comma or a semicolon at an index has nothing before it, so that something may be missing
     /// there. A cell after that of the section may be empty.
     pub(crate) fn is_empty_slot(&self, index: usize) -> bool {
-        if !matches!(self.pieces.kind(index), Kind::Comma | Kind::Semicolon) {
+        let pieces = &self.pieces;
+        if !matches!(pieces.kind(index), Kind::Comma | Kind::Semicolon) {
             return false;
         }
         let Some(before) = index.checked_sub(1) else {
             return true;
         };
-        match self.pieces.kind(before) {
-            Kind::Comma if self.pieces.is_joined(index) => {
-                self.last_names() != Some(Names::Sections)
-            }
+        match pieces.kind(before) {
+            Kind::Comma if pieces.is_joined(index) => { self.last_names() != Some(Names::Sections) }
             Kind::Comma | Kind::Semicolon | Kind::Colon | Kind::And | Kind::The => true,
-            Kind::BadByte => self.pieces.is(before, b"&") || self.pieces.is_dash(before),
+            Kind::BadByte => pieces.is(before, b"&") || pieces.is_dash(before),
             _ => {
-                (!self.pieces.is_joined(index) && self.pieces.begins_column(index))
+                (!pieces.is_joined(index) && pieces.begins_column(index))
                     || self.is_after_label(index)
             }
         }
@@ -66,68 +65,81 @@ impl<'a> Draft<'a> {
     /// Whether a label before lots may be the name of a town's plat: it has no number, and no word for a
     /// lease or the like.
     pub(crate) fn may_be_plat(&self, first: usize, end: usize) -> bool {
+        let pieces = &self.pieces;
         let next = plus(
             end,
-            usize::from(self.pieces.is(end, b",") || self.pieces.is(end, b"|")),
+            usize::from(pieces.is(end, b",") || pieces.is(end, b"|")),
         );
         let last = end.saturating_sub(1);
-        let word = last.saturating_sub(usize::from(self.pieces.is(last, b":")));
-        matches!(self.pieces.kind(next), Kind::Lot)
-            && !self.pieces.is_label_of_tract(first)
-            && !(self.pieces.is(word, b"land") || self.pieces.is(word, b"lands"))
-            && !self.pieces.has_long_number(first, end)
+        let word = last.saturating_sub(usize::from(pieces.is(last, b":")));
+        matches!(pieces.kind(next), Kind::Lot)
+            && !pieces.is_label_of_tract(first)
+            && !(pieces.is(word, b"land") || pieces.is(word, b"lands"))
+            && !pieces.has_long_number(first, end)
     }
 
     /// Doubts a part that may be something else: `S2` before any other land, a half after lots, a corner, a
     /// part with a slash.
     pub(crate) fn doubt_part(&mut self, part: Phrase) {
-        let digit = plus(part.first, 1);
-        let is_digit = part.end == plus(part.first, 2) && self.pieces.has_digits(digit, 1);
-        let is_south = is_digit && !self.names_land && self.pieces.is(part.first, b"s");
-        if is_south && !self.is_before_section(part.end) {
-            self.doubt();
-        }
-        // After `S3:`, it may be a section.
-        let is_after_letter = match self.last_section {
-            Some(section) => self.pieces.is(section.first, b"s"),
-            None => false,
-        };
-        let is_more = self.last_names() != Some(Names::Sections)
-            || self.pieces.is(part.first.saturating_sub(1), b",");
-        if is_digit && is_after_letter && is_more && self.pieces.is(part.first, b"s") {
-            self.doubt();
-        }
-        if part.end == self.pieces.len() && self.may_be_cut_section(part) {
-            self.doubt();
-        }
-        let is_half = is_digit && self.pieces.number(digit) == Some(2);
-        if is_half && self.is_after_one_lot() {
-            self.doubt();
-        }
-        if self.pieces.is(part.end, b"corner")
-            || self.pieces.is(part.end, b"cor")
-            || (self.pieces.is(part.end, b"/")
-                && (self.pieces.is_joined(part.end) || self.pieces.is_joined(plus(part.end, 1))))
+        if self.may_be_section(part)
+            || (part.end == self.pieces.len() && self.may_be_cut_section(part))
+            || (self.is_short(part) && self.may_be_of_lots(part))
+            || self.is_before_corner(part.end)
         {
             self.doubt();
         }
     }
 
+    /// Whether a part is a letter and a digit, as `N2`.
+    fn is_short(&self, part: Phrase) -> bool {
+        part.end == plus(part.first, 2) && self.pieces.has_digits(plus(part.first, 1), 1)
+    }
+
+    /// Whether a part, as `S2`, may be a section: before any other land, or after a section such as `S3:`.
+    fn may_be_section(&self, part: Phrase) -> bool {
+        let pieces = &self.pieces;
+        if !self.is_short(part) || !pieces.is(part.first, b"s") {
+            return false;
+        }
+        let is_after_letter = match self.last_section {
+            Some(section) => pieces.is(section.first, b"s"),
+            None => false,
+        };
+        let is_more = self.last_names() != Some(Names::Sections)
+            || pieces.is(part.first.saturating_sub(1), b",");
+        (!self.names_land && !self.is_before_section(part.end)) || (is_after_letter && is_more)
+    }
+
+    /// Whether the digit of a part, as `N2`, may be the number of one more lot.
+    fn may_be_of_lots(&self, part: Phrase) -> bool {
+        self.pieces.number(plus(part.first, 1)) == Some(2) && self.is_after_one_lot()
+    }
+
+    /// Whether a word for a corner is at an index, or a slash that is joined to a part, or to what follows.
+    fn is_before_corner(&self, index: usize) -> bool {
+        let pieces = &self.pieces;
+        pieces.is(index, b"corner")
+            || pieces.is(index, b"cor")
+            || (pieces.is(index, b"/")
+                && (pieces.is_joined(index) || pieces.is_joined(plus(index, 1))))
+    }
+
     /// Whether what is after a part at an index says that it is one: an `of`, or the section of a location.
     fn is_before_section(&self, index: usize) -> bool {
-        let is_location = self.pieces.number(index).is_some()
-            && self.pieces.is_dash(plus(index, 1));
-        is_location || self.pieces.is(index, b"of") || self.pieces.leads_to_section(index)
+        let pieces = &self.pieces;
+        let is_location = pieces.number(index).is_some() && pieces.is_dash(plus(index, 1));
+        is_location || pieces.is(index, b"of") || pieces.leads_to_section(index)
     }
 
     /// Whether the last part of a text may be the beginning of a word for a section: `Se`, or `se` after a
     /// part in capitals.
     pub(crate) fn may_be_cut_section(&self, part: Phrase) -> bool {
-        let letters = self.pieces.bytes(part.first);
+        let pieces = &self.pieces;
+        let letters = pieces.bytes(part.first);
         let is_after_capital = match self.phrases.last() {
             Some(before) => {
                 before.names == Names::Part
-                    && matches!(self.pieces.bytes(before.first), [b'A'..=b'Z', ..])
+                    && matches!(pieces.bytes(before.first), [b'A'..=b'Z', ..])
             }
             None => false,
         };
@@ -138,11 +150,12 @@ impl<'a> Draft<'a> {
 
     /// Whether the phrase before is of one lot, after a word that may be for several.
     pub(crate) fn is_after_one_lot(&self) -> bool {
+        let pieces = &self.pieces;
         match self.phrases.last() {
             Some(phrase) => {
                 phrase.names == Names::Lots
                     && phrase.numbers.end.saturating_sub(phrase.numbers.first) == 1
-                    && !(self.pieces.is(phrase.first, b"l") || self.pieces.is(phrase.first, b"lot"))
+                    && !(pieces.is(phrase.first, b"l") || pieces.is(phrase.first, b"lot"))
             }
             None => false,
         }

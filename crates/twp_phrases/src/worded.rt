@@ -2,23 +2,23 @@
 
 use crate::draft::Draft;
 use crate::fractions::rule_of;
-use std::alloc::AllocError;
 use twp_pieces::{letters_of, plus};
 use twp_rules::Rule;
 use twp_words::{Size, written_step};
 
 impl<'a> Draft<'a> {
     /// The step in words at an index.
-    pub(crate) fn step_in_words(&mut self, index: usize) -> Result<Option<usize>, AllocError> {
-        let Some(letters) = letters_of(self.pieces.lower(index)) else {
-            return Ok(None);
+    pub(crate) fn step_in_words(&mut self, index: usize) -> Option<usize> {
+        let pieces = &self.pieces;
+        let Some(letters) = letters_of(pieces.lower(index)) else {
+            return None;
         };
         let next = plus(index, 1);
         let is_two = letters.len() == 1
-            && (self.pieces.is(index, b"north") || self.pieces.is(index, b"south"))
-            && (self.pieces.is_second_word(next)
-                || (self.pieces.is(next, b"-") && self.pieces.is_second_word(plus(next, 1))));
-        let second = if self.pieces.is(next, b"-") {
+            && (pieces.is(index, b"north") || pieces.is(index, b"south"))
+            && (pieces.is_second_word(next)
+                || (pieces.is(next, b"-") && pieces.is_second_word(plus(next, 1))));
+        let second = if pieces.is(next, b"-") {
             plus(next, 1)
         } else {
             next
@@ -33,22 +33,22 @@ impl<'a> Draft<'a> {
         } else {
             Size::Quarter
         };
-        let start = self.pieces.start(index);
-        let end = self.pieces.end_before(after);
+        let start = pieces.start(index);
+        let end = pieces.end_before(after);
         let extent = self.extent();
         let written = written_step(letters);
         if is_two {
-            self.write_direction(index)?;
+            self.write_direction(index);
             let first_end = self.pieces.end(index);
             let second_start = self.pieces.start(second);
-            self.leave_out_bytes(first_end, second_start)?;
-            self.write_direction(second)?;
+            self.leave_out_bytes(first_end, second_start);
+            self.write_direction(second);
         } else {
-            self.write(start, end, letters, Rule::Direction)?;
+            self.write(start, end, letters, Rule::Direction);
         }
-        if let Some(stop) = self.fraction(after, size)? {
-            self.push_step(start, stop, written)?;
-            return Ok(Some(stop));
+        if let Some(stop) = self.fraction(after, size) {
+            self.push_step(start, stop, written);
+            return Some(stop);
         }
         let mut word = after;
         if self.pieces.is(word, b"one") {
@@ -59,26 +59,24 @@ impl<'a> Draft<'a> {
         }
         if !size.is_word(self.pieces.lower(word)) {
             self.shrink(extent);
-            return Ok(None);
+            return None;
         }
         let stop = self.pieces.end(word);
-        self.write(end, stop, size.fraction(), rule_of(size))?;
-        self.push_step_to(start, stop, written)?;
-        Ok(Some(plus(word, 1)))
+        self.write(end, stop, size.fraction(), rule_of(size));
+        self.push_step_to(start, stop, written);
+        Some(plus(word, 1))
     }
 
     /// Writes the letter of the word for a side at an index.
-    fn write_direction(&mut self, index: usize) -> Result<(), AllocError> {
+    fn write_direction(&mut self, index: usize) {
         let letters = letters_of(self.pieces.lower(index)).unwrap_or(b"");
         self.replace(index, letters, Rule::Direction)
     }
 
     /// The letters of the corner that two words name.
     fn corner_in_words(&self, index: usize, second: usize) -> &'static [u8] {
-        match (
-            self.pieces.is(index, b"north"),
-            self.pieces.is(second, b"east"),
-        ) {
+        let pieces = &self.pieces;
+        match (pieces.is(index, b"north"), pieces.is(second, b"east")) {
             (true, true) => b"NE",
             (true, false) => b"NW",
             (false, true) => b"SE",

@@ -16,7 +16,8 @@ use crate::kept::Kept;
 use std::alloc::Global;
 use twp_acres::{Account, Verdict};
 use twp_diagnose::{Explanation, Given};
-use twp_explain::{Note, explain_land, explain_list, explain_plat, note_land, note_list};
+use twp_explain::{explain_land, explain_list, explain_plat};
+use twp_explain_doubts::{Note, note_land, note_list};
 use twp_explain_text::Suggests;
 use twp_read::Clarity;
 
