@@ -119,4 +119,4 @@ trust:
 
 ## clean          remove what was built, and what the checks kept
 clean:
-	rm -rf crates/*/out lib township dist
+	rm -rf crates/*/out lib township dist gate.log

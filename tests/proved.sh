@@ -1,6 +1,6 @@
 #!/bin/sh
-# Tests what `rt ci` has just proved: the program and the documents by e2e.sh, beside them the library, and then the
-# extension for PostgreSQL, over that library, the packages, and the page. The last line counts all tests:
+# Tests what `rt ci` has just proved: the program and the documents by e2e.sh, beside them the library; then the
+# extension for PostgreSQL, over that library, beside the packages; and then the page. The last line counts all tests:
 # 'N passed, 0 failed'.
 # Skipped tests are named and counted before it; if CI is set, a skipped test is a failure.
 . "$(dirname "$0")/lib.sh"
@@ -12,6 +12,8 @@ cd "$root" || exit 1
     gather
     begin postgresql sh tests/postgresql/run.sh
     begin packages sh tests/packages/all.sh
+    gather
+    # It measures times, so nothing runs beside it.
     begin page sh tests/page/run.sh
     gather
 } > "$work/all"

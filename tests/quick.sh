@@ -10,6 +10,7 @@ if python=$(python_with argparse); then
     try 'the wrong bodies for releases fit the code' "$python" tools/bugs.py --check
     try 'how wrong bodies are tried together' "$python" tests/tools/test_wrong_bodies.py
     try 'how the progress of proofs is shown' "$python" tests/tools/test_prove.py
+    try 'what the gate shows' "$python" tests/tools/test_gate.py
     try 'each word in the row of its length' "$python" tests/tools/test_words.py
     try 'the signatures of the calls' "$python" tools/signatures.py
     try 'the constants of township.h' "$python" tools/header_names.py --check

@@ -121,7 +121,7 @@ def tried(edits, known, many):
         through = [file for it, file in files.items() if f"{name}/{it}" in known]
         kept = folder / "out" / "incremental"
         over = kept if kept.is_dir() else None
-        tried = wrong_bodies.must_fail_all(rt, crate, list(files.values()), ["--jobs", "1"], over, through)
+        tried = wrong_bodies.must_fail_over(rt, crate, list(files.values()), ["--jobs", "1"], over, through)
         with alone:
             for _, said in tried:
                 print(said, flush=True)

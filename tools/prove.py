@@ -40,11 +40,10 @@ NEEDED = (
     "rtlib.crates_below",
 )
 # A crate gets one more process for each of so many lines, up to a number. It can't be given more once it has begun, so the
-# one that all others wait for gets them at once. With three processes a proof takes 1.4 times the processor time that it
-# takes with one, so the others share what is left of a number that is a bit more than that of the processors.
+# one that all others wait for gets them at once, and the others share what is left of the processors. A proof takes a
+# third more processor time with three processes than with one, so more processes than processors make all of it slower.
 LINES_FOR_A_PROCESS = 600
-PROCESSES_MOST = 3
-PROCESSES_MORE = 2
+PROCESSES_MOST = 2
 # The share of the free memory that is used, and the share that each further process takes of what a crate needs, which
 # is less than what rt counts with: what a crate needs is mostly what the first process loads.
 SHARE_OF_MEMORY = 0.85
@@ -108,8 +107,8 @@ class Progress:
 
 class Lanes:
     """Which of rt's tasks run. A task is what it waits for, its work in lines, its memory, and a call that gets what the
-    others gave and how many processes it may use. As many tasks run as there are processors, first those with the
-    longest chain of others above them; the longest of all with processes for its lines, as far as there is memory."""
+    others gave and how many processes it may use. As many processes run as there are processors, first those of the tasks
+    with the longest chain of others above them; the longest of all gets some for its lines, as far as there is memory."""
 
     def __init__(self, tasks, processors, memory):
         self.tasks, self.processors, self.memory = tasks, processors, memory
@@ -128,8 +127,8 @@ class Lanes:
         """How many processes a task gets now, of so many that could begin; 0 if it has to wait."""
         running = self.running.values()
         room = self.memory - sum(self.memory_of(*it) for it in running)
-        free = self.processors + PROCESSES_MORE - sum(count for _, count in running)
-        if running and (len(running) == self.processors or free < 1 or room < self.memory_of(key, 1)):
+        free = self.processors - sum(count for _, count in running)
+        if running and (free < 1 or room < self.memory_of(key, 1)):
             return 0
         count = min(PROCESSES_MOST, 1 + self.tasks[key][1] // LINES_FOR_A_PROCESS)
         if self.chain[key] < max(self.chain[it] for it in [*self.waiting, *(it for it, _ in running)]):

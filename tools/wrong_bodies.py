@@ -7,26 +7,34 @@ by a goal of its own function.
 
 A wrong body counts as refused here only if
 
-- it changes the lines of functions and nothing else, and no other wrong body in the same check changes these
-  functions;
+- it changes the lines of functions, or a constant or a table that functions name, and nothing else but imports, and no
+  other wrong body in the same check changes these functions;
 - and the check names a goal that isn't proved, of one of these functions: in their lines of `src/`, or in the folder
   of `proofs/` that has the answers to their goals. An answer that only lacks a name that the edit took away doesn't
   count.
 
-All others, such as an edit of a constant, or one that breaks a goal of a caller, are tried by rt itself, one at a time.
-So are all of a check that finds an error in a definition or a lemma, which functions share.
+All others, such as one that breaks a goal of a caller, are tried by rt itself, one at a time and over the work of these
+checks, if the crate is also proved over it as it stands. So are all of a check that finds an error in a definition or a
+lemma, which functions share.
+
+The gate begins with nothing, and checks the functions that are changed, and those they call, alone. A second check, of
+other wrong bodies of the same functions, is over the work of the first; over that, these functions must also be proved
+as they stand. Those for releases are more for one function, so they take more checks, each of the whole crate and over
+the work of those before it, and one of the crate as it stands.
 """
 import re
 import shutil
 import tempfile
-import threading
 from dataclasses import dataclass
 from pathlib import Path
 
 # What `rt fmt` makes of the first line of a function, and of an `impl` or a trait. The last line is the next one that
 # is a closing brace with the same indent.
 FUNCTION = re.compile(r"( *)(?:pub(?:\([\w:]+\))? )?(?:unsafe )?(?:extern \"C\" )?fn (\w+)")
-OWNER = re.compile(r"(?:pub )?(?:unsafe )?(?:impl(?:<.*?>)? (?:.* for )?|trait )([\w:]+)")
+OWNER = re.compile(r"(?:pub )?(?:unsafe )?(?:impl(?:<.*?>)? (?:([\w:]+).* for )?|trait )([\w:]+)")
+# A constant, or a static table, which ends as an item does; and a line that can change no meaning by itself.
+NAMED = re.compile(r"(?:pub(?:\([\w:]+\))? )?(?:const|static) (\w+):")
+IMPORT = re.compile(r"use .*;$")
 # What a check says of a goal that isn't proved: of code, and of a written answer.
 OF_CODE = re.compile(r"note: (src/\S+\.rt):(\d+):\d+: it is not proved ")
 OF_ANSWER = re.compile(r"(?:\./)?proofs/(\S+)/(?:Answers|Invariants|Proof)\.antt:\d+:\d+: error: ")
@@ -34,19 +42,36 @@ LACKS_NAME = re.compile(r"has no field|is not in scope|has no `|was not admitted
 # An error in a definition or a lemma, which several functions may rest on.
 OF_LEMMA = re.compile(r"(?:\./)?(?:specs|proofs)/(?!.*/(?:Answers|Invariants|Proof)\.antt)\S+\.antt:\d+:\d+: error: ")
 
+# A check of some functions takes their names as it prints them. Sources don't always say how that is, as for the methods of
+# a type with arguments; and two types may have the same name.
+UNNAMED = re.compile(r"has no function `([^`]+)`|several functions are named `([^`]+)`")
+# The last line of a check that doesn't prove a crate, and of one of some functions alone.
+JUDGED = re.compile("logic=not-proved"), re.compile(r"only=\d+ proved=\d+$")
+
 # What is used of the kit's rt.
 NEEDED = ("checked", "must_fail", "unread", "rtlib.STALE")
 
 
 @dataclass(frozen=True)
 class Function:
-    """A function of a source: its lines, counted from 1, the type that it belongs to, and its name."""
+    """A function of a source: its lines, counted from 1, the type that it belongs to, its name, and the trait of a method
+    of a trait that a type has."""
 
     path: str
     first: int
     last: int
     owner: str
     name: str
+    trait: str = ""
+
+    @property
+    def module(self):
+        return [it for it in self.path.removeprefix("src/").removesuffix(".rt").split("/") if it != "lib"]
+
+    @property
+    def full_name(self):
+        """Its name as a check takes it: that of a method, which may be in a module of its own, begins with its type's."""
+        return "::".join([*([f"{self.owner}{self.trait}"] if self.owner else self.module), self.name])
 
     def has_line(self, path, line):
         return path == self.path and self.first <= line <= self.last
@@ -54,11 +79,10 @@ class Function:
     def has_answers(self, folder):
         """Whether its answers are in this folder of proofs/, such as line/Line/index for `Line::index` of src/line.rt.
         The folder of a trait's method also names the trait, as in lanes/LaneRowsPlot/meets."""
-        module = [it for it in self.path.removeprefix("src/").removesuffix(".rt").split("/") if it != "lib"]
         *around, name = folder.split("/")
-        owner = around[len(module) :]
+        owner = around[len(self.module) :]
         is_owner = len(owner) == 1 and owner[0].startswith(self.owner) if self.owner else not owner
-        return name == self.name and around[: len(module)] == module and is_owner
+        return name == self.name and around[: len(self.module)] == self.module and is_owner
 
     def may_share_answers(self, other):
         """Whether the folder of its answers may be that of another function: both may be a type's `fmt`, of two traits."""
@@ -67,15 +91,46 @@ class Function:
 
 def functions_of(path, text):
     """The functions of a source, without those within other functions."""
-    lines, found, owner, owner_ends = text.split("\n"), [], "", -1
+    lines, found, of, of_ends = text.split("\n"), [], ("", ""), -1
     for at, line in enumerate(lines):
-        if at > owner_ends and (named := OWNER.match(line)):
-            owner, owner_ends = named[1].rpartition("::")[2], end_of(lines, at, "")
+        if at > of_ends and (named := OWNER.match(line)):
+            of, of_ends = [(it or "").rpartition("::")[2] for it in named.groups()], end_of(lines, at, "")
         head = FUNCTION.match(line)
         if head and not (found and at < found[-1].last):
             first, last = start_of(lines, at, head[1]), end_of(lines, at, head[1])
-            found.append(Function(path, first + 1, last + 1, owner if at < owner_ends else "", head[2]))
+            trait, owner = of if at < of_ends else ("", "")
+            found.append(Function(path, first + 1, last + 1, owner, head[2], trait))
     return found
+
+
+def constants_in(text):
+    """The constants and the tables of a source: the name of each, and its first and last line, counted from 1."""
+    lines = text.split("\n")
+    for at, line in enumerate(lines):
+        if named := NAMED.match(line):
+            last = next((it for it in range(at, len(lines)) if lines[it].endswith(";")), len(lines) - 1)
+            yield named[1], at + 1, last + 1
+
+
+def constant_at(text, line):
+    """The name of the constant or the table that a line is in, or None if it is in none."""
+    return next((name for name, first, last in constants_in(text) if first <= line <= last), None)
+
+
+def are_named(names, text, first, last):
+    """Whether some lines of a source have one of these names."""
+    return any(names & set(re.findall(r"\w+", line)) for line in text.split("\n")[first - 1 : last])
+
+
+def functions_that_name(name, texts):
+    """The functions of sources, given by their paths, that name a constant, or another one that is made of it."""
+    names, more = set(), {name}
+    while more:
+        names |= more
+        found = [(it, text, first, last) for text in texts.values() for it, first, last in constants_in(text)]
+        more = {it for it, *where in found if it not in names and are_named(names, *where)}
+    every = [(it, text) for path, text in texts.items() for it in functions_of(path, text)]
+    return [it for it, text in every if are_named(names, text, it.first, it.last)]
 
 
 def start_of(lines, head, indent):
@@ -127,14 +182,19 @@ class Edit:
             texts[path] = text.replace(old, new)
         return texts, None
 
-    def functions(self, text_of):
-        """The functions that it changes: none if it can't be applied, or changes anything else."""
+    def functions(self, text_of, sources=()):
+        """The functions that it changes: those with changed lines, and those of these sources that name a constant with
+        changed lines, or one made of it. It has none if it can't be applied, or changes anything else but imports."""
         found = set()
         for path, text in self.made(text_of)[0].items():
-            functions = functions_of(path, text_of(path)) if path.startswith("src/") else []
-            pairs = zip(text_of(path).split("\n"), text.split("\n"))
-            for line in (at for at, (old, new) in enumerate(pairs, 1) if old != new):
-                around = [it for it in functions if it.has_line(path, line)]
+            is_source = path.startswith("src/")
+            functions, lines = functions_of(path, text_of(path)) if is_source else [], text_of(path).split("\n")
+            for at, (old, new) in enumerate(zip(lines, text.split("\n")), 1):
+                if old == new or (is_source and IMPORT.match(old) and IMPORT.match(new)):
+                    continue
+                around = [it for it in functions if it.has_line(path, at)]
+                if not around and is_source and (name := constant_at(text_of(path), at)):
+                    around = functions_that_name(name, {it: text_of(it) for it in sources})
                 if not around:
                     return set()
                 found.update(around)
@@ -159,6 +219,10 @@ class Together:
         self.edits[edit] = functions
         return True
 
+    def functions(self):
+        """The functions that these wrong bodies change."""
+        return {it for functions in self.edits.values() for it in functions}
+
     def refused(self, said):
         """The wrong bodies that a check refused, each with what it said of the goal."""
         found = {}
@@ -178,10 +242,12 @@ def names_goal(line, function):
 
 
 class Trying:
-    """The wrong bodies of a crate, and the results so far."""
+    """The wrong bodies of a crate, and the results so far. They are tried over the work that is kept in a folder, by checks
+    of the whole crate, or of parts of it."""
 
-    def __init__(self, rt, crate, flags):
-        self.rt, self.crate, self.flags, self.sources = rt, crate, flags, {}
+    def __init__(self, rt, crate, flags, kept, in_parts):
+        self.rt, self.crate, self.flags, self.kept, self.in_parts = rt, crate, flags, kept, in_parts
+        self.sources, self.unnamed = {}, set()
 
     def text_of(self, path):
         """The text of a file of the crate, or no text if there is no such file."""
@@ -192,116 +258,119 @@ class Trying:
 
     def groups(self, edits):
         """Wrong bodies that are tried together: as few groups as there are wrong bodies for one function."""
-        left = {it: functions for it in edits if (functions := it.functions(self.text_of))}
+        folder = Path(self.crate.folder)
+        sources = sorted(str(it.relative_to(folder)) for it in folder.glob("src/**/*.rt"))
+        left = {it: functions for it in edits if (functions := it.functions(self.text_of, sources))}
         while left:
             these = Together(self.text_of)
             left = {it: functions for it, functions in left.items() if not these.takes(it, functions)}
             yield these
 
-    def together(self, edits, kept):
-        """Tries wrong bodies over the work that is kept in a folder. Returns those that were refused, each with the
-        goal."""
+    def together(self, edits):
+        """Tries wrong bodies. Returns those that were refused, each with the goal. A check in parts that is not the first
+        one counts only if these parts, as they stand, are proved over the same work."""
         found = {}
-        for these in self.groups(edits):
-            found.update(self.refused(these, kept))
+        for number, these in enumerate(self.groups(edits)):
+            refused = self.refused(these)
+            if number == 0 or not self.in_parts or self.are_proved(these):
+                found.update(refused)
         return found
 
-    def refused(self, these, kept):
+    def refused(self, these):
         """Those of these wrong bodies that one check refuses."""
-        ran = self.rt.checked(self.crate, these.texts, self.flags, kept)
+        ran = self.checked(these.texts, these)
         lines = ran.stdout.rstrip("\n").split("\n")
-        is_judged = ran.returncode == 1 and lines[-1].startswith("logic=not-proved")
+        is_judged = ran.returncode == 1 and JUDGED[self.in_parts].match(lines[-1])
         is_read = not any(self.rt.unread(it, these.texts) or OF_LEMMA.match(it) for it in lines)
         return these.refused(ran.stdout) if is_judged and is_read and not self.rt.rtlib.STALE.search(ran.stdout) else {}
 
-    def results(self, files, kept):
-        """Of each wrong body, whether it is refused, and what to say; over the work that is kept in a folder."""
-        edits = [Edit(it) for it in files]
-        found = self.together(edits, kept)
-        return [self.result(it, found.get(it), kept) for it in edits]
+    def are_proved(self, these):
+        """Whether the functions that these wrong bodies change are proved as they stand."""
+        return not self.checked({}, these).returncode
 
-    def result(self, edit, goal, kept):
-        if goal:
-            return True, said_of(self.crate, edit, goal)
-        return self.rt.must_fail(self.crate, edit.file, self.flags, kept)
+    def checked(self, texts, these):
+        """Checks the crate with these texts in place of its own; in parts, the functions that wrong bodies change, and the
+        whole module of one whose name it doesn't take."""
+        while True:
+            parts = sorted(map(self.part_of, these.functions())) if self.in_parts else []
+            only = [word for it in dict.fromkeys(parts) for word in ("--only", it)]
+            ran = self.rt.checked(self.crate, texts, [*self.flags, *only], self.kept)
+            found = UNNAMED.search(ran.stdout) if ran.returncode == 2 else None
+            name = found and (found[1] or found[2])
+            if not name or name in self.unnamed or name not in parts:
+                return ran
+            self.unnamed.add(name)
+
+    def part_of(self, function):
+        return "::".join(function.module) if function.full_name in self.unnamed else function.full_name
+
+    def results(self, files, known):
+        """Of each wrong body, whether it is refused, and what to say. Those that no goal of their own refuses are tried one
+        at a time; what that says counts only if the crate, as it stands, is proved over the same work, and so does what
+        checks of the whole crate say. Otherwise, and for those that weren't refused, unless they are known to be let
+        through, rt begins with nothing."""
+        edits = [Edit(it) for it in files]
+        found = self.together(edits)
+        alone = {it: self.rt.must_fail(self.crate, it.file, self.flags, self.kept) for it in edits if it not in found}
+        is_sound = (self.in_parts and not alone) or not self.rt.checked(self.crate, {}, self.flags, self.kept).returncode
+        return [self.result(it, found.get(it), alone.get(it), is_sound, it.file in known) for it in edits]
+
+    def result(self, edit, goal, alone, is_sound, is_known):
+        # Kits say that it is refused by `True`, or by a word.
+        refused = getattr(self.rt, "REFUSED", True)
+        if goal and (is_sound or self.in_parts):
+            return refused, said_of(self.crate, edit, goal)
+        if alone and is_sound and (alone[0] == refused or is_known):
+            return alone
+        return self.rt.must_fail(self.crate, edit.file, self.flags)
 
 
 def said_of(crate, edit, goal):
     return f"must-fail {crate.name}/{edit.name}: refused, as it must be: {goal[:160]}"
 
 
-class Groups:
-    """The wrong bodies of a crate for an rt that asks for one at a time, from several threads: the first that asks has a
-    group of them tried, and takes its answer from that."""
-
-    def __init__(self, rt, crate, flags):
-        self.trying = Trying(rt, crate, flags)
-        files = rt.edits_of(crate)[0]
-        self.edits = {it.file: it for it in map(Edit, files)}
-        self.left = list(self.trying.groups(self.edits.values()))
-        self.running, self.found, self.changed = [], {}, threading.Condition()
-
-    def has(self, groups, edit):
-        return any(edit in these.edits for these in groups)
-
-    def goal(self, file, kept):
-        """The goal by which a wrong body is refused in its group, over the work that is kept in a folder, or None."""
-        edit = self.edits.get(file)
-        while True:
-            with self.changed:
-                if self.has(self.left, edit) or (self.left and self.has(self.running, edit)):
-                    these = next((it for it in self.left if edit in it.edits), self.left[0])
-                    self.left.remove(these)
-                    self.running.append(these)
-                elif self.has(self.running, edit):
-                    self.changed.wait()
-                    continue
-                else:
-                    return self.found.get(edit)
-            refused = {}
-            try:
-                refused = self.trying.refused(these, kept)
-            finally:
-                # Others wait for it, however it ends; without a result, rt tries them one at a time.
-                with self.changed:
-                    self.found.update(refused)
-                    self.running.remove(these)
-                    self.changed.notify_all()
+def must_fail_all(rt, crate, files, flags):
+    """What rt's function of this name returns: of each wrong body, whether it is refused, and what to say."""
+    with tempfile.TemporaryDirectory(prefix="rt-edits-") as kept:
+        return Trying(rt, crate, flags, kept, in_parts=True).results(files, ())
 
 
-def one_by_one(rt):
-    """What takes the place of an rt's `must_fail`, which tries one wrong body over the work that is kept in a folder: the
-    same, but for those that a group refuses. With no such folder, rt tries from nothing, and so does this."""
-    alone, crates, must_fail = threading.Lock(), {}, rt.must_fail
-
-    def tried(crate, file, flags, kept=None):
-        if kept is None:
-            return must_fail(crate, file, flags)
-        with alone:
-            if crate.folder not in crates:
-                crates[crate.folder] = Groups(rt, crate, flags)
-        groups = crates[crate.folder]
-        goal = groups.goal(file, kept)
-        return (rt.REFUSED, said_of(crate, groups.edits[file], goal)) if goal else must_fail(crate, file, flags, kept)
-
-    return tried
-
-
-def must_fail_all(rt, crate, files, flags, over=None, known=()):
-    """What rt's function of this name returns: of each wrong body, whether it is refused, and what to say. `over` is a
-    folder with the work of earlier checks of the crate, which is copied. As rt does, this tries those again from nothing
-    that weren't refused, unless they are known to be let through, and all of them if the crate itself isn't proved over
-    the work that was kept."""
+def must_fail_over(rt, crate, files, flags, over=None, known=()):
+    """The same by checks of the whole crate, over a copy of the folder `over` with the work of earlier ones, if there is
+    one. Some may be known to be let through."""
     if not files:
         return []
     with tempfile.TemporaryDirectory(prefix="rt-edits-") as kept:
         if over:
             shutil.copytree(over, kept, dirs_exist_ok=True)
-        tried = Trying(rt, crate, flags).results(files, kept)
-        is_sound = not rt.checked(crate, {}, flags, kept).returncode
-    # Kits say that it is refused by `True`, or by a word.
-    refused = (True, getattr(rt, "REFUSED", True))
-    return [
-        it if is_sound and (it[0] in refused or file in known) else rt.must_fail(crate, file, flags)
-        for file, it in zip(files, tried)
-    ]
+        return Trying(rt, crate, flags, kept, in_parts=False).results(files, known)
+
+
+def in_one_task(rt):
+    """What takes the place of an rt's `add_edits`, by which each wrong body of a crate is a task of its own, over the work
+    of a check that proves the crate once more: one task, which tries all of them from nothing."""
+
+    def add_edits(tasks, crate, edits, first, waits, is_well, kept, start=None, in_ci=True):
+        key, earlier = (crate.name, "edits"), {}
+
+        def names():
+            return [kept.of_edit(it, kept.key(crate)) for it in edits]
+
+        def tried(given, jobs):
+            named = names()
+            earlier.update({at: told for at, name in enumerate(named) if (told := kept.tried(name))})
+            left = [at for at in range(len(edits)) if at not in earlier]
+            if not is_well(given, len(left)):
+                return None
+            found = dict(zip(left, must_fail_all(rt, crate, [edits[at] for at in left], ["--jobs", "1"])))
+            if kept.is_untouched(crate) and named == names():
+                for at, (kind, said) in found.items():
+                    if kind in rt.SETTLED:
+                        kept.keep_tried(named[at], kind, said)
+            return [(earlier | found)[at] for at in range(len(edits))]
+
+        if edits:
+            tasks[key] = (waits, crate.count(rb"\n"), rt.need(crate), tried)
+        return lambda given: given.get(key, []), lambda: earlier
+
+    return add_edits

@@ -12,8 +12,15 @@ PGAPPNAME=inserting psql -X -q -A -t -d killed -c "
     SELECT n, land(made_up_township(n, 20), made_up_description(n)) FROM generate_series(1, 10000000) AS n" \
     > "$work/insertion" 2>&1 &
 insertion=$!
+# A busy machine takes longer until it inserts.
+inserting=
+tries=0
+until [ -n "$inserting" ] || [ $tries = 300 ]; do
+    tries=$((tries + 1))
+    sleep 0.1
+    inserting=$(sql -c "SELECT pid FROM pg_stat_activity WHERE application_name = 'inserting' AND state = 'active'")
+done
 sleep 2
-inserting=$(sql -c "SELECT pid FROM pg_stat_activity WHERE application_name = 'inserting'")
 try 'a process that inserts is killed' kill -9 "$inserting"
 wait $insertion
 tries=0

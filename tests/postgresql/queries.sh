@@ -55,7 +55,7 @@ PGAPPNAME=long psql -X -q -A -t -d queries -c "$long" > "$work/canceled" 2>&1 &
 canceled=$!
 tries=0
 until [ "$(sql -c "SELECT count(pg_cancel_backend(pid)) FROM pg_stat_activity WHERE application_name = 'long' AND
-    state = 'active' AND query LIKE 'SELECT count(acres%'")" = 1 ] || [ $tries = 50 ]; do
+    state = 'active' AND query LIKE 'SELECT count(acres%'")" = 1 ] || [ $tries = 300 ]; do
     tries=$((tries + 1))
     sleep 0.1
 done

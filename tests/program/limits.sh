@@ -32,8 +32,10 @@ fail_run() { fail "$1: status $status" out err; }
 # names, and makes the first thread's storage. When traced, the loader then lists the libraries and runs nothing.
 starts_in() { (ulimit -v "$1" && LD_TRACE_LOADED_OBJECTS=1 LD_BIND_NOW=1 exec "$program") > out 2> err; }
 least=1000
-until starts_in "$least" || [ "$least" -gt 100000 ]; do least=$((least + 32 * page)); done
-while starts_in $((least - page)); do least=$((least - page)); done
+{
+    until starts_in "$least" || [ "$least" -gt 100000 ]; do least=$((least + 32 * page)); done
+    while starts_in $((least - page)); do least=$((least - page)); done
+} 2> lost
 
 # Runs the program in each amount of memory from the least to the first that is enough and a few more.
 more_and_more() {

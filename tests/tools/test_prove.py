@@ -98,7 +98,7 @@ class Proving(unittest.TestCase):
         tasks["land", "tests"] = [], 0, 1, None
         given = Lanes(tasks, processors=1, memory=1_000).run()
         self.assertEqual(given, dict.fromkeys(tasks, True))
-        self.assertEqual(begun, [("grid", 1), ("land", 3), ("excerpt", 2)])
+        self.assertEqual(begun, [("grid", 1), ("land", 2), ("excerpt", 2)])
 
     def test_crates_beside_the_longest_share_the_other_processes(self):
         begun = []
@@ -108,7 +108,7 @@ class Proving(unittest.TestCase):
 
         tasks = {(name, "proof"): task(name, 9_000 - at) for at, name in enumerate(("one", "two", "three"))}
         Lanes(tasks, processors=4, memory=1_000).run()
-        self.assertEqual(sorted(begun), [("one", 3), ("three", 2), ("two", 1)])
+        self.assertEqual(sorted(begun), [("one", 2), ("three", 1), ("two", 1)])
 
     def test_a_program_is_compiled_by_both_compilers_at_once(self):
         other = threading.Event()

@@ -4,14 +4,13 @@ import pathlib
 import re
 import sys
 import tempfile
-import threading
 import types
 import unittest
 
 sys.dont_write_bytecode = True
 sys.path.insert(0, str(pathlib.Path(__file__).resolve().parent.parent.parent / "tools"))
 
-from wrong_bodies import Edit, Together, functions_of, names_goal, one_by_one  # noqa: E402
+from wrong_bodies import Edit, Together, functions_of, in_one_task, must_fail_over, names_goal  # noqa: E402
 
 SOURCE = """//! Lines.
 
@@ -29,7 +28,7 @@ impl Line {
         usize::from(self.number)
     }
 
-    pub(crate) fn number(self) -> u8 { self.number }
+    pub(crate) fn number(self) -> u8 { self.number % LINES }
 }
 
 impl<P: Plot> Land for Sections<P> {
@@ -68,8 +67,36 @@ class Functions(unittest.TestCase):
         self.assertEqual(edit("return 1;", "return 2;").functions(text_of), {INDEX})
         self.assertEqual(edit("section.row()", "section.column()").functions(text_of), {SIDES})
 
-    def test_an_edit_of_a_constant_changes_no_function(self):
-        self.assertEqual(edit("= 84;", "= 83;").functions(text_of), set())
+    def test_an_edit_of_a_constant_changes_the_functions_that_name_it(self):
+        one = edit("= 84;", "= 83;")
+        self.assertEqual(one.functions(text_of, ["src/line.rt"]), {NUMBER})
+        self.assertEqual(one.functions(text_of, ["src/other.rt"]), set())
+
+    def test_an_edit_of_a_constant_changes_the_functions_that_name_what_is_made_of_it(self):
+        one = "pub const SIDE: u32 = 80;\n\nconst AREA: u32 = SIDE *\n    SIDE;\n\nfn side() -> u32 {\n    SIDES\n}\n"
+        other = "use crate::one::AREA;\n\nfn area() -> u32 {\n    AREA\n}\n"
+        texts = {"src/one.rt": one, "src/other.rt": other}
+        found = edit("u32 = 80;", "u32 = 40;", "src/one.rt").functions(lambda path: texts.get(path, ""), list(texts))
+        self.assertEqual([(it.path, it.name) for it in found], [("src/other.rt", "area")])
+
+    def test_an_edit_of_a_row_changes_the_functions_that_name_the_table(self):
+        rows = "static ROWS: [[u8; 2]; 2] = [\n    *b\"a=\",\n    *b\"b=\",\n];\n\nfn row() -> u8 {\n    ROWS[0][1]\n}\n"
+        found = edit('*b"b=",', '*b"c=",', "src/rows.rt").functions(lambda path: rows, ["src/rows.rt"])
+        self.assertEqual([(it.name, it.first, it.last) for it in found], [("row", 6, 8)])
+
+    def test_an_import_changes_nothing_else(self):
+        source = "use crate::Line;\n" + SOURCE
+        one = edit("use crate::Line;", "use crate::{Line, Run};")
+        one.pairs.append(("src/line.rt", "section.row()", "section.column()"))
+        self.assertEqual({it.name for it in one.functions(lambda path: source)}, {"sides"})
+
+    def test_an_edit_of_anything_else_changes_no_function(self):
+        self.assertEqual(edit("/// The index.", "/// The number.").functions(text_of, ["src/line.rt"]), set())
+
+    def test_names_that_a_check_takes(self):
+        found = [it.full_name for it in (INDEX, NUMBER, MEETS, SIDES)]
+        self.assertEqual(found, ["Line::index", "Line::number", "SectionsLand::meets", "line::sides"])
+        self.assertEqual(functions_of("src/lib.rt", "fn one() {\n}\n")[0].full_name, "one")
 
     def test_a_text_that_is_not_there_once_does_not_fit(self):
         self.assertEqual(edit("self", "other").functions(text_of), set())
@@ -122,8 +149,8 @@ class Checks(unittest.TestCase):
         self.assertEqual(these.refused(f"fn twp_grid::line::Line::index: not proved\n{goal}\n"), {other: goal})
 
 
-class OneByOne(unittest.TestCase):
-    """Of an rt that asks for one wrong body at a time."""
+class OneTask(unittest.TestCase):
+    """All wrong bodies of a crate in one task of rt's."""
 
     def setUp(self):
         room = tempfile.TemporaryDirectory()
@@ -131,62 +158,118 @@ class OneByOne(unittest.TestCase):
         folder = pathlib.Path(room.name)
         (folder / "src").mkdir()
         (folder / "src" / "line.rt").write_text(SOURCE)
-        # Two of the same function, one of another, and one of a constant.
+        # Two of the same function, one of another, and one of a comment.
         pairs = {"one": ("return 1;", "return 2;"), "two": ("self.number)", "7)"), "sides": ("north:", "south:")}
-        pairs["lines"] = "= 84;", "= 83;"
+        pairs["lines"] = "//! Lines.", "//! 84 lines."
         self.files = {}
         for name, (old, new) in pairs.items():
             file = folder / f"{name}.edit"
             file.write_text(f"file: src/line.rt\nold: {old}\nnew: {new}\n")
             self.files[name] = str(file)
-        self.checks, self.alone = [], []
-        self.crate = types.SimpleNamespace(name="twp_grid", folder=str(folder))
+        self.checks, self.alone, self.kept, self.is_proved, self.unnamed = [], [], {}, True, []
+        self.crate = types.SimpleNamespace(name="twp_grid", folder=str(folder), count=lambda it: 30)
         self.rt = types.SimpleNamespace(
-            edits_of=lambda crate: (list(self.files.values()), []),
             checked=self.checked,
             must_fail=self.must_fail,
+            need=lambda crate: 1_000,
             unread=lambda line, texts: False,
             rtlib=types.SimpleNamespace(STALE=re.compile("stale")),
             REFUSED="refused",
+            SETTLED=("refused", "bad"),
         )
 
     def checked(self, crate, texts, flags, kept):
-        """A check that refuses `index`, and nothing else."""
-        self.checks.append(texts["src/line.rt"])
-        out = "note: src/line.rt:12:9: it is not proved that ..\nlogic=not-proved"
-        return types.SimpleNamespace(stdout=out, returncode=1)
+        """A check that refuses `index` of a wrong body, and nothing else."""
+        self.checks.append((texts.get("src/line.rt", "as it stands"), flags))
+        if any(it in self.unnamed for it in flags):
+            said = f"rattle: error: `twp_grid` has no function `{self.unnamed[0]}`: help: write the name that a check prints"
+            return types.SimpleNamespace(stdout=said, returncode=2)
+        if not texts:
+            return types.SimpleNamespace(stdout="logic=proved", returncode=int(not self.is_proved))
+        end = "only=2 proved=1" if "--only" in flags else "logic=not-proved"
+        return types.SimpleNamespace(stdout=f"note: src/line.rt:12:9: it is not proved that ..\n{end}", returncode=1)
 
     def must_fail(self, crate, file, flags, kept=None):
-        self.alone.append((pathlib.Path(file).stem, kept))
-        return "missed", "NOT REFUSED"
+        """A try of one wrong body, by which it is refused if that begins with nothing."""
+        self.alone.append((pathlib.Path(file).stem, bool(kept)))
+        return ("missed", "NOT REFUSED") if kept else ("refused", "from nothing")
+
+    def over(self, *names, known=()):
+        """What is said of these wrong bodies over the work of earlier checks."""
+        files = [self.files[it] for it in names]
+        return must_fail_over(self.rt, self.crate, files, [], None, [self.files[it] for it in known])
+
+    def tried(self, *names, is_well=True):
+        """What a task gives for these wrong bodies, and how many an earlier run tried."""
+        kept = types.SimpleNamespace(
+            key=lambda crate: "key",
+            of_edit=lambda file, key: f"{key}/{pathlib.Path(file).stem}",
+            tried=self.kept.get,
+            is_untouched=lambda crate: True,
+            keep_tried=lambda name, kind, said: self.kept.update({name: (kind, said)}),
+        )
+        tasks, files = {}, [self.files[it] for it in names]
+        results, known = in_one_task(self.rt)(tasks, self.crate, files, [], [], lambda given, new=0: is_well, kept)
+        given = {key: call({}, 1) for key, (_, _, _, call) in tasks.items()}
+        return results(given), len(known())
 
     def test_those_of_different_functions_are_in_one_check(self):
-        tried = one_by_one(self.rt)
-        found = {name: tried(self.crate, file, [], "kept") for name, file in self.files.items()}
-        self.assertEqual([found[it][0] for it in self.files], ["refused", "refused", "missed", "missed"])
-        self.assertIn("must-fail twp_grid/one.edit: refused, as it must be: note: src/line.rt:12", found["one"][1])
+        found, _ = self.tried("one", "sides", "lines")
+        self.assertEqual([it[0] for it in found], ["refused"] * 3)
+        self.assertIn("must-fail twp_grid/one.edit: refused, as it must be: note: src/line.rt:12", found[0][1])
+        ((text, flags), whole) = self.checks
+        self.assertEqual(whole, ("as it stands", ["--jobs", "1"]))
+        self.assertTrue("return 2;" in text and "south:" in text)
+        self.assertEqual(flags, ["--jobs", "1", "--only", "Line::index", "--only", "line::sides"])
+        # The others are tried alone: over the work of the check, and from nothing if that is no refusal.
+        self.assertEqual(self.alone, [("sides", True), ("lines", True), ("sides", False), ("lines", False)])
+
+    def test_a_function_whose_name_is_not_taken_is_checked_with_its_module(self):
+        self.unnamed = ["Line::index"]
+        self.assertEqual([it[0] for it in self.tried("one")[0]], ["refused"])
+        self.assertEqual([it[1][2:] for it in self.checks], [["--only", "Line::index"], ["--only", "line"]])
+
+    def test_a_check_that_fails_for_another_reason_is_not_repeated(self):
+        self.unnamed = ["line::sides", "line"]
+        self.assertEqual([it[1] for it in self.tried("sides")[0]], ["from nothing"])
+        self.assertEqual([it[1][2:] for it in self.checks], [["--only", "line::sides"], ["--only", "line"], []])
+
+    def test_over_the_work_of_one_check_another_needs_its_functions_proved_as_they_stand(self):
+        self.assertIn("src/line.rt:12", self.tried("one", "two")[0][1][1])
+        (_, (second, flags), (third, same)) = self.checks
+        self.assertTrue("7)" in second and "return 2;" not in second)
+        self.assertEqual((third, same), ("as it stands", flags))
+
+    def test_a_second_check_says_nothing_if_they_are_not(self):
+        self.is_proved = False
+        self.assertEqual([it[1] for it in self.tried("one", "two")[0]][1], "from nothing")
+        self.assertEqual(self.alone, [("two", True), ("two", False)])
+
+    def test_over_earlier_work_whole_crates_are_checked(self):
+        self.assertEqual([it[1] for it in self.over("two", "sides")[1:]], ["from nothing"])
+        self.assertEqual([it[1] for it in self.checks], [[], []])
+        self.assertEqual((self.checks[-1][0], self.alone), ("as it stands", [("sides", True), ("sides", False)]))
+
+    def test_one_that_is_known_to_be_let_through_is_not_tried_from_nothing(self):
+        self.assertEqual([it[0] for it in self.over("lines", known=["lines"])], ["missed"])
+
+    def test_nothing_is_known_over_work_with_which_the_crate_is_not_proved(self):
+        self.is_proved = False
+        self.assertEqual([it[1] for it in self.over("one", "two")], ["from nothing"] * 2)
+
+    def test_what_an_earlier_run_tried_is_not_tried_again(self):
+        self.assertEqual(self.tried("one")[1], 0)
+        found, known = self.tried("one", "two")
+        self.assertEqual((len(found), known), (2, 1))
         self.assertEqual(len(self.checks), 2)
-        self.assertTrue("return 2;" in self.checks[0] and "south:" in self.checks[0])
-        self.assertEqual(self.alone, [("sides", "kept"), ("lines", "kept")])
+        self.assertNotIn("return 2;", self.checks[1][0])
 
-    def test_with_no_kept_work_each_is_tried_by_rt(self):
-        tried = one_by_one(self.rt)
-        self.assertEqual(tried(self.crate, self.files["one"], []), ("missed", "NOT REFUSED"))
-        self.assertEqual((self.checks, self.alone), ([], [("one", None)]))
+    def test_a_crate_that_is_not_proved_has_no_results(self):
+        self.assertEqual(self.tried("one", is_well=False), (None, 0))
+        self.assertEqual(self.checks, [])
 
-    def test_each_group_is_checked_once_by_several_threads(self):
-        tried, found = one_by_one(self.rt), {}
-
-        def ask(name):
-            found[name] = tried(self.crate, self.files[name], [], "kept")[0]
-
-        threads = [threading.Thread(target=ask, args=(it,)) for it in ("one", "two", "sides")]
-        for it in threads:
-            it.start()
-        for it in threads:
-            it.join()
-        self.assertEqual(found, {"one": "refused", "two": "refused", "sides": "missed"})
-        self.assertEqual(len(self.checks), 2)
+    def test_a_crate_without_wrong_bodies_has_no_task(self):
+        self.assertEqual(self.tried(), ([], 0))
 
 
 if __name__ == "__main__":
