@@ -5,7 +5,7 @@ use Rattle.std.specs.Str.{bytes_eq}
 use Rattle.std.proofs.lemmas.Slice.Eq.{bytes_eq-Decides}
 use Rattle.twp_grid.specs.Places.{PLACE_DIGITS}
 use Rattle.twp_grid.specs.Townships.{Designation}
-use Rattle.twp_land.specs.Lands.{no_places, union, HasWholeLots, SharePlace}
+use Rattle.twp_grid.specs.Lands.{no_places, union, HasWholeLots, SharePlace}
 use Rattle.twp_notes.specs.Records.{Fields, record_at}
 use Rattle.twp_acres.specs.Answers.{Describe}
 use Rattle.twp_acres.specs.EarlierTracts.{AreEarlier, Earlier, TakesLand, IsTractRefused, IsUnread}

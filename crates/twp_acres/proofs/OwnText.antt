@@ -2,7 +2,7 @@
 -- description.
 use Rattle.std.proofs.Common.{ℕ, ◌<◌, ◌≤◌, ◌≢◌, List, length, refl, subst, sym, inl, inr}
 use Rattle.twp_grid.specs.Places.{PLACE_DIGITS}
-use Rattle.twp_land.specs.Lands.{no_places}
+use Rattle.twp_grid.specs.Lands.{no_places}
 use Rattle.twp_plat.specs.Plats.{TownshipPlat}
 use Rattle.twp_read.specs.TextFaults.{TEXT_LIMIT}
 use Rattle.twp_read.specs.declared.fault.TextFault.TheVariants as text_fault

@@ -3,7 +3,7 @@ use Rattle.std.proofs.Common.{◌≡◌, ◌↔◌, ℕ, ◌+◌, ◌<◌, ◌||
 use Rattle.std.proofs.Common.{sym, ◌∙◌, inl, inr, subst, arith}
 use Rattle.std.proofs.lemmas.Bool.{cases_lt}
 use Rattle.twp_grid.specs.Townships.{Designation}
-use Rattle.twp_land.specs.Lands.{no_places, union}
+use Rattle.twp_grid.specs.Lands.{no_places, union}
 use Rattle.twp_notes.specs.Records.{Fields, record_at}
 use Rattle.twp_acres.specs.Answers.{Describe}
 use Rattle.twp_acres.specs.Tracts.{description_in, IsInTract, IsLandOfTracts}

@@ -4,7 +4,7 @@ use Rattle.twp_measure.specs.Areas.{Fraction}
 use Rattle.twp_grid.specs.Places.{PLACE_DIGITS}
 use Rattle.twp_grid.specs.Spans.{total}
 use Rattle.twp_grid.proofs.TotalFacts.{total-zero, total-next}
-use Rattle.twp_land.specs.Lands.{no_places, union}
+use Rattle.twp_grid.specs.Lands.{no_places, union}
 use Rattle.twp_notes.specs.Records.{Fields}
 use Rattle.twp_plat.specs.Plats.{TownshipPlat}
 use Rattle.twp_plat.specs.Pieces.{over_of}

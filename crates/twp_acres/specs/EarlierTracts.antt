@@ -4,7 +4,7 @@ use Rattle.std.specs.Prelude.{◌≡◌, ℕ, ◌<◌, ◌||◌, Bool, true, fal
 use Rattle.std.specs.Str.{bytes_eq}
 use Rattle.twp_grid.specs.Places.{PLACE_DIGITS}
 use Rattle.twp_grid.specs.Townships.{Designation}
-use Rattle.twp_land.specs.Lands.{union, HasWholeLots, SharePlace}
+use Rattle.twp_grid.specs.Lands.{union, HasWholeLots, SharePlace}
 use Rattle.twp_notes.specs.Records.{Fields, record_at}
 use Rattle.twp_acres.specs.Answers.{Describe, IsNoDescription}
 use Rattle.twp_acres.specs.Names.{has_name}

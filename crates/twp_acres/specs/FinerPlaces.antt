@@ -6,7 +6,7 @@ use Rattle.twp_measure.specs.Areas.{Fraction}
 use Rattle.twp_grid.specs.Lots.{POSITIONS_ACROSS}
 use Rattle.twp_grid.specs.Places.{places_across}
 use Rattle.twp_grid.specs.Townships.{Designation}
-use Rattle.twp_land.specs.FinerLands.{finer_land}
+use Rattle.twp_grid.specs.FinerLands.{finer_land}
 use Rattle.twp_plat.specs.Plats.{TownshipPlat}
 use Rattle.twp_plat.specs.LandAreas.{IsLandArea, places_of_position, township_sum}
 use Rattle.twp_plat.specs.PlatAccounts.{IsNominalShare, IsPlatArea}

@@ -5,7 +5,7 @@ use Rattle.std.specs.Prelude.{List, [], ◌∷◌, length, drop, codes}
 use Rattle.std.specs.List.{All}
 use Rattle.twp_grid.specs.Townships.{Designation}
 use Rattle.twp_notes.specs.Records.{Fields, field, record_at, record_numbered, records_of}
-use Rattle.twp_land.specs.Lands.{SharePlace}
+use Rattle.twp_grid.specs.Lands.{SharePlace}
 use Rattle.twp_acres.specs.Answers.{Describe}
 
 -- the most bytes of a list of tracts

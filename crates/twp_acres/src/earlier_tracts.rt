@@ -1,7 +1,7 @@
 //! The tracts of a list so far, which the next one is checked against.
 ghost use Rattle.std.specs.Prelude.{◌≡◌, ℕ, List, false, IfOk, OnOk, IfErr};
 ghost use Rattle.csv.specs.Records.{fields_of};
-ghost use Rattle.twp_land.specs.Lands.{no_places, SharePlace};
+ghost use Rattle.twp_grid.specs.Lands.{no_places, SharePlace};
 ghost use Rattle.twp_read.specs.Doubts.{HasNoDoubtfulPlace};
 ghost use Rattle.twp_acres.specs.EarlierTracts.{earlier_of, AddsTract, IsUnread, ReadsTract};
 ghost use Rattle.twp_acres.specs.Names.{has_name};

@@ -1,6 +1,6 @@
 //! The land that a description names, as a value that the caller keeps, and its acres on a plat.
 ghost use Rattle.twp_grid.specs.Places.{PLACE_DIGITS};
-ghost use Rattle.twp_land.specs.Lands.{HasWholeLots};
+ghost use Rattle.twp_grid.specs.Lands.{HasWholeLots};
 ghost use Rattle.twp_acres.specs.OnLands.{IsLandOf, AnswersIn, AreAcresOf};
 
 use crate::stages::describe_into;

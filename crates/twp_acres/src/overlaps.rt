@@ -10,7 +10,7 @@ ghost use Rattle.twp_acres.specs.steps.OverlapTaking.{AreFoundTo, AreLandsTo, Is
 ghost use Rattle.twp_acres.specs.steps.OverlapTaking.{HasSharedPlaces, HasWholeLand, NotesOverlap};
 ghost use Rattle.std.specs.List.{All};
 ghost use Rattle.twp_grid.specs.Places.{PLACE_DIGITS};
-ghost use Rattle.twp_land.specs.Lands.{HasWholeLots, SharePlace};
+ghost use Rattle.twp_grid.specs.Lands.{HasWholeLots, SharePlace};
 
 use crate::each_tract::pass_heading;
 use crate::stages::describe_into;

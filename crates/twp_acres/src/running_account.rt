@@ -3,7 +3,7 @@ ghost use Rattle.std.specs.Prelude.{◌≡◌, ◌++◌, ℕ, List, [], false, O
 ghost use Rattle.csv.specs.Records.{fields_of};
 ghost use Rattle.twp_read.specs.Doubts.{HasNoDoubtfulPlace};
 ghost use Rattle.twp_acres.specs.Tracts.{description_in};
-ghost use Rattle.twp_land.specs.Lands.{no_places};
+ghost use Rattle.twp_grid.specs.Lands.{no_places};
 ghost use Rattle.twp_acres.specs.EarlierTracts.{earlier_of, IsTractRefused};
 ghost use Rattle.twp_acres.specs.Names.{has_name};
 ghost use Rattle.twp_acres.specs.Tracts.{name_in};

@@ -18,7 +18,7 @@ pub(crate) struct Totals {
 
 impl Totals {
     ghost use Rattle.std.specs.Prelude.{ℕ, Bool, OnOk};
-    ghost use Rattle.twp_land.specs.Lands.{no_places};
+    ghost use Rattle.twp_grid.specs.Lands.{no_places};
     ghost use Rattle.twp_plat.specs.Plats.{TownshipPlat};
     ghost use Rattle.twp_acres.specs.steps.TractTaking.{AreTotals, TakesArea, EndsAccount};
 

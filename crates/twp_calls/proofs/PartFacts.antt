@@ -11,7 +11,7 @@ use Rattle.twp_grid.specs.Lots.{position_of_lot}
 use Rattle.twp_grid.specs.Spans.{Rectangle, position_block, whole_block}
 use Rattle.twp_land.proofs.LotFacts.{block_of}
 use Rattle.twp_grid.specs.Places.{PLACE_DIGITS}
-use Rattle.twp_land.specs.Lands.{off_lots}
+use Rattle.twp_grid.specs.Lands.{off_lots}
 use Rattle.twp_spell.specs.CanonicalText.{HoldsEach, IsLotHeld}
 use Rattle.twp_spell.specs.Listing.{AreListed}
 use Rattle.twp_spell.specs.PartBlocks.{AreWrittenBlocks}

@@ -2,7 +2,7 @@
 use Rattle.std.specs.Prelude.{◌≡◌, ℕ, Bool}
 use Rattle.twp_grid.specs.Places.{PLACE_DIGITS}
 use Rattle.twp_grid.specs.Townships.{Designation}
-use Rattle.twp_land.specs.Lands.{HasWholeLots}
+use Rattle.twp_grid.specs.Lands.{HasWholeLots}
 use Rattle.twp_land.specs.Storage.{land_of_rows}
 use Rattle.twp_calls.specs.GivenTownships.{IsGivenTownship}
 use Rattle.twp_calls.specs.declared.land.TownshipLand.{TownshipLand as GivenLand}

@@ -3,7 +3,7 @@ use Rattle.std.specs.Prelude.{◌≡◌, ◌≢◌, ◌==◌, ℕ, List, Bool, O
 use Rattle.twp_measure.specs.Areas.{Fraction}
 use Rattle.twp_grid.specs.Places.{PLACE_DIGITS}
 use Rattle.twp_grid.specs.Townships.{Designation}
-use Rattle.twp_land.specs.Lands.{union, intersection, difference}
+use Rattle.twp_grid.specs.Lands.{union, intersection, difference}
 use Rattle.twp_land.specs.Comparisons.{Compares}
 use Rattle.twp_land.specs.declared.comparing.Comparison.{Comparison}
 use Rattle.twp_land.specs.declared.comparing.Comparison.TheVariants.{Same, Contains, IsContained}

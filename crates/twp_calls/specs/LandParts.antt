@@ -6,7 +6,7 @@ use Rattle.twp_grid.specs.Lots.{position_of_lot}
 use Rattle.twp_grid.specs.Places.{PLACE_DIGITS}
 use Rattle.twp_grid.specs.Spans.{Rectangle, whole_block, position_block}
 use Rattle.twp_grid.specs.Winding.{SECTION_COUNT}
-use Rattle.twp_land.specs.Lands.{off_lots}
+use Rattle.twp_grid.specs.Lands.{off_lots}
 use Rattle.twp_spell.specs.CanonicalText.{HoldsEach, IsLotHeld}
 use Rattle.twp_spell.specs.Listing.{AreListed}
 use Rattle.twp_spell.specs.PartBlocks.{AreWrittenBlocks}

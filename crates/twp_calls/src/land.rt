@@ -1,7 +1,7 @@
 //! Land as plain data.
 ghost use Rattle.std.specs.Prelude.{MatchOption};
 ghost use Rattle.twp_grid.specs.Places.{PLACE_DIGITS};
-ghost use Rattle.twp_land.specs.Lands.{HasWholeLots};
+ghost use Rattle.twp_grid.specs.Lands.{HasWholeLots};
 ghost use Rattle.twp_land.specs.Storage.{land_of_rows};
 ghost use Rattle.twp_calls.specs.GivenLands.{IsGivenLand, IsNoGivenLand};
 

@@ -3,7 +3,7 @@ use Rattle.std.proofs.Common.{◌≡◌, ◌++◌, ℕ, Bool, List, refl, sym, a
 use Rattle.std.proofs.Common.{◌∙◌}
 use Rattle.twp_grid.specs.Places.{PLACE_DIGITS}
 use Rattle.twp_grid.specs.Townships.{Designation}
-use Rattle.twp_land.specs.Lands.{difference}
+use Rattle.twp_grid.specs.Lands.{difference}
 use Rattle.twp_grammar.specs.declared.item.Item.{Item}
 use Rattle.twp_grammar.specs.ItemPlaces.{parts_of, land_of}
 use Rattle.twp_grammar.specs.OnPlat.{IsLandOfItems}

@@ -7,7 +7,7 @@ use Rattle.std.proofs.lemmas.List.{take_all}
 use Rattle.std.proofs.lemmas.List.Folds.{list_any_more}
 use Rattle.twp_grid.specs.Places.{PLACE_DIGITS}
 use Rattle.twp_grid.specs.Townships.{Designation}
-use Rattle.twp_land.specs.Lands.{HasWholeLots, no_places, union}
+use Rattle.twp_grid.specs.Lands.{HasWholeLots, no_places, union}
 use Rattle.twp_grammar.specs.declared.item.Item.{Item}
 use Rattle.twp_grammar.specs.ItemPlaces.{ItemOfSection, item_of, item_places, land_of, parts_of}
 use Rattle.twp_grammar.specs.ItemPlaces.{section_after, with_sections}

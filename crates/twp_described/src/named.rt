@@ -2,7 +2,7 @@
 ghost use Rattle.std.specs.Prelude.{◌≡◌, ℕ, ◌≤◌, IfOk, IfSome};
 ghost use Rattle.twp_grid.specs.Places.{PLACE_DIGITS};
 ghost use Rattle.twp_grid.specs.Winding.{IsSection};
-ghost use Rattle.twp_land.specs.Lands.{HasWholeLots, Meets, block_places, union};
+ghost use Rattle.twp_grid.specs.Lands.{HasWholeLots, Meets, block_places, union};
 ghost use Rattle.twp_grammar.specs.declared.item.Item.TheVariants.{Chain, All, Sections as RangeOfSections, Lots as RangeOfLots};
 ghost use Rattle.twp_grammar.specs.ItemPlaces.{item_of, item_places, land_of, parts_of, section_after};
 ghost use Rattle.twp_grammar.specs.OnPlat.{HasLot};

@@ -9,8 +9,8 @@ use Rattle.twp_grid.specs.Winding.{IsSection}
 use Rattle.twp_grid.specs.Lots.{number_of_lots, position_of_lot}
 use Rattle.twp_grid.specs.Places.{PLACE_DIGITS, is_place, position_along}
 use Rattle.twp_grid.specs.Spans.{Rectangle, in_rectangle}
-use Rattle.twp_land.specs.Lands.{no_places, union, difference, block_places}
-use Rattle.twp_land.specs.Lands.{lot_of_place}
+use Rattle.twp_grid.specs.Lands.{no_places, union, difference, block_places}
+use Rattle.twp_grid.specs.Lands.{lot_of_place}
 use Rattle.twp_land.proofs.LotFacts.{fills, block_of}
 use Rattle.twp_land.proofs.LotBlocks.{lot_is_place}
 use Rattle.twp_resolve.specs.steps.ResolvingSteps.{lots_from}

@@ -4,7 +4,7 @@ ghost use Rattle.twp_grid.specs.Places.{PLACE_DIGITS};
 ghost use Rattle.twp_grid.specs.Cuts.{AreWithin};
 ghost use Rattle.twp_grid.specs.Lots.{number_of_lots};
 ghost use Rattle.twp_grid.specs.Winding.{IsSection};
-ghost use Rattle.twp_land.specs.Lands.{difference};
+ghost use Rattle.twp_grid.specs.Lands.{difference};
 ghost use Rattle.twp_grammar.specs.ItemPlaces.{cuts_of};
 ghost use Rattle.twp_resolve.specs.steps.ResolvingSteps.{lots_from};
 ghost use Rattle.twp_diagnose.specs.PartOfLots.{IsPartOfLots};

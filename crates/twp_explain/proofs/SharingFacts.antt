@@ -3,7 +3,7 @@ use Rattle.std.proofs.Common.{◌≡◌, ℕ, ◌+◌, ◌-◌, ◌≤◌, ◌<�
 use Rattle.std.proofs.Common.{Option, Some, None, Result, Ok, Err, IfOk, MatchOption, arith}
 use Rattle.std.specs.Prelude.{IfSome}
 use Rattle.twp_grid.specs.Townships.{Designation}
-use Rattle.twp_land.specs.Lands.{SharePlace}
+use Rattle.twp_grid.specs.Lands.{SharePlace}
 use Rattle.twp_notes.specs.Records.{Fields, record_at, records_of}
 use Rattle.twp_acres.specs.Answers.{Describe}
 use Rattle.twp_acres.specs.Tracts.{description_in, tract_records, Overlap}

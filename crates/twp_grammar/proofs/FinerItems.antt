@@ -8,8 +8,8 @@ use Rattle.twp_grid.specs.Cuts.{rows_asked, columns_asked, AreWithin}
 use Rattle.twp_grid.specs.Places.{places_across, is_place, binary, begins}
 use Rattle.twp_grid.specs.Townships.{Designation}
 use Rattle.twp_grid.proofs.FinerPlaces.{axis_coarser, same_place}
-use Rattle.twp_land.specs.FinerLands.{finer_land}
-use Rattle.twp_land.proofs.FinerLands.{same_lot}
+use Rattle.twp_grid.specs.FinerLands.{finer_land}
+use Rattle.twp_grid.proofs.FinerLands.{same_lot}
 use Rattle.twp_grammar.specs.declared.item.Item.{Item}
 use Rattle.twp_grammar.specs.declared.item.Item.TheVariants as item
 use Rattle.twp_grammar.specs.declared.item.Step.{Step}

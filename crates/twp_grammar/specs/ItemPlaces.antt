@@ -6,7 +6,7 @@ use Rattle.std.specs.List.{list_any}
 use Rattle.twp_grid.specs.Places.{is_place, binary, begins}
 use Rattle.twp_grid.specs.Cuts.{Cut, rows_asked, columns_asked}
 use Rattle.twp_grid.specs.Cuts.Cut.{half, quarter}
-use Rattle.twp_land.specs.Lands.{lot_of_place}
+use Rattle.twp_grid.specs.Lands.{lot_of_place}
 use Rattle.twp_grammar.specs.declared.item.Item.{Item}
 use Rattle.twp_grammar.specs.declared.item.Item.TheVariants.{Heading, Sections, Lots, Chain, All}
 use Rattle.twp_grammar.specs.declared.item.Step.{Step}

@@ -5,8 +5,8 @@ use Rattle.twp_grid.specs.Winding.{IsSection}
 use Rattle.twp_grid.specs.Lots.{position_of_lot}
 use Rattle.twp_grid.specs.Cuts.{AreWithin}
 use Rattle.twp_grid.specs.Townships.{Designation, designation}
-use Rattle.twp_land.specs.Lands.{SharePlace}
-use Rattle.twp_land.specs.Lands.{lot_of_place, HasWholeLots}
+use Rattle.twp_grid.specs.Lands.{SharePlace}
+use Rattle.twp_grid.specs.Lands.{lot_of_place, HasWholeLots}
 use Rattle.twp_grammar.specs.declared.item.Item.{Item}
 use Rattle.twp_grammar.specs.ItemPlaces.{cuts_of, ItemOfSection, item_places, parts_of, land_of}
 use Rattle.twp_grid.specs.Places.{IsPlace}

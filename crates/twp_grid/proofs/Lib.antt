@@ -6,3 +6,4 @@ pub mod CutFacts
 pub mod TotalFacts
 pub mod TilingFacts
 pub mod FinerPlaces
+pub mod FinerLands

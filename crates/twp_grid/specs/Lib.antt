@@ -6,6 +6,8 @@ pub mod Places
 pub mod Spans
 pub mod Blocks
 pub mod Cuts
+pub mod Lands
+pub mod FinerLands
 pub mod Tiling
 pub mod Townships
 pub mod Devices

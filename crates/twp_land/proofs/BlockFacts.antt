@@ -8,7 +8,7 @@ use Rattle.twp_grid.specs.Places.{PLACE_DIGITS, places_across}
 use Rattle.twp_grid.specs.Spans.{Span, in_span, IsDyadic, Rectangle, in_rectangle}
 use Rattle.twp_grid.specs.Spans.{total, one_where}
 use Rattle.twp_grid.proofs.TotalFacts.{total-ext, total-add, total-all_zero}
-use Rattle.twp_land.specs.Lands.{count_held}
+use Rattle.twp_grid.specs.Lands.{count_held}
 
 -- the block's places lie in the section
 pub record InSection (block : Rectangle) : Type 0 where

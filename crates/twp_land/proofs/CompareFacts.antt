@@ -1,6 +1,6 @@
 -- Sets that contain each other contain the same places.
 use Rattle.std.proofs.Common.{◌≡◌, ℕ, Bool, true, false, sym, refl}
-use Rattle.twp_land.specs.Lands.{SamePlaces, ContainsAll}
+use Rattle.twp_grid.specs.Lands.{SamePlaces, ContainsAll}
 
 pub same_of_both : (places more : ℕ → ℕ → ℕ → Bool) → ContainsAll places more → ContainsAll more places
     → SamePlaces places more

@@ -6,7 +6,7 @@ use Rattle.std.proofs.Math.ListN.{set}
 use Rattle.std.proofs.lemmas.Bool.{cases_eq, cases_Bool, ne_eqb, eq-eqb, and_right, and_parts}
 use Rattle.std.proofs.lemmas.Bool.Decides.{nat_tests}
 use Rattle.twp_grid.specs.Winding.{SECTION_COUNT, IsSection}
-use Rattle.twp_land.specs.Lands.{union, LieWithin}
+use Rattle.twp_grid.specs.Lands.{union, LieWithin}
 use Rattle.twp_land.specs.Storage.{held_by_section, held_by_either}
 use Rattle.twp_land.specs.steps.Exchanges.{exchanged}
 use Rattle.twp_land.proofs.LandFacts.{held_after, kept_at}

@@ -10,8 +10,8 @@ use Rattle.std.proofs.lemmas.Bool.{cases_eq, ne_eqb, eq-eqb, and_right}
 use Rattle.std.proofs.lemmas.Bool.Decides.{nat_tests}
 use Rattle.twp_grid.specs.Winding.{SECTION_COUNT, IsSection}
 use Rattle.twp_grid.specs.Spans.{Rectangle}
-use Rattle.twp_land.specs.Lands.{no_places, union, difference, block_places, SharePlace, SamePlaces}
-use Rattle.twp_land.specs.Lands.{LieWithin}
+use Rattle.twp_grid.specs.Lands.{no_places, union, difference, block_places, SharePlace, SamePlaces}
+use Rattle.twp_grid.specs.Lands.{LieWithin}
 use Rattle.twp_land.specs.Storage.{is_section, held_by_section, with_block, without_block, nothing_held}
 use Rattle.twp_land.specs.Storage.{ShareHeld, SameHeld}
 use Rattle.twp_land.specs.steps.Exchanges.{exchanged}

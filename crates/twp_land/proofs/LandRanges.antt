@@ -3,7 +3,7 @@ use Rattle.std.proofs.Common.{sym, subst, ◌∙◌, ◌≡◌, ◌==◌, ℕ, �
 use Rattle.std.proofs.Math.Path.{fun_ext}
 use Rattle.std.proofs.lemmas.Bool.{cases_Bool, cases_eq, eqb-true, ne_eqb, and_parts}
 use Rattle.twp_grid.specs.Spans.{Rectangle}
-use Rattle.twp_land.specs.Lands.{no_places, union, difference, block_places, LieWithin}
+use Rattle.twp_grid.specs.Lands.{no_places, union, difference, block_places, LieWithin}
 use Rattle.twp_land.specs.steps.Exchanges.{exchanged}
 
 -- an empty set lies within any range

@@ -18,7 +18,7 @@ use Rattle.twp_grid.specs.Places.{PLACE_DIGITS, places_across, is_place}
 use Rattle.twp_grid.specs.Spans.{Rectangle, in_rectangle}
 use Rattle.twp_grid.specs.Spans.{total, one_where}
 use Rattle.twp_grid.proofs.TotalFacts.{total-ext}
-use Rattle.twp_land.specs.Lands.{Meets, HoldsAll, count_held}
+use Rattle.twp_grid.specs.Lands.{Meets, HoldsAll, count_held}
 use Rattle.twp_land.specs.Storage.{held_by_lane, nothing_held, with_block}
 use Rattle.twp_land.specs.steps.BitLanes.{AreBlockLanes, ones_in_lanes}
 use Rattle.twp_land.proofs.BlockFacts.{InSection, place_inside, total_of_block}

@@ -13,7 +13,6 @@ pub mod RemovalFacts
 pub mod RowFacts
 pub mod LowLaneFacts
 pub mod SameFacts
-pub mod FinerLands
 pub mod TakenFacts
 pub mod TakenLands
 pub mod RowLands

@@ -5,7 +5,7 @@ use Rattle.std.proofs.Common.{Option, None, refl, sym, ap, inl, inr, nat_le, nat
 use Rattle.std.proofs.lemmas.Bool.Decides.{nat_tests}
 use Rattle.twp_grid.specs.Winding.{IsSection}
 use Rattle.twp_grid.specs.Places.{PLACE_DIGITS, places_across, places_to_position, is_place, position_along}
-use Rattle.twp_land.specs.Lands.{lot_of_place, HoldsLotPlace}
+use Rattle.twp_grid.specs.Lands.{lot_of_place, HoldsLotPlace}
 use Rattle.twp_land.specs.steps.Crossing.{Cross}
 use Rattle.twp_land.proofs.LotFacts.{fills, block_of, in_lot, lot_inside}
 use Rattle.std.proofs.lemmas.Bool.{cases_lt, and_parts, eqb-true, eq-eqb}
@@ -14,7 +14,7 @@ use Rattle.twp_grid.specs.Spans.{Span, in_span, IsDyadic, Rectangle, in_rectangl
 use Rattle.twp_grid.proofs.LotFacts.{each, each_of_three}
 use Rattle.std.proofs.lemmas.Nat.{div-add-mod', mul-le}
 use Rattle.std.proofs.Math.Nat.{mul_assoc}
-use Rattle.twp_land.specs.Lands.{Meets, block_places, SharePlace}
+use Rattle.twp_grid.specs.Lands.{Meets, block_places, SharePlace}
 
 -- the places along a side of a position
 abbrev POSITION : ℕ

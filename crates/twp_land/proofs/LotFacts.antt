@@ -10,8 +10,8 @@ use Rattle.twp_grid.specs.steps.WesternSections.{is_western_number}
 use Rattle.twp_grid.specs.Places.{PLACE_DIGITS, position_along}
 use Rattle.twp_grid.specs.Spans.{Rectangle, in_span, in_rectangle, position_span, position_block}
 use Rattle.twp_grid.proofs.LotFacts.{each, each_of_three, either, a_section, lot_count_is, lot_outside}
-use Rattle.twp_land.specs.Lands.{Meets, HoldsAll}
-use Rattle.twp_land.specs.Lands.{lot_of_place, IsWholeOrNot}
+use Rattle.twp_grid.specs.Lands.{Meets, HoldsAll}
+use Rattle.twp_grid.specs.Lands.{lot_of_place, IsWholeOrNot}
 
 both : (x y : Bool) → (x && y) ≡ true → (x ≡ true) × (y ≡ true)
 both true y h = (refl, h)

@@ -10,7 +10,7 @@ use Rattle.twp_grid.specs.Lots.{lots, number_of_lots}
 use Rattle.twp_grid.specs.Places.{PLACE_DIGITS, position_along}
 use Rattle.twp_grid.specs.Spans.{in_rectangle, whole_block}
 use Rattle.twp_grid.proofs.LotFacts.{each, each_of_three, either, a_section}
-use Rattle.twp_land.specs.Lands.{HoldsAll, lot_of_place, IsWholeOrNot, HasWholeLots}
+use Rattle.twp_grid.specs.Lands.{HoldsAll, lot_of_place, IsWholeOrNot, HasWholeLots}
 use Rattle.twp_land.specs.Storage.{SameHeld, nothing_held}
 use Rattle.twp_land.proofs.LotFacts.{inside as lies_inside, no_such_lot}
 

@@ -19,7 +19,7 @@ use Rattle.std.proofs.lemmas.Bool.Decides.{nat_tests}
 use Rattle.twp_grid.specs.Places.{PLACE_DIGITS, places_across}
 use Rattle.twp_grid.specs.Spans.{in_span, Rectangle, in_rectangle}
 use Rattle.twp_grid.specs.Spans.{one_where}
-use Rattle.twp_land.specs.Lands.{Meets}
+use Rattle.twp_grid.specs.Lands.{Meets}
 use Rattle.twp_land.specs.Storage.{held_by_lane, with_block}
 use Rattle.twp_land.specs.steps.BitLanes.{LANE_BITS, AreBlockLanes}
 use Rattle.twp_land.proofs.BitFacts.{bit_of_ones, or_of_zeros, zeros_of_or}

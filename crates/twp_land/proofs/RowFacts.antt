@@ -10,7 +10,7 @@ use Rattle.twp_grid.specs.Places.{PLACE_DIGITS, places_across, is_place}
 use Rattle.twp_grid.specs.Spans.{Span, in_span, IsDyadic, Rectangle, in_rectangle}
 use Rattle.twp_grid.specs.Spans.{total, one_where}
 use Rattle.twp_grid.proofs.TotalFacts.{total-zero, total-next, total-ext}
-use Rattle.twp_land.specs.Lands.{Meets, HoldsAll, count_held}
+use Rattle.twp_grid.specs.Lands.{Meets, HoldsAll, count_held}
 use Rattle.twp_land.specs.Storage.{held_by_row, nothing_held, with_block}
 use Rattle.twp_land.specs.steps.RowTests.{SomeHeld, EachHeld, count_in_row}
 use Rattle.twp_land.specs.steps.RowTests.{IsFilled, AreFilled}

@@ -6,7 +6,7 @@ use Rattle.std.proofs.Math.ListN.{set}
 use Rattle.std.proofs.lemmas.Bool.{cases_eq, cases_Bool, ne_eqb, eq-eqb, and_right}
 use Rattle.std.proofs.lemmas.Bool.Decides.{nat_tests}
 use Rattle.twp_grid.specs.Winding.{SECTION_COUNT, IsSection}
-use Rattle.twp_land.specs.Lands.{no_places, LieWithin}
+use Rattle.twp_grid.specs.Lands.{no_places, LieWithin}
 use Rattle.twp_land.specs.Storage.{is_section, held_by_section, nothing_held}
 use Rattle.twp_land.specs.Storage.{SameHeld}
 use Rattle.twp_land.specs.steps.Exchanges.{exchanged}

@@ -4,7 +4,7 @@ use Rattle.std.proofs.Common.{refl, ap, subst, inl, inr, arith}
 use Rattle.std.proofs.lemmas.Bool.{cases_Bool, cases_lt, eq-eqb}
 use Rattle.twp_grid.specs.Winding.{IsSection}
 use Rattle.twp_grid.specs.Places.{PLACE_DIGITS, places_across, position_along}
-use Rattle.twp_land.specs.Lands.{lot_of_place, IsWholeOrNot, HasWholeLots}
+use Rattle.twp_grid.specs.Lands.{lot_of_place, IsWholeOrNot, HasWholeLots}
 use Rattle.twp_land.proofs.LotFacts.{fills, few_lots, no_such_lot, is_lot, is_lot_tells}
 
 abbrev Decided : Type 0 → Type 0

@@ -1,6 +1,6 @@
 -- How two sets of places relate, and whether both contain each lot wholly or not at all.
 use Rattle.std.specs.Prelude.{ℕ, Bool}
-use Rattle.twp_land.specs.Lands.{SharePlace, SamePlaces, ContainsAll, HasWholeLots}
+use Rattle.twp_grid.specs.Lands.{SharePlace, SamePlaces, ContainsAll, HasWholeLots}
 use Rattle.twp_land.specs.declared.comparing.Comparison.{Comparison}
 use Rattle.twp_land.specs.declared.comparing.Comparison.TheVariants.{Same, Contains, IsContained}
 use Rattle.twp_land.specs.declared.comparing.Comparison.TheVariants.{Overlaps, Disjoint}

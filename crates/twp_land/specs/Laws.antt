@@ -1,7 +1,7 @@
 -- Laws of combined sets of places.
 use Rattle.std.specs.Prelude.{ℕ, Bool}
-use Rattle.twp_land.specs.Lands.{union, intersection, difference}
-use Rattle.twp_land.specs.Lands.{HasWholeLots}
+use Rattle.twp_grid.specs.Lands.{union, intersection, difference}
+use Rattle.twp_grid.specs.Lands.{HasWholeLots}
 
 -- if two sets contain each lot wholly or not at all, so do their union, their intersection, and
 -- their difference

@@ -1,5 +1,3 @@
-pub mod Lands
-pub mod FinerLands
 pub mod Storage
 pub mod Comparisons
 pub mod Laws

@@ -1,9 +1,9 @@
 ghost use Rattle.std.specs.Prelude.{◌≡◌, ◌<◌, ◌≤◌, ◌↔◌, ℕ, Bool, true, IsTrue, MatchOption};
 ghost use Rattle.twp_grid.specs.Winding.{IsSection};
 ghost use Rattle.twp_grid.specs.Places.{PLACE_DIGITS, places_across, IsPlace};
-ghost use Rattle.twp_land.specs.Lands.{no_places, union, difference, intersection, block_places};
-ghost use Rattle.twp_land.specs.Lands.{count_held, Meets, HoldsAll, SharePlace, SamePlaces, LieWithin};
-ghost use Rattle.twp_land.specs.Lands.{ContainsAll};
+ghost use Rattle.twp_grid.specs.Lands.{no_places, union, difference, intersection, block_places};
+ghost use Rattle.twp_grid.specs.Lands.{count_held, Meets, HoldsAll, SharePlace, SamePlaces, LieWithin};
+ghost use Rattle.twp_grid.specs.Lands.{ContainsAll};
 
 use twp_grid::{Block, SECTIONS, Section};
 

@@ -1,8 +1,8 @@
 ghost use Rattle.std.specs.Prelude.{◌+◌, ◌≤◌, ◌↔◌, IsTrue};
 ghost use Rattle.twp_grid.specs.Places.{PLACE_DIGITS, places_across};
 ghost use Rattle.twp_grid.specs.Spans.{span_from, in_rectangle};
-ghost use Rattle.twp_land.specs.Lands.{Meets};
-ghost use Rattle.twp_land.specs.Lands.{HoldsLotPlace};
+ghost use Rattle.twp_grid.specs.Lands.{Meets};
+ghost use Rattle.twp_grid.specs.Lands.{HoldsLotPlace};
 ghost use Rattle.twp_land.specs.steps.Crossing.{Cross};
 
 use twp_grid::{Block, PLACES_TO_POSITION, Section, lot_at, lot_count};

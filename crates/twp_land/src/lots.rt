@@ -1,6 +1,6 @@
 ghost use Rattle.std.specs.Prelude.{ℕ, ◌↔◌, IsTrue};
 ghost use Rattle.twp_grid.specs.Places.{PLACE_DIGITS};
-ghost use Rattle.twp_land.specs.Lands.{IsWholeOrNot, HasWholeLots};
+ghost use Rattle.twp_grid.specs.Lands.{IsWholeOrNot, HasWholeLots};
 ghost use Rattle.twp_land.specs.Storage.{land_of_rows, held_by_lane};
 ghost use Rattle.twp_land.specs.steps.Relating.{HoldsWholeLots};
 

@@ -1,6 +1,6 @@
 ghost use Rattle.std.specs.Prelude.{◌≡◌, ◌<◌, ◌↔◌, ℕ, Bool, true, IsTrue};
 ghost use Rattle.twp_grid.specs.Places.{PLACE_DIGITS, places_across, IsPlace};
-ghost use Rattle.twp_land.specs.Lands.{Meets, HoldsAll, count_held};
+ghost use Rattle.twp_grid.specs.Lands.{Meets, HoldsAll, count_held};
 ghost use Rattle.twp_land.specs.Storage.{nothing_held, with_block, without_block, held_by_either};
 ghost use Rattle.twp_land.specs.Storage.{held_by_both, held_without, ShareHeld, SameHeld};
 ghost use Rattle.twp_land.specs.Storage.{ContainsHeld};

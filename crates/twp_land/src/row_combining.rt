@@ -1,5 +1,5 @@
 ghost use Rattle.std.specs.Prelude.{◌≡◌};
-ghost use Rattle.twp_land.specs.Lands.{union, intersection, difference};
+ghost use Rattle.twp_grid.specs.Lands.{union, intersection, difference};
 ghost use Rattle.twp_land.specs.Storage.{land_of_rows};
 
 use crate::land_rows::LandRows;

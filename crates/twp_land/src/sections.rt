@@ -1,6 +1,6 @@
 ghost use Rattle.std.specs.Prelude.{◌≡◌, ◌+◌, ◌≤◌};
 ghost use Rattle.twp_grid.specs.Winding.{SECTION_COUNT};
-ghost use Rattle.twp_land.specs.Lands.{LieWithin};
+ghost use Rattle.twp_grid.specs.Lands.{LieWithin};
 ghost use Rattle.twp_land.specs.Storage.{held_by_section};
 ghost use Rattle.twp_land.specs.steps.Exchanges.{exchanged};
 

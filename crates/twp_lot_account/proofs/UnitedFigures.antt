@@ -5,7 +5,7 @@ use Rattle.twp_grid.specs.Winding.{IsSection}
 use Rattle.twp_grid.specs.Lots.{lot, lot_at_position}
 use Rattle.twp_grid.specs.Places.{PLACE_DIGITS}
 use Rattle.twp_grid.specs.Spans.{position_block}
-use Rattle.twp_land.specs.Lands.{HasWholeLots, count_held, no_places, union}
+use Rattle.twp_grid.specs.Lands.{HasWholeLots, count_held, no_places, union}
 use Rattle.twp_land.proofs.CombinedLots.{combined_lots_are_whole}
 use Rattle.twp_land.proofs.LotFacts.{has_lot}
 use Rattle.twp_plat.specs.LandAreas.{places_of_position}

@@ -3,8 +3,8 @@ use Rattle.std.proofs.Common.{◌≡◌, ℕ, ◌+◌, ◌*◌, Bool, ap, sym, �
 use Rattle.std.specs.Prelude.{sum_by}
 use Rattle.twp_measure.specs.Areas.{Fraction}
 use Rattle.twp_grid.specs.Lots.{lot, lots}
-use Rattle.twp_land.specs.Lands.{union, intersection, difference}
-use Rattle.twp_land.specs.Lands.{HasWholeLots}
+use Rattle.twp_grid.specs.Lands.{union, intersection, difference}
+use Rattle.twp_grid.specs.Lands.{HasWholeLots}
 use Rattle.twp_land.proofs.LotFacts.{fills}
 use Rattle.twp_land.proofs.CombinedLots.{combined_lots_are_whole}
 use Rattle.twp_plat.proofs.RatioFacts.{cancelled}

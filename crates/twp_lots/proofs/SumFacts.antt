@@ -6,8 +6,8 @@ use Rattle.twp_grid.specs.Winding.{IsSection}
 use Rattle.twp_grid.specs.Lots.{position_of_lot, number_of_lots}
 use Rattle.twp_grid.specs.Places.{PLACE_DIGITS}
 use Rattle.twp_grid.proofs.TotalFacts.{total-next, total-zero}
-use Rattle.twp_land.specs.Lands.{no_places, LieWithin}
-use Rattle.twp_land.specs.Lands.{HasWholeLots}
+use Rattle.twp_grid.specs.Lands.{no_places, LieWithin}
+use Rattle.twp_grid.specs.Lands.{HasWholeLots}
 use Rattle.twp_land.proofs.LotFacts.{has_lot}
 use Rattle.twp_land.proofs.LandRanges.{nothing_within}
 use Rattle.twp_plat.specs.LandAreas.{section_sum}

@@ -3,8 +3,8 @@ use Rattle.std.specs.Prelude.{◌≡◌, ℕ, ◌+◌, Bool, Some}
 use Rattle.twp_measure.specs.Areas.{Fraction}
 use Rattle.twp_grid.specs.Winding.{IsSection}
 use Rattle.twp_grid.specs.Lots.{position_of_lot}
-use Rattle.twp_land.specs.Lands.{union, intersection, difference}
-use Rattle.twp_land.specs.Lands.{HasWholeLots}
+use Rattle.twp_grid.specs.Lands.{union, intersection, difference}
+use Rattle.twp_grid.specs.Lands.{HasWholeLots}
 use Rattle.twp_plat.specs.Plats.{TownshipPlat}
 use Rattle.twp_plat.specs.PlatFigures.{PlatFigures, AreFigures}
 use Rattle.twp_plat.specs.PlatAccounts.{IsPlatArea}

@@ -1,7 +1,7 @@
 ghost use Rattle.std.specs.Prelude.{◌≡◌, ◌*◌, ◌≤◌, IfOk, IfErr};
 ghost use Rattle.twp_grid.specs.Places.{PLACE_DIGITS};
 ghost use Rattle.twp_grid.specs.Lots.{number_of_lots};
-ghost use Rattle.twp_land.specs.Lands.{HasWholeLots};
+ghost use Rattle.twp_grid.specs.Lands.{HasWholeLots};
 ghost use Rattle.twp_plat.specs.LandAreas.{places_of_position, section_sum};
 ghost use Rattle.twp_plat.specs.steps.Bounds.{SECTION_PLACES_MOST, REGULAR_PLACE_UNITS};
 ghost use Rattle.twp_lots.specs.LotAreas.{IsLotArea, HasFigures, IsFirstLacking};

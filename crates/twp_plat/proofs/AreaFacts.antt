@@ -10,8 +10,8 @@ use Rattle.twp_grid.specs.Places.{PLACE_DIGITS}
 use Rattle.twp_grid.specs.Spans.{whole_block}
 use Rattle.twp_grid.specs.Spans.{total}
 use Rattle.twp_grid.proofs.TotalFacts.{total-next, total-zero}
-use Rattle.twp_land.specs.Lands.{no_places, Meets, LieWithin}
-use Rattle.twp_land.specs.Lands.{HasWholeLots}
+use Rattle.twp_grid.specs.Lands.{no_places, Meets, LieWithin}
+use Rattle.twp_grid.specs.Lands.{HasWholeLots}
 use Rattle.twp_land.proofs.LandRanges.{nothing_within}
 use Rattle.twp_plat.specs.Plats.{TownshipPlat, IsPlat}
 use Rattle.twp_plat.specs.LandAreas.{section_sum, township_sum}

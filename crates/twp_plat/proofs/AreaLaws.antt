@@ -12,7 +12,7 @@ use Rattle.twp_grid.specs.Spans.{total, total_over}
 use Rattle.twp_grid.specs.Spans.{whole_block}
 use Rattle.twp_grid.proofs.TotalFacts.{total-ext, total-both}
 use Rattle.twp_grid.proofs.TilingFacts.{one_position}
-use Rattle.twp_land.specs.Lands.{union}
+use Rattle.twp_grid.specs.Lands.{union}
 use Rattle.twp_plat.specs.Plats.{TownshipPlat}
 use Rattle.twp_plat.proofs.RatioFacts.{cancelled}
 use Rattle.twp_plat.specs.Pieces.{ArePieces}

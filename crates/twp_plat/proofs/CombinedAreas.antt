@@ -5,8 +5,8 @@ use Rattle.std.proofs.Math.Path.{fun_ext}
 use Rattle.std.specs.Prelude.{sum_by}
 use Rattle.twp_measure.specs.Areas.{Fraction}
 use Rattle.twp_grid.specs.Places.{position_along}
-use Rattle.twp_land.specs.Lands.{union, intersection, difference}
-use Rattle.twp_land.specs.Lands.{HasWholeLots}
+use Rattle.twp_grid.specs.Lands.{union, intersection, difference}
+use Rattle.twp_grid.specs.Lands.{HasWholeLots}
 use Rattle.twp_land.proofs.CombinedLots.{combined_lots_are_whole}
 use Rattle.twp_plat.specs.Plats.{TownshipPlat}
 use Rattle.twp_plat.proofs.RatioFacts.{cancelled}

@@ -11,10 +11,10 @@ use Rattle.twp_grid.specs.Spans.{whole_block, position_block}
 use Rattle.twp_grid.specs.Spans.{total_over}
 use Rattle.twp_grid.proofs.TotalFacts.{total-ext, total-scale}
 use Rattle.twp_grid.proofs.FinerPlaces.{position_twice, same_position, whole_finer}
-use Rattle.twp_land.specs.Lands.{count_held}
-use Rattle.twp_land.specs.FinerLands.{cut_in_four, finer_land}
-use Rattle.twp_land.specs.Lands.{off_lots}
-use Rattle.twp_land.proofs.FinerLands.{same_off_lots, count_of_section, count_of_position}
+use Rattle.twp_grid.specs.Lands.{count_held}
+use Rattle.twp_grid.specs.FinerLands.{cut_in_four, finer_land}
+use Rattle.twp_grid.specs.Lands.{off_lots}
+use Rattle.twp_grid.proofs.FinerLands.{same_off_lots, count_of_section, count_of_position}
 use Rattle.twp_plat.specs.Plats.{TownshipPlat}
 use Rattle.twp_plat.proofs.RatioFacts.{cancelled}
 use Rattle.twp_plat.specs.LandAreas.{places_of_position, piece_where_held, section_sum, township_sum}

@@ -15,9 +15,9 @@ use Rattle.twp_grid.specs.Spans.{total, total_over, one_where, over_positions}
 use Rattle.twp_grid.proofs.TotalFacts.{total-ext, total-same, total-scale, total-both, total-swap}
 use Rattle.twp_grid.proofs.TotalFacts.{total-all_zero}
 use Rattle.twp_grid.proofs.TilingFacts.{position_has_places}
-use Rattle.twp_land.specs.Lands.{count_held}
-use Rattle.twp_land.specs.Lands.{lot_of_place, IsWholeOrNot, HasWholeLots}
-use Rattle.twp_land.specs.Lands.{off_lots}
+use Rattle.twp_grid.specs.Lands.{count_held}
+use Rattle.twp_grid.specs.Lands.{lot_of_place, IsWholeOrNot, HasWholeLots}
+use Rattle.twp_grid.specs.Lands.{off_lots}
 use Rattle.twp_plat.specs.LandAreas.{places_of_position, piece_where_held, section_sum}
 use Rattle.twp_plat.specs.LandAreas.{township_sum}
 use Rattle.twp_plat.specs.PlatAccounts.{holds_lot, lots_held, places_off_lots}

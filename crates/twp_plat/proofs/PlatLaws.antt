@@ -15,8 +15,8 @@ use Rattle.twp_grid.specs.Spans.{whole_block}
 use Rattle.twp_grid.specs.Spans.{total, total_over, over_positions}
 use Rattle.twp_grid.proofs.TotalFacts.{total-ext, total-le, total-scale}
 use Rattle.twp_grid.proofs.TilingFacts.{one_position}
-use Rattle.twp_land.specs.Lands.{union}
-use Rattle.twp_land.specs.Lands.{HasWholeLots}
+use Rattle.twp_grid.specs.Lands.{union}
+use Rattle.twp_grid.specs.Lands.{HasWholeLots}
 use Rattle.twp_land.proofs.LotFacts.{fills}
 use Rattle.twp_plat.specs.Plats.{TownshipPlat, IsPlat}
 use Rattle.twp_plat.specs.Pieces.{over_of}

@@ -8,8 +8,8 @@ use Rattle.twp_grid.specs.Places.{PLACE_DIGITS, position_along}
 use Rattle.twp_grid.specs.Spans.{whole_block, position_block, in_rectangle}
 use Rattle.twp_grid.specs.Spans.{total, total_over, one_where, over_positions}
 use Rattle.twp_grid.proofs.TotalFacts.{total-ext, total-same, total-scale, total-le, total-all_zero}
-use Rattle.twp_land.specs.Lands.{count_held, Meets}
-use Rattle.twp_land.specs.Lands.{lot_of_place, IsWholeOrNot}
+use Rattle.twp_grid.specs.Lands.{count_held, Meets}
+use Rattle.twp_grid.specs.Lands.{lot_of_place, IsWholeOrNot}
 use Rattle.twp_land.proofs.LotFacts.{fills, has_lot}
 use Rattle.twp_plat.specs.LandAreas.{piece_where_held, section_sum}
 use Rattle.twp_plat.specs.steps.Bounds.{ACROSS, TO_POSITION, OF_POSITION, SECTION_PLACES_MOST}

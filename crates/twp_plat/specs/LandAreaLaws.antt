@@ -4,7 +4,7 @@ use Rattle.twp_measure.specs.Areas.{Fraction}
 use Rattle.twp_grid.specs.Lots.{POSITIONS_ACROSS}
 use Rattle.twp_grid.specs.Winding.{IsSection}
 use Rattle.twp_grid.specs.Places.{PLACE_DIGITS, places_across, is_place}
-use Rattle.twp_land.specs.Lands.{union, intersection, difference}
+use Rattle.twp_grid.specs.Lands.{union, intersection, difference}
 use Rattle.twp_land.specs.Storage.{is_section}
 use Rattle.twp_plat.specs.Plats.{TownshipPlat}
 use Rattle.twp_plat.specs.Pieces.{IsSectionArea, IsTownshipArea}

@@ -1,8 +1,8 @@
 -- Laws over plat areas.
 use Rattle.std.specs.Prelude.{◌≡◌, ℕ, ◌+◌, ◌*◌, ◌/◌, ◌≤◌, Bool, length}
 use Rattle.twp_measure.specs.Areas.{Fraction, HUNDREDTH_OF_AN_ACRE}
-use Rattle.twp_land.specs.Lands.{union, intersection, difference}
-use Rattle.twp_land.specs.Lands.{HasWholeLots}
+use Rattle.twp_grid.specs.Lands.{union, intersection, difference}
+use Rattle.twp_grid.specs.Lands.{HasWholeLots}
 use Rattle.twp_plat.specs.Plats.{TownshipPlat, IsPlat}
 use Rattle.twp_plat.specs.LandAreas.{IsLandArea}
 use Rattle.twp_plat.specs.LandAreaLaws.{AreDisjoint}

@@ -6,8 +6,8 @@ use Rattle.twp_grid.specs.Winding.{SECTION_COUNT}
 use Rattle.twp_grid.specs.Lots.{Lot, lots}
 use Rattle.twp_grid.specs.Spans.{whole_block, position_block}
 use Rattle.twp_grid.specs.Spans.{total}
-use Rattle.twp_land.specs.Lands.{count_held}
-use Rattle.twp_land.specs.Lands.{off_lots}
+use Rattle.twp_grid.specs.Lands.{count_held}
+use Rattle.twp_grid.specs.Lands.{off_lots}
 use Rattle.twp_plat.specs.Closing.{QUARTER_MILE}
 use Rattle.twp_plat.specs.Plats.{TownshipPlat}
 use Rattle.twp_plat.specs.LandAreas.{places_of_position, IsLandArea}

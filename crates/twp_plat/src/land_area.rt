@@ -1,6 +1,6 @@
 ghost use Rattle.std.specs.Prelude.{◌≡◌, ℕ, ◌*◌, ◌≤◌};
 ghost use Rattle.twp_grid.specs.Places.{PLACE_DIGITS};
-ghost use Rattle.twp_land.specs.Lands.{HasWholeLots};
+ghost use Rattle.twp_grid.specs.Lands.{HasWholeLots};
 ghost use Rattle.twp_plat.specs.Pieces.{OVER_MOST};
 ghost use Rattle.twp_plat.specs.LandAreas.{places_of_position, section_sum, IsLandArea};
 ghost use Rattle.twp_plat.specs.PlatAccounts.{IsPlatArea};

@@ -15,7 +15,7 @@ use Rattle.twp_grid.specs.Cuts.Cut.{half, quarter}
 use Rattle.twp_grid.specs.Places.{is_place}
 use Rattle.twp_grid.specs.Spans.{Rectangle, whole_block}
 use Rattle.twp_grid.proofs.CutFacts.{held_as_asked, sides_as_asked}
-use Rattle.twp_land.specs.Lands.{block_places}
+use Rattle.twp_grid.specs.Lands.{block_places}
 use Rattle.twp_grammar.specs.declared.item.Step.{Step}
 use Rattle.twp_grammar.specs.declared.item.Item.TheVariants.{Chain}
 use Rattle.twp_grammar.specs.ItemPlaces.{cut_of, cuts_of, item_places}

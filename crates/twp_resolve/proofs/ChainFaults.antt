@@ -6,7 +6,7 @@ use Rattle.twp_grid.specs.Cuts.{AreWithin, reached}
 use Rattle.twp_grid.specs.Places.{PLACE_DIGITS}
 use Rattle.twp_grid.specs.Spans.{Rectangle, in_rectangle}
 use Rattle.twp_grid.specs.Townships.{Designation}
-use Rattle.twp_land.specs.Lands.{Meets, block_places, union, SharePlace}
+use Rattle.twp_grid.specs.Lands.{Meets, block_places, union, SharePlace}
 use Rattle.twp_grammar.specs.declared.item.Step.{Step}
 use Rattle.twp_grammar.specs.declared.item.Item.TheVariants.{Chain}
 use Rattle.twp_resolve.specs.declared.place_fault.PlaceFault.{PlaceFault}
@@ -15,7 +15,7 @@ use Rattle.twp_grammar.specs.ItemPlaces.{cuts_of, item_places}
 use Rattle.twp_grammar.specs.OnPlat.{HoldsOfLot}
 use Rattle.twp_resolve.specs.PlaceFaults.{HasFault, number_of}
 use Rattle.twp_grammar.specs.ItemPlaces.{item_of}
-use Rattle.twp_land.specs.Lands.{HoldsLotPlace}
+use Rattle.twp_grid.specs.Lands.{HoldsLotPlace}
 use Rattle.twp_resolve.specs.steps.ResolvingSteps.{IsTaken, IsItemsFirstFault}
 use Rattle.twp_land.proofs.LotBlocks.{same_section, share_of_meets, meets_of_share}
 use Rattle.twp_resolve.proofs.ChainFacts.{chain_places}

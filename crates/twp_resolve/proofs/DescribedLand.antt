@@ -16,8 +16,8 @@ use Rattle.twp_grid.specs.Townships.{Designation}
 use Rattle.twp_grid.specs.declared.township.NorthSouth.{NorthSouth}
 use Rattle.twp_grid.specs.declared.township.EastWest.{EastWest}
 use Rattle.twp_grid.proofs.CutFacts.{sides_as_asked}
-use Rattle.twp_land.specs.Lands.{no_places}
-use Rattle.twp_land.specs.Lands.{lot_of_place, HasWholeLots}
+use Rattle.twp_grid.specs.Lands.{no_places}
+use Rattle.twp_grid.specs.Lands.{lot_of_place, HasWholeLots}
 use Rattle.twp_land.proofs.LotFacts.{lot_inside}
 use Rattle.twp_grammar.specs.declared.item.Item.{Item}
 use Rattle.twp_grammar.specs.declared.item.Item.TheVariants.{Heading, Sections, Lots, Chain, All}

@@ -7,7 +7,7 @@ use Rattle.twp_grid.specs.Spans.{whole_block}
 use Rattle.twp_grid.specs.Townships.{Designation, designation}
 use Rattle.twp_grid.specs.declared.township.NorthSouth.{NorthSouth}
 use Rattle.twp_grid.specs.declared.township.EastWest.{EastWest}
-use Rattle.twp_land.specs.Lands.{Meets, block_places, union, SharePlace}
+use Rattle.twp_grid.specs.Lands.{Meets, block_places, union, SharePlace}
 use Rattle.twp_grammar.specs.declared.item.Item.TheVariants.{Heading, All}
 use Rattle.twp_resolve.specs.declared.place_fault.PlaceFault.TheVariants as fault
 use Rattle.twp_grammar.specs.ItemPlaces.{item_places}

@@ -11,7 +11,7 @@ use Rattle.twp_grammar.specs.declared.item.Item.{Item}
 use Rattle.twp_grammar.specs.declared.item.Item.TheVariants as item
 use Rattle.twp_resolve.specs.declared.place_fault.PlaceFault.{PlaceFault}
 use Rattle.twp_grammar.specs.ItemPlaces.{ItemOfSection, item_places, parts_of, land_of}
-use Rattle.twp_land.specs.Lands.{SharePlace}
+use Rattle.twp_grid.specs.Lands.{SharePlace}
 use Rattle.twp_grammar.specs.OnPlat.{HasLot, LiesOnPlat, AreOnPlat}
 use Rattle.twp_resolve.specs.PlaceFaults.{IsFirstUnlike, HasFault, HasFaultAt, IsFrom, number_of}
 use Rattle.twp_resolve.specs.PlaceFaults.{IsFirstPlaceFault, AnswersPlaces}

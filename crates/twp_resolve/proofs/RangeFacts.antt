@@ -10,8 +10,8 @@ use Rattle.twp_grid.specs.Lots.{position_of_lot, number_of_lots}
 use Rattle.twp_grid.specs.Places.{PLACE_DIGITS, is_place}
 use Rattle.twp_grid.specs.Spans.{Rectangle, in_rectangle, whole_block}
 use Rattle.twp_grid.proofs.LotFacts.{count_by_code, position_by_code, position_of_lot_is, lot_count_is}
-use Rattle.twp_land.specs.Lands.{no_places, union, block_places, Meets, SharePlace}
-use Rattle.twp_land.specs.Lands.{lot_of_place}
+use Rattle.twp_grid.specs.Lands.{no_places, union, block_places, Meets, SharePlace}
+use Rattle.twp_grid.specs.Lands.{lot_of_place}
 use Rattle.twp_land.proofs.LotFacts.{block_of}
 use Rattle.twp_grammar.specs.ItemPlaces.{is_lot_from}
 use Rattle.twp_grammar.specs.OnPlat.{HasLot}

@@ -9,7 +9,7 @@ use Rattle.twp_grammar.specs.declared.item.Item.TheVariants.{Sections, Lots}
 use Rattle.twp_grammar.specs.declared.item.Numeral.{Numeral}
 use Rattle.twp_resolve.specs.declared.place_fault.PlaceFault.{PlaceFault}
 use Rattle.twp_resolve.specs.declared.place_fault.PlaceFault.TheVariants as fault
-use Rattle.twp_land.specs.Lands.{SharePlace}
+use Rattle.twp_grid.specs.Lands.{SharePlace}
 use Rattle.twp_grammar.specs.OnPlat.{HasLot}
 use Rattle.twp_resolve.specs.PlaceFaults.{IsFirstUnlike, HasFault, number_of}
 use Rattle.twp_resolve.specs.steps.ResolvingSteps.{sections_from, lots_from, AreAdded, IsTaken}

@@ -11,7 +11,7 @@ use Rattle.std.proofs.lemmas.Option.{slice_get-get_or}
 use Rattle.twp_grid.specs.Townships.{Designation}
 use Rattle.twp_grid.specs.declared.township.NorthSouth.{NorthSouth}
 use Rattle.twp_grid.specs.declared.township.EastWest.{EastWest}
-use Rattle.twp_land.specs.Lands.{no_places, SharePlace}
+use Rattle.twp_grid.specs.Lands.{no_places, SharePlace}
 use Rattle.twp_grammar.specs.declared.item.Item.{Item}
 use Rattle.twp_grammar.specs.declared.item.Item.TheVariants as item
 use Rattle.twp_resolve.specs.declared.place_fault.PlaceFault.{PlaceFault}

@@ -8,7 +8,7 @@ use Rattle.std.proofs.Math.ListN.{get_or}
 use Rattle.std.proofs.lemmas.Bool.{cases_lt}
 use Rattle.std.proofs.lemmas.Option.{slice_get-get_or, get_or_from_slice_get}
 use Rattle.twp_grid.specs.Townships.{Designation}
-use Rattle.twp_land.specs.Lands.{no_places, intersection, union, SharePlace}
+use Rattle.twp_grid.specs.Lands.{no_places, intersection, union, SharePlace}
 use Rattle.twp_grammar.specs.declared.item.Item.{Item}
 use Rattle.twp_grammar.specs.declared.item.Item.TheVariants as item
 use Rattle.twp_grammar.specs.ItemPlaces.{ItemOfSection, item_places, item_of, parts_of, land_of}

@@ -2,7 +2,7 @@
 use Rattle.std.specs.Prelude.{◌≡◌, ℕ, ◌<◌, Bool, false, List, slice_get}
 use Rattle.std.specs.Option.{option_map_or}
 use Rattle.twp_grid.specs.Townships.{Designation}
-use Rattle.twp_land.specs.Lands.{intersection, SharePlace}
+use Rattle.twp_grid.specs.Lands.{intersection, SharePlace}
 use Rattle.twp_grammar.specs.declared.item.Item.{Item}
 use Rattle.twp_grammar.specs.ItemPlaces.{item_places, parts_of}
 use Rattle.twp_resolve.specs.declared.place_fault.PlaceFault.TheVariants as fault

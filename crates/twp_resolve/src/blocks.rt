@@ -1,5 +1,5 @@
 ghost use Rattle.std.specs.Prelude.{◌≡◌, MatchResult};
-ghost use Rattle.twp_land.specs.Lands.{Meets, block_places, union};
+ghost use Rattle.twp_grid.specs.Lands.{Meets, block_places, union};
 
 use crate::place_fault::PlaceFault;
 use twp_grid::{Block, Section};

@@ -2,7 +2,7 @@ ghost use Rattle.std.specs.Prelude.{◌≡◌, ◌≢◌, ◌↔◌, ◌⊎◌, 
 ghost use Rattle.std.specs.Prelude.{MatchResult};
 ghost use Rattle.twp_grid.specs.Places.{PLACE_DIGITS};
 ghost use Rattle.twp_grid.specs.Townships.{Designation, designation};
-ghost use Rattle.twp_land.specs.Lands.{HasWholeLots};
+ghost use Rattle.twp_grid.specs.Lands.{HasWholeLots};
 ghost use Rattle.twp_grammar.specs.ItemPlaces.{section_after};
 ghost use Rattle.twp_grammar.specs.OnPlat.{AreOnPlat, IsLandOfItems};
 ghost use Rattle.twp_resolve.specs.PlaceFaults.{IsFirstPlaceFault};

@@ -2,7 +2,7 @@ ghost use Rattle.std.specs.Prelude.{◌≡◌, ◌↔◌, ◌⊎◌, ◌<◌, le
 ghost use Rattle.std.specs.Prelude.{Some, MatchOption};
 ghost use Rattle.twp_grammar.specs.declared.item.Item.{Item as NamedItem};
 ghost use Rattle.twp_grid.specs.Places.{PLACE_DIGITS};
-ghost use Rattle.twp_land.specs.Lands.{no_places};
+ghost use Rattle.twp_grid.specs.Lands.{no_places};
 ghost use Rattle.twp_grammar.specs.Items.{BeginWithSections};
 ghost use Rattle.twp_grammar.specs.ItemPlaces.{section_after};
 ghost use Rattle.twp_resolve.specs.SharedLand.{AreRefusedForOverlap, AreFirstSharing};

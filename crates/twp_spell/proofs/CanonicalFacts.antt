@@ -8,10 +8,10 @@ use Rattle.twp_grid.specs.Winding.{IsSection}
 use Rattle.twp_grid.specs.Lots.{Lot, lots, lot_at_position}
 use Rattle.twp_grid.specs.Places.{position_along}
 use Rattle.twp_grid.specs.Townships.{Designation}
-use Rattle.twp_land.specs.Lands.{no_places}
-use Rattle.twp_land.specs.Lands.{lot_of_place}
+use Rattle.twp_grid.specs.Lands.{no_places}
+use Rattle.twp_grid.specs.Lands.{lot_of_place}
 use Rattle.twp_spell.specs.Listing.{AreListed}
-use Rattle.twp_land.specs.Lands.{off_lots}
+use Rattle.twp_grid.specs.Lands.{off_lots}
 use Rattle.twp_spell.specs.CanonicalText.{part_text, with_commas, lots_entry, HoldsSome, HoldsEach}
 use Rattle.twp_spell.specs.CanonicalText.{IsLotHeld, IsSectionList, IsSectionText, land_lines}
 use Rattle.twp_spell.specs.CanonicalText.{IsSectionOfLand, IsCanonicalText}

@@ -7,7 +7,7 @@ use Rattle.twp_grid.specs.declared.block.Side.{Side}
 use Rattle.twp_grid.specs.declared.block.Corner.{Corner}
 use Rattle.twp_grid.specs.Cuts.{AreWithin}
 use Rattle.twp_grid.specs.Places.{IsPlace}
-use Rattle.twp_land.specs.FinerLands.{cut_in_four}
+use Rattle.twp_grid.specs.FinerLands.{cut_in_four}
 use Rattle.twp_grammar.specs.ItemPlaces.{cuts_of, in_chain}
 use Rattle.twp_spell.specs.WrittenParts.{Part, steps_of_part, IsInPart, IsFull, IsChosenHalf, IsWritten}
 use Rattle.twp_spell.specs.WrittenParts.{quarter_named, address, ComesBefore, AreWrittenParts}

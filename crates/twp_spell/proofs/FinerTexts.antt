@@ -5,9 +5,9 @@ use Rattle.std.specs.List.{AllZip}
 use Rattle.twp_grid.specs.Lots.{POSITIONS_ACROSS}
 use Rattle.twp_grid.specs.Places.{places_across}
 use Rattle.twp_grid.specs.Townships.{Designation}
-use Rattle.twp_land.specs.FinerLands.{cut_in_four, finer_land}
-use Rattle.twp_land.specs.Lands.{lot_of_place, off_lots}
-use Rattle.twp_land.proofs.FinerLands.{same_lot, same_off_lots}
+use Rattle.twp_grid.specs.FinerLands.{cut_in_four, finer_land}
+use Rattle.twp_grid.specs.Lands.{lot_of_place, off_lots}
+use Rattle.twp_grid.proofs.FinerLands.{same_lot, same_off_lots}
 use Rattle.twp_spell.specs.CanonicalText.{HoldsSome, HoldsEach, IsLotHeld, IsSectionList, IsSectionText}
 use Rattle.twp_spell.specs.CanonicalText.{IsSectionOfLand, IsCanonicalText}
 use Rattle.twp_spell.specs.CanonicalText.IsSectionList.{all, by_parts}

@@ -7,7 +7,7 @@ use Rattle.twp_grid.specs.Spans.{Rectangle}
 use Rattle.twp_grid.specs.declared.block.Side.{Side}
 use Rattle.twp_grid.specs.declared.block.Corner.{Corner}
 use Rattle.twp_grid.specs.declared.block.Corner.TheVariants.{NE, NW, SW, SE}
-use Rattle.twp_land.specs.Lands.{off_lots}
+use Rattle.twp_grid.specs.Lands.{off_lots}
 use Rattle.twp_spell.specs.PartBlocks.{block_of_part, AreWrittenBlocks}
 use Rattle.twp_spell.specs.WrittenParts.{Part, IsFull, IsChosenHalf, IsOnSide}
 use Rattle.twp_spell.specs.WrittenParts.{AreWrittenParts}

@@ -4,7 +4,7 @@ use Rattle.twp_grid.specs.Winding.{IsSection}
 use Rattle.twp_grid.specs.Lots.{position_of_lot, number_of_lots}
 use Rattle.twp_grid.specs.Places.{PLACE_DIGITS, position_along}
 use Rattle.twp_grid.specs.Spans.{Rectangle, in_rectangle, whole_block}
-use Rattle.twp_land.specs.Lands.{Meets, HoldsAll}
+use Rattle.twp_grid.specs.Lands.{Meets, HoldsAll}
 use Rattle.twp_land.proofs.LotFacts.{fills, block_of}
 use Rattle.twp_spell.specs.CanonicalText.{HoldsSome, HoldsEach, IsLotHeld}
 use Rattle.twp_land.proofs.LotBlocks.{in_lot_block}

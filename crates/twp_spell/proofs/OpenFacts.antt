@@ -8,7 +8,7 @@ use Rattle.twp_grid.specs.declared.block.Side.{Side}
 use Rattle.twp_grid.specs.declared.block.Side.TheVariants.{N, S, E, W}
 use Rattle.twp_grid.specs.declared.block.Corner.{Corner}
 use Rattle.twp_grid.specs.declared.block.Corner.TheVariants.{NE, NW, SW, SE}
-use Rattle.twp_land.specs.Lands.{Meets, off_lots}
+use Rattle.twp_grid.specs.Lands.{Meets, off_lots}
 use Rattle.twp_spell.specs.WrittenParts.{IsInPart, IsFull, IsOnSide}
 use Rattle.twp_spell.specs.WrittenParts.Part.{square, half_of_square}
 use Rattle.twp_spell.specs.steps.Spelling.{IsBlockOf, AreOfSquare}

@@ -10,8 +10,8 @@ use Rattle.twp_grid.specs.declared.block.Corner.TheVariants.{NE, NW, SW, SE}
 use Rattle.twp_grid.specs.Blocks.{quarter_of}
 use Rattle.twp_grid.specs.Lots.{lot_at_position}
 use Rattle.twp_grid.specs.Places.{PLACE_DIGITS, places_to_position, position_along}
-use Rattle.twp_land.specs.Lands.{lot_of_place}
-use Rattle.twp_land.specs.Lands.{off_lots}
+use Rattle.twp_grid.specs.Lands.{lot_of_place}
+use Rattle.twp_grid.specs.Lands.{off_lots}
 use Rattle.twp_grid.specs.Spans.{Span, in_span, Rectangle}
 use Rattle.twp_grid.proofs.CutFacts.{sides_as_asked}
 use Rattle.twp_grammar.specs.ItemPlaces.{cuts_of}

@@ -3,16 +3,16 @@ use Rattle.std.proofs.Common.{◌≡◌, ℕ, ◌<◌, Bool, List, [], ◌∷◌
 use Rattle.std.proofs.Common.{subst, ◌∙◌, inl, inr, arith}
 use Rattle.std.specs.List.{flat_map}
 use Rattle.twp_grid.specs.Townships.{Designation}
-use Rattle.twp_land.specs.Lands.{HasWholeLots}
+use Rattle.twp_grid.specs.Lands.{HasWholeLots}
 use Rattle.twp_grammar.specs.declared.item.Step.TheVariants.{Half, Quarter}
 use Rattle.twp_grammar.specs.ItemPlaces.{ItemOfSection}
 use Rattle.twp_grammar.specs.ItemPlaces.{item_of}
 use Rattle.twp_spell.specs.WrittenParts.{Part, square, half_of_square, IsFull}
-use Rattle.twp_land.specs.Lands.{off_lots}
+use Rattle.twp_grid.specs.Lands.{off_lots}
 use Rattle.twp_spell.specs.CanonicalText.{part_text, with_commas, lots_entry, HoldsEach}
 use Rattle.twp_spell.specs.CanonicalText.{IsSectionList, all, by_parts, IsSectionText, IsSectionOfLand}
 use Rattle.std.proofs.lemmas.Bool.{and_parts}
-use Rattle.twp_land.specs.Lands.{lot_of_place}
+use Rattle.twp_grid.specs.Lands.{lot_of_place}
 use Rattle.std.specs.Prelude.{is_none}
 use Rattle.twp_grammar.proofs.Membership.{Among, among_contains}
 use Rattle.twp_spell.proofs.PartOrder.{full_part}

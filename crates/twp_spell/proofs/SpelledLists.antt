@@ -9,7 +9,7 @@ use Rattle.twp_grid.specs.Winding.{IsSection}
 use Rattle.twp_grid.specs.Lots.{position_of_lot}
 use Rattle.twp_grid.specs.Places.{IsPlace, is_place, position_along}
 use Rattle.twp_grid.specs.Townships.{Designation}
-use Rattle.twp_land.specs.Lands.{lot_of_place, HasWholeLots}
+use Rattle.twp_grid.specs.Lands.{lot_of_place, HasWholeLots}
 use Rattle.twp_land.proofs.LotFacts.{fills, few_lots}
 use Rattle.twp_grammar.specs.declared.item.Item.TheVariants.{Chain, All}
 use Rattle.twp_grammar.specs.ItemPlaces.{ItemOfSection, is_lot_from, in_chain, item_places}
@@ -18,7 +18,7 @@ use Rattle.twp_grammar.specs.ItemPlaces.{item_of}
 use Rattle.twp_spell.specs.Listing.{AreListed}
 use Rattle.twp_spell.specs.WrittenParts.{Part, steps_of_part, IsInPart, IsWritten, ComesBefore}
 use Rattle.twp_spell.specs.WrittenParts.{AreWrittenParts}
-use Rattle.twp_land.specs.Lands.{off_lots}
+use Rattle.twp_grid.specs.Lands.{off_lots}
 use Rattle.twp_spell.specs.CanonicalText.{HoldsEach, IsLotHeld}
 use Rattle.twp_grammar.proofs.Membership.{Among, among_contains, contains_among, among_left, among_right}
 use Rattle.twp_grammar.proofs.Membership.{among_either}

@@ -10,7 +10,7 @@ use Rattle.twp_grammar.specs.declared.item.Item.{Item}
 use Rattle.twp_grammar.specs.declared.item.Item.TheVariants.{Heading, Sections, Lots, Chain, All}
 use Rattle.twp_grammar.specs.ItemPlaces.{ItemOfSection, item_places, section_after, with_sections, parts_of}
 use Rattle.twp_grammar.specs.ItemPlaces.{land_of}
-use Rattle.twp_land.specs.Lands.{SharePlace}
+use Rattle.twp_grid.specs.Lands.{SharePlace}
 use Rattle.twp_grammar.specs.OnPlat.{LiesOnPlat, AreOnPlat}
 use Rattle.twp_grammar.specs.ItemPlaces.{item_of}
 use Rattle.twp_grammar.proofs.Membership.{Among}

@@ -10,10 +10,10 @@ use Rattle.std.proofs.lemmas.List.{append-nil, append_assoc, flat_map_more, take
 use Rattle.std.proofs.lemmas.List.Folds.{flat_map-map}
 use Rattle.twp_grid.specs.Townships.{Designation}
 use Rattle.twp_grid.specs.Winding.{IsSection}
-use Rattle.twp_land.specs.Lands.{lot_of_place, LieWithin}
+use Rattle.twp_grid.specs.Lands.{lot_of_place, LieWithin}
 use Rattle.twp_spell.specs.Listing.{AreListed}
 use Rattle.twp_spell.specs.WrittenParts.{Part, AreWrittenParts}
-use Rattle.twp_land.specs.Lands.{off_lots}
+use Rattle.twp_grid.specs.Lands.{off_lots}
 use Rattle.twp_spell.specs.CanonicalText.{part_text, with_commas, lots_entry, HoldsSome, HoldsEach}
 use Rattle.twp_spell.specs.CanonicalText.{IsLotHeld, IsSectionText, heading_line, line_end, land_lines}
 use Rattle.twp_spell.specs.CanonicalText.{IsSectionOfLand, IsCanonicalText}

@@ -10,13 +10,13 @@ use Rattle.twp_grid.specs.Cuts.{rows_asked, columns_asked}
 use Rattle.twp_grid.specs.Places.{is_place}
 use Rattle.twp_grid.specs.Spans.{Rectangle, in_rectangle}
 use Rattle.twp_grid.proofs.CutFacts.{held_as_asked, sides_as_asked}
-use Rattle.twp_land.specs.Lands.{Meets, HoldsAll}
-use Rattle.twp_land.specs.Lands.{lot_of_place}
+use Rattle.twp_grid.specs.Lands.{Meets, HoldsAll}
+use Rattle.twp_grid.specs.Lands.{lot_of_place}
 use Rattle.twp_grammar.specs.ItemPlaces.{cuts_of}
-use Rattle.twp_land.specs.Lands.{HoldsLotPlace}
+use Rattle.twp_grid.specs.Lands.{HoldsLotPlace}
 use Rattle.twp_spell.specs.WrittenParts.{Part, steps_of_part, IsInPart, IsFull}
 use Rattle.twp_spell.specs.WrittenParts.Part.{square}
-use Rattle.twp_land.specs.Lands.{off_lots}
+use Rattle.twp_grid.specs.Lands.{off_lots}
 use Rattle.twp_spell.specs.steps.Spelling.{IsBlockOf}
 use Rattle.twp_grammar.proofs.CutPlaces.{outside, inside, more_left, more_than_one}
 use Rattle.twp_spell.proofs.SquareFacts.{quarter_steps, columns_long, rows_long, square_within, square_fits}

@@ -12,12 +12,12 @@ use Rattle.twp_grammar.specs.declared.item.Step.TheVariants.{Half, Quarter}
 use Rattle.twp_spell.specs.WrittenParts.{Part, IsFull, IsChosenHalf, IsOnSide, turn_of_quarter}
 use Rattle.twp_spell.specs.WrittenParts.{AreWrittenParts}
 use Rattle.twp_spell.specs.WrittenParts.Part.{square, half_of_square}
-use Rattle.twp_land.specs.Lands.{off_lots}
+use Rattle.twp_grid.specs.Lands.{off_lots}
 use Rattle.twp_spell.specs.CanonicalText.{step_text, part_text, HoldsEach}
 use Rattle.twp_spell.specs.steps.Spelling.{quarter_on, AreOfSquare, AreOfQuarter, IsChoice, IsOffChosen}
 use Rattle.twp_spell.specs.steps.Spelling.{quarters_text, parts_text, AreWritten, IsBlockOf}
 use Rattle.twp_grid.specs.Spans.{Rectangle, whole_block}
-use Rattle.twp_land.specs.Lands.{lot_of_place}
+use Rattle.twp_grid.specs.Lands.{lot_of_place}
 use Rattle.twp_spell.proofs.SquareFacts.{square_within}
 use Rattle.twp_spell.proofs.SquarePlaces.{same_quarter}
 use Rattle.twp_spell.proofs.FullParts.{one_chosen}

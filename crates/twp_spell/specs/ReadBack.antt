@@ -1,7 +1,7 @@
 -- Laws of canonical texts: each is read back as its land, and each text belongs to only one land.
 use Rattle.std.specs.Prelude.{◌≡◌, ◌≢◌, ◌↔◌, ℕ, ◌≤◌, Bool, List, length}
 use Rattle.twp_grid.specs.Townships.{Designation, IsTownshipNumber}
-use Rattle.twp_land.specs.Lands.{no_places}
+use Rattle.twp_grid.specs.Lands.{no_places}
 use Rattle.twp_grammar.specs.declared.item.Item.{Item}
 use Rattle.twp_grammar.specs.Tokens.{Token, HasTokens}
 use Rattle.twp_grammar.specs.Sentences.{HasItems}

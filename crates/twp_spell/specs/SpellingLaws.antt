@@ -3,8 +3,8 @@ use Rattle.std.specs.Prelude.{◌≡◌, ◌↔◌, ℕ, suc, Bool, true, List, 
 use Rattle.std.specs.List.{Contains, AllPairs}
 use Rattle.twp_grid.specs.Places.{IsPlace}
 use Rattle.twp_grid.specs.Townships.{Designation}
-use Rattle.twp_land.specs.Lands.{no_places}
-use Rattle.twp_land.specs.FinerLands.{cut_in_four}
+use Rattle.twp_grid.specs.Lands.{no_places}
+use Rattle.twp_grid.specs.FinerLands.{cut_in_four}
 use Rattle.twp_spell.specs.CanonicalText.{IsCanonicalText}
 use Rattle.twp_spell.specs.WrittenParts.{Part, IsInPart, AreWrittenParts}
 

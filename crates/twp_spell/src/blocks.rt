@@ -3,7 +3,7 @@ ghost use Rattle.std.specs.Prelude.{◌≡◌, ◌++◌, [], ◌∷◌, List, If
 ghost use Rattle.twp_grid.specs.Blocks.{CanQuarter, half_of};
 ghost use Rattle.twp_grid.specs.Places.{PLACE_DIGITS};
 ghost use Rattle.twp_grid.specs.declared.block.Corner.{Corner};
-ghost use Rattle.twp_land.specs.Lands.{off_lots};
+ghost use Rattle.twp_grid.specs.Lands.{off_lots};
 ghost use Rattle.twp_spell.specs.PartBlocks.{AreWrittenBlocks};
 ghost use Rattle.twp_spell.specs.WrittenParts.{IsFull};
 ghost use Rattle.twp_spell.specs.WrittenParts.Part.{square};

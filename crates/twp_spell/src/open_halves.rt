@@ -7,7 +7,7 @@ ghost use Rattle.twp_grid.specs.declared.block.Side.TheVariants.{N, S, E, W};
 ghost use Rattle.twp_grid.specs.declared.block.Corner.{Corner};
 ghost use Rattle.twp_spell.specs.WrittenParts.{IsFull};
 ghost use Rattle.twp_spell.specs.WrittenParts.Part.{square};
-ghost use Rattle.twp_land.specs.Lands.{off_lots};
+ghost use Rattle.twp_grid.specs.Lands.{off_lots};
 ghost use Rattle.twp_spell.specs.steps.Spelling.{IsBlockOf, AreFull};
 ghost use Rattle.twp_spell.specs.steps.OpenHalves.{open_at, IsClosed, AreOpen};
 

@@ -6,7 +6,7 @@ ghost use Rattle.twp_grid.specs.Spans.{whole_block};
 ghost use Rattle.twp_grid.specs.declared.block.Corner.{Corner};
 ghost use Rattle.twp_spell.specs.WrittenParts.{Part, IsFull, AreWrittenParts};
 ghost use Rattle.twp_spell.specs.WrittenParts.Part.{square};
-ghost use Rattle.twp_land.specs.Lands.{off_lots};
+ghost use Rattle.twp_grid.specs.Lands.{off_lots};
 ghost use Rattle.twp_spell.specs.CanonicalText.{HoldsEach};
 ghost use Rattle.twp_spell.specs.steps.Spelling.{IsBlockOf, AreOfSquare, AreOfQuarter};
 ghost use Rattle.twp_spell.specs.steps.OpenHalves.{AreOpen};

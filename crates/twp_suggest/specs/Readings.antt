@@ -3,7 +3,7 @@
 use Rattle.std.specs.Prelude.{◌≡◌, ◌≤◌, ℕ, Bool, List, [], ◌∷◌, length, map}
 use Rattle.std.specs.Prelude.{All, AllPairs}
 use Rattle.twp_grid.specs.Townships.{Designation}
-use Rattle.twp_land.specs.Lands.{SamePlaces}
+use Rattle.twp_grid.specs.Lands.{SamePlaces}
 use Rattle.twp_described.specs.Descriptions.{IsAccepted, IsClear, IsDescribed, IsLandOfText}
 use Rattle.twp_rules.specs.Changes.{AreChangesFrom, changed_from, seen}
 use Rattle.twp_suggest.specs.declared.reading.Reading.{Reading}

@@ -4,7 +4,7 @@ use Rattle.std.specs.Prelude.{⊤, [], ◌∷◌, ◌++◌}
 use Rattle.std.specs.List.{All}
 use Rattle.twp_grid.specs.Places.{PLACE_DIGITS}
 use Rattle.twp_grid.specs.Townships.{Designation}
-use Rattle.twp_land.specs.Lands.{HasWholeLots, SharePlace, intersection}
+use Rattle.twp_grid.specs.Lands.{HasWholeLots, SharePlace, intersection}
 use Rattle.twp_notes.specs.Records.{Fields, record_at}
 use Rattle.twp_plat.specs.Plats.{TownshipPlat}
 use Rattle.twp_acres.specs.Answers.{AreHundredthsOf, Describe}

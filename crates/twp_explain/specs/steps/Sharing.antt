@@ -1,7 +1,7 @@
 -- Which tracts of a list share land.
 use Rattle.std.specs.Prelude.{◌≡◌, ℕ, ◌-◌, ◌≤◌, ◌<◌, Bool, List}
 use Rattle.twp_grid.specs.Townships.{Designation}
-use Rattle.twp_land.specs.Lands.{intersection}
+use Rattle.twp_grid.specs.Lands.{intersection}
 use Rattle.twp_notes.specs.Records.{Fields, record_at}
 use Rattle.twp_acres.specs.Tracts.{Overlap, tract_records}
 use Rattle.twp_diagnose.specs.RecordFields.{number_listed, IsListedAt}

@@ -1,6 +1,6 @@
 -- Three tests of how two sets of places relate, and whether one section's lots are whole.
 use Rattle.std.specs.Prelude.{◌↔◌, ℕ, Bool, IsTrue}
-use Rattle.twp_land.specs.Lands.{SharePlace, ContainsAll, IsWholeOrNot}
+use Rattle.twp_grid.specs.Lands.{SharePlace, ContainsAll, IsWholeOrNot}
 use Rattle.twp_land.specs.declared.relation.Relation.{Relation}
 
 -- the tests are those of these two sets

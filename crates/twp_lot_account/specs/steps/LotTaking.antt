@@ -3,7 +3,7 @@
 use Rattle.std.specs.Prelude.{◌≡◌, ◌⊎◌, ℕ, ◌<◌, ◌≤◌, Bool, List, length, ⊤}
 use Rattle.twp_measure.specs.Areas.{Fraction}
 use Rattle.twp_grid.specs.Places.{PLACE_DIGITS}
-use Rattle.twp_land.specs.Lands.{SharePlace}
+use Rattle.twp_grid.specs.Lands.{SharePlace}
 use Rattle.twp_lots.specs.LotAreas.{HasFigures}
 use Rattle.twp_lots.specs.LotTables.{ReturnedLots}
 use Rattle.twp_notes.specs.Records.{Fields}

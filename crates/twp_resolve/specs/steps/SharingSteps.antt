@@ -1,7 +1,7 @@
 -- The result of each step of the search for two items that share land.
 use Rattle.std.specs.Prelude.{◌≡◌, ℕ, ◌<◌, Bool, List, Some, slice_get}
 use Rattle.twp_grid.specs.Townships.{Designation}
-use Rattle.twp_land.specs.Lands.{intersection, SharePlace}
+use Rattle.twp_grid.specs.Lands.{intersection, SharePlace}
 use Rattle.twp_grammar.specs.declared.item.Item.{Item}
 use Rattle.twp_grammar.specs.ItemPlaces.{item_of, parts_of}
 use Rattle.twp_resolve.specs.declared.place_fault.PlaceFault.{PlaceFault}

@@ -1,6 +1,6 @@
 use Rattle.std.proofs.Common.{◌≡◌}
 use Rattle.twp_grid.specs.Places.{PLACE_DIGITS}
-use Rattle.twp_land.specs.Lands.{union}
+use Rattle.twp_grid.specs.Lands.{union}
 use Rattle.twp_grammar.specs.ItemPlaces.{item_of, item_places}
 use Rattle.twp_grammar.specs.declared.item.Item.TheVariants.{Chain, All}
 use Rattle.twp_resolve.specs.steps.ResolvingSteps.{number_of_section}

@@ -1,6 +1,6 @@
 use Rattle.std.proofs.Common.{subst}
 use Rattle.twp_grid.specs.Places.{PLACE_DIGITS}
-use Rattle.twp_land.specs.Lands.{HasWholeLots}
+use Rattle.twp_grid.specs.Lands.{HasWholeLots}
 use Rattle.twp_described.proofs.named.land_with_lots.Goals as goal
 
 pub returns-then-lots_whole-clause-whole : goal.returns-then-lots_whole-clause-whole

@@ -2,7 +2,7 @@
 use Rattle.std.proofs.Common.{◌≡◌, ◌-◌, ◌+◌, ◌≤◌, Some, sym, subst, ◌∙◌, arith}
 use Rattle.twp_grid.specs.Lots.{position_of_lot, number_of_lots}
 use Rattle.twp_grid.specs.Places.{PLACE_DIGITS}
-use Rattle.twp_land.specs.Lands.{difference}
+use Rattle.twp_grid.specs.Lands.{difference}
 use Rattle.twp_land.proofs.LotFacts.{few_lots, block_of}
 use Rattle.twp_resolve.specs.steps.ResolvingSteps.{lots_from}
 use Rattle.twp_diagnose.proofs.PartFacts.{none_taken, one_more_taken}

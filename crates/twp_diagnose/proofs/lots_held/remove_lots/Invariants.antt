@@ -1,6 +1,6 @@
 use Rattle.std.proofs.Common.{◌≡◌, ◌-◌, ◌≤◌}
 use Rattle.twp_grid.specs.Places.{PLACE_DIGITS}
-use Rattle.twp_land.specs.Lands.{difference}
+use Rattle.twp_grid.specs.Lands.{difference}
 use Rattle.twp_resolve.specs.steps.ResolvingSteps.{lots_from}
 use Rattle.twp_diagnose.proofs.lots_held.remove_lots.Given as goal
 

@@ -1,6 +1,6 @@
 use Rattle.std.proofs.Common.{ℕ, ◌<◌}
 use Rattle.twp_grid.specs.Places.{PLACE_DIGITS}
-use Rattle.twp_land.specs.Lands.{IsWholeOrNot}
+use Rattle.twp_grid.specs.Lands.{IsWholeOrNot}
 use Rattle.twp_land.proofs.lots.has_whole_lots.Given as goal
 
 abbrev pub invariant-loop-lot : goal.invariant-loop-lot

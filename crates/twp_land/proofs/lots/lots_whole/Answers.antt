@@ -3,7 +3,7 @@ use Rattle.std.proofs.Common.{◌≡◌, ℕ, ◌+◌, ◌-◌, [], get_or, ap, 
 use Rattle.std.proofs.lemmas.Bool.{cases_lt}
 use Rattle.twp_grid.specs.Winding.{IsSection}
 use Rattle.twp_grid.specs.Places.{PLACE_DIGITS}
-use Rattle.twp_land.specs.Lands.{IsWholeOrNot}
+use Rattle.twp_grid.specs.Lands.{IsWholeOrNot}
 use Rattle.twp_land.specs.Storage.{held_by_lane, land_of_rows}
 use Rattle.twp_land.proofs.LandFacts.{kept_at}
 use Rattle.twp_land.proofs.LotFacts.{section_is}

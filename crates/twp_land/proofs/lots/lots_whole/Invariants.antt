@@ -1,6 +1,6 @@
 use Rattle.std.proofs.Common.{ℕ, ◌<◌, get_or}
 use Rattle.twp_grid.specs.Places.{PLACE_DIGITS}
-use Rattle.twp_land.specs.Lands.{IsWholeOrNot}
+use Rattle.twp_grid.specs.Lands.{IsWholeOrNot}
 use Rattle.twp_land.specs.Storage.{land_of_rows}
 use Rattle.twp_land.proofs.LotSections.{lot_sections}
 use Rattle.twp_land.proofs.lots.lots_whole.Given as goal

@@ -1,6 +1,6 @@
 -- The places of one more section are made.
 use Rattle.std.proofs.Common.{◌≡◌, ℕ, ◌+◌, ◌&&◌, [], refl, sym, ◌∙◌, arith, length-set}
-use Rattle.twp_land.specs.Lands.{intersection}
+use Rattle.twp_grid.specs.Lands.{intersection}
 use Rattle.twp_land.specs.Storage.{held_by_lane, land_of_rows, held_by_both}
 use Rattle.twp_land.proofs.LandFacts.{kept_at}
 use Rattle.twp_land.proofs.RowLands.{to_all}

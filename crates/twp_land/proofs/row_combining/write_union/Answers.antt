@@ -1,6 +1,6 @@
 -- The places of one more section are made.
 use Rattle.std.proofs.Common.{◌≡◌, ℕ, ◌+◌, ◌||◌, [], refl, sym, ◌∙◌, arith, length-set}
-use Rattle.twp_land.specs.Lands.{union}
+use Rattle.twp_grid.specs.Lands.{union}
 use Rattle.twp_land.specs.Storage.{held_by_lane, land_of_rows, held_by_either}
 use Rattle.twp_land.proofs.LandFacts.{kept_at}
 use Rattle.twp_land.proofs.RowLands.{to_all}

@@ -1,6 +1,6 @@
 use Rattle.std.proofs.Common.{◌≡◌, length}
 use Rattle.twp_grid.specs.Winding.{SECTION_COUNT}
-use Rattle.twp_land.specs.Lands.{union}
+use Rattle.twp_grid.specs.Lands.{union}
 use Rattle.twp_land.specs.Storage.{land_of_rows}
 use Rattle.twp_land.proofs.RowLands.{places_to}
 use Rattle.twp_land.proofs.row_combining.write_union.Given as goal

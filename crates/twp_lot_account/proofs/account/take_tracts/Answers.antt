@@ -5,7 +5,7 @@ use Rattle.std.proofs.lemmas.Result.{err_from_is_err_and}
 use Rattle.twp_notes.specs.Records.{record_at, records_left}
 use Rattle.twp_notes.proofs.Taking.{next_record_is, no_record_left}
 use Rattle.twp_grid.specs.Places.{PLACE_DIGITS}
-use Rattle.twp_land.specs.Lands.{no_places}
+use Rattle.twp_grid.specs.Lands.{no_places}
 use Rattle.twp_lots.specs.LotAreas.{HasFigures}
 use Rattle.twp_acres.specs.EarlierTracts.{earlier_of, AreEarlier}
 use Rattle.twp_acres.proofs.EarlierFacts.{next_earlier}

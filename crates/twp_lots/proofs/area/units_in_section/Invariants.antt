@@ -2,7 +2,7 @@ use Rattle.std.proofs.Common.{◌≡◌, ◌+◌, ◌-◌, ◌*◌, ◌≤◌}
 use Rattle.twp_grid.specs.Places.{PLACE_DIGITS}
 use Rattle.twp_grid.specs.Spans.{whole_block}
 use Rattle.twp_grid.specs.Spans.{over_positions}
-use Rattle.twp_land.specs.Lands.{count_held}
+use Rattle.twp_grid.specs.Lands.{count_held}
 use Rattle.twp_plat.proofs.SectionSums.{of_lots, places_where, piece_where}
 use Rattle.twp_lots.specs.steps.SectionUnits.{position_units_by, LOT_UNITS_MOST}
 use Rattle.twp_lots.proofs.area.units_in_section.Given as goal

@@ -1,7 +1,7 @@
 use Rattle.std.proofs.Common.{◌≡◌, ℕ, ◌+◌, ◌-◌, ◌*◌, ◌≤◌}
 use Rattle.twp_grid.specs.Places.{PLACE_DIGITS}
 use Rattle.twp_grid.specs.Spans.{whole_block}
-use Rattle.twp_land.specs.Lands.{count_held}
+use Rattle.twp_grid.specs.Lands.{count_held}
 use Rattle.twp_plat.specs.Closing.{CLOSING_MOST}
 use Rattle.twp_grid.specs.Spans.{over_positions}
 use Rattle.twp_plat.specs.steps.Accounts.{over_by, AreUnitsBy}

@@ -2,7 +2,7 @@
 use Rattle.std.proofs.Common.{[], sym, ◌∙◌}
 use Rattle.std.proofs.lemmas.Bool.{false≢true}
 use Rattle.twp_grid.specs.Places.{PLACE_DIGITS}
-use Rattle.twp_land.specs.Lands.{off_lots}
+use Rattle.twp_grid.specs.Lands.{off_lots}
 use Rattle.twp_spell.specs.WrittenParts.Part.{square}
 use Rattle.twp_spell.proofs.GatheringFacts.{section_gathered, whole_gathered}
 use Rattle.twp_spell.proofs.WritingFacts.{whole_of}

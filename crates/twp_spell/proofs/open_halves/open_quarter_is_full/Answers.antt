@@ -2,7 +2,7 @@
 use Rattle.std.proofs.Common.{sym, ◌∙◌}
 use Rattle.std.proofs.lemmas.Bool.{false≢true}
 use Rattle.twp_grid.specs.Places.{PLACE_DIGITS}
-use Rattle.twp_land.specs.Lands.{off_lots}
+use Rattle.twp_grid.specs.Lands.{off_lots}
 use Rattle.twp_spell.proofs.OpenFacts.{closed_not_full}
 use Rattle.twp_spell.proofs.SquareBlocks.{deeper}
 use Rattle.twp_spell.proofs.open_halves.open_quarter_is_full.Goals as goal

@@ -5,7 +5,7 @@ use Rattle.twp_grammar.specs.declared.item.Step.TheVariants.{Quarter}
 use Rattle.std.proofs.lemmas.Bool.{false≢true}
 use Rattle.twp_grid.specs.Places.{PLACE_DIGITS}
 use Rattle.twp_spell.specs.WrittenParts.Part.{square}
-use Rattle.twp_land.specs.Lands.{off_lots}
+use Rattle.twp_grid.specs.Lands.{off_lots}
 use Rattle.twp_spell.specs.steps.Spelling.{AreOfSquare}
 use Rattle.twp_spell.proofs.DescentLists.{of_empty}
 use Rattle.twp_spell.proofs.HalfQuarters.{choice_made}

@@ -1,7 +1,7 @@
 -- The section is the largest square.
 use Rattle.std.proofs.Common.{[], arith}
 use Rattle.twp_grid.specs.Places.{PLACE_DIGITS}
-use Rattle.twp_land.specs.Lands.{off_lots}
+use Rattle.twp_grid.specs.Lands.{off_lots}
 use Rattle.twp_spell.specs.WrittenParts.{IsFull}
 use Rattle.twp_spell.specs.WrittenParts.Part.{square}
 use Rattle.twp_spell.proofs.WritingFacts.{section_written, quarters_written, whole_held, whole_of}

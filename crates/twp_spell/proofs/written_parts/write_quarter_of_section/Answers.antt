@@ -4,7 +4,7 @@ use Rattle.std.proofs.lemmas.Bool.{false≢true}
 use Rattle.twp_grid.specs.Places.{PLACE_DIGITS}
 use Rattle.twp_grid.specs.Spans.{whole_block}
 use Rattle.twp_grammar.specs.declared.item.Step.TheVariants.{Quarter}
-use Rattle.twp_land.specs.Lands.{off_lots}
+use Rattle.twp_grid.specs.Lands.{off_lots}
 use Rattle.twp_spell.specs.CanonicalText.{step_text}
 use Rattle.twp_spell.specs.WrittenParts.Part.{square}
 use Rattle.twp_spell.specs.steps.Spelling.{IsBlockOf}

@@ -1,7 +1,7 @@
 -- The rows are those of land, or contain part of a lot.
 use Rattle.std.proofs.Common.{subst, sym}
 use Rattle.twp_grid.specs.Places.{PLACE_DIGITS}
-use Rattle.twp_land.specs.Lands.{HasWholeLots}
+use Rattle.twp_grid.specs.Lands.{HasWholeLots}
 use Rattle.twp_calls.proofs.land.TownshipLand.land.Goals as goal
 
 pub returns-in_default : goal.returns-in_default

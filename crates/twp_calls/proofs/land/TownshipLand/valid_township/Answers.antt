@@ -1,7 +1,7 @@
 -- The data is land as it stands, or contains part of a lot.
 use Rattle.std.proofs.Common.{refl, subst}
 use Rattle.twp_grid.specs.Places.{PLACE_DIGITS}
-use Rattle.twp_land.specs.Lands.{HasWholeLots}
+use Rattle.twp_grid.specs.Lands.{HasWholeLots}
 use Rattle.twp_calls.proofs.land.TownshipLand.valid_township.Goals as goal
 
 pub returns-then-not-lots_whole : goal.returns-then-not-lots_whole

@@ -1,6 +1,6 @@
 use Rattle.std.proofs.Common.{◌≡◌, ◌+◌, length}
 use Rattle.twp_grid.specs.Winding.{SECTION_COUNT}
-use Rattle.twp_land.specs.Lands.{LieWithin}
+use Rattle.twp_grid.specs.Lands.{LieWithin}
 use Rattle.twp_land.specs.Storage.{held_by_section}
 use Rattle.twp_land.proofs.sections.SectionsLand.clear.Given as goal
 

@@ -1,5 +1,5 @@
 use Rattle.std.proofs.Common.{arith}
-use Rattle.twp_land.specs.Lands.{block_places}
+use Rattle.twp_grid.specs.Lands.{block_places}
 use Rattle.twp_land.proofs.LandFacts.{removed_where_kept}
 use Rattle.twp_land.proofs.LandRanges.{removed_within}
 use Rattle.twp_land.proofs.sections.SectionsLand.remove.Goals as goal

@@ -1,7 +1,7 @@
 -- Rows of bits are land only if they contain each lot wholly or not at all.
 use Rattle.std.proofs.Common.{subst, sym}
 use Rattle.twp_grid.specs.Places.{PLACE_DIGITS}
-use Rattle.twp_land.specs.Lands.{HasWholeLots}
+use Rattle.twp_grid.specs.Lands.{HasWholeLots}
 use Rattle.twp_trials.proofs.trials.parcels.print_parcel.Goals as goal
 
 pub acres_of-requires : goal.acres_of-requires

@@ -6,9 +6,9 @@ use Rattle.twp_grid.specs.Places.{places_across, position_along}
 use Rattle.twp_grid.specs.Spans.{whole_block, position_block}
 use Rattle.twp_grid.specs.Spans.{one_where}
 use Rattle.twp_grid.proofs.FinerPlaces.{same_position, whole_finer, position_finer}
-use Rattle.twp_land.specs.Lands.{count_held}
-use Rattle.twp_land.specs.FinerLands.{cut_in_four}
-use Rattle.twp_land.specs.Lands.{lot_of_place, off_lots}
+use Rattle.twp_grid.specs.Lands.{count_held}
+use Rattle.twp_grid.specs.FinerLands.{cut_in_four}
+use Rattle.twp_grid.specs.Lands.{lot_of_place, off_lots}
 
 -- a place lies in the same lot as the larger place that contains it
 pub same_lot : (g section column row : ℕ) → POSITIONS_ACROSS ≤ places_across g
