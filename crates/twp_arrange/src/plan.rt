@@ -1,7 +1,8 @@
 //! What a text is to become: its phrases, and what was found of how they go together.
 
 use std::alloc::{AllocError, Global};
-use twp_phrases::Draft;
+use twp_draft::Draft;
+use twp_phrases::phrases_of;
 
 /// The phrases of a text, which are arranged.
 #[derive(Drop)]
@@ -15,10 +16,9 @@ impl<'a> Plan<'a> {
     /// The phrases of a text.
     pub fn of(alloc: Global, text: &'a [u8]) -> Result<Plan<'a>, AllocError> {
         let mut plan = Plan {
-            draft: Draft::new(alloc, text)?,
+            draft: phrases_of(alloc, text)?,
             has_exact_acreage: false,
         };
-        plan.draft.find_phrases()?;
         plan.doubt_together();
         Ok(plan)
     }
