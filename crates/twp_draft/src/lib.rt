@@ -4,8 +4,10 @@
 #![tactic(auto)]
 
 mod draft;
+mod finds_phrases;
 mod headings;
 mod numerals;
 mod steps;
 
 pub use draft::{Claim, Claimed, Draft, Extent, Form, Names, Numeral, Phrase, PlacedStep, Span};
+pub use finds_phrases::FindsPhrases;

@@ -1,14 +1,18 @@
 //! The search for the phrases of a text: the draft of it, and what only the search has to know.
 
 use std::alloc::{AllocError, Global};
-use twp_draft::Draft;
+use twp_draft::{Draft, FindsPhrases};
 
-/// The draft of a text, with the phrases that are found in it, by a search from left to right.
-pub fn phrases_of<'a>(alloc: Global, text: &'a [u8]) -> Result<Draft<'a>, AllocError> {
-    let mut finder = Finder::new(alloc, text)?;
-    finder.add_phrases();
-    finder.draft.all_added()?;
-    Ok(finder.draft)
+/// Finds the phrases of a text, by a search from left to right.
+pub struct Phrases;
+
+impl FindsPhrases for Phrases {
+    fn phrases_of<'a>(alloc: Global, text: &'a [u8]) -> Result<Draft<'a>, AllocError> {
+        let mut finder = Finder::new(alloc, text)?;
+        finder.add_phrases();
+        finder.draft.all_added()?;
+        Ok(finder.draft)
+    }
 }
 
 /// A search for phrases. How phrases of one kind are found is in the module for that kind.

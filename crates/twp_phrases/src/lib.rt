@@ -19,4 +19,4 @@ mod sure;
 mod whole;
 mod worded;
 
-pub use finder::phrases_of;
+pub use finder::Phrases;
