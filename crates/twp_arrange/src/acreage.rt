@@ -3,8 +3,8 @@
 
 use crate::placed::{Placed, Role};
 use crate::plan::Plan;
+use twp_draft::{Names, Phrase};
 use twp_grammar::Kind;
-use twp_phrases::{Names, Phrase};
 use twp_pieces::{is_of_count, plus, value_of_count};
 use twp_rules::Rule;
 

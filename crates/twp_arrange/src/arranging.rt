@@ -4,8 +4,8 @@ use crate::placed::{Placed, Role, has_except};
 use crate::plan::Plan;
 use std::alloc::{AllocError, Global};
 use std::mem;
+use twp_draft::{Names, Phrase, Span};
 use twp_grammar::Kind;
-use twp_phrases::{Names, Phrase, Span};
 use twp_pieces::plus;
 
 impl<'a> Plan<'a> {

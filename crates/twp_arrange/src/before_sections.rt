@@ -2,8 +2,8 @@
 
 use crate::placed::{Placed, Role};
 use crate::plan::Plan;
+use twp_draft::{Form, Names, Phrase};
 use twp_grammar::Kind;
-use twp_phrases::{Form, Names, Phrase};
 
 impl<'a> Plan<'a> {
     /// Places land before which its section is written.

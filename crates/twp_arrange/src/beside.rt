@@ -2,8 +2,8 @@
 //! `Lots 1-4, 6 PM`.
 
 use crate::plan::Plan;
+use twp_draft::{Names, Phrase};
 use twp_grammar::Kind;
-use twp_phrases::{Names, Phrase};
 use twp_pieces::plus;
 use twp_rules::Rule;
 

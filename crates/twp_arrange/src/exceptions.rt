@@ -2,7 +2,7 @@
 
 use crate::placed::Placed;
 use crate::plan::Plan;
-use twp_phrases::{Names, Phrase};
+use twp_draft::{Names, Phrase};
 use twp_pieces::plus;
 
 impl<'a> Plan<'a> {

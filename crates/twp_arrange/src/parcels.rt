@@ -1,8 +1,8 @@
 //! The numbers of parcels, in which a township and a section are written, as in `RP02N03W092400`.
 
 use crate::plan::Plan;
+use twp_draft::{Names, Span};
 use twp_grammar::Kind;
-use twp_phrases::{Names, Span};
 use twp_pieces::{plus, value_of};
 use twp_rules::Rule;
 

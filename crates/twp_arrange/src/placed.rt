@@ -1,6 +1,6 @@
 //! The phrases of a text with what becomes of them.
 
-use twp_phrases::{Names, Phrase, Span};
+use twp_draft::{Names, Phrase, Span};
 
 /// What becomes of a phrase.
 #[derive(Clone, Copy, PartialEq, Eq)]

@@ -1,7 +1,6 @@
 //! What a text is to become: its phrases, and what was found of how they go together.
 
-use std::alloc::{AllocError, Global};
-use twp_phrases::Draft;
+use twp_draft::Draft;
 
 /// The phrases of a text, which are arranged.
 #[derive(Drop)]
@@ -12,14 +11,13 @@ pub struct Plan<'a> {
 }
 
 impl<'a> Plan<'a> {
-    /// The phrases of a text.
-    pub fn of(alloc: Global, text: &'a [u8]) -> Result<Plan<'a>, AllocError> {
+    /// A plan for the phrases of a draft, which are doubted if they aren't sure together.
+    pub fn of(draft: Draft<'a>) -> Plan<'a> {
         let mut plan = Plan {
-            draft: Draft::new(alloc, text)?,
+            draft,
             has_exact_acreage: false,
         };
-        plan.draft.find_phrases()?;
         plan.doubt_together();
-        Ok(plan)
+        plan
     }
 }

@@ -2,8 +2,8 @@
 
 use crate::placed::{Placed, Role};
 use crate::plan::Plan;
+use twp_draft::Names;
 use twp_grammar::Kind;
-use twp_phrases::Names;
 use twp_pieces::plus;
 
 impl<'a> Plan<'a> {

@@ -2,8 +2,8 @@
 //! isn't.
 
 use crate::plan::Plan;
+use twp_draft::{Form, Names, Phrase};
 use twp_grammar::Kind;
-use twp_phrases::{Form, Names, Phrase};
 use twp_pieces::{begins_terms, plus};
 use twp_rules::Rule;
 

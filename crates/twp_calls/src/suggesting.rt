@@ -10,6 +10,7 @@ use crate::answer::TownshipAnswer;
 use crate::suggestion::{TownshipChange, TownshipReading, TownshipSuggestion};
 use crate::verdict::{ACCEPTED, NO_MEMORY, NO_ROOM};
 use std::alloc::{AllocError, Global};
+use twp_phrases::Phrases;
 use twp_suggest::{Beyond, Change, Manner, Reading, Rule, beyond_of, readings_of};
 
 /// What is to be written for the caller.
@@ -93,7 +94,7 @@ fn put_found(
 fn found_in(alloc: Global, description: &[u8]) -> Result<Found, AllocError>
     ensures { IfOk result (IsFound description.now) }
 {
-    let readings = readings_of(alloc, description)?;
+    let readings = readings_of::<Phrases>(alloc, description)?;
     if readings.is_empty() {
         return no_readings(alloc, description);
     }

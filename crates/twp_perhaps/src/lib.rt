@@ -4,6 +4,7 @@
 use std::alloc::{AllocError, Global};
 use twp_excerpt::{columns_of, write_escaped};
 use twp_explain_text::Suggests;
+use twp_phrases::Phrases;
 use twp_repairs::{ADVICE_ROOM, TEXT_WIDTH};
 use twp_suggest::{Reading, Rule, readings_of};
 
@@ -25,7 +26,7 @@ fn write_perhaps(alloc: Global, text: &[u8], advice: &mut String) -> Result<(), 
     if text.len() > SHORT {
         return Ok(());
     }
-    let readings = readings_of(alloc, text)?;
+    let readings = readings_of::<Phrases>(alloc, text)?;
     let [reading] = readings.as_slice() else {
         return Ok(());
     };

@@ -1,6 +1,7 @@
 //! What is left out: the meridian, acreage, labels, and land that is repeated in parentheses.
 
-use crate::draft::{Claim, Claimed, Draft, Form, Names, Phrase, PlacedStep, Span};
+use crate::finder::Finder;
+use twp_draft::{Claimed, Form, Names, Phrase, Span};
 use twp_grammar::Kind;
 use twp_pieces::plus;
 use twp_remarks::end_of_trailer;
@@ -9,13 +10,13 @@ use twp_rules::Rule;
 /// The number of a township's last section: a number up to this in parentheses isn't acreage.
 const SECTIONS: u16 = 36;
 
-impl<'a> Draft<'a> {
+impl<'a> Finder<'a> {
     /// What is left out at an index.
-    pub fn aside(&mut self, index: usize) -> Option<Phrase> {
-        let pieces = &self.pieces;
-        let from = self.extent();
+    pub(crate) fn aside(&mut self, index: usize) -> Option<Phrase> {
+        let from = self.draft.extent();
+        let pieces = &self.draft.pieces;
         if let Some((rule, end)) = self.end_of_aside(index) {
-            return Some(self.phrase(Names::Nothing(rule), index, end, from));
+            return Some(self.draft.phrase(Names::Nothing(rule), index, end, from));
         }
         if matches!(pieces.kind(index), Kind::Number(_)) {
             return None;
@@ -24,7 +25,7 @@ impl<'a> Draft<'a> {
             if let Some(phrase) = self.repeated(index) {
                 return Some(phrase);
             }
-            self.shrink(from);
+            self.draft.shrink(from);
         }
         self.being(index)
     }
@@ -32,8 +33,8 @@ impl<'a> Draft<'a> {
     /// `being` at an index, also in parentheses, with all land that was named before it, as in
     /// `All, being Lots 1 thru 7, ..`
     fn being(&mut self, index: usize) -> Option<Phrase> {
-        let pieces = &self.pieces;
-        let from = self.extent();
+        let from = self.draft.extent();
+        let pieces = &self.draft.pieces;
         let is_in_parentheses = pieces.is(index, b"(");
         let word = if is_in_parentheses {
             plus(index, 1)
@@ -46,7 +47,7 @@ impl<'a> Draft<'a> {
         }
         let mut end = first;
         let mut has_more = true;
-        for _ in 0..self.pieces.len() {
+        for _ in 0..self.draft.pieces.len() {
             if !has_more {
                 break;
             }
@@ -60,13 +61,15 @@ impl<'a> Draft<'a> {
             has_more = self.is_before_more_land(land.end);
             end = plus(land.end, usize::from(has_more));
         }
-        let is_closed = self.pieces.is(end, b")");
+        let is_closed = self.draft.pieces.is(end, b")");
         if is_closed != is_in_parentheses || !(is_closed || self.is_last_of_item(end)) {
             return None;
         }
         let last = plus(end, usize::from(is_closed));
-        let land = self.phrase(Names::Nothing(Rule::Repeated), index, last, from);
-        self.add_claim(
+        let land = self
+            .draft
+            .phrase(Names::Nothing(Rule::Repeated), index, last, from);
+        self.draft.add_claim(
             index,
             Claimed::Land {
                 pieces: Span { first, end },
@@ -78,7 +81,7 @@ impl<'a> Draft<'a> {
 
     /// Whether a comma, or `and`, is at an index, and more land after it.
     fn is_before_more_land(&self, index: usize) -> bool {
-        let pieces = &self.pieces;
+        let pieces = &self.draft.pieces;
         let next = plus(index, 1);
         (pieces.is(index, b",") || pieces.is(index, b"and"))
             && (pieces.begins_part(next) || matches!(pieces.kind(next), Kind::Lot))
@@ -86,7 +89,7 @@ impl<'a> Draft<'a> {
 
     /// Whether an item or a line ends before an index.
     fn is_last_of_item(&self, index: usize) -> bool {
-        let pieces = &self.pieces;
+        let pieces = &self.draft.pieces;
         index >= pieces.len()
             || pieces.is(index, b";")
             || pieces.is(index, b".")
@@ -96,10 +99,10 @@ impl<'a> Draft<'a> {
 
     /// What is left out at an index, if it doesn't repeat land: its rule, and where it ends.
     fn end_of_aside(&self, index: usize) -> Option<(Rule, usize)> {
-        let pieces = &self.pieces;
+        let pieces = &self.draft.pieces;
         // After all of a section, or after acreage, the dash may be a minus.
         let may_be_minus = matches!(
-            self.last_names(),
+            self.draft.last_names(),
             Some(Names::All | Names::Nothing(Rule::Acreage))
         );
         let is_figure = pieces.number(index).is_some();
@@ -134,13 +137,13 @@ impl<'a> Draft<'a> {
         if let Some(end) = pieces.end_of_meridian(index) {
             return Some((Rule::Meridian, end));
         }
-        if self.last_names() == Some(Names::Heading) {
+        if self.draft.last_names() == Some(Names::Heading) {
             if let Some(end) = pieces.end_of_bare_meridian(index) {
                 return Some((Rule::Meridian, end));
             }
         }
         if self.names_land {
-            if self.last_names() != Some(Names::Sections) {
+            if self.draft.last_names() != Some(Names::Sections) {
                 if let Some(end) = pieces.end_of_share_in_cell(index) {
                     return Some((Rule::Label, end));
                 }
@@ -148,7 +151,7 @@ impl<'a> Draft<'a> {
             if let Some(end) = pieces.end_of_last_figure(index) {
                 return Some((Rule::Acreage, end));
             }
-            if let Some(end) = end_of_trailer(&self.pieces, index) {
+            if let Some(end) = end_of_trailer(&self.draft.pieces, index) {
                 return Some((Rule::Label, end));
             }
         }
@@ -161,7 +164,7 @@ impl<'a> Draft<'a> {
 
     /// The same, of what begins with a word for a column, or with a mark.
     fn end_of_marked(&self, index: usize, may_be_minus: bool) -> Option<(Rule, usize)> {
-        let pieces = &self.pieces;
+        let pieces = &self.draft.pieces;
         if let Some(end) = pieces.end_of_column_label(index) {
             let is_part = pieces.is(plus(index, 1), b"part");
             let rule = if is_part { Rule::Heading } else { Rule::Label };
@@ -181,8 +184,8 @@ impl<'a> Draft<'a> {
 
     /// Where a number in parentheses at an index ends, which is the acreage of the part before it.
     fn end_of_figure(&self, index: usize) -> Option<usize> {
-        let pieces = &self.pieces;
-        if !pieces.is(index, b"(") || self.last_names() != Some(Names::Part) {
+        let pieces = &self.draft.pieces;
+        if !pieces.is(index, b"(") || self.draft.last_names() != Some(Names::Part) {
             return None;
         }
         let first = plus(index, 1);
@@ -198,19 +201,19 @@ impl<'a> Draft<'a> {
 
     /// The parentheses at an index with the land before them again.
     fn repeated(&mut self, index: usize) -> Option<Phrase> {
-        let from = self.extent();
-        let first = self.pieces.after_being(plus(index, 1));
-        let Some(before) = self.phrases.last().copied() else {
+        let from = self.draft.extent();
+        let first = self.draft.pieces.after_being(plus(index, 1));
+        let Some(before) = self.draft.phrases.last().copied() else {
             return None;
         };
-        let (what, close) = if matches!(self.pieces.kind(first), Kind::All) {
+        let (what, close) = if matches!(self.draft.pieces.kind(first), Kind::All) {
             (Claimed::WholeSection, plus(first, 1))
         } else {
             let Some(part) = self.part_in_pieces(first) else {
                 return None;
             };
             let is_same = before.names == Names::Part
-                && (self.have_same_steps(before, part) || self.is_last_step(before, part));
+                && (self.draft.have_same_steps(before, part) || self.is_last_step(before, part));
             let what = if is_same {
                 Claimed::Same
             } else {
@@ -218,27 +221,30 @@ impl<'a> Draft<'a> {
             };
             (what, part.end)
         };
-        let acreage = if self.pieces.is(close, b",") {
-            self.pieces.end_of_acreage(plus(close, 1))
+        let acreage = if self.draft.pieces.is(close, b",") {
+            self.draft.pieces.end_of_acreage(plus(close, 1))
         } else {
             None
         };
         let close = acreage.unwrap_or(close);
         let is_land = matches!(before.names, Names::Part | Names::Lots);
-        let mark: &'static [u8] = if self.pieces.is(index, b"[") {
+        let mark: &'static [u8] = if self.draft.pieces.is(index, b"[") {
             b"]"
         } else {
             b")"
         };
-        if !is_land || !self.pieces.is(close, mark) {
+        if !is_land || !self.draft.pieces.is(close, mark) {
             return None;
         }
         let end = plus(close, 1);
-        self.shrink_changes(from);
+        self.draft.shrink_changes(from);
         if !matches!(what, Claimed::Same) {
-            self.add_claim(index, what);
+            self.draft.add_claim(index, what);
         }
-        Some(self.phrase(Names::Nothing(Rule::Repeated), index, end, from))
+        Some(
+            self.draft
+                .phrase(Names::Nothing(Rule::Repeated), index, end, from),
+        )
     }
 
     /// The aliquot part at an index, of which white space may be between two steps, as in `(N 1/2 NE 1/4)`.
@@ -262,39 +268,9 @@ impl<'a> Draft<'a> {
     /// Whether a part is the last step of another, which has an `of`, as in
     /// `the West half of the Southwest quarter (SW¼)`.
     fn is_last_step(&self, whole: Phrase, part: Phrase) -> bool {
-        match (self.steps_of(whole), self.steps_of(part)) {
+        match (self.draft.steps_of(whole), self.draft.steps_of(part)) {
             ([.., last], [step]) => whole.form == Form::WithOf && last.written == step.written,
             _ => false,
         }
-    }
-
-    /// Whether two aliquot parts have the same steps.
-    pub fn have_same_steps(&self, one: Phrase, other: Phrase) -> bool {
-        let first = self.steps_of(one);
-        let second = self.steps_of(other);
-        if first.len() != second.len() {
-            return false;
-        }
-        for index in 0..first.len() {
-            if written_at(first, index) != written_at(second, index) {
-                return false;
-            }
-        }
-        true
-    }
-
-    /// The steps of an aliquot part.
-    pub fn steps_of(&self, part: Phrase) -> &[PlacedStep] {
-        self.steps
-            .get(part.steps.first..part.steps.end)
-            .unwrap_or(&[])
-    }
-}
-
-/// How the step at an index is written.
-fn written_at(steps: &[PlacedStep], index: usize) -> &'static [u8] {
-    match steps.get(index) {
-        Some(step) => step.written,
-        None => b"",
     }
 }

@@ -1,20 +1,21 @@
 //! Sections without a word for them: `S14 T2N R3W`, `14-2N-3W`, `14: NENE`.
 
-use crate::draft::{Draft, Form, Names, Numeral, Phrase};
+use crate::finder::Finder;
+use twp_draft::{Form, Names, Numeral, Phrase};
 use twp_grammar::Kind;
 use twp_pieces::plus;
 use twp_rules::Rule;
 
-impl<'a> Draft<'a> {
+impl<'a> Finder<'a> {
     /// The section of a location, as in `S14 T2N R3W`.
     pub(crate) fn section_of_letter(&mut self, index: usize) -> Option<Phrase> {
-        let from = self.extent();
+        let from = self.draft.extent();
         let Some(number) = self.number_of_letter(index) else {
             return None;
         };
         let next = plus(index, 2);
         let is_after = self.is_sure_letter(index);
-        let place = if self.pieces.is_dash(next) || self.pieces.is(next, b",") {
+        let place = if self.draft.pieces.is_dash(next) || self.draft.pieces.is(next, b",") {
             plus(next, 1)
         } else {
             next
@@ -24,19 +25,21 @@ impl<'a> Draft<'a> {
             return None;
         }
         if !is_after && self.may_be_half(index, heading) {
-            if self.last_section.is_none() || self.pieces.is(index.saturating_sub(1), b";") {
-                self.doubt();
+            if self.draft.last_section.is_none()
+                || self.draft.pieces.is(index.saturating_sub(1), b";")
+            {
+                self.draft.doubt();
             }
             return None;
         }
-        self.replace(index, b"sec. ", Rule::SectionWord);
-        self.write_numeral(number);
-        Some(self.phrase(Names::Sections, index, next, from))
+        self.draft.replace(index, b"sec. ", Rule::SectionWord);
+        self.draft.write_numeral(number);
+        Some(self.draft.phrase(Names::Sections, index, next, from))
     }
 
     /// The number of a section after the letter for it at an index.
     fn number_of_letter(&self, index: usize) -> Option<Numeral> {
-        let pieces = &self.pieces;
+        let pieces = &self.draft.pieces;
         let digits = plus(index, 1);
         let next = plus(index, 2);
         if !pieces.is(index, b"s")
@@ -51,14 +54,14 @@ impl<'a> Draft<'a> {
     /// Whether what is beside the letter of a section at an index says that it is one: a township before it,
     /// or a section before it that is written so, and a colon after it, or land.
     fn is_sure_letter(&self, index: usize) -> bool {
-        let pieces = &self.pieces;
+        let pieces = &self.draft.pieces;
         let digits = plus(index, 1);
         let is_before_colon = pieces.is(plus(index, 2), b":");
-        let is_list = match self.last_section {
+        let is_list = match self.draft.last_section {
             Some(section) => pieces.is(section.first, b"s"),
             None => false,
         };
-        (self.last_names() == Some(Names::Heading)
+        (self.draft.last_names() == Some(Names::Heading)
             && (is_before_colon || pieces.bytes(digits).len() >= 2))
             || (is_list && is_before_colon)
             || pieces.is_section_before_land(index)
@@ -67,7 +70,7 @@ impl<'a> Draft<'a> {
     /// Whether the letter and the number at an index, before a township that ends at another, may be a half or
     /// a quarter of a section that was named, or of one that is missing: `S2`, unless land follows.
     fn may_be_half(&self, index: usize, heading: Option<usize>) -> bool {
-        let pieces = &self.pieces;
+        let pieces = &self.draft.pieces;
         let digits = plus(index, 1);
         let is_before_land = match heading {
             Some(end) => pieces.is(end, b":"),
@@ -78,8 +81,9 @@ impl<'a> Draft<'a> {
 
     /// The number of a section without a word for it.
     pub(crate) fn bare_section(&mut self, index: usize) -> Option<Phrase> {
-        let pieces = &self.pieces;
-        let from = self.extent();
+        let from = self.draft.extent();
+        let last = self.draft.last_names();
+        let pieces = &self.draft.pieces;
         let Some(number) = self.section_number(index) else {
             return None;
         };
@@ -87,30 +91,30 @@ impl<'a> Draft<'a> {
             return None;
         }
         let before = index.saturating_sub(1);
-        let is_list = self.last_names() == Some(Names::All)
+        let is_list = last == Some(Names::All)
             && (pieces.is(before, b"of") || matches!(pieces.kind(before), Kind::All));
         if !is_list && !self.is_bare_section(index) {
             return None;
         }
-        let place = self.pieces.start(index);
-        if self.pieces.is_joined(index) {
-            self.write(place, place, b" ", Rule::Heading);
+        let place = self.draft.pieces.start(index);
+        if self.draft.pieces.is_joined(index) {
+            self.draft.write(place, place, b" ", Rule::Heading);
         }
-        self.write(place, place, b"sec. ", Rule::SectionWord);
-        self.write_numeral(number);
+        self.draft.write(place, place, b"sec. ", Rule::SectionWord);
+        self.draft.write_numeral(number);
         let end = if is_list {
             self.numbers_after(number, Names::Sections, true)
         } else {
             number.end
         };
-        let phrase = self.phrase(Names::Sections, index, end, from);
+        let phrase = self.draft.phrase(Names::Sections, index, end, from);
         let form = if is_list { Form::Plural } else { Form::Plain };
         Some(Phrase { form, ..phrase })
     }
 
     /// Whether the number at an index is after a township, or after a section with its land in parentheses.
     fn is_after_land_of_section(&self, index: usize) -> bool {
-        let pieces = &self.pieces;
+        let pieces = &self.draft.pieces;
         let mut before = index.saturating_sub(1);
         for _ in 0..2 {
             if pieces.is(before, b",")
@@ -121,7 +125,7 @@ impl<'a> Draft<'a> {
                 before = before.saturating_sub(1);
             }
         }
-        match self.last_names() {
+        match self.draft.last_names() {
             Some(Names::Heading) => true,
             Some(Names::Part | Names::All | Names::Lots) => pieces.is(before, b")"),
             _ => false,
@@ -132,23 +136,23 @@ impl<'a> Draft<'a> {
     /// and range, at the beginning of a row, or after land.
     fn is_bare_section(&mut self, index: usize) -> bool {
         let next = plus(index, 1);
-        if self.pieces.is(next, b"/") && self.pieces.is_joined(next) {
+        if self.draft.pieces.is(next, b"/") && self.draft.pieces.is_joined(next) {
             return self.begins_row(index) && self.end_of_heading(plus(next, 1)).is_some();
         }
         if self.is_after_label_of_division(index) {
             return true;
         }
-        if self.pieces.is_dash(next) && self.end_of_heading(plus(next, 1)).is_some() {
+        if self.draft.pieces.is_dash(next) && self.end_of_heading(plus(next, 1)).is_some() {
             return true;
         }
-        if self.pieces.is_before_dash_and_land(next) && self.pieces.begins_line(index) {
+        if self.draft.pieces.is_before_dash_and_land(next) && self.draft.pieces.begins_line(index) {
             return true;
         }
         if self.is_before_land_in_parentheses(index) {
             return self.is_after_land_of_section(index);
         }
         let place = self.after_cell(index);
-        if self.pieces.begins_cell(index) && self.end_of_heading(place).is_some() {
+        if self.draft.pieces.begins_cell(index) && self.end_of_heading(place).is_some() {
             return true;
         }
         if let Some(is_section) = self.is_section_by_marks(index) {
@@ -162,27 +166,27 @@ impl<'a> Draft<'a> {
 
     /// Whether the piece at an index begins a row.
     fn begins_row(&self, index: usize) -> bool {
-        self.pieces.begins_line(index) || self.pieces.is(index.saturating_sub(1), b";")
+        self.draft.pieces.begins_line(index) || self.draft.pieces.is(index.saturating_sub(1), b";")
     }
 
     /// Whether the name of the column for a section, in the layers of the Public Land Survey System, is before
     /// an index.
     fn is_after_label_of_division(&self, index: usize) -> bool {
-        let pieces = &self.pieces;
+        let pieces = &self.draft.pieces;
         let label = index.saturating_sub(2);
         pieces.is(label, b"frstdivno") || pieces.is(label, b"frstdivlab")
     }
 
     /// Whether land in parentheses is after the number at an index.
     fn is_before_land_in_parentheses(&self, index: usize) -> bool {
-        let pieces = &self.pieces;
+        let pieces = &self.draft.pieces;
         let next = plus(index, 1);
         pieces.is(next, b"(") && pieces.begins_land(plus(next, 1))
     }
 
     /// The index after the number at an index, and after a mark that separates cells.
     fn after_cell(&self, index: usize) -> usize {
-        let pieces = &self.pieces;
+        let pieces = &self.draft.pieces;
         let next = plus(index, 1);
         let is_cell = pieces.is(next, b",") || pieces.is(next, b"|");
         plus(next, usize::from(is_cell))
@@ -190,10 +194,10 @@ impl<'a> Draft<'a> {
 
     /// Whether the marks beside the number at an index say that it is that of a section, or that it isn't.
     fn is_section_by_marks(&self, index: usize) -> Option<bool> {
-        let pieces = &self.pieces;
+        let pieces = &self.draft.pieces;
         let next = plus(index, 1);
         let before = index.saturating_sub(1);
-        let last = self.last_names();
+        let last = self.draft.last_names();
         let is_first = matches!(last, None | Some(Names::Heading | Names::Nothing(_)));
         let is_after_semicolon = pieces.is(before, b";");
         let is_apart = is_after_semicolon
@@ -206,7 +210,7 @@ impl<'a> Draft<'a> {
         if pieces.is_before_dash_and_land(next) && is_apart {
             return Some(true);
         }
-        let is_list = match self.last_section {
+        let is_list = match self.draft.last_section {
             Some(section) => matches!(pieces.kind(section.first), Kind::Number(_)),
             None => false,
         };
@@ -221,10 +225,10 @@ impl<'a> Draft<'a> {
     /// Whether the place of the number at an index says that it is that of a section, or that it isn't: after a
     /// township, at the beginning of a line, after a part.
     fn is_section_by_place(&self, index: usize) -> Option<bool> {
-        let pieces = &self.pieces;
+        let pieces = &self.draft.pieces;
         let next = plus(index, 1);
         let before = index.saturating_sub(1);
-        let is_after_heading = self.last_names() == Some(Names::Heading);
+        let is_after_heading = self.draft.last_names() == Some(Names::Heading);
         let is_after_comma = pieces.is(before, b",");
         if is_after_heading && !(is_after_comma && index > 0) {
             return Some(true);
@@ -243,7 +247,7 @@ impl<'a> Draft<'a> {
             // Alone on its line, it may be that of a page.
             return Some(next < pieces.len() && !pieces.has_before(next, b'\n'));
         }
-        if self.last_names() != Some(Names::Part)
+        if self.draft.last_names() != Some(Names::Part)
             || pieces.is_joined(index)
             || is_after_comma
             || pieces.is(before, b";")
@@ -257,7 +261,7 @@ impl<'a> Draft<'a> {
 
     /// Whether an item ends before an index, or `and` is there.
     fn is_before_end_or_and(&self, index: usize) -> bool {
-        let pieces = &self.pieces;
+        let pieces = &self.draft.pieces;
         index >= pieces.len()
             || pieces.is(index, b";")
             || pieces.is(index, b",")

@@ -1,37 +1,38 @@
 //! `except`, and words like it: `less and except`, `save and except`, `L&E`.
 
-use crate::draft::{Draft, Names, Phrase, Span};
+use crate::finder::Finder;
+use twp_draft::{Names, Phrase, Span};
 use twp_grammar::Kind;
 use twp_pieces::plus;
 use twp_rules::Rule;
 use twp_words::excepts_land;
 
-impl<'a> Draft<'a> {
+impl<'a> Finder<'a> {
     /// `except`, or words like it, at an index.
     pub(crate) fn except(&mut self, index: usize) -> Option<Phrase> {
-        let pieces = &self.pieces;
-        let from = self.extent();
+        let from = self.draft.extent();
+        let pieces = &self.draft.pieces;
         let Some(end) = self.after_except(index) else {
             return None;
         };
         if pieces.is(index, b"l") {
             let start = pieces.start(index);
             let stop = pieces.end_before(end);
-            self.write(start, stop, b" except ", Rule::Exception);
+            self.draft.write(start, stop, b" except ", Rule::Exception);
         } else {
-            self.replace(index, b" except ", Rule::Exception);
+            self.draft.replace(index, b" except ", Rule::Exception);
             for place in plus(index, 1)..end {
-                let is_mark = self.pieces.is(place, b".");
+                let is_mark = self.draft.pieces.is(place, b".");
                 let rule = if is_mark { Rule::Mark } else { Rule::Word };
-                self.leave_out(place, plus(place, 1), rule);
+                self.draft.leave_out(place, plus(place, 1), rule);
             }
         }
-        Some(self.phrase(Names::Except, index, end, from))
+        Some(self.draft.phrase(Names::Except, index, end, from))
     }
 
     /// The index after words for an exception at an index.
     pub(crate) fn after_except(&self, index: usize) -> Option<usize> {
-        let pieces = &self.pieces;
+        let pieces = &self.draft.pieces;
         let second = plus(index, 1);
         let third = plus(index, 2);
         if pieces.is(index, b"l") && pieces.is(second, b"&") && pieces.is(third, b"e") {
@@ -70,7 +71,7 @@ impl<'a> Draft<'a> {
 
     /// Whether a word or a period follows a word for an exception at an index, and belongs to it.
     fn goes_with_except(&self, index: usize) -> bool {
-        let pieces = &self.pieces;
+        let pieces = &self.draft.pieces;
         let second = plus(index, 1);
         pieces.is(second, b"for")
             || pieces.is(second, b"therefrom")
@@ -80,7 +81,7 @@ impl<'a> Draft<'a> {
 
     /// Whether `but` at an index is after all of a section, and before land, as in `all but Lot 4`.
     fn is_after_all_land(&self, index: usize) -> bool {
-        let pieces = &self.pieces;
+        let pieces = &self.draft.pieces;
         let before = index.saturating_sub(1);
         let land = plus(index, 1);
         (pieces.is(before, b"all") || pieces.is(before, b"everything"))
@@ -94,31 +95,31 @@ impl<'a> Draft<'a> {
             Whole::Section => return part,
             Whole::Part(whole) => whole,
             Whole::Unsure => {
-                self.doubt();
+                self.draft.doubt();
                 return part;
             }
         };
-        if self.ends_with_steps_of(part, whole) {
+        if self.draft.ends_with_steps_of(part, whole) {
             return part;
         }
         if !self.is_surely_of(part, whole) {
-            self.doubt();
+            self.draft.doubt();
             return part;
         }
-        let place = self.pieces.end_before(part.end);
+        let place = self.draft.pieces.end_before(part.end);
         for index in whole.steps.first..whole.steps.end {
-            if let Some(step) = self.steps.get(index).copied() {
+            if let Some(step) = self.draft.steps.get(index).copied() {
                 let rule = Rule::CopiedStep(step.start, step.end);
-                self.write(place, place, step.written, rule);
-                self.add_step(step);
+                self.draft.write(place, place, step.written, rule);
+                self.draft.add_step(step);
             }
         }
         let changes = Span {
-            end: self.changes.len(),
+            end: self.draft.changes.len(),
             ..part.changes
         };
         let steps = Span {
-            end: self.steps.len(),
+            end: self.draft.steps.len(),
             ..part.steps
         };
         Phrase {
@@ -133,9 +134,9 @@ impl<'a> Draft<'a> {
         let mut whole = Whole::Section;
         let mut is_first = true;
         let mut has_section = self.begins_with_section();
-        for back in 1..plus(self.phrases.len(), 1) {
-            let place = self.phrases.len().saturating_sub(back);
-            let Some(phrase) = self.phrases.get(place).copied() else {
+        for back in 1..plus(self.draft.phrases.len(), 1) {
+            let place = self.draft.phrases.len().saturating_sub(back);
+            let Some(phrase) = self.draft.phrases.get(place).copied() else {
                 break;
             };
             match phrase.names {
@@ -156,26 +157,9 @@ impl<'a> Draft<'a> {
         whole
     }
 
-    /// Whether a part is written with all steps of another, and more before them, as in
-    /// `the NW1/4, except the SW1/4 of the NW1/4 thereof`: it is of the section.
-    pub fn ends_with_steps_of(&self, part: Phrase, whole: Phrase) -> bool {
-        let steps = self.steps_of(part);
-        let all = self.steps_of(whole);
-        let Some(more) = steps.len().checked_sub(all.len()) else {
-            return false;
-        };
-        for index in 0..all.len() {
-            let one = steps.get(plus(more, index)).map(|step| step.written);
-            if one != all.get(index).map(|step| step.written) {
-                return false;
-            }
-        }
-        more > 0
-    }
-
     /// Whether the land of the text follows its sections.
     fn begins_with_section(&self) -> bool {
-        for phrase in &self.phrases {
+        for phrase in &self.draft.phrases {
             if !matches!(phrase.names, Names::Nothing(_) | Names::Heading) {
                 return phrase.names == Names::Sections;
             }
@@ -186,13 +170,13 @@ impl<'a> Draft<'a> {
     /// Whether a part is surely of another, and not of the section: the part is a half, or the other has
     /// quarters alone, with the last of which the part doesn't end.
     fn is_surely_of(&self, part: Phrase, whole: Phrase) -> bool {
-        let all = self.steps_of(whole);
+        let all = self.draft.steps_of(whole);
         for step in all {
             if step.written.ends_with(b"2") {
-                return matches!(self.steps_of(part), [half] if half.written.ends_with(b"2"));
+                return matches!(self.draft.steps_of(part), [half] if half.written.ends_with(b"2"));
             }
         }
-        match (self.steps_of(part), all) {
+        match (self.draft.steps_of(part), all) {
             ([_], _) => true,
             ([.., one], [.., other]) => one.written != other.written,
             _ => false,

@@ -1,15 +1,15 @@
 //! The fractions of halves and quarters: `1/2`, `/2`, `2`, `half`, and what scanning makes of them.
 
-use crate::draft::Draft;
+use crate::finder::Finder;
 use twp_grammar::Kind;
 use twp_pieces::plus;
 use twp_rules::Rule;
 use twp_words::Size;
 
-impl<'a> Draft<'a> {
+impl<'a> Finder<'a> {
     /// The fraction at an index, after letters: the index after it.
     pub(crate) fn fraction(&mut self, index: usize, size: Size) -> Option<usize> {
-        let pieces = &self.pieces;
+        let pieces = &self.draft.pieces;
         let next = plus(index, 1);
         let kind = pieces.kind(index);
         if is_written(size, kind) {
@@ -25,27 +25,27 @@ impl<'a> Draft<'a> {
             && pieces.is_joined(index)
             && is_written(size, pieces.kind(next))
         {
-            self.leave_out(index, next, Rule::OnePart);
+            self.draft.leave_out(index, next, Rule::OnePart);
             return Some(plus(index, 2));
         }
-        if self.pieces.is(index, b"\\")
-            && self.pieces.is_joined(index)
-            && is_written(size, self.pieces.kind(next))
+        if self.draft.pieces.is(index, b"\\")
+            && self.draft.pieces.is_joined(index)
+            && is_written(size, self.draft.pieces.kind(next))
         {
-            self.leave_out(index, next, Rule::Mark);
+            self.draft.leave_out(index, next, Rule::Mark);
             return Some(plus(index, 2));
         }
         if let Some(after) = self.spaced_fraction(index, size) {
             return Some(after);
         }
         if let Some(after) = self.end_of_fraction(index, size) {
-            let start = if self.pieces.is_joined(index) {
-                self.pieces.start(index)
+            let start = if self.draft.pieces.is_joined(index) {
+                self.draft.pieces.start(index)
             } else {
-                self.pieces.end_before(index)
+                self.draft.pieces.end_before(index)
             };
-            let end = self.pieces.end_before(after);
-            self.write(start, end, size.fraction(), rule_of(size));
+            let end = self.draft.pieces.end_before(after);
+            self.draft.write(start, end, size.fraction(), rule_of(size));
             return Some(after);
         }
         None
@@ -56,10 +56,10 @@ impl<'a> Draft<'a> {
     fn spaced_fraction(&mut self, index: usize, size: Size) -> Option<usize> {
         let slash = plus(index, 1);
         let digit = plus(index, 2);
-        if !self.pieces.is(index, b"1") || !self.pieces.is(slash, b"/") {
+        if !self.draft.pieces.is(index, b"1") || !self.draft.pieces.is(slash, b"/") {
             return None;
         }
-        let pieces = &self.pieces;
+        let pieces = &self.draft.pieces;
         let (one, bar) = (pieces.end(index), pieces.start(slash));
         let (after, last) = (pieces.end(slash), pieces.start(digit));
         let is_near = bar <= plus(one, 1)
@@ -79,7 +79,7 @@ impl<'a> Draft<'a> {
     /// Where the fraction at an index ends that isn't written as in a description: a digit, a slash and a
     /// digit, a word for a part, or what scanning makes of it.
     fn end_of_fraction(&self, index: usize, size: Size) -> Option<usize> {
-        let pieces = &self.pieces;
+        let pieces = &self.draft.pieces;
         let next = plus(index, 1);
         let is_joined = pieces.is_joined(index);
         if self.is_digit(index, size) && !self.goes_on(next) {
@@ -123,7 +123,7 @@ impl<'a> Draft<'a> {
 
     /// Whether a slash follows the piece at an index, without white space.
     fn is_before_slash(&self, index: usize) -> bool {
-        let pieces = &self.pieces;
+        let pieces = &self.draft.pieces;
         let next = plus(index, 1);
         (pieces.is(next, b"/") || pieces.is(next, b"\xE2\x81\x84")) && pieces.is_joined(next)
     }
@@ -135,12 +135,14 @@ impl<'a> Draft<'a> {
         if self.is_worn_one(index) {
             return self.is_digit(digit, size) || self.is_worn_digit(index, digit, size);
         }
-        size == Size::Half && self.pieces.number(index) == Some(2) && self.is_digit(digit, size)
+        size == Size::Half
+            && self.draft.pieces.number(index) == Some(2)
+            && self.is_digit(digit, size)
     }
 
     /// Whether a `1` is at an index, or what scanning makes of it.
     fn is_worn_one(&self, index: usize) -> bool {
-        let pieces = &self.pieces;
+        let pieces = &self.draft.pieces;
         pieces.is(index, b"1")
             || pieces.is(index, b"l")
             || pieces.is(index, b"i")
@@ -154,7 +156,7 @@ impl<'a> Draft<'a> {
 
     /// Whether the lowered digit of a fraction is at an index, or the `z` that scanning makes of a `2` after a `1`.
     fn is_worn_digit(&self, one: usize, digit: usize, size: Size) -> bool {
-        let pieces = &self.pieces;
+        let pieces = &self.draft.pieces;
         let is_lower = size.is_lowered(pieces.lower(digit));
         let is_z = size == Size::Half && pieces.is(digit, b"z") && pieces.is(one, b"1");
         (is_lower || is_z) && pieces.is_joined(digit)
@@ -163,7 +165,7 @@ impl<'a> Draft<'a> {
     /// Whether a fraction with a hyphen is at an index, as in `W 1-2 of SE 1-4`: with an `of` before or after
     /// its letters, since `SE 1-4` may be of four sections.
     fn is_hyphenated(&self, index: usize, size: Size) -> bool {
-        let pieces = &self.pieces;
+        let pieces = &self.draft.pieces;
         let next = plus(index, 1);
         let digit = plus(index, 2);
         let is_of = pieces.is(plus(index, 3), b"of")
@@ -179,7 +181,7 @@ impl<'a> Draft<'a> {
     /// Whether the piece at an index is the digit that people write for a half or a quarter, joined to what
     /// is before it.
     fn is_digit(&self, index: usize, size: Size) -> bool {
-        let pieces = &self.pieces;
+        let pieces = &self.draft.pieces;
         pieces.number(index) == Some(size.digit())
             && pieces.has_digits(index, 1)
             && pieces.is_joined(index)
@@ -187,7 +189,7 @@ impl<'a> Draft<'a> {
 
     /// Whether the piece at an index continues a number.
     fn goes_on(&self, index: usize) -> bool {
-        let pieces = &self.pieces;
+        let pieces = &self.draft.pieces;
         pieces.is_joined(index)
             && ((pieces.is(index, b"/") || pieces.is(index, b"-"))
                 || (pieces.is(index, b".")
@@ -197,7 +199,7 @@ impl<'a> Draft<'a> {
 
     /// Whether an item ends before an index.
     fn is_end(&self, index: usize) -> bool {
-        let pieces = &self.pieces;
+        let pieces = &self.draft.pieces;
         index >= pieces.len()
             || (pieces.is(index, b",") || pieces.is(index, b";") || pieces.is(index, b"."))
             || pieces.begins_line(index)

@@ -1,35 +1,36 @@
 //! Townships and ranges: `T. 2 N., R. 3 W.`, `T2N-R3W`, `2N 3W`, `0020N 0030W`,
 //! `Township Two North, Range Three West`.
 
-use crate::draft::{Draft, Names, Numeral, Phrase};
+use crate::finder::Finder;
+use twp_draft::{Names, Numeral, Phrase};
 use twp_grammar::Kind;
 use twp_pieces::plus;
 use twp_rules::Rule;
 
-impl<'a> Draft<'a> {
+impl<'a> Finder<'a> {
     /// The township and range at an index.
-    pub fn heading(&mut self, index: usize) -> Option<Phrase> {
-        let pieces = &self.pieces;
-        let from = self.extent();
+    pub(crate) fn heading(&mut self, index: usize) -> Option<Phrase> {
+        let from = self.draft.extent();
+        let pieces = &self.draft.pieces;
         let mut next = index;
         if pieces.is(next, b"all")
             && (pieces.is(plus(next, 1), b"in") || pieces.is(plus(next, 1), b"of"))
         {
-            self.leave_out(next, plus(next, 1), Rule::Word);
+            self.draft.leave_out(next, plus(next, 1), Rule::Word);
             next = plus(next, 1);
         }
-        if self.pieces.is(next, b"of") {
-            self.leave_out(next, plus(next, 1), Rule::Heading);
+        if self.draft.pieces.is(next, b"of") {
+            self.draft.leave_out(next, plus(next, 1), Rule::Heading);
             next = plus(next, 1);
         }
-        if self.pieces.is(next, b"in") {
-            self.leave_out(next, plus(next, 1), Rule::Heading);
+        if self.draft.pieces.is(next, b"in") {
+            self.draft.leave_out(next, plus(next, 1), Rule::Heading);
             next = plus(next, 1);
         }
-        if let Some(end) = self.pieces.after_same_township(next) {
-            self.shrink(from);
+        if let Some(end) = self.draft.pieces.after_same_township(next) {
+            self.draft.shrink(from);
             let names = Names::Nothing(Rule::MovedHeading);
-            return Some(self.phrase(names, index, end, from));
+            return Some(self.draft.phrase(names, index, end, from));
         }
         let has_word = self.has_township_word(next);
         // Without a word for it, its side is beside its number.
@@ -41,13 +42,13 @@ impl<'a> Draft<'a> {
             return None;
         };
         next = after;
-        let is_run = self.pieces.is(next, b"nr") || self.pieces.is(next, b"sr");
+        let is_run = self.draft.pieces.is(next, b"nr") || self.draft.pieces.is(next, b"sr");
         if is_run {
-            let place = self.pieces.start(next).saturating_add(1);
-            self.write(place, place, b" ", Rule::Heading);
+            let place = self.draft.pieces.start(next).saturating_add(1);
+            self.draft.write(place, place, b" ", Rule::Heading);
             next = plus(next, 1);
         } else {
-            if !self.pieces.is_north_south(next) {
+            if !self.draft.pieces.is_north_south(next) {
                 return None;
             }
             next = self.side(next);
@@ -61,19 +62,20 @@ impl<'a> Draft<'a> {
         let Some(after) = self.tier(next, has_word) else {
             return None;
         };
-        if !self.pieces.is_east_west(after) {
+        if !self.draft.pieces.is_east_west(after) {
             return None;
         }
         let end = self.side(after);
         // A digit that is joined to a side may be of a half, as in `R3 W2`.
-        if self.pieces.is_joined(end)
-            && (self.pieces.is(end, b"2")
-                || (self.pieces.number(end).unwrap_or(0) > 0 && self.last_section.is_some()))
+        if self.draft.pieces.is_joined(end)
+            && (self.draft.pieces.is(end, b"2")
+                || (self.draft.pieces.number(end).unwrap_or(0) > 0
+                    && self.draft.last_section.is_some()))
         {
-            self.doubt();
+            self.draft.doubt();
         }
         let end = self.after_same_tier(end);
-        Some(self.phrase(Names::Heading, index, end, from))
+        Some(self.draft.phrase(Names::Heading, index, end, from))
     }
 
     /// The index after the township or the range that is repeated in parentheses at an index, as in
@@ -81,7 +83,7 @@ impl<'a> Draft<'a> {
     fn after_same_tier(&mut self, index: usize) -> usize {
         match self.end_of_same_tier(index) {
             Some(end) => {
-                self.leave_out(index, end, Rule::Repeated);
+                self.draft.leave_out(index, end, Rule::Repeated);
                 end
             }
             None => index,
@@ -90,7 +92,7 @@ impl<'a> Draft<'a> {
 
     /// Where the parentheses at an index end, if they repeat the township or the range before them.
     fn end_of_same_tier(&self, index: usize) -> Option<usize> {
-        let pieces = &self.pieces;
+        let pieces = &self.draft.pieces;
         if !pieces.is(index, b"(") {
             return None;
         }
@@ -98,7 +100,7 @@ impl<'a> Draft<'a> {
         let close = plus(index, 4);
         let is_tier = (pieces.is(plus(index, 1), b"t") || pieces.is(plus(index, 1), b"r"))
             && pieces.is(close, b")");
-        let value = self.numbers.last().map(|last| last.value);
+        let value = self.draft.numbers.last().map(|last| last.value);
         let side = plus(index, 3);
         let is_side = self.is_same_side(index.saturating_sub(1), side);
         let is_letter = pieces.is(plus(index, 1), b"t") == pieces.is_north_south(side);
@@ -112,7 +114,7 @@ impl<'a> Draft<'a> {
 
     /// Whether a word for a township is at an index.
     fn has_township_word(&self, index: usize) -> bool {
-        let pieces = &self.pieces;
+        let pieces = &self.draft.pieces;
         pieces.is(index, b"t")
             || pieces.is(index, b"township")
             || pieces.is(index, b"twp")
@@ -122,7 +124,7 @@ impl<'a> Draft<'a> {
 
     /// Whether a word for a range is at an index.
     fn has_range_word(&self, index: usize) -> bool {
-        let pieces = &self.pieces;
+        let pieces = &self.draft.pieces;
         pieces.is(index, b"r")
             || pieces.is(index, b"range")
             || pieces.is(index, b"rng")
@@ -132,7 +134,7 @@ impl<'a> Draft<'a> {
 
     /// Whether the word for a side at one index, and the letter at another, are of the same side.
     fn is_same_side(&self, word: usize, letter: usize) -> bool {
-        let pieces = &self.pieces;
+        let pieces = &self.draft.pieces;
         if pieces.is_east_west(word) {
             let is_west = pieces.is(word, b"w") || pieces.is(word, b"west");
             return pieces.is_east_west(letter) && pieces.is(letter, b"w") == is_west;
@@ -150,27 +152,27 @@ impl<'a> Draft<'a> {
         inserted: &'static [u8],
     ) -> usize {
         if !has_word {
-            let place = self.pieces.start(index);
-            self.write(place, place, inserted, Rule::Heading);
+            let place = self.draft.pieces.start(index);
+            self.draft.write(place, place, inserted, Rule::Heading);
             return index;
         }
         let next = plus(index, 1);
-        let is_letter = self.pieces.bytes(index).len() == 1;
+        let is_letter = self.draft.pieces.bytes(index).len() == 1;
         if !is_letter {
-            self.replace(index, letter, Rule::Heading);
+            self.draft.replace(index, letter, Rule::Heading);
         }
-        if self.pieces.is(next, b"numbered") {
-            self.leave_out(next, plus(next, 1), Rule::Heading);
+        if self.draft.pieces.is(next, b"numbered") {
+            self.draft.leave_out(next, plus(next, 1), Rule::Heading);
             return plus(next, 1);
         }
-        match self.pieces.kind(next) {
+        match self.draft.pieces.kind(next) {
             Kind::Stop if is_letter => plus(next, 1),
             Kind::Stop | Kind::Colon | Kind::Comma => {
-                self.leave_out(next, plus(next, 1), Rule::Heading);
+                self.draft.leave_out(next, plus(next, 1), Rule::Heading);
                 plus(next, 1)
             }
-            _ if self.pieces.is(next, b"-") => {
-                self.replace(next, b" ", Rule::Heading);
+            _ if self.draft.pieces.is(next, b"-") => {
+                self.draft.replace(next, b" ", Rule::Heading);
                 plus(next, 1)
             }
             _ => next,
@@ -179,45 +181,47 @@ impl<'a> Draft<'a> {
 
     /// The same for a range.
     fn range_word(&mut self, index: usize, has_word: bool) -> usize {
-        let is_joined = self.pieces.is_joined(index);
+        let is_joined = self.draft.pieces.is_joined(index);
         let inserted: &'static [u8] = if is_joined { b" R. " } else { b"R. " };
         self.heading_word(index, has_word, b"R.", inserted)
     }
 
     /// Whether the side of a township or a range is at an index.
     fn is_side(&self, index: usize) -> bool {
-        let pieces = &self.pieces;
+        let pieces = &self.draft.pieces;
         pieces.is_north_south(index) || pieces.is_east_west(index)
     }
 
     /// The number of a township or a range at an index, before its side: the index after it.
     fn tier(&mut self, index: usize, has_word: bool) -> Option<usize> {
         let next = plus(index, 1);
-        if self.pieces.has_digits(index, 4) {
+        if self.draft.pieces.has_digits(index, 4) {
             return self.register_tier(index);
         }
-        let Some(number) = self.numeral(index) else {
+        let Some(number) = self.draft.numeral(index) else {
             return None;
         };
-        let has_dash = has_word && self.pieces.is(number.end, b"-");
+        let has_dash = has_word && self.draft.pieces.is(number.end, b"-");
         let side = if has_dash {
             plus(number.end, 1)
         } else {
             number.end
         };
         let is_side = self.is_side(side)
-            || (has_word && (self.pieces.is(side, b"nr") || self.pieces.is(side, b"sr")));
+            || (has_word
+                && (self.draft.pieces.is(side, b"nr") || self.draft.pieces.is(side, b"sr")));
         // A cell may have the number and the side apart, and nothing else.
         let is_joined = side == next
-            && (self.pieces.is_joined(side)
-                || (self.pieces.begins_line(index) && self.pieces.begins_line(plus(side, 1))));
+            && (self.draft.pieces.is_joined(side)
+                || (self.draft.pieces.begins_line(index)
+                    && self.draft.pieces.begins_line(plus(side, 1))));
         if !is_side || (!has_word && !is_joined) || number.value == 0 || number.value > 99 {
             return None;
         }
-        self.write_numeral(number);
+        self.draft.write_numeral(number);
         if has_dash {
-            self.replace(number.end, b" ", Rule::Heading);
-            if let Some(last) = self.numbers.last_mut() {
+            self.draft.replace(number.end, b" ", Rule::Heading);
+            if let Some(last) = self.draft.numbers.last_mut() {
                 last.end = side;
             }
         }
@@ -227,7 +231,7 @@ impl<'a> Draft<'a> {
     /// The number of four digits of a township or a range at an index. A register's last digit is of a
     /// fraction.
     fn register_tier(&mut self, index: usize) -> Option<usize> {
-        let pieces = &self.pieces;
+        let pieces = &self.draft.pieces;
         let next = plus(index, 1);
         let digits = pieces.bytes(index);
         if !self.is_side(next) || !pieces.is_joined(next) {
@@ -237,15 +241,17 @@ impl<'a> Draft<'a> {
             return None;
         };
         if value % 10 != 0 || value == 0 || digits.first() != Some(&b'0') {
-            self.doubt();
+            self.draft.doubt();
             return None;
         }
-        let start = self.pieces.start(index);
-        let end = self.pieces.end(index);
+        let start = self.draft.pieces.start(index);
+        let end = self.draft.pieces.end(index);
         let zeros: usize = if value < 100 { 2 } else { 1 };
-        self.write(start, start.saturating_add(zeros), b"", Rule::Zeros);
-        self.write(end.saturating_sub(1), end, b"", Rule::FractionDigit);
-        self.add_number(Numeral {
+        self.draft
+            .write(start, start.saturating_add(zeros), b"", Rule::Zeros);
+        self.draft
+            .write(end.saturating_sub(1), end, b"", Rule::FractionDigit);
+        self.draft.add_number(Numeral {
             value: value / 10,
             first: index,
             last: index,
@@ -256,20 +262,20 @@ impl<'a> Draft<'a> {
 
     /// Writes the side at an index, and passes over a period after it.
     fn side(&mut self, index: usize) -> usize {
-        if self.pieces.is(index, b"north") {
-            self.replace(index, b"N", Rule::Direction);
-        } else if self.pieces.is(index, b"south") {
-            self.replace(index, b"S", Rule::Direction);
-        } else if self.pieces.is(index, b"east") {
-            self.replace(index, b"E", Rule::Direction);
-        } else if self.pieces.is(index, b"west") {
-            self.replace(index, b"W", Rule::Direction);
+        if self.draft.pieces.is(index, b"north") {
+            self.draft.replace(index, b"N", Rule::Direction);
+        } else if self.draft.pieces.is(index, b"south") {
+            self.draft.replace(index, b"S", Rule::Direction);
+        } else if self.draft.pieces.is(index, b"east") {
+            self.draft.replace(index, b"E", Rule::Direction);
+        } else if self.draft.pieces.is(index, b"west") {
+            self.draft.replace(index, b"W", Rule::Direction);
         }
         let next = plus(index, 1);
-        if matches!(self.pieces.kind(next), Kind::Stop) && self.pieces.is_joined(next) {
+        if matches!(self.draft.pieces.kind(next), Kind::Stop) && self.draft.pieces.is_joined(next) {
             let second = plus(next, 1);
-            if self.pieces.is(second, b".") && self.pieces.is_joined(second) {
-                self.leave_out(second, plus(second, 1), Rule::Heading);
+            if self.draft.pieces.is(second, b".") && self.draft.pieces.is_joined(second) {
+                self.draft.leave_out(second, plus(second, 1), Rule::Heading);
                 return plus(second, 1);
             }
             return second;
@@ -279,7 +285,7 @@ impl<'a> Draft<'a> {
 
     /// Passes over a comma between a township and its range, and leaves out another mark and `of`.
     fn before_range(&mut self, index: usize, has_word: bool) -> usize {
-        let pieces = &self.pieces;
+        let pieces = &self.draft.pieces;
         let mut next = index;
         if matches!(pieces.kind(next), Kind::Comma) {
             next = plus(next, 1);
@@ -289,61 +295,23 @@ impl<'a> Draft<'a> {
             || pieces.is(next, b"/")
             || pieces.is(next, b"|")
         {
-            self.replace(next, b" ", Rule::Heading);
+            self.draft.replace(next, b" ", Rule::Heading);
             next = plus(next, 1);
         }
-        if self.pieces.is(next, b"of") && has_word {
-            self.leave_out(next, plus(next, 1), Rule::Heading);
+        if self.draft.pieces.is(next, b"of") && has_word {
+            self.draft.leave_out(next, plus(next, 1), Rule::Heading);
             next = plus(next, 1);
         }
         next
     }
 
     /// Where the township and range at an index end, if they are there.
-    pub fn end_of_heading(&mut self, index: usize) -> Option<usize> {
-        let from = self.extent();
-        let is_unsure = self.is_unsure;
+    pub(crate) fn end_of_heading(&mut self, index: usize) -> Option<usize> {
+        let from = self.draft.extent();
+        let is_unsure = self.draft.is_unsure;
         let found = self.heading(index);
-        self.shrink(from);
-        self.is_unsure = is_unsure;
+        self.draft.shrink(from);
+        self.draft.is_unsure = is_unsure;
         found.map(|heading| heading.end)
-    }
-
-    /// Writes a township and range at a place where they aren't.
-    pub fn copy_heading(&mut self, place: usize, heading: Phrase) {
-        let pieces = &self.pieces;
-        let first = heading.numbers.first;
-        let (Some(tier), Some(range)) = (
-            self.numbers.get(first).copied(),
-            self.numbers.get(plus(first, 1)).copied(),
-        ) else {
-            return;
-        };
-        let north = pieces.is(tier.end, b"n")
-            || pieces.is(tier.end, b"north")
-            || pieces.is(tier.end, b"nr");
-        let east = pieces.is_east_west(range.end)
-            && (pieces.is(range.end, b"e") || pieces.is(range.end, b"east"));
-        self.write(place, place, b"T. ", Rule::Heading);
-        self.copy_tier(place, tier);
-        self.write(
-            place,
-            place,
-            if north { b" N., R. " } else { b" S., R. " },
-            Rule::Heading,
-        );
-        self.copy_tier(place, range);
-        self.write(
-            place,
-            place,
-            if east { b" E., " } else { b" W., " },
-            Rule::Heading,
-        )
-    }
-
-    /// Writes the number of a township or a range at a place where it isn't.
-    fn copy_tier(&mut self, place: usize, number: Numeral) {
-        let dropped = usize::from(self.pieces.has_digits(number.first, 4));
-        self.copy_numeral(place, number, dropped)
     }
 }

@@ -1,17 +1,16 @@
-//! The phrases of a text that people write as a description of land: what each names, and the changes in it.
+//! How the phrases of a text are found that people write as a description of land, and the changes in them.
 //! None of this is trusted: each change is checked against its rule, and the text that they make is read.
 #![tactic(auto)]
 
 mod asides;
 mod bare;
 mod dotted;
-mod draft;
 mod exceptions;
+mod finder;
 mod fractions;
 mod headings;
 mod lots;
 mod numbered;
-mod numerals;
 mod parts;
 mod phrases;
 mod registers;
@@ -20,4 +19,4 @@ mod sure;
 mod whole;
 mod worded;
 
-pub use draft::{Claim, Claimed, Draft, Extent, Form, Names, Numeral, Phrase, PlacedStep, Span};
+pub use finder::Phrases;

@@ -1,7 +1,8 @@
 //! Lots, with their numbers: `Lots 1-4`, `L2`, `Gov't Lots 3 & 4`.
 
-use crate::draft::{Draft, Names, Numeral, Phrase};
+use crate::finder::Finder;
 use crate::numbered::{Join, Joined};
+use twp_draft::{Names, Numeral, Phrase};
 use twp_grammar::Kind;
 use twp_pieces::plus;
 use twp_rules::Rule;
@@ -9,33 +10,34 @@ use twp_rules::Rule;
 /// So many acres, and less than one more, may be those of a part of a lot.
 const LEAST: u16 = 2;
 
-impl<'a> Draft<'a> {
+impl<'a> Finder<'a> {
     /// The lots at an index.
-    pub fn lots(&mut self, index: usize) -> Option<Phrase> {
-        let from = self.extent();
+    pub(crate) fn lots(&mut self, index: usize) -> Option<Phrase> {
+        let from = self.draft.extent();
         let Some(next) = self.lot_word(index) else {
             return None;
         };
-        let Some(number) = self.numeral(next) else {
+        let Some(number) = self.draft.numeral(next) else {
             return None;
         };
         if number.value == 0
-            || (self.pieces.is_joined(number.end) && self.pieces.kind(number.end) == Kind::Other)
+            || (self.draft.pieces.is_joined(number.end)
+                && self.draft.pieces.kind(number.end) == Kind::Other)
         {
             return None;
         }
-        self.write_numeral(number);
+        self.draft.write_numeral(number);
         let before = next.saturating_sub(1);
-        let is_plural = self.pieces.is(before, b"lots")
-            || self.pieces.is(before, b"lts")
-            || self.pieces.is(before, b"iots");
+        let is_plural = self.draft.pieces.is(before, b"lots")
+            || self.draft.pieces.is(before, b"lts")
+            || self.draft.pieces.is(before, b"iots");
         let end = self.numbers_after(number, Names::Lots, is_plural);
-        Some(self.phrase(Names::Lots, index, end, from))
+        Some(self.draft.phrase(Names::Lots, index, end, from))
     }
 
     /// Writes the word for lots at an index: the index after it.
     fn lot_word(&mut self, index: usize) -> Option<usize> {
-        let pieces = &self.pieces;
+        let pieces = &self.draft.pieces;
         let mut word = index;
         if pieces.is(word, b"the") {
             word = plus(word, 1);
@@ -45,14 +47,14 @@ impl<'a> Draft<'a> {
         if !matches!(pieces.kind(word), Kind::Lot) && written.is_none() {
             return None;
         }
-        self.leave_out_each(index, word, Rule::LotWord);
+        self.draft.leave_out_each(index, word, Rule::LotWord);
         if let Some(written) = written {
-            self.replace(word, written, Rule::LotWord);
+            self.draft.replace(word, written, Rule::LotWord);
         }
         let mut next = plus(word, 1);
         for place in next..plus(next, 3) {
             if place == next && self.is_before_number(place) {
-                self.replace(place, b"", Rule::LotWord);
+                self.draft.replace(place, b"", Rule::LotWord);
                 next = plus(place, 1);
             }
         }
@@ -61,7 +63,7 @@ impl<'a> Draft<'a> {
 
     /// What is written for a word for lots that no description has.
     fn written_lot(&self, index: usize) -> Option<&'static [u8]> {
-        let pieces = &self.pieces;
+        let pieces = &self.draft.pieces;
         if pieces.is(index, b"l") || pieces.is(index, b"lt") || pieces.is(index, b"gl") {
             return Some(b"lot ");
         }
@@ -79,7 +81,7 @@ impl<'a> Draft<'a> {
 
     /// Whether what may be between the word for lots and their numbers is at an index.
     fn is_before_number(&self, index: usize) -> bool {
-        let pieces = &self.pieces;
+        let pieces = &self.draft.pieces;
         pieces.is(index, b"numbered")
             || pieces.is(index, b".")
             || pieces.is(index, b"no")
@@ -89,8 +91,8 @@ impl<'a> Draft<'a> {
     }
 
     /// The index after the words for the government at an index.
-    pub fn after_government(&self, index: usize) -> usize {
-        let pieces = &self.pieces;
+    pub(crate) fn after_government(&self, index: usize) -> usize {
+        let pieces = &self.draft.pieces;
         let mut next = index;
         if pieces.is(next, b"u") && pieces.is(plus(next, 2), b"s") {
             next = plus(next, 3);
@@ -132,16 +134,16 @@ impl<'a> Draft<'a> {
             return index;
         };
         // So little may be a part of the lot.
-        if self.pieces.number(plus(index, 1)).unwrap_or(0) <= LEAST {
-            self.doubt();
+        if self.draft.pieces.number(plus(index, 1)).unwrap_or(0) <= LEAST {
+            self.draft.doubt();
         }
-        self.leave_out(index, end, Rule::Acreage);
+        self.draft.leave_out(index, end, Rule::Acreage);
         end
     }
 
     /// Where the acreage in parentheses at an index ends.
     fn end_of_lot_acreage(&self, index: usize) -> Option<usize> {
-        let pieces = &self.pieces;
+        let pieces = &self.draft.pieces;
         if !pieces.is(index, b"(") {
             return None;
         }
@@ -164,7 +166,7 @@ impl<'a> Draft<'a> {
     /// White space between the number of a lot and that of the next one, after a word in the plural, as in
     /// `LTS 2 3`. Other lots may be the first and the last of several.
     pub(crate) fn join_of_lots(&self, index: usize, last: Numeral) -> Option<Joined> {
-        let pieces = &self.pieces;
+        let pieces = &self.draft.pieces;
         let is_list = pieces.has_digits(index.saturating_sub(1), 1)
             && pieces.has_digits(index, 1)
             && pieces.number(index) == Some(last.value.saturating_add(1))

@@ -1,7 +1,8 @@
 //! The numbers of several sections or lots, and what joins them: `8, 9 & 10`, `1-4`, `1 thru 4, incl.`
 
-use crate::draft::{Draft, Names, Numeral};
+use crate::finder::Finder;
 use crate::sections::SECTIONS;
+use twp_draft::{Names, Numeral};
 use twp_grammar::Kind;
 use twp_pieces::{plus, tens_of};
 use twp_rules::Rule;
@@ -26,16 +27,21 @@ pub(crate) struct Joined {
 /// A number up to this may be that of a lot, and not only acreage.
 const LOTS: u16 = 20;
 
-impl<'a> Draft<'a> {
+impl<'a> Finder<'a> {
     /// Writes the numbers that follow one, and what joins them: the index after the last one.
-    pub fn numbers_after(&mut self, number: Numeral, names: Names, is_plural: bool) -> usize {
-        if self.pieces.is_figure_with_decimals(number.last) {
-            self.doubt();
+    pub(crate) fn numbers_after(
+        &mut self,
+        number: Numeral,
+        names: Names,
+        is_plural: bool,
+    ) -> usize {
+        if self.draft.pieces.is_figure_with_decimals(number.last) {
+            self.draft.doubt();
         }
         let mut last = number;
         let mut end = self.after_acreage(number.end, names);
-        for _ in 0..self.pieces.len() {
-            if names == Names::Lots && self.pieces.end_of_dashed_acreage(end).is_some() {
+        for _ in 0..self.draft.pieces.len() {
+            if names == Names::Lots && self.draft.pieces.end_of_dashed_acreage(end).is_some() {
                 break;
             }
             let is_list = names == Names::Lots && is_plural;
@@ -46,20 +52,20 @@ impl<'a> Draft<'a> {
             let Some(Joined { join, end: next }) = joined else {
                 break;
             };
-            let Some(more) = self.numeral(next) else {
+            let Some(more) = self.draft.numeral(next) else {
                 break;
             };
-            if self.pieces.is_figure_with_decimals(next)
-                || self.pieces.end_of_acreage(next).is_some()
+            if self.draft.pieces.is_figure_with_decimals(next)
+                || self.draft.pieces.end_of_acreage(next).is_some()
             {
                 // A point may be a comma, as in `9, 10.11`.
-                let has_point = self.pieces.is_figure_with_decimals(next);
+                let has_point = self.draft.pieces.is_figure_with_decimals(next);
                 let may_be_more = match names {
                     Names::Sections => more.value <= SECTIONS,
                     _ => is_list && (!has_point || more.value <= LOTS),
                 };
                 if may_be_more {
-                    self.doubt();
+                    self.draft.doubt();
                 }
                 break;
             }
@@ -67,18 +73,18 @@ impl<'a> Draft<'a> {
                 break;
             }
             if matches!(join, Join::To | Join::Dash) && more.value <= last.value {
-                self.doubt();
+                self.draft.doubt();
             }
             if names == Names::Sections && !is_plural && join == Join::Comma {
-                self.doubt();
+                self.draft.doubt();
             }
             // `thirty and one` may be 31.
-            let is_tens = tens_of(self.pieces.lower(last.first)).is_some();
+            let is_tens = tens_of(self.draft.pieces.lower(last.first)).is_some();
             if join == Join::And && is_tens && more.value < 10 {
-                self.doubt();
+                self.draft.doubt();
             }
             self.write_join(end, next, join);
-            self.write_numeral(more);
+            self.draft.write_numeral(more);
             last = more;
             end = self.after_acreage(more.end, names);
             end = self.after_inclusive(end, join);
@@ -88,7 +94,7 @@ impl<'a> Draft<'a> {
 
     /// What joins the numbers before an index and after it.
     pub(crate) fn join_at(&self, index: usize) -> Option<Joined> {
-        let pieces = &self.pieces;
+        let pieces = &self.draft.pieces;
         let next = plus(index, 1);
         match pieces.kind(index) {
             Kind::And => Some(Joined {
@@ -130,7 +136,7 @@ impl<'a> Draft<'a> {
         names: Names,
         is_plural: bool,
     ) -> bool {
-        let pieces = &self.pieces;
+        let pieces = &self.draft.pieces;
         let after = more.end;
         let is_location = pieces.is_joined(after)
             && (pieces.is_north_south(after)
@@ -150,20 +156,20 @@ impl<'a> Draft<'a> {
     /// Writes what joins two numbers, where it isn't written so.
     fn write_join(&mut self, index: usize, next: usize, join: Join) {
         if join == Join::Nothing {
-            let place = self.pieces.end_before(index);
-            self.write(place, place, b",", Rule::Comma);
+            let place = self.draft.pieces.end_before(index);
+            self.draft.write(place, place, b",", Rule::Comma);
         } else if join == Join::Dash {
-            self.replace(index, b" thru ", Rule::Through);
-        } else if self.pieces.is(index, b"&") {
-            self.replace(index, b" and ", Rule::And);
-        } else if next > plus(index, 1) && self.pieces.is(plus(index, 1), b"&") {
-            self.replace(plus(index, 1), b" and ", Rule::And);
+            self.draft.replace(index, b" thru ", Rule::Through);
+        } else if self.draft.pieces.is(index, b"&") {
+            self.draft.replace(index, b" and ", Rule::And);
+        } else if next > plus(index, 1) && self.draft.pieces.is(plus(index, 1), b"&") {
+            self.draft.replace(plus(index, 1), b" and ", Rule::And);
         }
     }
 
     /// The index after `inclusive`, if it follows a range.
     fn after_inclusive(&mut self, index: usize, join: Join) -> usize {
-        let pieces = &self.pieces;
+        let pieces = &self.draft.pieces;
         if !matches!(join, Join::To | Join::Dash) {
             return index;
         }
@@ -179,12 +185,12 @@ impl<'a> Draft<'a> {
             return index;
         }
         if word > index {
-            self.leave_out(index, word, Rule::Mark);
+            self.draft.leave_out(index, word, Rule::Mark);
         }
-        self.leave_out(word, plus(word, 1), Rule::Word);
+        self.draft.leave_out(word, plus(word, 1), Rule::Word);
         let mark = plus(word, 1);
-        if self.pieces.is(mark, b".") && self.pieces.is_joined(mark) {
-            self.leave_out(mark, plus(mark, 1), Rule::Mark);
+        if self.draft.pieces.is(mark, b".") && self.draft.pieces.is_joined(mark) {
+            self.draft.leave_out(mark, plus(mark, 1), Rule::Mark);
             return plus(mark, 1);
         }
         mark

@@ -1,6 +1,7 @@
 //! Aliquot parts: `NE1/4`, `S2NE4`, `N/2`, `NENE`, `the North Half of the Southwest Quarter`.
 
-use crate::draft::{Draft, Form, Names, Phrase, PlacedStep};
+use crate::finder::Finder;
+use twp_draft::{Form, Names, Phrase, PlacedStep};
 use twp_grammar::Kind;
 use twp_pieces::{are_corners, plus};
 use twp_rules::Rule;
@@ -9,23 +10,23 @@ use twp_words::{Size, written_step};
 /// The most steps of a part: each halves a side of the section, which can be halved five times each way.
 const STEPS_MOST: usize = 10;
 
-impl<'a> Draft<'a> {
+impl<'a> Finder<'a> {
     /// The aliquot part at an index: steps joined without white space, or by `of`.
-    pub fn part(&mut self, index: usize) -> Option<Phrase> {
-        let from = self.extent();
-        let mut first = self.pieces.after_fractional(index);
-        self.leave_out_each(index, first, Rule::Word);
-        if first == index && self.pieces.is(index, b"the") {
-            self.leave_out(index, plus(index, 1), Rule::Word);
+    pub(crate) fn part(&mut self, index: usize) -> Option<Phrase> {
+        let from = self.draft.extent();
+        let mut first = self.draft.pieces.after_fractional(index);
+        self.draft.leave_out_each(index, first, Rule::Word);
+        if first == index && self.draft.pieces.is(index, b"the") {
+            self.draft.leave_out(index, plus(index, 1), Rule::Word);
             first = plus(index, 1);
         }
         let Some(mut end) = self.step(first) else {
             return None;
         };
         let mut form = Form::Plain;
-        for _ in 0..self.pieces.len() {
-            if self.extent().steps_after(from) > STEPS_MOST {
-                self.doubt();
+        for _ in 0..self.draft.pieces.len() {
+            if self.draft.extent().steps_after(from) > STEPS_MOST {
+                self.draft.doubt();
                 break;
             }
             if let Some(after) = self.step_joined(end) {
@@ -33,79 +34,82 @@ impl<'a> Draft<'a> {
                 continue;
             }
             // Only `of` goes on, or the step before it again.
-            if !self.pieces.is(end, b"of") && !self.pieces.is(end, b"(") {
+            if !self.draft.pieces.is(end, b"of") && !self.draft.pieces.is(end, b"(") {
                 break;
             }
-            let extent = self.extent();
+            let extent = self.draft.extent();
             let same = self.after_same_step(end);
-            let steps = self.steps.len();
+            let steps = self.draft.steps.len();
             let Some(after) = self.step_after_of(same) else {
-                self.shrink(extent);
+                self.draft.shrink(extent);
                 break;
             };
-            if let Some(step) = self.steps.get_mut(steps) {
+            if let Some(step) = self.draft.steps.get_mut(steps) {
                 step.is_after_of = true;
             }
             form = Form::WithOf;
             end = after;
         }
-        let phrase = self.phrase(Names::Part, index, end, from);
+        let phrase = self.draft.phrase(Names::Part, index, end, from);
         Some(Phrase { form, ..phrase })
     }
 
     /// The index after the step before an index in parentheses, if `of` follows them, as in
     /// `the West half (W½) of`. They are left out.
     fn after_same_step(&mut self, index: usize) -> usize {
-        if !self.pieces.is(index, b"(") {
+        if !self.draft.pieces.is(index, b"(") {
             return index;
         }
-        let before = self.steps.last().copied();
-        let extent = self.extent();
+        let before = self.draft.steps.last().copied();
+        let extent = self.draft.extent();
         let close = self.step(plus(index, 1));
-        let same = self.steps.last().copied();
-        let count = self.extent().steps_after(extent);
-        self.shrink(extent);
+        let same = self.draft.steps.last().copied();
+        let count = self.draft.extent().steps_after(extent);
+        self.draft.shrink(extent);
         let (Some(close), Some(before), Some(same)) = (close, before, same) else {
             return index;
         };
         let end = plus(close, 1);
         if count != 1
             || before.written != same.written
-            || !self.pieces.is(close, b")")
-            || !self.pieces.is(end, b"of")
+            || !self.draft.pieces.is(close, b")")
+            || !self.draft.pieces.is(end, b"of")
         {
             return index;
         }
-        self.leave_out(index, end, Rule::Repeated);
+        self.draft.leave_out(index, end, Rule::Repeated);
         end
     }
 
     /// The step at an index that is joined to the one before it, also by a backslash, or a slash between bare
     /// corners.
     fn step_joined(&mut self, index: usize) -> Option<usize> {
-        let pieces = &self.pieces;
+        let pieces = &self.draft.pieces;
         if !pieces.is_joined(index) {
             return None;
         }
         if pieces.is_hyphen_at_line_end(index) {
             let next = plus(index, 1);
-            let extent = self.extent();
             let from = pieces.start(index);
             let to = pieces.start(next);
+            let extent = self.draft.extent();
             self.leave_out_bytes(from, to);
             let end = self.step(next);
             if end.is_none() {
-                self.shrink(extent);
+                self.draft.shrink(extent);
             }
             return end;
         }
-        let is_slash = self.pieces.is(index, b"/")
-            && matches!(self.pieces.kind(index.saturating_sub(1)), Kind::Corner(_))
-            && matches!(self.pieces.kind(plus(index, 1)), Kind::Corner(_));
-        if self.pieces.is(index, b"\\") || is_slash {
-            self.leave_out(index, plus(index, 1), Rule::Mark);
+        let is_slash = self.draft.pieces.is(index, b"/")
+            && matches!(
+                self.draft.pieces.kind(index.saturating_sub(1)),
+                Kind::Corner(_)
+            )
+            && matches!(self.draft.pieces.kind(plus(index, 1)), Kind::Corner(_));
+        if self.draft.pieces.is(index, b"\\") || is_slash {
+            self.draft.leave_out(index, plus(index, 1), Rule::Mark);
             let next = plus(index, 1);
-            if self.pieces.is_joined(next) {
+            if self.draft.pieces.is_joined(next) {
                 if let Some(end) = self.step(next) {
                     return Some(end);
                 }
@@ -117,16 +121,16 @@ impl<'a> Draft<'a> {
 
     /// The step after an `of`, and `the`, if that is there.
     fn step_after_of(&mut self, index: usize) -> Option<usize> {
-        let pieces = &self.pieces;
+        let pieces = &self.draft.pieces;
         if !pieces.is(index, b"of") {
             return None;
         }
         let next = plus(index, 1);
         if pieces.is(next, b"said") {
-            self.leave_out(next, plus(next, 1), Rule::Word);
+            self.draft.leave_out(next, plus(next, 1), Rule::Word);
             return self.step(plus(next, 1));
         }
-        let next = if self.pieces.is(next, b"the") {
+        let next = if self.draft.pieces.is(next, b"the") {
             plus(next, 1)
         } else {
             next
@@ -137,11 +141,13 @@ impl<'a> Draft<'a> {
     /// The step at an index, or the run of corners: the index after it. None, and nothing is written, if
     /// there is none.
     fn step(&mut self, index: usize) -> Option<usize> {
-        match self.pieces.kind(index) {
+        match self.draft.pieces.kind(index) {
             Kind::NorthSouth(_) | Kind::EastWest(_) => self.half(index),
             Kind::Corner(_) => self.corners(index),
-            Kind::Number(5 | 8) if self.pieces.has_digits(index, 1) => self.damaged_corner(index),
-            Kind::Other if are_corners(self.pieces.lower(index)) => self.corners(index),
+            Kind::Number(5 | 8) if self.draft.pieces.has_digits(index, 1) => self.damaged_corner(
+                index,
+            ),
+            Kind::Other if are_corners(self.draft.pieces.lower(index)) => self.corners(index),
             Kind::Other => self.step_in_words(index),
             _ => None,
         }
@@ -149,13 +155,13 @@ impl<'a> Draft<'a> {
 
     /// Notes a step from a place up to an index.
     pub(crate) fn push_step(&mut self, start: usize, end: usize, written: &'static [u8]) {
-        let stop = self.pieces.end_before(end);
+        let stop = self.draft.pieces.end_before(end);
         self.push_step_to(start, stop, written)
     }
 
     /// Notes a step from one place up to another.
     pub(crate) fn push_step_to(&mut self, start: usize, end: usize, written: &'static [u8]) {
-        self.add_step(PlacedStep {
+        self.draft.add_step(PlacedStep {
             start,
             end,
             written,
@@ -165,7 +171,7 @@ impl<'a> Draft<'a> {
 
     /// The half at an index, or a corner whose letters are apart.
     fn half(&mut self, index: usize) -> Option<usize> {
-        let pieces = &self.pieces;
+        let pieces = &self.draft.pieces;
         let written = written_step(pieces.bytes(index));
         let start = pieces.start(index);
         if let Some(end) = self.fraction(plus(index, 1), Size::Half) {
@@ -177,17 +183,17 @@ impl<'a> Draft<'a> {
 
     /// The run of corners at an index. The last one may lack its fraction.
     fn corners(&mut self, index: usize) -> Option<usize> {
-        let pieces = &self.pieces;
+        let pieces = &self.draft.pieces;
         let start = pieces.start(index);
         let count = pieces.bytes(index).len() / 2;
         for number in 1..count.min(plus(STEPS_MOST, 2)) {
             let place = start.saturating_add(number.saturating_mul(2));
             let first = place.saturating_sub(2);
             let corner = self.corner_before(place);
-            self.write(place, place, b"1/4", Rule::Quarter);
+            self.draft.write(place, place, b"1/4", Rule::Quarter);
             self.push_step_to(first, place, corner);
         }
-        let end = self.pieces.end(index);
+        let end = self.draft.pieces.end(index);
         let first = end.saturating_sub(2);
         let corner = self.corner_before(end);
         let next = plus(index, 1);
@@ -195,20 +201,20 @@ impl<'a> Draft<'a> {
             self.push_step(first, after, corner);
             return Some(after);
         }
-        self.write(end, end, b"1/4", Rule::Quarter);
+        self.draft.write(end, end, b"1/4", Rule::Quarter);
         self.push_step_to(first, end, corner);
         Some(next)
     }
 
     /// The quarter in the corner whose letters end at a place.
     fn corner_before(&self, place: usize) -> &'static [u8] {
-        let letters = self.pieces.text.get(place.saturating_sub(2)..place);
+        let letters = self.draft.pieces.text.get(place.saturating_sub(2)..place);
         written_step(letters.unwrap_or(b""))
     }
 
     /// The corner at an index whose `S` was read as a `5`.
     fn damaged_corner(&mut self, index: usize) -> Option<usize> {
-        let pieces = &self.pieces;
+        let pieces = &self.draft.pieces;
         let letter = plus(index, 1);
         if !matches!(pieces.kind(letter), Kind::EastWest(_)) || !pieces.is_joined(letter) {
             return None;
@@ -216,13 +222,13 @@ impl<'a> Draft<'a> {
         if !matches!(pieces.kind(plus(letter, 1)), Kind::Quarter) {
             return None;
         }
-        self.replace(index, b"S", Rule::Damage);
-        let corner: &'static [u8] = if self.pieces.is(letter, b"e") {
+        self.draft.replace(index, b"S", Rule::Damage);
+        let corner: &'static [u8] = if self.draft.pieces.is(letter, b"e") {
             b"SE1/4"
         } else {
             b"SW1/4"
         };
-        let start = self.pieces.start(index);
+        let start = self.draft.pieces.start(index);
         self.push_step(start, plus(letter, 2), corner);
         Some(plus(letter, 2))
     }

@@ -1,29 +1,23 @@
 //! The phrases of a text, from left to right.
 
-use crate::draft::{Claim, Claimed, Draft, Names, Phrase};
-use std::alloc::AllocError;
+use crate::finder::Finder;
+use twp_draft::{Claimed, Names, Phrase};
 use twp_grammar::Kind;
 use twp_pieces::plus;
 
 /// The most pieces that join two phrases.
 const JOINING_MOST: usize = 16;
 
-impl<'a> Draft<'a> {
-    /// Finds the phrases. Where a piece is in none, and doesn't join them, the text isn't sure, nor where
-    /// many pieces join two of them.
-    pub fn find_phrases(&mut self) -> Result<(), AllocError> {
-        self.add_phrases();
-        self.all_added()
-    }
-
-    /// Adds the phrases.
-    fn add_phrases(&mut self) {
+impl<'a> Finder<'a> {
+    /// Adds the phrases to the draft. Where a piece is in none, and doesn't join them, the text isn't sure, nor
+    /// where many pieces join two of them.
+    pub(crate) fn add_phrases(&mut self) {
         let mut index: usize = 0;
-        for here in 0..self.pieces.len() {
+        for here in 0..self.draft.pieces.len() {
             if here < index {
                 continue;
             }
-            if self.is_unsure {
+            if self.draft.is_unsure {
                 return;
             }
             match self.phrase_at(here) {
@@ -31,33 +25,33 @@ impl<'a> Draft<'a> {
                     index = phrase.end;
                     // Land at some depths, and other land.
                     if self.has_depths && !matches!(phrase.names, Names::Nothing(_)) {
-                        self.doubt();
+                        self.draft.doubt();
                     }
                     self.names_land = self.names_land
                         || !matches!(phrase.names, Names::Nothing(_) | Names::Heading);
                     if phrase.names == Names::Sections {
-                        self.last_section = Some(phrase);
+                        self.draft.last_section = Some(phrase);
                     }
-                    self.add_phrase(phrase);
+                    self.draft.add_phrase(phrase);
                 }
                 None if self.joins_phrases(here) && here < plus(index, JOINING_MOST) => {
                     if self.is_empty_slot(here) {
-                        self.doubt();
+                        self.draft.doubt();
                     }
-                    self.has_open = self.pieces.is(here, b"(")
-                        || (self.has_open && !self.pieces.is(here, b")"));
+                    self.has_open = self.draft.pieces.is(here, b"(")
+                        || (self.has_open && !self.draft.pieces.is(here, b")"));
                 }
-                None => self.doubt(),
+                None => self.draft.doubt(),
             }
         }
         if self.has_open {
-            self.doubt();
+            self.draft.doubt();
         }
     }
 
     /// Whether a piece only joins phrases.
-    pub fn joins_phrases(&self, index: usize) -> bool {
-        let pieces = &self.pieces;
+    pub(crate) fn joins_phrases(&self, index: usize) -> bool {
+        let pieces = &self.draft.pieces;
         match pieces.kind(index) {
             Kind::Comma | Kind::Semicolon | Kind::Colon => true,
             Kind::Stop => !pieces.is_ellipsis(index),
@@ -76,7 +70,7 @@ impl<'a> Draft<'a> {
 
     /// Whether a mark that no description has only joins phrases.
     fn is_joining_mark(&self, index: usize) -> bool {
-        let pieces = &self.pieces;
+        let pieces = &self.draft.pieces;
         pieces.is_dash(index)
             || pieces.is(index, b"&")
             || pieces.is(index, b"/")
@@ -93,12 +87,12 @@ impl<'a> Draft<'a> {
     /// Whether parentheses around land are opened at an index: after its section, before its section, or
     /// around an exception.
     fn opens_land(&self, index: usize) -> bool {
-        let pieces = &self.pieces;
+        let pieces = &self.draft.pieces;
         let next = plus(index, 1);
         if !pieces.is(index, b"(") || self.has_open {
             return false;
         }
-        match self.last_names() {
+        match self.draft.last_names() {
             Some(Names::Sections) => pieces.begins_land(next) || self.after_except(next).is_some(),
             Some(Names::Part | Names::All) => {
                 self.after_except(next).is_some()
@@ -112,7 +106,7 @@ impl<'a> Draft<'a> {
 
     /// The phrase at an index.
     fn phrase_at(&mut self, index: usize) -> Option<Phrase> {
-        match self.pieces.kind(index) {
+        match self.draft.pieces.kind(index) {
             Kind::Number(_) => self.phrase_of_number(index),
             _ if self.begins_none(index) => None,
             _ => self.phrase_of_mark_or_word(index),
@@ -121,7 +115,7 @@ impl<'a> Draft<'a> {
 
     /// Whether the piece at an index begins no phrase: most marks, and words that only join two of them.
     fn begins_none(&self, index: usize) -> bool {
-        let pieces = &self.pieces;
+        let pieces = &self.draft.pieces;
         match pieces.kind(index) {
             Kind::Comma | Kind::Semicolon | Kind::Stop | Kind::Colon => true,
             Kind::And => !pieces.is(plus(index, 1), b"containing"),
@@ -136,44 +130,43 @@ impl<'a> Draft<'a> {
     /// The phrase at an index that a word or a mark begins: the kind of phrase that most such pieces begin,
     /// before the others are looked for.
     fn phrase_of_mark_or_word(&mut self, index: usize) -> Option<Phrase> {
-        let from = self.extent();
+        let from = self.draft.extent();
         if let Some(phrase) = self.likely_phrase(index) {
             return Some(phrase);
         }
-        self.shrink(from);
+        self.draft.shrink(from);
         self.phrase_of_word(index)
     }
 
     /// The phrase at an index of the kind that most such pieces begin. The results are handed on as they are,
     /// since a place for each of them would be cleared at each piece.
     fn likely_phrase(&mut self, index: usize) -> Option<Phrase> {
-        match self.pieces.kind(index) {
+        match self.draft.pieces.kind(index) {
             Kind::Sec => self.sections(index),
             Kind::Lot => self.lots(index),
             Kind::All if self.is_after_all(plus(index, 1)) => self.all(index),
             Kind::T => self.heading(index),
             Kind::Corner(_) => self.sure_part(index),
-            Kind::NorthSouth(_) | Kind::EastWest(_) if !self.pieces.is(plus(index, 1), b".") => {
-                self.half_or_section(index)
-            }
+            Kind::NorthSouth(_) | Kind::EastWest(_)
+                if !self.draft.pieces.is(plus(index, 1), b".") => { self.half_or_section(index) }
             Kind::Other => self.likely_phrase_of_word(index),
-            Kind::The if self.pieces.begins_land(plus(index, 1)) => self.sure_part(index),
+            Kind::The if self.draft.pieces.begins_land(plus(index, 1)) => self.sure_part(index),
             _ => None,
         }
     }
 
     /// The same, of a word that no description has.
     fn likely_phrase_of_word(&mut self, index: usize) -> Option<Phrase> {
-        if self.pieces.begins_step(index) {
+        if self.draft.pieces.begins_step(index) {
             return self.sure_part(index);
         }
-        if self.pieces.is_township_word(index) {
+        if self.draft.pieces.is_township_word(index) {
             return self.heading(index);
         }
         if self.may_be_lots(index) {
             return self.lots(index);
         }
-        if self.pieces.is(index, b"less") || self.pieces.is(index, b"except") {
+        if self.draft.pieces.is(index, b"less") || self.draft.pieces.is(index, b"except") {
             return self.except(index);
         }
         None
@@ -181,7 +174,7 @@ impl<'a> Draft<'a> {
 
     /// Whether a section or an aliquot part follows the word at an index, which only joins them then.
     fn is_before_land(&self, index: usize) -> bool {
-        let pieces = &self.pieces;
+        let pieces = &self.draft.pieces;
         let next = plus(index, 1);
         matches!(pieces.kind(next), Kind::Sec) || pieces.begins_part(next)
     }
@@ -189,7 +182,7 @@ impl<'a> Draft<'a> {
     /// Whether `all` before an index is of a section: what ends an item, or a section or a part, with or
     /// without `of`, is there.
     fn is_after_all(&self, index: usize) -> bool {
-        let pieces = &self.pieces;
+        let pieces = &self.draft.pieces;
         index >= pieces.len()
             || matches!(pieces.kind(index), Kind::Semicolon | Kind::Stop | Kind::Sec)
             || (matches!(pieces.kind(index), Kind::Of) && self.is_before_land(index))
@@ -197,7 +190,7 @@ impl<'a> Draft<'a> {
 
     /// Whether words for lots, or the government's, are at an index.
     fn may_be_lots(&self, index: usize) -> bool {
-        let pieces = &self.pieces;
+        let pieces = &self.draft.pieces;
         pieces.is(index, b"l")
             || pieces.is(index, b"lt")
             || pieces.is(index, b"gl")
@@ -208,111 +201,113 @@ impl<'a> Draft<'a> {
     /// The phrase at an index that a number begins: a township and range, if a side is joined to the number,
     /// or what else it may begin.
     fn phrase_of_number(&mut self, index: usize) -> Option<Phrase> {
-        let pieces = &self.pieces;
-        let from = self.extent();
+        let from = self.draft.extent();
+        let pieces = &self.draft.pieces;
         let next = plus(index, 1);
         let is_short = pieces.bytes(index).len() <= 2 && pieces.is_joined(next);
-        let is_unsure = self.is_unsure;
+        let is_unsure = self.draft.is_unsure;
         if (is_short && pieces.is_north_south(next)) || pieces.begins_register(index) {
             if let Some(phrase) = self.of_register(index) {
                 return Some(phrase);
             }
-            self.shrink(from);
+            self.draft.shrink(from);
             if let Some(phrase) = self.heading(index) {
                 let end = phrase.end;
                 // Those of a parcel's code go on with digits.
-                if !self.pieces.is_joined(end) || self.pieces.number(end).is_none() {
+                if !self.draft.pieces.is_joined(end) || self.draft.pieces.number(end).is_none() {
                     return Some(phrase);
                 }
-                self.is_unsure = is_unsure;
+                self.draft.is_unsure = is_unsure;
             }
-            self.shrink(from);
+            self.draft.shrink(from);
         }
-        if matches!(self.pieces.kind(next), Kind::Colon) && self.section_number(index).is_some() {
+        if matches!(self.draft.pieces.kind(next), Kind::Colon)
+            && self.section_number(index).is_some()
+        {
             if let Some(phrase) = self.bare_section(index) {
                 return Some(phrase);
             }
-            self.shrink(from);
+            self.draft.shrink(from);
         }
         if let Some(phrase) = self.aside(index) {
             return Some(phrase);
         }
-        self.shrink(from);
+        self.draft.shrink(from);
         if let Some(phrase) = self.of_register(index) {
             return Some(phrase);
         }
-        self.shrink(from);
+        self.draft.shrink(from);
         if let Some(phrase) = self.heading(index) {
             return Some(phrase);
         }
-        self.shrink(from);
-        if self.pieces.is_damaged_section_word(index) {
+        self.draft.shrink(from);
+        if self.draft.pieces.is_damaged_section_word(index) {
             if let Some(phrase) = self.sections(index) {
                 return Some(phrase);
             }
-            self.shrink(from);
+            self.draft.shrink(from);
         }
-        if matches!(self.pieces.kind(index), Kind::Number(5 | 8)) {
+        if matches!(self.draft.pieces.kind(index), Kind::Number(5 | 8)) {
             if let Some(phrase) = self.sure_part(index) {
                 return Some(phrase);
             }
-            self.shrink(from);
+            self.draft.shrink(from);
         }
         if let Some(phrase) = self.bare_section(index) {
             return Some(phrase);
         }
-        self.shrink(from);
+        self.draft.shrink(from);
         self.remark(index)
     }
 
     /// The phrase at an index that a word or a mark begins.
     fn phrase_of_word(&mut self, index: usize) -> Option<Phrase> {
-        let from = self.extent();
+        let from = self.draft.extent();
         if let Some(phrase) = self.aside(index) {
             return Some(phrase);
         }
-        self.shrink(from);
+        self.draft.shrink(from);
         if let Some(phrase) = self.letter_of_register(index) {
             return Some(phrase);
         }
         if let Some(phrase) = self.heading(index) {
             return Some(phrase);
         }
-        self.shrink(from);
+        self.draft.shrink(from);
         if let Some(phrase) = self.sections(index) {
             return Some(phrase);
         }
-        self.shrink(from);
+        self.draft.shrink(from);
         if let Some(phrase) = self.section_of_letter(index) {
             return Some(phrase);
         }
-        self.shrink(from);
+        self.draft.shrink(from);
         if let Some(phrase) = self.lots(index) {
             return Some(phrase);
         }
-        self.shrink(from);
+        self.draft.shrink(from);
         if let Some(phrase) = self.all(index) {
             return Some(phrase);
         }
-        self.shrink(from);
+        self.draft.shrink(from);
         if let Some(phrase) = self.sure_part(index) {
             return Some(phrase);
         }
-        self.shrink(from);
+        self.draft.shrink(from);
         if let Some(phrase) = self.except(index) {
             return Some(phrase);
         }
-        self.shrink(from);
+        self.draft.shrink(from);
         self.remark(index)
     }
 
     /// The section of a location, or the aliquot part, at an index.
     fn half_or_section(&mut self, index: usize) -> Option<Phrase> {
-        let from = self.extent();
+        let from = self.draft.extent();
         if let Some(phrase) = self.section_of_letter(index) {
             return Some(phrase);
         }
-        self.shrink(from);
+        self.draft.shrink(from);
         self.sure_part(index)
     }
 
@@ -322,16 +317,16 @@ impl<'a> Draft<'a> {
             return None;
         };
         self.doubt_part(part);
-        if self.pieces.after_fractional(index) > index {
-            self.add_claim(part.end, Claimed::WithLots);
+        if self.draft.pieces.after_fractional(index) > index {
+            self.draft.add_claim(part.end, Claimed::WithLots);
         }
-        if !self.pieces.is(part.end, b"thereof") {
+        if !self.draft.pieces.is(part.end, b"thereof") {
             return Some(part);
         }
-        match self.last_names() {
+        match self.draft.last_names() {
             Some(Names::Except) => Some(self.part_thereof(part)),
             Some(Names::Part | Names::Lots) => {
-                self.doubt();
+                self.draft.doubt();
                 Some(part)
             }
             _ => Some(part),

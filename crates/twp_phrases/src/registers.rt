@@ -1,14 +1,15 @@
 //! Rows of registers: `08 0020N 0030W 014 ALIQ NENE`, `ID 8 2N 3W 14 A NENE`, `ID080020N0030W0SN140 ANENE`.
 
-use crate::draft::{Draft, Names, Numeral, Phrase};
+use crate::finder::Finder;
+use twp_draft::{Names, Numeral, Phrase};
 use twp_grammar::Kind;
 use twp_pieces::plus;
 use twp_rules::Rule;
 
-impl<'a> Draft<'a> {
+impl<'a> Finder<'a> {
     /// What only a register has, at an index: the code of the meridian, a section after SN, the A of aliquot
     /// parts.
-    pub fn of_register(&mut self, index: usize) -> Option<Phrase> {
+    pub(crate) fn of_register(&mut self, index: usize) -> Option<Phrase> {
         if let Some(phrase) = self.meridian_of_register(index) {
             return Some(phrase);
         }
@@ -20,11 +21,12 @@ impl<'a> Draft<'a> {
 
     /// The code of the meridian, before a township and range.
     fn meridian_of_register(&mut self, index: usize) -> Option<Phrase> {
-        let pieces = &self.pieces;
-        let from = self.extent();
+        let from = self.draft.extent();
+        let last = self.draft.last_names();
+        let pieces = &self.draft.pieces;
         let next = plus(index, 1);
         let is_code = pieces.has_digits(index, 1) || pieces.has_digits(index, 2);
-        let is_after_label = self.last_names() == Some(Names::Nothing(Rule::Label));
+        let is_after_label = last == Some(Names::Nothing(Rule::Label));
         let tier = if pieces.is(next, b"t") {
             plus(next, 1)
         } else {
@@ -33,17 +35,17 @@ impl<'a> Draft<'a> {
         let is_after_row = pieces.is(index.saturating_sub(1), b";");
         let is_row = (pieces.begins_line(index) || is_after_label || is_after_row)
             && pieces.has_digits(tier, 4);
-        let is_after_state = self.last_names() == Some(Names::Nothing(Rule::Meridian));
+        let is_after_state = last == Some(Names::Nothing(Rule::Meridian));
         if !is_code || !(is_row || is_after_state) || !self.end_of_heading(next).is_some() {
             return None;
         }
         let names = Names::Nothing(Rule::Meridian);
-        Some(self.phrase(names, index, next, from))
+        Some(self.draft.phrase(names, index, next, from))
     }
 
     /// The A before aliquot parts, after a section.
     pub(crate) fn letter_of_register(&self, index: usize) -> Option<Phrase> {
-        let pieces = &self.pieces;
+        let pieces = &self.draft.pieces;
         let next = plus(index, 1);
         let is_before_part = match pieces.kind(next) {
             Kind::NorthSouth(_) | Kind::EastWest(_) | Kind::Corner(_) | Kind::Other => true,
@@ -52,22 +54,30 @@ impl<'a> Draft<'a> {
         if !pieces.is(index, b"a")
             || !is_before_part
             || next >= pieces.len()
-            || self.last_names() != Some(Names::Sections)
+            || self.draft.last_names() != Some(Names::Sections)
         {
             return None;
         }
-        Some(self.phrase(Names::Nothing(Rule::Heading), index, next, self.extent()))
+        Some(
+            self.draft.phrase(
+                Names::Nothing(Rule::Heading),
+                index,
+                next,
+                self.draft.extent(),
+            ),
+        )
     }
 
     /// The section after SN, whose number has a digit more.
     fn section_of_register(&mut self, index: usize) -> Option<Phrase> {
-        let pieces = &self.pieces;
-        let from = self.extent();
+        let from = self.draft.extent();
+        let last = self.draft.last_names();
+        let pieces = &self.draft.pieces;
         let digits = plus(index, 2);
         let is_section = pieces.is(index, b"0")
             && pieces.is(plus(index, 1), b"sn")
             && pieces.has_digits(digits, 3)
-            && self.last_names() == Some(Names::Heading);
+            && last == Some(Names::Heading);
         let value = pieces.number(digits).unwrap_or(0);
         if !is_section || value % 10 != 0 || value == 0 || value > 360 {
             return None;
@@ -75,18 +85,20 @@ impl<'a> Draft<'a> {
         let word = pieces.start(index);
         let start = pieces.start(digits);
         let end = pieces.end(digits);
-        self.write(word, start, b", sec. ", Rule::Heading);
+        self.draft.write(word, start, b", sec. ", Rule::Heading);
         if value < 100 {
-            self.write(start, start.saturating_add(1), b"", Rule::Zeros);
+            self.draft
+                .write(start, start.saturating_add(1), b"", Rule::Zeros);
         }
-        self.write(end.saturating_sub(1), end, b"", Rule::FractionDigit);
+        self.draft
+            .write(end.saturating_sub(1), end, b"", Rule::FractionDigit);
         let next = plus(index, 3);
-        self.add_number(Numeral {
+        self.draft.add_number(Numeral {
             value: value / 10,
             first: digits,
             last: digits,
             end: next,
         });
-        Some(self.phrase(Names::Sections, index, next, from))
+        Some(self.draft.phrase(Names::Sections, index, next, from))
     }
 }

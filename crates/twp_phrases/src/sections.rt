@@ -1,7 +1,8 @@
 //! Sections, with their numbers: `Sec. 14`, `Sections 8, 9 & 10`, `said Section`.
 
-use crate::draft::{Draft, Form, Names, Numeral, Phrase};
+use crate::finder::Finder;
 use crate::numbered::Joined;
+use twp_draft::{Form, Names, Numeral, Phrase};
 use twp_grammar::Kind;
 use twp_pieces::{is_worn_section, plus};
 use twp_rules::Rule;
@@ -9,12 +10,12 @@ use twp_rules::Rule;
 /// The number of a township's last section.
 pub(crate) const SECTIONS: u16 = 36;
 
-impl<'a> Draft<'a> {
+impl<'a> Finder<'a> {
     /// The section or sections at an index, after the word for them.
-    pub fn sections(&mut self, index: usize) -> Option<Phrase> {
-        let from = self.extent();
+    pub(crate) fn sections(&mut self, index: usize) -> Option<Phrase> {
+        let from = self.draft.extent();
         let word = self.place_of_section_word(index);
-        if self.pieces.is_damaged_section_word(word) {
+        if self.draft.pieces.is_damaged_section_word(word) {
             return self.damaged_section(word);
         }
         let is_worn = self.is_worn_word(word);
@@ -27,13 +28,13 @@ impl<'a> Draft<'a> {
                     return Some(phrase);
                 }
             }
-            if self.pieces.is(index, b"both") && self.count_of_parts() != 2 {
-                self.doubt();
+            if self.draft.pieces.is(index, b"both") && self.count_of_parts() != 2 {
+                self.draft.doubt();
             }
-            self.leave_out_each(index, word, Rule::Word);
+            self.draft.leave_out_each(index, word, Rule::Word);
         }
         if is_worn {
-            self.replace(word, b"sec", Rule::SectionWord);
+            self.draft.replace(word, b"sec", Rule::SectionWord);
         }
         let next = self.after_section_word(word);
         let Some(number) = self.section_number(next) else {
@@ -41,21 +42,21 @@ impl<'a> Draft<'a> {
         };
         let is_plural = self.is_plural_word(word);
         let end = self.section_list(word, number, is_plural);
-        let phrase = self.phrase(Names::Sections, index, end, from);
+        let phrase = self.draft.phrase(Names::Sections, index, end, from);
         let form = if is_plural { Form::Plural } else { Form::Plain };
         Some(Phrase { form, ..phrase })
     }
 
     /// Where the word for sections has to be, if words for them begin at an index.
     fn place_of_section_word(&self, index: usize) -> usize {
-        let pieces = &self.pieces;
+        let pieces = &self.draft.pieces;
         if matches!(pieces.kind(index), Kind::Sec) {
             return index;
         }
         if pieces.is(index, b"fractional") || self.is_said(index) {
             return plus(index, 1);
         }
-        match self.last_names() {
+        match self.draft.last_names() {
             Some(Names::Part | Names::Lots) => pieces.after_all_in(index),
             _ => index,
         }
@@ -63,19 +64,19 @@ impl<'a> Draft<'a> {
 
     /// Whether a word for the section that was named is at an index.
     fn is_said(&self, index: usize) -> bool {
-        let pieces = &self.pieces;
+        let pieces = &self.draft.pieces;
         pieces.is(index, b"said") || pieces.is(index, b"same")
     }
 
     /// Whether what scanning makes of a word for sections is at an index.
     fn is_worn_word(&self, index: usize) -> bool {
-        let pieces = &self.pieces;
+        let pieces = &self.draft.pieces;
         !matches!(pieces.kind(index), Kind::Sec) && is_worn_section(pieces.lower(index))
     }
 
     /// Whether a word for sections is at an index, as in a description or otherwise.
     fn is_section_word(&self, index: usize) -> bool {
-        let pieces = &self.pieces;
+        let pieces = &self.draft.pieces;
         matches!(pieces.kind(index), Kind::Sec)
             || pieces.is(index, b"sects")
             || pieces.is(index, b"seo")
@@ -84,7 +85,7 @@ impl<'a> Draft<'a> {
 
     /// Whether a word for one section, or its sign, is at an index, that no description has.
     fn is_short_word(&self, index: usize) -> bool {
-        let pieces = &self.pieces;
+        let pieces = &self.draft.pieces;
         pieces.is(index, b"sect")
             || pieces.is(index, b"scc")
             || pieces.is(index, b"sce")
@@ -93,14 +94,14 @@ impl<'a> Draft<'a> {
 
     /// Whether a word for several sections is at an index.
     fn is_plural_word(&self, index: usize) -> bool {
-        let pieces = &self.pieces;
+        let pieces = &self.draft.pieces;
         pieces.is(index, b"secs") || pieces.is(index, b"sections") || pieces.is(index, b"sects")
     }
 
     /// How many parts and lots follow the last section so far.
     fn count_of_parts(&self) -> usize {
         let mut count: usize = 0;
-        for phrase in &self.phrases {
+        for phrase in &self.draft.phrases {
             count = match phrase.names {
                 Names::Part | Names::Lots => plus(count, 1),
                 Names::Sections | Names::All => 0,
@@ -112,7 +113,7 @@ impl<'a> Draft<'a> {
 
     /// The section that was named before, if words for it at an index have no number.
     fn section_again(&self, index: usize, word: usize) -> Option<Phrase> {
-        let pieces = &self.pieces;
+        let pieces = &self.draft.pieces;
         let next = plus(word, 1);
         let end = if pieces.is(next, b".") && pieces.is_joined(next) {
             plus(next, 1)
@@ -122,64 +123,66 @@ impl<'a> Draft<'a> {
         if self.section_number(end).is_some() {
             return None;
         }
-        let numbers = self.last_section?.numbers;
-        let again = self.phrase(Names::Sections, index, end, self.extent());
+        let numbers = self.draft.last_section?.numbers;
+        let again = self
+            .draft
+            .phrase(Names::Sections, index, end, self.draft.extent());
         Some(Phrase { numbers, ..again })
     }
 
     /// The section at an index whose word begins with such a digit.
     fn damaged_section(&mut self, index: usize) -> Option<Phrase> {
-        let from = self.extent();
-        self.replace(index, b"S", Rule::Damage);
+        let from = self.draft.extent();
+        self.draft.replace(index, b"S", Rule::Damage);
         let next = self.after_section_word(plus(index, 1));
         let Some(number) = self.section_number(next) else {
             return None;
         };
-        self.write_numeral(number);
-        Some(self.phrase(Names::Sections, index, number.end, from))
+        self.draft.write_numeral(number);
+        Some(self.draft.phrase(Names::Sections, index, number.end, from))
     }
 
     /// The index after what follows the word for sections at an index: `numbered`, a period, a second one, or
     /// a comma in its place.
     fn after_section_word(&mut self, word: usize) -> usize {
         let next = plus(word, 1);
-        if self.pieces.is(next, b"numbered") {
-            self.leave_out(next, plus(next, 1), Rule::Word);
+        if self.draft.pieces.is(next, b"numbered") {
+            self.draft.leave_out(next, plus(next, 1), Rule::Word);
             return plus(next, 1);
         }
-        if matches!(self.pieces.kind(next), Kind::Colon) {
-            self.leave_out(next, plus(next, 1), Rule::Mark);
+        if matches!(self.draft.pieces.kind(next), Kind::Colon) {
+            self.draft.leave_out(next, plus(next, 1), Rule::Mark);
             return plus(next, 1);
         }
-        if self.pieces.is(next, b".") && self.pieces.number(plus(next, 1)).is_some() {
+        if self.draft.pieces.is(next, b".") && self.draft.pieces.number(plus(next, 1)).is_some() {
             return plus(next, 1);
         }
-        if !self.pieces.is_joined(next) {
+        if !self.draft.pieces.is_joined(next) {
             return next;
         }
-        if matches!(self.pieces.kind(next), Kind::Stop) {
+        if matches!(self.draft.pieces.kind(next), Kind::Stop) {
             let second = plus(next, 1);
-            let is_mark = self.pieces.is(second, b".") || self.pieces.is(second, b":");
-            if is_mark && self.pieces.is_joined(second) {
-                self.leave_out(second, plus(second, 1), Rule::Mark);
+            let is_mark = self.draft.pieces.is(second, b".") || self.draft.pieces.is(second, b":");
+            if is_mark && self.draft.pieces.is_joined(second) {
+                self.draft.leave_out(second, plus(second, 1), Rule::Mark);
                 return plus(second, 1);
             }
             return second;
         }
-        if self.pieces.is(next, b",") && self.pieces.number(plus(next, 1)).is_some() {
-            self.replace(next, b".", Rule::SectionWord);
+        if self.draft.pieces.is(next, b",") && self.draft.pieces.number(plus(next, 1)).is_some() {
+            self.draft.replace(next, b".", Rule::SectionWord);
             return plus(next, 1);
         }
-        if self.pieces.is(next, b"#") {
-            self.leave_out(next, plus(next, 1), Rule::Mark);
+        if self.draft.pieces.is(next, b"#") {
+            self.draft.leave_out(next, plus(next, 1), Rule::Mark);
             return plus(next, 1);
         }
         next
     }
 
     /// The number of a section at an index.
-    pub fn section_number(&self, index: usize) -> Option<Numeral> {
-        match self.numeral(index) {
+    pub(crate) fn section_number(&self, index: usize) -> Option<Numeral> {
+        match self.draft.numeral(index) {
             Some(number) if number.value >= 1 && number.value <= SECTIONS => Some(number),
             _ => None,
         }
@@ -188,15 +191,15 @@ impl<'a> Draft<'a> {
     /// Writes the word at an index, a section's number, and those that follow it: the index after them.
     fn section_list(&mut self, word: usize, number: Numeral, is_plural: bool) -> usize {
         if let Some(written) = self.written_word(word, self.has_more(number, is_plural)) {
-            self.replace(word, written, Rule::SectionWord);
+            self.draft.replace(word, written, Rule::SectionWord);
         }
-        self.write_numeral(number);
+        self.draft.write_numeral(number);
         self.numbers_after(number, Names::Sections, is_plural)
     }
 
     /// What is written for the word for sections at an index, if it isn't written so: there are several, or one.
     fn written_word(&self, index: usize, has_more: bool) -> Option<&'static [u8]> {
-        let pieces = &self.pieces;
+        let pieces = &self.draft.pieces;
         if has_more {
             let is_single = self.is_short_word(index)
                 || pieces.is(index, b"sec")
@@ -215,7 +218,7 @@ impl<'a> Draft<'a> {
         let Some(Joined { join, end }) = self.join_at(number.end) else {
             return false;
         };
-        match self.numeral(end) {
+        match self.draft.numeral(end) {
             Some(more) => self.continues(more, join, Names::Sections, is_plural),
             None => false,
         }

@@ -1,16 +1,17 @@
 //! Remarks, and what makes a phrase unsure: an empty place in a list, and parts that may be something else.
 
-use crate::draft::{Draft, Names, Phrase};
+use crate::finder::Finder;
+use twp_draft::{Names, Phrase};
 use twp_grammar::Kind;
 use twp_pieces::plus;
 use twp_remarks::{Position, begins_depths, end_of_remark};
 use twp_rules::Rule;
 
-impl<'a> Draft<'a> {
+impl<'a> Finder<'a> {
     /// Whether a comma or a semicolon at an index has nothing before it, so that something may be missing
     /// there. A cell after that of the section may be empty.
     pub(crate) fn is_empty_slot(&self, index: usize) -> bool {
-        let pieces = &self.pieces;
+        let pieces = &self.draft.pieces;
         if !matches!(pieces.kind(index), Kind::Comma | Kind::Semicolon) {
             return false;
         }
@@ -18,7 +19,9 @@ impl<'a> Draft<'a> {
             return true;
         };
         match pieces.kind(before) {
-            Kind::Comma if pieces.is_joined(index) => { self.last_names() != Some(Names::Sections) }
+            Kind::Comma if pieces.is_joined(index) => {
+                self.draft.last_names() != Some(Names::Sections)
+            }
             Kind::Comma | Kind::Semicolon | Kind::Colon | Kind::And | Kind::The => true,
             Kind::BadByte => pieces.is(before, b"&") || pieces.is_dash(before),
             _ => {
@@ -30,11 +33,11 @@ impl<'a> Draft<'a> {
 
     /// Whether the name of the column for aliquot parts is before an index.
     pub(crate) fn is_after_label(&self, index: usize) -> bool {
-        match self.phrases.last() {
+        match self.draft.phrases.last() {
             Some(phrase) => {
                 matches!(phrase.names, Names::Nothing(Rule::Heading | Rule::Label))
                     && phrase.end == index
-                    && self.pieces.end_of_column_label(phrase.first) == Some(index)
+                    && self.draft.pieces.end_of_column_label(phrase.first) == Some(index)
             }
             None => false,
         }
@@ -47,25 +50,26 @@ impl<'a> Draft<'a> {
         } else {
             Position::BeforeLand
         };
-        let end = end_of_remark(&self.pieces, index, position)?;
+        let end = end_of_remark(&self.draft.pieces, index, position)?;
         // Numbers may be those of lots, beside a section also as a spreadsheet changes them.
-        let is_beside = self.last_names() == Some(Names::Sections);
-        let has_lots = is_beside && !self.pieces.has_word(index, end)
+        let is_beside = self.draft.last_names() == Some(Names::Sections);
+        let has_lots = is_beside && !self.draft.pieces.has_word(index, end)
             || (position == Position::BeforeLand && self.may_be_plat(index, end));
-        if has_lots || self.pieces.are_small_numbers(index, end) {
+        if has_lots || self.draft.pieces.are_small_numbers(index, end) {
             return None;
         }
-        let is_label = self.pieces.is_label_of_tract(index);
-        self.has_remark = self.has_remark || !is_label;
+        let is_label = self.draft.pieces.is_label_of_tract(index);
+        self.draft.has_remark = self.draft.has_remark || !is_label;
         self.has_depths = self.has_depths
-            || (self.pieces.is(index, b"(") && begins_depths(&self.pieces, plus(index, 1)));
-        Some(self.phrase(Names::Nothing(Rule::Label), index, end, self.extent()))
+            || (self.draft.pieces.is(index, b"(")
+                && begins_depths(&self.draft.pieces, plus(index, 1)));
+        Some(self.draft.phrase(Names::Nothing(Rule::Label), index, end, self.draft.extent()))
     }
 
     /// Whether a label before lots may be the name of a town's plat: it has no number, and no word for a
     /// lease or the like.
     pub(crate) fn may_be_plat(&self, first: usize, end: usize) -> bool {
-        let pieces = &self.pieces;
+        let pieces = &self.draft.pieces;
         let next = plus(
             end,
             usize::from(pieces.is(end, b",") || pieces.is(end, b"|")),
@@ -82,42 +86,42 @@ impl<'a> Draft<'a> {
     /// part with a slash.
     pub(crate) fn doubt_part(&mut self, part: Phrase) {
         if self.may_be_section(part)
-            || (part.end == self.pieces.len() && self.may_be_cut_section(part))
+            || (part.end == self.draft.pieces.len() && self.may_be_cut_section(part))
             || (self.is_short(part) && self.may_be_of_lots(part))
             || self.is_before_corner(part.end)
         {
-            self.doubt();
+            self.draft.doubt();
         }
     }
 
     /// Whether a part is a letter and a digit, as `N2`.
     fn is_short(&self, part: Phrase) -> bool {
-        part.end == plus(part.first, 2) && self.pieces.has_digits(plus(part.first, 1), 1)
+        part.end == plus(part.first, 2) && self.draft.pieces.has_digits(plus(part.first, 1), 1)
     }
 
     /// Whether a part, as `S2`, may be a section: before any other land, or after a section such as `S3:`.
     fn may_be_section(&self, part: Phrase) -> bool {
-        let pieces = &self.pieces;
+        let pieces = &self.draft.pieces;
         if !self.is_short(part) || !pieces.is(part.first, b"s") {
             return false;
         }
-        let is_after_letter = match self.last_section {
+        let is_after_letter = match self.draft.last_section {
             Some(section) => pieces.is(section.first, b"s"),
             None => false,
         };
-        let is_more = self.last_names() != Some(Names::Sections)
+        let is_more = self.draft.last_names() != Some(Names::Sections)
             || pieces.is(part.first.saturating_sub(1), b",");
         (!self.names_land && !self.is_before_section(part.end)) || (is_after_letter && is_more)
     }
 
     /// Whether the digit of a part, as `N2`, may be the number of one more lot.
     fn may_be_of_lots(&self, part: Phrase) -> bool {
-        self.pieces.number(plus(part.first, 1)) == Some(2) && self.is_after_one_lot()
+        self.draft.pieces.number(plus(part.first, 1)) == Some(2) && self.is_after_one_lot()
     }
 
     /// Whether a word for a corner is at an index, or a slash that is joined to a part, or to what follows.
     fn is_before_corner(&self, index: usize) -> bool {
-        let pieces = &self.pieces;
+        let pieces = &self.draft.pieces;
         pieces.is(index, b"corner")
             || pieces.is(index, b"cor")
             || (pieces.is(index, b"/")
@@ -126,7 +130,7 @@ impl<'a> Draft<'a> {
 
     /// Whether what is after a part at an index says that it is one: an `of`, or the section of a location.
     fn is_before_section(&self, index: usize) -> bool {
-        let pieces = &self.pieces;
+        let pieces = &self.draft.pieces;
         let is_location = pieces.number(index).is_some() && pieces.is_dash(plus(index, 1));
         is_location || pieces.is(index, b"of") || pieces.leads_to_section(index)
     }
@@ -134,9 +138,9 @@ impl<'a> Draft<'a> {
     /// Whether the last part of a text may be the beginning of a word for a section: `Se`, or `se` after a
     /// part in capitals.
     pub(crate) fn may_be_cut_section(&self, part: Phrase) -> bool {
-        let pieces = &self.pieces;
+        let pieces = &self.draft.pieces;
         let letters = pieces.bytes(part.first);
-        let is_after_capital = match self.phrases.last() {
+        let is_after_capital = match self.draft.phrases.last() {
             Some(before) => {
                 before.names == Names::Part
                     && matches!(pieces.bytes(before.first), [b'A'..=b'Z', ..])
@@ -150,8 +154,8 @@ impl<'a> Draft<'a> {
 
     /// Whether the phrase before is of one lot, after a word that may be for several.
     pub(crate) fn is_after_one_lot(&self) -> bool {
-        let pieces = &self.pieces;
-        match self.phrases.last() {
+        let pieces = &self.draft.pieces;
+        match self.draft.phrases.last() {
             Some(phrase) => {
                 phrase.names == Names::Lots
                     && phrase.numbers.end.saturating_sub(phrase.numbers.first) == 1

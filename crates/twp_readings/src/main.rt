@@ -7,6 +7,7 @@ use bstr::ByteSlice;
 use std::alloc::{AllocError, Global};
 use std::io::{self, Read};
 use twp_excerpt::write_escaped;
+use twp_phrases::Phrases;
 use twp_suggest::{Change, Reading, Rule, readings_of};
 
 fn main(rt: HostRuntime) -> io::Result<()> {
@@ -63,7 +64,7 @@ fn read_input(rt: &HostRuntime) -> io::Result<Vec<u8>> {
 /// The readings of a description: a function of its own, so that bench/readings.sh can count what it takes.
 #[inline(never)]
 fn read_text(alloc: Global, text: &[u8]) -> Result<Vec<Reading<'_>>, AllocError> {
-    readings_of(alloc, text)
+    readings_of::<Phrases>(alloc, text)
 }
 
 /// Prints the readings of a description.

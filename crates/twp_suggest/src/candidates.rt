@@ -5,6 +5,7 @@ use crate::writer::Writer;
 use std::alloc::{AllocError, Global};
 use std::mem;
 use twp_arrange::Plan;
+use twp_draft::FindsPhrases;
 use twp_pieces::plus;
 use twp_read::TEXT_LIMIT;
 use twp_rules::{Change, Rule};
@@ -12,16 +13,17 @@ use twp_rules::{Change, Rule};
 /// The most joints of a text whose readings are given: each doubles their number.
 pub(crate) const JOINTS_MOST: usize = 3;
 
-/// The changes of a text, and its joints. None where nothing is sure.
-pub(crate) fn outline_of<'a>(
+/// The changes of a text, and its joints, by the phrases that are found in it. None where nothing is sure.
+pub(crate) fn outline_of<'a, F: FindsPhrases>(
     alloc: Global,
     text: &'a [u8],
 ) -> Result<Option<Outline<'a>>, AllocError> {
     if text.len() > TEXT_LIMIT {
         return Ok(None);
     }
+    let draft = F::phrases_of(alloc, text)?;
     let mut writer = Writer {
-        plan: Plan::of(alloc, text)?,
+        plan: Plan::of(draft),
     };
     if writer.plan.draft.is_unsure {
         return Ok(None);

@@ -4,8 +4,8 @@ use crate::writer::Writer;
 use std::alloc::{AllocError, Global};
 use twp_arrange::{Placed, Role};
 use twp_described::{find_land, first_township, land_in};
+use twp_draft::{Claim, Claimed, Names, Phrase, Span};
 use twp_land::{Land, Lanes};
-use twp_phrases::{Claim, Claimed, Names, Phrase, Span};
 use twp_pieces::plus;
 
 /// The land before a place, which moves from one claim to the next.

@@ -4,8 +4,8 @@ use crate::joints::Shared;
 use crate::outline::Outline;
 use crate::writer::Writer;
 use twp_arrange::{Between, Gap, Joining, Placed, is_joint, is_written, mark_between};
+use twp_draft::Names;
 use twp_grammar::Kind;
-use twp_phrases::Names;
 use twp_pieces::plus;
 use twp_rules::{Change, Rule};
 

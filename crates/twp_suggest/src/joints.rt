@@ -4,8 +4,8 @@ use crate::candidates::JOINTS_MOST;
 use crate::outline::{Joint, Outline, change};
 use crate::writer::Writer;
 use twp_arrange::{Gap, Joining, Placed, is_joint};
+use twp_draft::{Form, Phrase, PlacedStep, Span};
 use twp_grammar::Kind;
-use twp_phrases::{Form, Phrase, PlacedStep, Span};
 use twp_pieces::plus;
 use twp_rules::{Change, Rule};
 

@@ -4,7 +4,7 @@ use crate::outline::Outline;
 use crate::writer::Writer;
 use std::alloc::{AllocError, Global};
 use twp_arrange::{Placed, Role};
-use twp_phrases::{Names, Phrase};
+use twp_draft::{Names, Phrase};
 use twp_pieces::plus;
 use twp_read::TEXT_LIMIT;
 use twp_rules::Rule;

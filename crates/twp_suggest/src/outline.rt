@@ -3,8 +3,8 @@
 use crate::writer::Writer;
 use std::alloc::{AllocError, Global};
 use twp_arrange::{Placed, Role, has_except};
+use twp_draft::{Names, Phrase, Span};
 use twp_grammar::Kind;
-use twp_phrases::{Names, Phrase, Span};
 use twp_pieces::plus;
 use twp_rules::{Change, Rule};
 

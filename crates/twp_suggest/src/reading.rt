@@ -8,6 +8,7 @@ use crate::candidates::{made_by, outline_of};
 use crate::outline::Outline;
 use std::alloc::{AllocError, Global};
 use twp_described::{Manner, Unread, Wording, described, find_land, is_clear, township_of};
+use twp_draft::FindsPhrases;
 use twp_land::{Land, Lanes};
 use twp_rules::{Change, are_changes, changed};
 
@@ -23,15 +24,19 @@ pub struct Reading<'a> {
 const READINGS_MOST: usize = 8;
 
 /// The readings of a text as descriptions, in a fixed order: none where nothing is sure, one where the text
-/// can be read in only one way, and at most 8.
+/// can be read in only one way, and at most 8. Which there are depends on the phrases that are found; what is
+/// promised of each doesn't.
 #[tactic(auto, using(crate::proofs::ReadingFacts::none_of, crate::proofs::ReadingFacts::some_of, crate::proofs::ReadingFacts::no_readings))]
-pub fn readings_of<'a>(alloc: Global, text: &'a [u8]) -> Result<Vec<Reading<'a>>, AllocError>
+pub fn readings_of<'a, F: FindsPhrases>(
+    alloc: Global,
+    text: &'a [u8],
+) -> Result<Vec<Reading<'a>>, AllocError>
     ensures { IfOk result (λ readings. AreReadings text.now readings.items) }
 {
     if is_clear(alloc, text)? {
         return itself(alloc, text);
     }
-    let Some(outline) = outline_of(alloc, text)? else {
+    let Some(outline) = outline_of::<F>(alloc, text)? else {
         return Ok(Vec::new(alloc));
     };
     let readings = readings_by(alloc, text, outline)?;

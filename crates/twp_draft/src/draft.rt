@@ -121,16 +121,10 @@ pub struct Draft<'a> {
     pub numbers: Vec<Numeral>,
     /// What has to be so of the land.
     pub claims: Vec<Claim>,
-    /// Whether a section or land was found.
-    pub names_land: bool,
     /// Whether text was left out as a remark.
     pub has_remark: bool,
-    /// Whether land was said to be meant at some depths, in parentheses.
-    pub has_depths: bool,
     /// Whether something was found that makes the text unsure, or that isn't land.
     pub is_unsure: bool,
-    /// Whether a parenthesis before land is open.
-    pub has_open: bool,
     /// The last section that was found.
     pub last_section: Option<Phrase>,
     /// Whether memory was refused for something, which is then missing.
@@ -171,11 +165,8 @@ impl<'a> Draft<'a> {
             steps: Vec::with_capacity(alloc, STEPS_FIRST)?,
             numbers: Vec::with_capacity(alloc, NUMBERS_FIRST)?,
             claims: Vec::new(alloc),
-            names_land: false,
             has_remark: false,
-            has_depths: false,
             is_unsure: false,
-            has_open: false,
             last_section: None,
             lacks_memory: false,
         })
@@ -242,7 +233,7 @@ impl<'a> Draft<'a> {
     }
 
     /// Adds a phrase.
-    pub(crate) fn add_phrase(&mut self, phrase: Phrase) {
+    pub fn add_phrase(&mut self, phrase: Phrase) {
         if self.phrases.push(phrase).is_err() {
             self.lacks_memory = true;
         }
@@ -256,21 +247,21 @@ impl<'a> Draft<'a> {
     }
 
     /// Adds a step of an aliquot part.
-    pub(crate) fn add_step(&mut self, step: PlacedStep) {
+    pub fn add_step(&mut self, step: PlacedStep) {
         if self.steps.push(step).is_err() {
             self.lacks_memory = true;
         }
     }
 
     /// Adds a number.
-    pub(crate) fn add_number(&mut self, number: Numeral) {
+    pub fn add_number(&mut self, number: Numeral) {
         if self.numbers.push(number).is_err() {
             self.lacks_memory = true;
         }
     }
 
     /// Adds what has to be so of the land before a place.
-    pub(crate) fn add_claim(&mut self, place: usize, what: Claimed) {
+    pub fn add_claim(&mut self, place: usize, what: Claimed) {
         if self.claims.push(Claim { place, what }).is_err() {
             self.lacks_memory = true;
         }
@@ -287,7 +278,7 @@ impl<'a> Draft<'a> {
     }
 
     /// Writes bytes of the text, from one place up to another, at a place where they aren't.
-    pub fn copy(&mut self, place: usize, from: usize, to: usize) {
+    pub(crate) fn copy(&mut self, place: usize, from: usize, to: usize) {
         self.add_change(Change {
             start: place,
             end: place,

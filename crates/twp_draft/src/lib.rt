@@ -1,0 +1,13 @@
+//! What is found in a text that people write as a description of land: the phrases, what each of them names, and
+//! the changes in it. None of this is trusted: each change is checked against its rule, and the text that they
+//! make is read.
+#![tactic(auto)]
+
+mod draft;
+mod finds_phrases;
+mod headings;
+mod numerals;
+mod steps;
+
+pub use draft::{Claim, Claimed, Draft, Extent, Form, Names, Numeral, Phrase, PlacedStep, Span};
+pub use finds_phrases::FindsPhrases;

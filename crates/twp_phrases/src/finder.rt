@@ -1,0 +1,41 @@
+//! The search for the phrases of a text: the draft of it, and what only the search has to know.
+
+use std::alloc::{AllocError, Global};
+use twp_draft::{Draft, FindsPhrases};
+
+/// Finds the phrases of a text, by a search from left to right.
+pub struct Phrases;
+
+impl FindsPhrases for Phrases {
+    fn phrases_of<'a>(alloc: Global, text: &'a [u8]) -> Result<Draft<'a>, AllocError> {
+        let mut finder = Finder::new(alloc, text)?;
+        finder.add_phrases();
+        finder.draft.all_added()?;
+        Ok(finder.draft)
+    }
+}
+
+/// A search for phrases. How phrases of one kind are found is in the module for that kind.
+#[derive(Drop)]
+pub(crate) struct Finder<'a> {
+    /// What was found so far.
+    pub(crate) draft: Draft<'a>,
+    /// Whether a section or land was found.
+    pub(crate) names_land: bool,
+    /// Whether land was said to be meant at some depths, in parentheses.
+    pub(crate) has_depths: bool,
+    /// Whether a parenthesis before land is open.
+    pub(crate) has_open: bool,
+}
+
+impl<'a> Finder<'a> {
+    /// A search in a text that has not begun.
+    fn new(alloc: Global, text: &'a [u8]) -> Result<Finder<'a>, AllocError> {
+        Ok(Finder {
+            draft: Draft::new(alloc, text)?,
+            names_land: false,
+            has_depths: false,
+            has_open: false,
+        })
+    }
+}
