@@ -19,88 +19,145 @@ struct Group {
     is_shared: bool,
 }
 
+/// What was found before a phrase.
+#[derive(Drop)]
+struct Found {
+    /// The last group.
+    group: Option<Group>,
+    /// How many groups there are, and how many of them but the last have no land.
+    count: usize,
+    landless: usize,
+    /// Whether land has to follow a section that was named before.
+    is_awaited: bool,
+    /// Whether the last phrase begins an exception.
+    is_first_excepted: bool,
+    /// Whether something isn't sure.
+    is_unsure: bool,
+}
+
+impl Found {
+    /// Nothing.
+    fn new() -> Found {
+        Found {
+            group: None,
+            count: 0,
+            landless: 0,
+            is_awaited: false,
+            is_first_excepted: false,
+            is_unsure: false,
+        }
+    }
+
+    /// Counts a group that ends.
+    fn end_group(&mut self, group: &Group) {
+        self.landless = plus(self.landless, usize::from(!group.has_land));
+    }
+
+    /// Takes land of a group.
+    fn take_land(&mut self, placed: &mut Placed, group: Group) {
+        placed.role = Role::Kept(self.count);
+        self.is_awaited = false;
+        let names = placed.phrase.names;
+        let is_shared = group.is_shared || (!group.has_land && placed.section.is_some());
+        self.is_unsure = self.is_unsure || (is_shared && names != Names::Part);
+        self.group = Some(Group {
+            has_land: true,
+            has_part: group.has_part || names != Names::All,
+            is_shared,
+            ..group
+        });
+    }
+}
+
 impl<'a> Plan<'a> {
     /// Places land after its sections.
     pub(crate) fn place_land_after(&mut self, list: &mut Vec<Placed>) {
-        let mut group: Option<Group> = None;
-        let mut count: usize = 0;
-        let mut is_first_excepted = false;
-        let mut landless: usize = 0;
-        let mut unsure = false;
-        // Whether land has to follow a section that was named before.
-        let mut is_awaited = false;
+        let mut found = Found::new();
         for placed in list.iter_mut() {
-            let phrase = placed.phrase;
-            match (phrase.names, group) {
-                (names, Some(before)) if is_of_exception(&before, names) => {
-                    placed.role = Role::Kept(count);
-                    if names == Names::Except {
-                        unsure = unsure
-                            || before.is_excepting
-                            || self.count_of(before.section) > 1
-                            || (count > 1 && self.is_set_apart(phrase));
-                    } else if is_first_excepted {
-                        placed.section = Some(before.section.numbers);
-                    }
-                    is_first_excepted = names == Names::Except;
-                    group = Some(Group {
-                        is_excepting: true,
-                        ..before
-                    });
-                }
-                (Names::Nothing(_) | Names::Heading, _) => {}
-                (Names::Sections, Some(before))
-                    if before.has_land && self.is_same_section(before.section, phrase) => {
-                    placed.role = Role::LeftOut;
-                    unsure = unsure || is_awaited;
-                    is_awaited = !self.is_after_of(phrase);
-                }
-                (Names::Sections, before) => {
-                    if let Some(before) = before {
-                        unsure = unsure || !self.is_sure_group(&before) || before.is_excepting;
-                        landless = plus(landless, usize::from(!before.has_land));
-                    }
-                    unsure = unsure || is_awaited;
-                    count = count.saturating_add(1);
-                    if placed.role == Role::Kept(0) {
-                        placed.role = Role::Kept(count);
-                    }
-                    group = Some(Group {
-                        section: phrase,
-                        has_land: false,
-                        has_part: false,
-                        is_excepting: false,
-                        is_shared: false,
-                    });
-                }
-                (names, Some(before)) => {
-                    placed.role = Role::Kept(count);
-                    is_awaited = false;
-                    let is_shared = before.is_shared
-                        || (!before.has_land && placed.section.is_some());
-                    unsure = unsure || (is_shared && names != Names::Part);
-                    group = Some(Group {
-                        has_land: true,
-                        has_part: before.has_part || names != Names::All,
-                        is_shared,
-                        ..before
-                    });
-                }
-                (_, None) => unsure = true,
-            }
+            self.place_after(placed, &mut found);
         }
-        if let Some(last) = group {
-            unsure = unsure || !self.is_sure_group(&last);
-            landless = plus(landless, usize::from(!last.has_land));
-        }
-        unsure = unsure || is_awaited || is_first_excepted;
-        let is_missing = landless > 0
-            && landless < count
-            && !self.are_set_apart(list)
-            && !self.are_all_whole(list);
-        if unsure || is_missing {
+        if self.is_unsure_at_end(list.as_slice(), &mut found) {
             self.draft.doubt();
         }
+    }
+
+    /// Whether what was found isn't sure when nothing follows.
+    fn is_unsure_at_end(&self, list: &[Placed], found: &mut Found) -> bool {
+        if let Some(last) = found.group {
+            found.is_unsure = found.is_unsure || !self.is_sure_group(&last);
+            found.end_group(&last);
+        }
+        if found.is_unsure || found.is_awaited || found.is_first_excepted {
+            return true;
+        }
+        found.landless > 0
+            && found.landless < found.count
+            && !self.are_set_apart(list)
+            && !self.are_all_whole(list)
+    }
+
+    /// Places a phrase.
+    fn place_after(&self, placed: &mut Placed, found: &mut Found) {
+        let phrase = placed.phrase;
+        match (phrase.names, found.group) {
+            (names, Some(group)) if is_of_exception(&group, names) => {
+                self.take_exception(placed, group, found)
+            }
+            (Names::Nothing(_) | Names::Heading, _) => {}
+            (Names::Sections, Some(group))
+                if group.has_land && self.is_same_section(group.section, phrase) => {
+                placed.role = Role::LeftOut;
+                found.is_unsure = found.is_unsure || found.is_awaited;
+                found.is_awaited = !self.is_after_of(phrase);
+            }
+            (Names::Sections, group) => self.take_section_before_land(placed, group, found),
+            (_, Some(group)) => found.take_land(placed, group),
+            (_, None) => found.is_unsure = true,
+        }
+    }
+
+    /// Takes what begins an exception, or continues it.
+    fn take_exception(&self, placed: &mut Placed, group: Group, found: &mut Found) {
+        placed.role = Role::Kept(found.count);
+        let is_word = placed.phrase.names == Names::Except;
+        if is_word {
+            found.is_unsure = found.is_unsure
+                || group.is_excepting
+                || self.count_of(group.section) > 1
+                || (found.count > 1 && self.is_set_apart(placed.phrase));
+        } else if found.is_first_excepted {
+            placed.section = Some(group.section.numbers);
+        }
+        found.is_first_excepted = is_word;
+        found.group = Some(Group {
+            is_excepting: true,
+            ..group
+        });
+    }
+
+    /// Takes a section, which begins a group after another one.
+    fn take_section_before_land(
+        &self,
+        placed: &mut Placed,
+        before: Option<Group>,
+        found: &mut Found,
+    ) {
+        if let Some(group) = before {
+            found.is_unsure = found.is_unsure || !self.is_sure_group(&group) || group.is_excepting;
+            found.end_group(&group);
+        }
+        found.is_unsure = found.is_unsure || found.is_awaited;
+        found.count = found.count.saturating_add(1);
+        if placed.role == Role::Kept(0) {
+            placed.role = Role::Kept(found.count);
+        }
+        found.group = Some(Group {
+            section: placed.phrase,
+            has_land: false,
+            has_part: false,
+            is_excepting: false,
+            is_shared: false,
+        });
     }
 
     /// Whether `of` or `in` is before a section, or `said` is in it, as in `the NW1/4 of said Section 9`.

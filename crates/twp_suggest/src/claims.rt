@@ -79,58 +79,108 @@ impl<'a> Writer<'a> {
         let Some(section) = self.section_of(last.role, group) else {
             return Ok(false);
         };
-        let mut claimed = section_text(alloc, section)?;
         match claim.what {
-            Claimed::Same => return Ok(true),
+            Claimed::Same => Ok(true),
             Claimed::WithLots => {
-                self.write_phrase(last.phrase, b", ", &mut claimed)?;
-                return includes_lots(alloc, claimed.as_slice());
+                let text = self.text_of(alloc, section, last.phrase)?;
+                includes_lots(alloc, text.as_slice())
             }
-            Claimed::WholeSection => {}
-            Claimed::Land { pieces, changes } => {
-                claimed.extend_from_slice(b", ")?;
-                self.write_land(pieces, changes, &mut claimed)?;
-            }
-            Claimed::Part(span) => {
-                claimed.extend_from_slice(b", ")?;
-                for step in self
-                    .plan
-                    .draft
-                    .steps
-                    .get(span.first..span.end)
-                    .unwrap_or(&[])
-                {
-                    claimed.extend_from_slice(step.written)?;
+            claimed => {
+                let text = self.claimed_text(alloc, section, claimed)?;
+                let Some(land) = land_in(alloc, text.as_slice())? else {
+                    return Ok(false);
+                };
+                let text = self.text_of(alloc, section, last.phrase)?;
+                if names(alloc, text.as_slice(), &land)? {
+                    return Ok(true);
                 }
+                self.is_group(
+                    alloc,
+                    section,
+                    &land,
+                    group_before(group, claim.place),
+                    last.role,
+                )
             }
         }
-        let Some(land) = land_in(alloc, claimed.as_slice())? else {
-            return Ok(false);
-        };
-        let mut alone = section_text(alloc, section)?;
-        self.write_phrase(last.phrase, b", ", &mut alone)?;
-        if names(alloc, alone.as_slice(), &land)? {
+    }
+
+    /// Whether the land of a group is this: as it is listed, or with what has nothing between it as one part.
+    fn is_group(
+        &self,
+        alloc: Global,
+        section: u16,
+        land: &Lanes,
+        group: &[Placed],
+        role: Role,
+    ) -> Result<bool, AllocError> {
+        let listed = self.text_of_group(alloc, section, group, role, b", ")?;
+        if names(alloc, listed.as_slice(), land)? {
             return Ok(true);
         }
-        let mut all = section_text(alloc, section)?;
-        let mut joined = section_text(alloc, section)?;
+        let joined = self.text_of_group(alloc, section, group, role, b" ")?;
+        names(alloc, joined.as_slice(), land)
+    }
+
+    /// The text of a section and a phrase of it.
+    fn text_of(&self, alloc: Global, section: u16, phrase: Phrase) -> Result<Vec<u8>, AllocError> {
+        let mut text = section_text(alloc, section)?;
+        self.write_phrase(phrase, b", ", &mut text)?;
+        Ok(text)
+    }
+
+    /// The text of a section and what is claimed of it.
+    fn claimed_text(
+        &self,
+        alloc: Global,
+        section: u16,
+        claimed: Claimed,
+    ) -> Result<Vec<u8>, AllocError> {
+        let mut text = section_text(alloc, section)?;
+        match claimed {
+            Claimed::Land { pieces, changes } => {
+                text.extend_from_slice(b", ")?;
+                self.write_land(pieces, changes, &mut text)?;
+            }
+            Claimed::Part(span) => {
+                text.extend_from_slice(b", ")?;
+                self.write_steps(span, &mut text)?;
+            }
+            _ => {}
+        }
+        Ok(text)
+    }
+
+    /// Appends the steps of an aliquot part.
+    fn write_steps(&self, span: Span, text: &mut Vec<u8>) -> Result<(), AllocError> {
+        let steps = &self.plan.draft.steps;
+        for step in steps.get(span.first..span.end).unwrap_or(&[]) {
+            text.extend_from_slice(step.written)?;
+        }
+        Ok(())
+    }
+
+    /// The text of a section and its land in a group, with a mark between phrases that have nothing between
+    /// them, and a comma between others.
+    fn text_of_group(
+        &self,
+        alloc: Global,
+        section: u16,
+        group: &[Placed],
+        role: Role,
+        mark: &[u8],
+    ) -> Result<Vec<u8>, AllocError> {
+        let mut text = section_text(alloc, section)?;
         let mut end: Option<usize> = None;
         for placed in group {
-            if placed.phrase.end > claim.place {
-                break;
-            }
-            if is_land(*placed) && placed.role == last.role {
-                self.write_phrase(placed.phrase, b", ", &mut all)?;
-                let is_more = end == Some(placed.phrase.first);
-                let mark: &[u8] = if is_more { b" " } else { b", " };
-                self.write_phrase(placed.phrase, mark, &mut joined)?;
+            if is_land(*placed) && placed.role == role {
+                let is_next = end == Some(placed.phrase.first);
+                let mark = if is_next { mark } else { b", " };
+                self.write_phrase(placed.phrase, mark, &mut text)?;
                 end = Some(placed.phrase.end);
             }
         }
-        if names(alloc, all.as_slice(), &land)? {
-            return Ok(true);
-        }
-        names(alloc, joined.as_slice(), &land)
+        Ok(text)
     }
 
     /// The number of the section of a group, with which phrases begin.
@@ -209,6 +259,15 @@ fn section_text(alloc: Global, number: u16) -> Result<Vec<u8>, AllocError> {
         text.push(b'0'.saturating_add(u8::try_from(digit).unwrap_or(0)))?;
     }
     Ok(text)
+}
+
+/// The phrases of a group that end before a place.
+fn group_before(group: &[Placed], place: usize) -> &[Placed] {
+    let count = group
+        .iter()
+        .take_while(|placed| placed.phrase.end <= place)
+        .count();
+    group.get(..count).unwrap_or(&[])
 }
 
 /// Whether a text names this land.

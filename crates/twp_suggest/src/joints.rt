@@ -29,34 +29,18 @@ impl<'a> Writer<'a> {
         other: &Phrase,
         out: &mut Outline<'a>,
     ) {
-        let is_half = match self.plan.draft.steps_of(*one) {
-            [step] => step.written.ends_with(b"2"),
-            _ => false,
-        };
-        // Nobody writes a quarter of a half so, as in `NE N2`.
-        let quarter = only_step(self.plan.draft.steps_of(*one));
-        let half = only_step(self.plan.draft.steps_of(*other));
-        let side = half.first().copied().unwrap_or(0);
-        let is_quarter_of_half = half.ends_with(b"2")
-            && quarter.ends_with(b"4")
-            && quarter.get(..2).unwrap_or(b"").contains(&side);
-        let is_twice = is_half && self.plan.draft.have_same_steps(*one, *other);
-        let is_spaced = self.is_spaced(*one) && self.is_spaced(*other);
-        if is_quarter_of_half || (is_twice && !is_spaced) || self.may_be_again(gap, *one, *other) {
+        if self.is_unsure_joint(gap, *one, *other) {
             self.plan.draft.doubt();
         }
         let start = self.plan.draft.pieces.end_before(gap.first);
         let end = self.plan.draft.pieces.start(gap.end);
         let begin = out.options.len();
-        let stop = if gap.end > gap.first {
-            self.plan.draft.pieces.start(gap.first)
+        // A mark between the parts becomes the comma.
+        let (stop, stop_end) = if gap.end > gap.first {
+            let stop = self.plan.draft.pieces.start(gap.first);
+            (stop, plus(stop, 1))
         } else {
-            start
-        };
-        let stop_end = if gap.end > gap.first {
-            plus(stop, 1)
-        } else {
-            stop
+            (start, start)
         };
         out.add_option(change(stop, stop_end, b",", Rule::Comma));
         let middle = out.options.len();
@@ -64,6 +48,22 @@ impl<'a> Writer<'a> {
             out.add_option(change(start, end, b"", Rule::OnePart));
         }
         self.note_joint(begin, middle, out)
+    }
+
+    /// Whether two parts are so written that neither way of reading them is sure.
+    fn is_unsure_joint(&self, gap: Gap, one: Phrase, other: Phrase) -> bool {
+        let draft = &self.plan.draft;
+        let part = only_step(draft.steps_of(one));
+        let half = only_step(draft.steps_of(other));
+        // Nobody writes a quarter of a half so, as in `NE N2`.
+        let side = half.first().copied().unwrap_or(0);
+        let is_quarter_of_half = half.ends_with(b"2")
+            && part.ends_with(b"4")
+            && part.get(..2).unwrap_or(b"").contains(&side);
+        let is_twice = part.ends_with(b"2") && draft.have_same_steps(one, other);
+        is_quarter_of_half
+            || (is_twice && !(self.is_spaced(one) && self.is_spaced(other)))
+            || self.may_be_again(gap, one, other)
     }
 
     /// Whether one of two parts may be the other again, or a part of it, in a cell of its own: `SWSE SWSE`,

@@ -4,7 +4,7 @@ use crate::outline::Outline;
 use crate::writer::Writer;
 use std::alloc::{AllocError, Global};
 use twp_arrange::{Placed, Role};
-use twp_draft::{Names, Phrase};
+use twp_draft::{Names, Phrase, Span};
 use twp_pieces::plus;
 use twp_read::TEXT_LIMIT;
 use twp_rules::Rule;
@@ -70,7 +70,6 @@ impl<'a> Writer<'a> {
             b"secs. "
         };
         self.plan.draft.write(place, place, word, Rule::SectionWord);
-        let last = numbers.end.saturating_sub(1);
         let parts = if is_each {
             self.parts_of(alloc, placed.role, lands)?
         } else {
@@ -86,22 +85,27 @@ impl<'a> Writer<'a> {
             self.plan.draft.doubt();
             return Ok(());
         }
+        self.copy_sections(numbers, place, is_each, parts.as_slice());
+        out.add_all(self.plan.draft.changes.get(first..).unwrap_or(&[]));
+        self.plan.draft.shrink(from);
+        Ok(())
+    }
+
+    /// Writes the numbers of sections at a place; each but the last with these parts, if it has them.
+    fn copy_sections(&mut self, numbers: Span, place: usize, is_each: bool, parts: &[Phrase]) {
+        let last = numbers.end.saturating_sub(1);
         for index in numbers.first..numbers.end {
             if let Some(number) = self.plan.draft.numbers.get(index).copied() {
                 self.plan.draft.copy_numeral(place, number, 0);
                 self.plan.draft.write(place, place, b", ", Rule::Comma);
             }
             if is_each && index < last {
-                self.copy_parts(parts.as_slice(), place);
-                self.plan.draft.write(place, place, b"; ", Rule::Semicolon);
-                self.plan
-                    .draft
-                    .write(place, place, b"sec. ", Rule::SectionWord);
+                self.copy_parts(parts, place);
+                let draft = &mut self.plan.draft;
+                draft.write(place, place, b"; ", Rule::Semicolon);
+                draft.write(place, place, b"sec. ", Rule::SectionWord);
             }
         }
-        out.add_all(self.plan.draft.changes.get(first..).unwrap_or(&[]));
-        self.plan.draft.shrink(from);
-        Ok(())
     }
 
     /// The aliquot parts of a group, with which lands begin. Other land is not sure.

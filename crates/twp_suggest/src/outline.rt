@@ -35,6 +35,15 @@ pub(crate) struct Outline<'a> {
     lacks_memory: bool,
 }
 
+/// What was written of a list.
+#[derive(Clone, Copy)]
+struct Written<'b> {
+    /// The last phrase that stays.
+    last: Option<&'b Placed>,
+    /// The index after it.
+    next: usize,
+}
+
 impl<'a> Outline<'a> {
     /// Adds a change.
     pub(crate) fn add(&mut self, change: Change<'a>) {
@@ -57,6 +66,14 @@ impl<'a> Outline<'a> {
         }
     }
 
+    /// Fails if memory was refused for something that was to be added.
+    fn all_added(&self) -> Result<(), AllocError> {
+        if self.lacks_memory {
+            return Err(AllocError);
+        }
+        Ok(())
+    }
+
     /// Adds a joint.
     pub(crate) fn add_joint(&mut self, joint: Joint) {
         if self.joints.push(joint).is_err() {
@@ -72,57 +89,77 @@ impl<'a> Writer<'a> {
         alloc: Global,
         list: &[Placed],
     ) -> Result<Outline<'a>, AllocError> {
+        let room = plus(self.plan.draft.changes.len(), list.len());
         let mut out = Outline {
-            changes: Vec::with_capacity(
-                alloc,
-                plus(
-                    plus(self.plan.draft.changes.len(), list.len()),
-                    CHANGES_MORE,
-                ),
-            )?,
+            changes: Vec::with_capacity(alloc, plus(room, CHANGES_MORE))?,
             joints: Vec::new(alloc),
             options: Vec::new(alloc),
             has_except: has_except(list),
             lacks_memory: false,
         };
-        let mut before: Option<&Placed> = None;
-        let mut next: usize = 0;
-        let heading = self.moved_heading(list);
-        for index in 0..list.len() {
-            let Some(placed) = list.get(index) else {
-                break;
-            };
-            if self.plan.draft.is_unsure {
-                break;
-            }
-            let Role::Kept(_) = placed.role else {
-                continue;
-            };
-            let left_out = list.get(next..index).unwrap_or(&[]);
-            self.write_gap(before, Some(placed), left_out, &mut out);
-            if before.is_none() {
-                self.write_heading(heading, placed, &mut out);
-            }
-            self.write_section(alloc, placed, list.get(index..).unwrap_or(&[]), &mut out)?;
-            self.copy_changes(&placed.phrase, &mut out);
-            before = Some(placed);
-            next = plus(index, 1);
-        }
+        let written = self.write_kept(alloc, list, &mut out)?;
         // A joint in the land of several sections would be read in both ways for each of them.
         if !out.joints.is_empty() && has_several_sections(list) {
             self.plan.draft.doubt();
         }
-        let left_out = list.get(next..).unwrap_or(&[]);
-        let last = list.last().map_or(0, |placed| placed.phrase.end);
-        if (left_out.is_empty() && self.may_be_cut_off(before)) || self.leads_nowhere(last) {
+        self.write_end(
+            written.last,
+            list.get(written.next..).unwrap_or(&[]),
+            list,
+            &mut out,
+        );
+        self.plan.draft.all_added()?;
+        out.all_added()?;
+        Ok(out)
+    }
+
+    /// Writes the phrases that stay, with what is between them, as long as they are sure.
+    fn write_kept<'b>(
+        &mut self,
+        alloc: Global,
+        list: &'b [Placed],
+        out: &mut Outline<'a>,
+    ) -> Result<Written<'b>, AllocError> {
+        let heading = self.moved_heading(list);
+        let mut last: Option<&'b Placed> = None;
+        let mut next: usize = 0;
+        for index in 0..list.len() {
+            if self.plan.draft.is_unsure {
+                break;
+            }
+            let rest = list.get(index..).unwrap_or(&[]);
+            let Some(placed) = rest.first() else {
+                break;
+            };
+            if placed.role == Role::LeftOut {
+                continue;
+            }
+            let left_out = list.get(next..index).unwrap_or(&[]);
+            self.write_gap(last, Some(placed), left_out, out);
+            if last.is_none() {
+                self.write_heading(heading, placed, out);
+            }
+            self.write_section(alloc, placed, rest, out)?;
+            self.copy_changes(&placed.phrase, out);
+            last = Some(placed);
+            next = plus(index, 1);
+        }
+        Ok(Written { last, next })
+    }
+
+    /// Writes what follows the last phrase that stays: those that are left out, of all that there are.
+    fn write_end(
+        &mut self,
+        last: Option<&Placed>,
+        left_out: &[Placed],
+        list: &[Placed],
+        out: &mut Outline<'a>,
+    ) {
+        let end = list.last().map_or(0, |placed| placed.phrase.end);
+        if (left_out.is_empty() && self.may_be_cut_off(last)) || self.leads_nowhere(end) {
             self.plan.draft.doubt();
         }
-        self.write_gap(before, None, left_out, &mut out);
-        self.plan.draft.all_added()?;
-        if out.lacks_memory {
-            return Err(AllocError);
-        }
-        Ok(out)
+        self.write_gap(last, None, left_out, out);
     }
 
     /// Whether a mark after the last phrase says that more follows, which may have been cut off.
