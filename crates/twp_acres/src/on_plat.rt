@@ -1,20 +1,22 @@
 //! The answers on an existing plat: each is for a plat and the bytes of a description.
-ghost use Rattle.std.specs.Prelude.{◌≡◌, IfOk, IfErr};
+ghost use Rattle.std.specs.Prelude.{◌≡◌, ℕ, List, IfOk, IfErr};
+ghost use Rattle.twp_grid.specs.Townships.{Designation};
 ghost use Rattle.twp_read.specs.Doubts.{HasNoDoubtfulPlace};
-ghost use Rattle.twp_acres.specs.OnPlats.{AnswersOn, HasAcresOn, HasAreaOn, HasNormalOn};
+ghost use Rattle.twp_read.specs.TextFaults.{IsReadAs};
+ghost use Rattle.twp_acres.specs.OnPlats.{AnswersOn, HasAcresOn, HasAreaOn, HasNormalOn, StopsOn};
 ghost use Rattle.twp_acres.specs.ReportAnswers.{IsAccountOf};
 ghost use Rattle.twp_acres.specs.TractFaults.{AnswersFault};
 
-use crate::stages::describe_noting;
 use crate::stop::Stop;
 use crate::tract_fault::{TRACTS_LIMIT, TractFault};
 use crate::tracts::account_of;
 use std::alloc::Global;
-use twp_land::{Land, Lanes};
+use twp_land::{Land, Lanes, OneLanes};
 use twp_measure::Area;
 use twp_plat::{Account, Plat, area_by};
-use twp_read::Clarity;
-use twp_spell::spell;
+use twp_read::{Clarity, Description};
+use twp_resolve::{names_one_section, resolve_if_room, resolve_into};
+use twp_spell::{spell, spell_set};
 
 /// The acres of the land described on a plat, by an account: the exact area in hundredths of an
 /// acre, rounded once, half up. `Stop::Refused` is the first fault of the description, at its byte;
@@ -74,9 +76,27 @@ fn area_noting(
         plat.now description.now result }
     ensures clear { clarity.new ≡ Clarity.Clear → HasNoDoubtfulPlace description.now }
 {
-    let mut land = Lanes::empty();
-    describe_noting(alloc, &mut land, plat.township(), description, clarity)?;
+    let read = read_noting(alloc, description, clarity)?;
+    if !names_one_section(&read) {
+        return area_in_all(plat, &read, account);
+    }
+    let mut land = OneLanes::empty();
+    if !resolve_if_room(&mut land, &read, plat.township())? {
+        return area_in_all(plat, &read, account);
+    }
     Ok(area_by(account, plat, &land))
+}
+
+/// The same for a description that was read, in however many sections it names land. The set of land
+/// is cleared where this function begins, which land in one section doesn't need.
+#[inline(never)]
+fn area_in_all(plat: &Plat, description: &Description, account: Account) -> Result<Area, Stop>
+    ensures { (text : List ℕ) → IsReadAs text description.now
+        → AnswersOn (HasAreaOn plat.now text account) plat.now text result }
+{
+    let mut lanes = Lanes::empty();
+    resolve_into(&mut lanes, description, plat.township())?;
+    Ok(area_by(account, plat, &lanes))
 }
 
 /// The canonical text of the land described on a plat, or why there is none, as for `acres_on`.
@@ -99,9 +119,43 @@ pub(crate) fn normal_noting(
         plat.now description.now result }
     ensures clear { clarity.new ≡ Clarity.Clear → HasNoDoubtfulPlace description.now }
 {
-    let mut land = Lanes::empty();
-    describe_noting(alloc, &mut land, plat.township(), description, clarity)?;
-    Ok(spell(alloc, &land, plat.township())?)
+    let read = read_noting(alloc, description, clarity)?;
+    if !names_one_section(&read) {
+        return normal_in_all(alloc, plat, &read);
+    }
+    let mut land = OneLanes::empty();
+    if !resolve_if_room(&mut land, &read, plat.township())? {
+        return normal_in_all(alloc, plat, &read);
+    }
+    Ok(spell_set(alloc, &land, plat.township())?)
+}
+
+/// The same for a description that was read, as for its area.
+#[inline(never)]
+fn normal_in_all(alloc: Global, plat: &Plat, description: &Description) -> Result<Vec<u8>, Stop>
+    ensures { (text : List ℕ) → IsReadAs text description.now
+        → AnswersOn (λ written. HasNormalOn plat.now text written.items) plat.now text result }
+{
+    let mut lanes = Lanes::empty();
+    resolve_into(&mut lanes, description, plat.township())?;
+    Ok(spell(alloc, &lanes, plat.township())?)
+}
+
+/// Reads a description, and notes whether a place in it may be doubtful.
+fn read_noting(
+    alloc: Global,
+    description: &[u8],
+    clarity: &mut Clarity,
+) -> Result<Description, Stop>
+    ensures read { IfOk result (IsReadAs description.now) }
+    ensures stopped { IfErr result (λ stop. (township : Designation)
+        → StopsOn township description.now stop) }
+    ensures clear { clarity.new ≡ Clarity.Clear → HasNoDoubtfulPlace description.now }
+{
+    *clarity = Clarity::Unclear;
+    let noted = Description::read_noting(alloc, description)?;
+    *clarity = noted.clarity;
+    Ok(noted.description)
 }
 
 /// The text of the account of a list of tracts on a plat, or the list's first fault.

@@ -37,13 +37,15 @@ pub fn township_acres(
 ) -> TownshipAnswer
     ensures { IsAcresCall plat.now description.now account result }
 {
-    let Some(plat) = plat.plat() else {
+    // Taken by reference, since it would be copied.
+    let kept = plat.plat();
+    let Some(plat) = &kept else {
         return TownshipAnswer::bare(NO_PLAT);
     };
     let Some(account) = account_of(account) else {
         return TownshipAnswer::bare(NO_ACCOUNT);
     };
-    match acres_on(alloc, &plat, description, account) {
+    match acres_on(alloc, plat, description, account) {
         Ok(hundredths) => TownshipAnswer::of_acres(hundredths),
         Err(stop) => TownshipAnswer::of_stop(stop),
     }
@@ -60,13 +62,14 @@ pub fn township_area(
     ensures answer { IsAreaCall plat.now description.now account area.new result }
     ensures kept { result.verdict ≢ ACCEPTED → area.new ≡ area.old }
 {
-    let Some(plat) = plat.plat() else {
+    let kept = plat.plat();
+    let Some(plat) = &kept else {
         return TownshipAnswer::bare(NO_PLAT);
     };
     let Some(account) = account_of(account) else {
         return TownshipAnswer::bare(NO_ACCOUNT);
     };
-    match area_on(alloc, &plat, description, account) {
+    match area_on(alloc, plat, description, account) {
         Ok(exact) => {
             *area = TownshipFraction::of(&exact);
             TownshipAnswer::bare(ACCEPTED)

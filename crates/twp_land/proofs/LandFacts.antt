@@ -71,7 +71,7 @@ held_after held plots section plot range all =
         keeps other column row (is_section other) (λ number e. apart (grind (arith, nat_tests)))
 
 -- replacing a section's part by itself with a block adds the block
-exchanged_is_union : (places : ℕ → ℕ → ℕ → Bool) (section : ℕ) (block : Rectangle)
+pub exchanged_is_union : (places : ℕ → ℕ → ℕ → Bool) (section : ℕ) (block : Rectangle)
     → exchanged places section (with_block (places section) block) ≡ union places (block_places section block)
 exchanged_is_union places section block =
     fun_ext (λ other. fun_ext (λ column. fun_ext (λ row. elim (cases_eq section other) [

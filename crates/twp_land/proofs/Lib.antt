@@ -22,3 +22,4 @@ pub mod RelationFacts
 pub mod LotSections
 pub mod MadeLands
 pub mod WholeDecided
+pub mod OneSections

@@ -1,4 +1,4 @@
--- How the sets are stored: that of a township as one set for each section, by number; that of a
+-- How the sets are stored: that of a township as one set for each section, by number, or for one of them; that of a
 -- section by rows from the south, each by columns from the east, as tests or as the bits of a lane.
 use Rattle.std.specs.Prelude.{◌≡◌, ℕ, ◌-◌, ◌==◌, ◌&&◌, ◌||◌, not, Bool, true, false}
 use Rattle.std.specs.Prelude.{List, [], nat_le, slice_index_or}
@@ -30,6 +30,10 @@ abbrev pub held_by_section : {P : Type 0} → (P → ℕ → ℕ → Bool) → L
 held_by_section held plots section column row =
     is_section section
     && option_map_or (λ plot. held plot column row) (slice_get plots (section - 1)) false
+
+-- the set whose places are all in the section with a number
+abbrev pub held_in_one : ℕ → (ℕ → ℕ → Bool) → ℕ → ℕ → ℕ → Bool
+held_in_one number held section column row = is_section section && ((number == section) && held column row)
 
 -- the set that is stored as rows
 abbrev pub held_by_row : List (List Bool) → ℕ → ℕ → Bool

@@ -1,5 +1,6 @@
 //! Land: sets of places in a township. The trait `Land` says what such a set does; `Grid` stores a
-//! test for each place, and `Lanes` a bit.
+//! test for each place, and `Lanes` a bit. `OneLanes` has room for the places of one section; the
+//! trait `PlaceSet` says what it does, and what each `Land` does, too.
 #![tactic(auto)]
 
 mod bits;
@@ -10,6 +11,8 @@ mod lanes;
 pub mod laws;
 mod lot_places;
 mod lots;
+mod one_section;
+mod place_set;
 mod plot;
 mod reach;
 mod relation;
@@ -26,6 +29,8 @@ pub use land_rows::LandRows;
 pub use lanes::{LaneRows, Lanes};
 pub use lot_places::holds_of_lot;
 pub use lots::lots_whole;
+pub use one_section::{OneLanes, OneSection};
+pub use place_set::PlaceSet;
 pub use plot::Plot;
 pub use row_combining::{write_difference, write_intersection, write_union};
 pub use row_comparing::compare_rows;

@@ -1,4 +1,4 @@
-ghost use Rattle.std.specs.Prelude.{◌≡◌, ◌<◌, ◌↔◌, ℕ, Bool, true, IsTrue};
+ghost use Rattle.std.specs.Prelude.{◌≡◌, ◌<◌, ◌↔◌, ℕ, Bool, true, false, IsTrue};
 ghost use Rattle.twp_grid.specs.Places.{PLACE_DIGITS, places_across, IsPlace};
 ghost use Rattle.twp_grid.specs.Lands.{Meets, HoldsAll, count_held};
 ghost use Rattle.twp_land.specs.Storage.{nothing_held, with_block, without_block, held_by_either};
@@ -69,4 +69,19 @@ pub trait Plot: Copy + Drop {
     /// The set contains only places of a section.
     ghost within: { (plot : Self) (column row : ℕ) → held plot column row ≡ true
         → IsPlace PLACE_DIGITS column row };
+}
+
+/// Adds the places of a block to a set, unless the set contains one of them. Returns whether it
+/// contained none.
+#[inline(always)]
+pub(crate) fn add_apart<P: Plot>(plot: &mut P, block: Block) -> bool
+    ensures apart { IsTrue result → ¬ Meets (P.held plot.old) block }
+    ensures met { result ≡ false → Meets (P.held plot.old) block }
+    ensures added { IsTrue result → P.held plot.new ≡ with_block (P.held plot.old) block }
+{
+    if plot.meets(block) {
+        return false;
+    }
+    plot.add(block);
+    true
 }

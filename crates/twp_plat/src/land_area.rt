@@ -13,7 +13,7 @@ use crate::account::Account;
 use crate::closing::QUARTER_MILE;
 use crate::plat::Plat;
 use twp_grid::{Block, PLACES_TO_POSITION, Section, lot_count, lot_place};
-use twp_land::Land;
+use twp_land::{Land, PlaceSet};
 use twp_measure::Area;
 
 /// The number of places in a position.
@@ -45,7 +45,7 @@ pub fn plat_area_of<L: Land>(plat: &Plat, land: &L) -> Area
 }
 
 /// The area of land by an account: `area_of` or `plat_area_of`.
-pub fn area_by<L: Land>(account: Account, plat: &Plat, land: &L) -> Area
+pub fn area_by<L: PlaceSet>(account: Account, plat: &Plat, land: &L) -> Area
     requires whole { HasWholeLots PLACE_DIGITS (L.places land.now) }
     ensures { IsAreaBy account PLACE_DIGITS plat.now (L.places land.now) result }
 {
@@ -67,7 +67,7 @@ pub fn area_by<L: Land>(account: Account, plat: &Plat, land: &L) -> Area
 /// The area of the land in a section, in parts of the account's denominator. The land contains each
 /// lot wholly or not at all, so one place of a lot decides whether its units are added; the places
 /// off the lots are counted.
-fn units_in_section<L: Land>(account: Account, plat: &Plat, land: &L, section: Section) -> u128
+fn units_in_section<L: PlaceSet>(account: Account, plat: &Plat, land: &L, section: Section) -> u128
     requires whole { HasWholeLots PLACE_DIGITS (L.places land.now) }
     ensures sum { (units : ℕ → ℕ → ℕ → ℕ) → AreUnitsBy account plat.now units
         → places_of_position PLACE_DIGITS * result

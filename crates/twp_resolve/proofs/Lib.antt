@@ -8,3 +8,4 @@ pub mod ResolvingFacts
 pub mod SharedFacts
 pub mod LandLots
 pub mod DescribedLand
+pub mod RoomFacts

@@ -1,4 +1,5 @@
 ghost use Rattle.std.specs.Prelude.{◌≡◌, ◌≤◌, List, length, IfSome, IfOk, IfErr};
+ghost use Rattle.std.specs.Prelude.{IsTrue};
 ghost use Rattle.std.specs.Prelude.{MatchOption};
 ghost use Rattle.std.specs.Option.{SomeIff};
 ghost use Rattle.twp_grid.specs.Places.{PLACE_DIGITS};
@@ -13,7 +14,7 @@ use crate::blocks::add_block;
 use crate::place_fault::PlaceFault;
 use twp_grammar::{Step, Steps};
 use twp_grid::{Block, PLACE_DIGITS, Section};
-use twp_land::{Land, holds_of_lot};
+use twp_land::{PlaceSet, holds_of_lot};
 
 /// The number of quarters that reach a place of a section, and the number that reach a square of
 /// four places.
@@ -22,12 +23,13 @@ const TO_A_PLACE: usize = PLACE_DIGITS;
 const TO_FOUR_PLACES: usize = PLACE_DIGITS - 1;
 
 /// Resolves an aliquot part of a section.
-pub(crate) fn resolve_chain<L: Land>(
+pub(crate) fn resolve_chain<L: PlaceSet>(
     land: &mut L,
     section: Section,
     steps: &Steps,
     at: u32,
 ) -> Result<(), PlaceFault>
+    requires { IsTrue (L.has_room land.old section) }
     ensures taken { IfOk result (λ _. (township : Designation)
         → IsTaken PLACE_DIGITS township section (Chain steps.now at)
         (L.places land.old) (L.places land.new)) }
@@ -45,12 +47,13 @@ pub(crate) fn resolve_chain<L: Land>(
 
 /// Adds the block that an aliquot part's steps reach in a section.
 #[inline(always)]
-fn resolve_block<L: Land>(
+fn resolve_block<L: PlaceSet>(
     land: &mut L,
     section: Section,
     block: Block,
     at: u32,
 ) -> Result<(), PlaceFault>
+    requires { IsTrue (L.has_room land.old section) }
     ensures taken { (steps : List TakenStep) → IsCutTo PLACE_DIGITS steps 0 block
         → IfOk result (λ _. (township : Designation)
         → IsTaken PLACE_DIGITS township section (Chain steps at)
@@ -67,6 +70,7 @@ fn resolve_block<L: Land>(
 
 /// The block that an aliquot part's steps reach in a section, from the last step to the first.
 /// `None` if one of them would halve a side of one place.
+#[inline(always)]
 pub fn chain_block(steps: &Steps) -> Option<Block>
     ensures { SomeIff result (AreWithin PLACE_DIGITS (cuts_of steps.now))
         (reached PLACE_DIGITS (cuts_of steps.now)) }

@@ -8,9 +8,11 @@ pub mod laws;
 mod place_fault;
 mod ranges;
 mod resolving;
+mod room;
 mod shared;
 
 pub use chain::chain_block;
 pub use place_fault::PlaceFault;
-pub use resolving::{resolve, resolve_into};
+pub use resolving::{resolve, resolve_if_room, resolve_into};
+pub use room::names_one_section;
 pub use shared::{SharingItems, shared_into};

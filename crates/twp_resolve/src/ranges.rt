@@ -1,4 +1,5 @@
-ghost use Rattle.std.specs.Prelude.{◌≡◌, ℕ, ◌≤◌, ◌<◌, IfOk, IfErr, MatchResult};
+ghost use Rattle.std.specs.Prelude.{◌≡◌, ℕ, ◌≤◌, ◌<◌, IsTrue, IfOk, IfErr};
+ghost use Rattle.std.specs.Prelude.{MatchResult};
 ghost use Rattle.std.specs.Option.{SomeIff};
 ghost use Rattle.twp_grid.specs.Places.{PLACE_DIGITS};
 ghost use Rattle.twp_grid.specs.Townships.{Designation};
@@ -7,22 +8,24 @@ ghost use Rattle.twp_grid.specs.Lands.{SharePlace};
 ghost use Rattle.twp_grammar.specs.OnPlat.{HasLot};
 ghost use Rattle.twp_resolve.specs.steps.ResolvingSteps.{sections_from, lots_from, AreAdded};
 ghost use Rattle.twp_resolve.specs.steps.ResolvingSteps.{IsTaken, IsItemsFirstFault};
+ghost use Rattle.twp_resolve.specs.steps.ResolvingSteps.{HaveRoom};
 ghost use Rattle.twp_grammar.specs.declared.item.Item.TheVariants.{Sections, Lots};
 
 use crate::blocks::add_block;
 use crate::place_fault::PlaceFault;
 use twp_grammar::Numeral;
 use twp_grid::{Block, Section, lot_count};
-use twp_land::Land;
+use twp_land::PlaceSet;
 
 /// Resolves the sections from the first to the last, and returns the first. If they are whole, they
 /// are added; otherwise, parts of a single section follow.
-pub(crate) fn resolve_sections<L: Land>(
+pub(crate) fn resolve_sections<L: PlaceSet>(
     land: &mut L,
     first: Numeral,
     last: Numeral,
     whole: bool,
 ) -> Result<Section, PlaceFault>
+    requires { IsTrue whole → HaveRoom (L.has_room land.old) first.value last.value }
     ensures taken { IfOk result (λ _. (township : Designation) (section : ℕ)
         → IsTaken PLACE_DIGITS township section (Sections first last whole)
         (L.places land.old) (L.places land.new)) }
@@ -42,12 +45,13 @@ pub(crate) fn resolve_sections<L: Land>(
 }
 
 /// Resolves the section's lots from the first to the last.
-pub(crate) fn resolve_lots<L: Land>(
+pub(crate) fn resolve_lots<L: PlaceSet>(
     land: &mut L,
     section: Section,
     first: Numeral,
     last: Numeral,
 ) -> Result<(), PlaceFault>
+    requires { IsTrue (L.has_room land.old section) }
     ensures taken { IfOk result (λ _. (township : Designation)
         → IsTaken PLACE_DIGITS township section (Lots first last)
         (L.places land.old) (L.places land.new)) }
@@ -61,13 +65,14 @@ pub(crate) fn resolve_lots<L: Land>(
 }
 
 /// Adds the section's lots from a first number to a last.
-fn add_lots<L: Land>(
+fn add_lots<L: PlaceSet>(
     land: &mut L,
     section: Section,
     first: u8,
     last: u8,
     at: u32,
 ) -> Result<(), PlaceFault>
+    requires room { IsTrue (L.has_room land.old section) }
     requires section { IsSection section }
     requires first { HasLot section first }
     requires last { HasLot section last }
@@ -86,7 +91,8 @@ fn add_lots<L: Land>(
 }
 
 /// Adds the whole sections from a first number to a last.
-fn add_sections<L: Land>(land: &mut L, first: u8, last: u8, at: u32) -> Result<(), PlaceFault>
+fn add_sections<L: PlaceSet>(land: &mut L, first: u8, last: u8, at: u32) -> Result<(), PlaceFault>
+    requires room { HaveRoom (L.has_room land.old) first last }
     requires first { IsSection first }
     requires last { IsSection last }
     requires order { first ≤ last }

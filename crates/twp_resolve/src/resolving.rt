@@ -1,4 +1,4 @@
-ghost use Rattle.std.specs.Prelude.{◌≡◌, ◌≢◌, ◌↔◌, ◌⊎◌, IsSome, IfOk, OnOk, IfErr, IsTrue, is_ok};
+ghost use Rattle.std.specs.Prelude.{◌≡◌, ◌≢◌, ◌↔◌, ◌⊎◌, ℕ, IsSome, IfOk, OnOk, IfErr, IsTrue, is_ok};
 ghost use Rattle.std.specs.Prelude.{MatchResult};
 ghost use Rattle.twp_grid.specs.Places.{PLACE_DIGITS};
 ghost use Rattle.twp_grid.specs.Townships.{Designation, designation};
@@ -7,15 +7,16 @@ ghost use Rattle.twp_grammar.specs.ItemPlaces.{section_after};
 ghost use Rattle.twp_grammar.specs.OnPlat.{AreOnPlat, IsLandOfItems};
 ghost use Rattle.twp_resolve.specs.PlaceFaults.{IsFirstPlaceFault};
 ghost use Rattle.twp_resolve.specs.steps.ResolvingSteps.{IsTaken, IsItemsFirstFault, IsBeforeParts};
-ghost use Rattle.twp_resolve.specs.steps.ResolvingSteps.{number_of_section};
+ghost use Rattle.twp_resolve.specs.steps.ResolvingSteps.{number_of_section, HasRoomFor};
 
 use crate::blocks::add_block;
 use crate::chain::resolve_chain;
 use crate::place_fault::PlaceFault;
 use crate::ranges::{resolve_lots, resolve_sections};
+use crate::room::make_room_for;
 use twp_grammar::Item;
 use twp_grid::{Block, EastWest, NorthSouth, Section, Township};
-use twp_land::Land;
+use twp_land::{Land, PlaceSet};
 use twp_read::Description;
 
 /// The land that a description names on a township's plat: all places of its items, none of which
@@ -49,21 +50,48 @@ pub fn resolve_into<L: Land>(
 {
     let items = description.items();
     let mut section = None;
-    land.clear();
+    Land::clear(land);
     for item in items {
         section = resolve_item(land, section, item, township)?;
     }
     Ok(())
 }
 
-/// Adds an item to the land of the items before it, and returns the section of the next item.
-pub(crate) fn resolve_item<L: Land>(
+/// Sets a set of places to the result of `resolve`, if it has room for it. If it has not, the result is
+/// `false`, and its content has no meaning, as after a fault.
+pub fn resolve_if_room<L: PlaceSet>(
+    land: &mut L,
+    description: &Description,
+    township: Township,
+) -> Result<bool, PlaceFault>
+    ensures land { IfOk result (λ has_room. IsTrue has_room
+        → IsLandOfItems PLACE_DIGITS township description.now (L.places land.new)) }
+    ensures whole_lots { IfOk result (λ has_room. IsTrue has_room
+        → HasWholeLots PLACE_DIGITS (L.places land.new)) }
+    ensures refused { IfErr result (IsFirstPlaceFault PLACE_DIGITS township description.now) }
+{
+    let items = description.items();
+    let mut section = None;
+    land.clear();
+    for item in items {
+        if !make_room_for(land, &section, item) {
+            return Ok(false);
+        }
+        section = resolve_item(land, section, item, township)?;
+    }
+    Ok(true)
+}
+
+/// Adds an item to the land of the items before it, which has room for it, and returns the section
+/// of the next item.
+pub(crate) fn resolve_item<L: PlaceSet>(
     land: &mut L,
     section: Option<Section>,
     item: &Item,
     township: Township,
 ) -> Result<Option<Section>, PlaceFault>
-    requires { IsSome section ⊎ IsBeforeParts item.now }
+    requires known { IsSome section ⊎ IsBeforeParts item.now }
+    requires room { HasRoomFor (L.has_room land.old) (number_of_section section) item.now }
     ensures taken { IfOk result (λ after. IsTaken PLACE_DIGITS township (number_of_section section)
         item.now (L.places land.old) (L.places land.new)) }
     ensures after { IfOk result (λ after. number_of_section after

@@ -16,10 +16,10 @@ use crate::part_text::{first_quarter, half_at};
 use crate::written_parts::{full_quarters, is_full};
 use std::alloc::{AllocError, Global};
 use twp_grid::{Block, Corner, Section, Side};
-use twp_land::Land;
+use twp_land::PlaceSet;
 
 /// The blocks of the parts that the land in a section off its lots is written as, in their order.
-pub fn part_blocks<L: Land>(
+pub fn part_blocks<L: PlaceSet>(
     alloc: Global,
     land: &L,
     section: Section,
@@ -39,7 +39,7 @@ pub fn part_blocks<L: Land>(
 
 /// Appends the blocks of the written parts of a square that is not full.
 #[cycle(descent)]
-fn gather_square<L: Land>(
+fn gather_square<L: PlaceSet>(
     land: &L,
     section: Section,
     block: Block,
@@ -65,7 +65,7 @@ fn gather_square<L: Land>(
 
 /// Appends the blocks of the written parts that begin in a quarter of a square that is not full.
 #[cycle(descent)]
-fn gather_quarter<L: Land>(
+fn gather_quarter<L: PlaceSet>(
     land: &L,
     section: Section,
     block: Block,

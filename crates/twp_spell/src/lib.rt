@@ -14,4 +14,4 @@ mod spelling;
 mod written_parts;
 
 pub use blocks::part_blocks;
-pub use spelling::{held_lots, spell};
+pub use spelling::{held_lots, spell, spell_set};

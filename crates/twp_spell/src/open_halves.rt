@@ -15,7 +15,7 @@ use crate::blocks::half_toward;
 use crate::full_quarters::FullQuarters;
 use crate::written_parts::quarter_is_full;
 use twp_grid::{Block, Corner, Section, Side};
-use twp_land::Land;
+use twp_land::PlaceSet;
 
 /// The halves of a square that may have land that belongs to no lot. The others have none.
 #[derive(Clone, Copy)]
@@ -52,7 +52,7 @@ impl OpenHalves {
 /// Finds halves of a square that have no land. If both the north and the south have some, it looks
 /// no further: the quarters have to be tested one by one.
 #[inline(always)]
-pub(crate) fn open_halves<L: Land>(land: &L, section: Section, block: Block) -> OpenHalves
+pub(crate) fn open_halves<L: PlaceSet>(land: &L, section: Section, block: Block) -> OpenHalves
     requires { CanQuarter block }
     ensures { (quarters : List Corner) → IsBlockOf PLACE_DIGITS (square quarters) block
         → AreOpen PLACE_DIGITS (off_lots PLACE_DIGITS section (L.places land.now section))
@@ -69,7 +69,7 @@ pub(crate) fn open_halves<L: Land>(land: &L, section: Section, block: Block) -> 
 
 /// The same, given which of the north and the south may have land.
 #[inline(always)]
-fn open_across<L: Land>(
+fn open_across<L: PlaceSet>(
     land: &L,
     section: Section,
     block: Block,
@@ -104,7 +104,7 @@ fn open_across<L: Land>(
 
 /// Whether the land meets a half of a block.
 #[inline(always)]
-fn half_meets<L: Land>(land: &L, section: Section, block: Block, side: Side) -> bool
+fn half_meets<L: PlaceSet>(land: &L, section: Section, block: Block, side: Side) -> bool
     requires { CanQuarter block }
     ensures { (quarters : List Corner) → IsBlockOf PLACE_DIGITS (square quarters) block
         → result ≡ false → IsClosed PLACE_DIGITS
@@ -115,7 +115,7 @@ fn half_meets<L: Land>(land: &L, section: Section, block: Block, side: Side) -> 
 
 /// Which quarters of a square are full, given which halves may have land.
 #[inline(always)]
-pub(crate) fn full_open_quarters<L: Land>(
+pub(crate) fn full_open_quarters<L: PlaceSet>(
     land: &L,
     section: Section,
     block: Block,
@@ -138,7 +138,7 @@ pub(crate) fn full_open_quarters<L: Land>(
 
 /// Whether a quarter of a square is full, given which halves may have land.
 #[inline(always)]
-fn open_quarter_is_full<L: Land>(
+fn open_quarter_is_full<L: PlaceSet>(
     land: &L,
     section: Section,
     block: Block,

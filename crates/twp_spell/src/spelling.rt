@@ -11,7 +11,7 @@ use crate::written_parts::write_parts;
 use itoa::Buffer;
 use std::alloc::{AllocError, Global};
 use twp_grid::{Block, EastWest, NorthSouth, Section, Township, lot_count};
-use twp_land::Land;
+use twp_land::{Land, PlaceSet};
 
 /// There is room from the start for the text of some ten parts, in bytes.
 const ROOM: usize = 256;
@@ -21,6 +21,18 @@ const ROOM: usize = 256;
 /// aliquot parts in the land. The text of empty land is empty. A lot is named if the land contains
 /// some place of it.
 pub fn spell<L: Land>(alloc: Global, land: &L, township: Township) -> Result<Vec<u8>, AllocError>
+    ensures text { IfOk result
+        (λ text. IsCanonicalText PLACE_DIGITS township (L.places land.now) text.items) }
+{
+    spell_set(alloc, land, township)
+}
+
+/// The same, of any set of places.
+pub fn spell_set<L: PlaceSet>(
+    alloc: Global,
+    land: &L,
+    township: Township,
+) -> Result<Vec<u8>, AllocError>
     ensures text { IfOk result
         (λ text. IsCanonicalText PLACE_DIGITS township (L.places land.now) text.items) }
 {
@@ -37,7 +49,7 @@ pub fn spell<L: Land>(alloc: Global, land: &L, township: Township) -> Result<Vec
 }
 
 /// Appends a section after those before it, if the land contains some place of it.
-fn write_if_held<L: Land>(
+fn write_if_held<L: PlaceSet>(
     alloc: Global,
     land: &L,
     township: Township,
@@ -117,7 +129,7 @@ fn after_range(direction: EastWest) -> &'static [u8]
 /// Appends a section that the land meets, with its list, after `sec. `. Inlined, it would make the
 /// masks of its blocks before the first section, whether or not they are needed.
 #[inline(never)]
-fn write_section<L: Land>(
+fn write_section<L: PlaceSet>(
     alloc: Global,
     land: &L,
     section: Section,
@@ -143,7 +155,7 @@ fn write_all(text: &mut Vec<u8>) -> Result<(), AllocError>
 }
 
 /// Appends the lots of a section that are in the land, such as `, lot 3` or `, lots 1, 2, 4`.
-fn write_held_lots<L: Land>(
+fn write_held_lots<L: PlaceSet>(
     alloc: Global,
     land: &L,
     section: Section,
@@ -157,7 +169,11 @@ fn write_held_lots<L: Land>(
 }
 
 /// The lots of a section that the land meets, by ascending number.
-pub fn held_lots<L: Land>(alloc: Global, land: &L, section: Section) -> Result<Vec<u8>, AllocError>
+pub fn held_lots<L: PlaceSet>(
+    alloc: Global,
+    land: &L,
+    section: Section,
+) -> Result<Vec<u8>, AllocError>
     ensures { IfOk result (λ lots.
         AreListed (IsLotHeld PLACE_DIGITS section (L.places land.now section)) ◌<◌ lots.items) }
 {

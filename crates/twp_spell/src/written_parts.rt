@@ -20,11 +20,11 @@ use crate::part_text::{half_at, write_full_quarter, write_half_if_first};
 use crate::path::Path;
 use std::alloc::AllocError;
 use twp_grid::{Block, Corner, PLACES_TO_POSITION, Section, lot_at};
-use twp_land::{Land, holds_of_lot};
+use twp_land::{PlaceSet, holds_of_lot};
 
 /// Appends the written parts of the land in a section off its lots, each after a comma. The land
 /// does not contain the whole section.
-pub(crate) fn write_parts<L: Land>(
+pub(crate) fn write_parts<L: PlaceSet>(
     land: &L,
     section: Section,
     text: &mut Vec<u8>,
@@ -47,7 +47,7 @@ pub(crate) fn write_parts<L: Land>(
 /// compiled: most parts are no smaller than these, and a test of a known block takes half of the
 /// instructions.
 #[inline(always)]
-fn write_quarter_of_section<L: Land>(
+fn write_quarter_of_section<L: PlaceSet>(
     land: &L,
     section: Section,
     halves: OpenHalves,
@@ -91,7 +91,7 @@ fn quarter_of_section(corner: Corner) -> Block
 
 /// Appends the written parts of a square that is not full, each after a comma.
 #[cycle(descent)]
-fn write_square<L: Land>(
+fn write_square<L: PlaceSet>(
     land: &L,
     section: Section,
     block: Block,
@@ -119,7 +119,7 @@ fn write_square<L: Land>(
 /// Appends the written parts of a square that is not full, quarter by quarter.
 #[cycle(descent)]
 #[inline(always)]
-fn write_coarse_square<L: Land>(
+fn write_coarse_square<L: PlaceSet>(
     land: &L,
     section: Section,
     block: Block,
@@ -146,7 +146,7 @@ fn write_coarse_square<L: Land>(
 /// Appends the written parts that begin in a quarter of a square that is not full.
 #[cycle(descent)]
 #[inline(always)]
-fn write_quarter<L: Land>(
+fn write_quarter<L: PlaceSet>(
     land: &L,
     section: Section,
     block: Block,
@@ -193,7 +193,7 @@ fn write_quarter<L: Land>(
 /// Appends the written parts of a fine square that is not full, testing each of its places. It lies
 /// in one position.
 #[inline(never)]
-fn write_fine_square<L: Land>(
+fn write_fine_square<L: PlaceSet>(
     land: &L,
     section: Section,
     block: Block,
@@ -237,7 +237,7 @@ fn write_fine_square<L: Land>(
 
 /// Which quarters of a square are full.
 #[inline(always)]
-pub(crate) fn full_quarters<L: Land>(land: &L, section: Section, block: Block) -> FullQuarters
+pub(crate) fn full_quarters<L: PlaceSet>(land: &L, section: Section, block: Block) -> FullQuarters
     requires { CanQuarter block }
     ensures { (quarters : List Corner) → IsBlockOf PLACE_DIGITS (square quarters) block
         → AreFull PLACE_DIGITS (off_lots PLACE_DIGITS section (L.places land.now section))
@@ -253,7 +253,7 @@ pub(crate) fn full_quarters<L: Land>(land: &L, section: Section, block: Block) -
 
 /// Which of four places are in the land. The one in the southeast has this column and row.
 #[inline(always)]
-fn held_places<L: Land>(land: &L, section: Section, column: u8, row: u8) -> FullQuarters
+fn held_places<L: PlaceSet>(land: &L, section: Section, column: u8, row: u8) -> FullQuarters
     requires column { column + 1 < places_across PLACE_DIGITS }
     requires row { row + 1 < places_across PLACE_DIGITS }
     ensures ne { result.ne ≡ L.places land.now section column (row + 1) }
@@ -271,7 +271,7 @@ fn held_places<L: Land>(land: &L, section: Section, column: u8, row: u8) -> Full
 
 /// Whether a quarter of a block consists of places in the land that belong to no lot.
 #[inline(always)]
-pub(crate) fn quarter_is_full<L: Land>(
+pub(crate) fn quarter_is_full<L: PlaceSet>(
     land: &L,
     section: Section,
     block: Block,
@@ -288,7 +288,7 @@ pub(crate) fn quarter_is_full<L: Land>(
 
 /// Whether a block consists of places in the land that belong to no lot.
 #[inline(always)]
-pub(crate) fn is_full<L: Land>(land: &L, section: Section, block: Block) -> bool
+pub(crate) fn is_full<L: PlaceSet>(land: &L, section: Section, block: Block) -> bool
     ensures { (part : Part) → IsBlockOf PLACE_DIGITS part block
         → (IsTrue result ↔ IsFull PLACE_DIGITS
         (off_lots PLACE_DIGITS section (L.places land.now section)) part) }

@@ -1,5 +1,5 @@
 -- Stored sets lie in the township: the proofs of the law of `Land` and `Plot`.
-use Rattle.std.proofs.Common.{◌≡◌, ℕ, ◌-◌, Bool, true, false, List, Option, Some, None, nat_le}
+use Rattle.std.proofs.Common.{◌≡◌, ◌==◌, ℕ, ◌-◌, Bool, true, false, List, Option, Some, None, nat_le}
 use Rattle.std.proofs.Common.{nat_lt, arith}
 use Rattle.std.specs.List.{slice_get}
 use Rattle.std.specs.Option.{option_map_or}
@@ -7,7 +7,7 @@ use Rattle.std.proofs.lemmas.Bool.Decides.{nat_tests}
 use Rattle.std.proofs.lemmas.Bool.{and_parts}
 use Rattle.twp_grid.specs.Winding.{SECTION_COUNT, IsSection}
 use Rattle.twp_grid.specs.Places.{PLACE_DIGITS, places_across, is_place, IsPlace}
-use Rattle.twp_land.specs.Storage.{is_section, held_by_section, held_by_row, held_by_lane}
+use Rattle.twp_land.specs.Storage.{is_section, held_by_section, held_in_one, held_by_row, held_by_lane}
 
 -- a place of the section, from its test
 place_of : (column row : ℕ) → is_place PLACE_DIGITS column row ≡ true
@@ -45,3 +45,14 @@ held_within {P = P} held plots section column row within is =
         → IsPlace PLACE_DIGITS column row
     of_plot None none = cc none
     of_plot (Some plot) held_there = within plot column row held_there
+
+-- a set of places in one section contains only places of a section
+pub one_within : (number : ℕ) (held : ℕ → ℕ → Bool) (section column row : ℕ)
+    → ((column row : ℕ) → held column row ≡ true → IsPlace PLACE_DIGITS column row)
+    → held_in_one number held section column row ≡ true
+    → IsSection section × IsPlace PLACE_DIGITS column row
+one_within number held section column row within is =
+    let parts = and_parts (is_section section) _ is in
+    let sides = and_parts (nat_le 1 section) (nat_le section SECTION_COUNT) parts.0 in
+    let range : IsSection section = (grind (arith, nat_tests), grind (arith, nat_tests)) in
+    (range, within column row (and_parts (number == section) _ parts.1).1)

@@ -2,7 +2,7 @@
 -- its first fault is returned. No public contract cites this module; proofs/ResolvingFacts shows
 -- that the steps lead to the land of all items, or to the first fault.
 use Rattle.std.specs.Prelude.{◌≡◌, ◌==◌, ◌&&◌, nat_le, ℕ, ◌≤◌, Bool, List, drop}
-use Rattle.std.specs.Prelude.{Option}
+use Rattle.std.specs.Prelude.{Option, IsTrue}
 use Rattle.std.specs.Option.{option_map_or}
 use Rattle.twp_grid.specs.Blocks.{CanHalve, CanQuarter}
 use Rattle.twp_grid.specs.Cuts.{Cut, AreWithin, reached}
@@ -10,6 +10,7 @@ use Rattle.twp_grid.specs.Cuts.Cut.{half, quarter}
 use Rattle.twp_grid.specs.Places.{is_place}
 use Rattle.twp_grid.specs.Spans.{Rectangle}
 use Rattle.twp_grid.specs.Townships.{Designation}
+use Rattle.twp_grid.specs.Winding.{IsSection}
 use Rattle.twp_grid.specs.Lands.{no_places, union, SharePlace}
 use Rattle.twp_grid.specs.Lands.{lot_of_place}
 use Rattle.twp_grammar.specs.declared.item.Item.{Item}
@@ -70,6 +71,18 @@ abbrev pub IsBeforeParts : Item → Type 0
 IsBeforeParts (item.Heading number north_south range east_west at) = Unit {0}
 IsBeforeParts (item.Sections first last whole) = Unit {0}
 IsBeforeParts other = ⊥
+
+-- there is room for the places of the sections from a first number to a last
+abbrev pub HaveRoom : (ℕ → Bool) → ℕ → ℕ → Type 0
+HaveRoom has_room first last = (section : ℕ) → IsSection section → first ≤ section → section ≤ last
+    → IsTrue (has_room section)
+
+-- there is room for the places of the item, after items of which the last named this section
+abbrev pub HasRoomFor : (ℕ → Bool) → ℕ → Item → Type 0
+HasRoomFor has_room section (item.Heading number north_south range east_west at) = Unit {0}
+HasRoomFor has_room section (item.Sections first last whole) =
+    IsTrue whole → HaveRoom has_room first.value last.value
+HasRoomFor has_room section other = IsTrue (has_room section)
 
 -- the block that steps reach, from the last to the one at an index
 pub record IsCutTo (g : ℕ) (steps : List Step) (index : ℕ) (block : Rectangle) : Type 0 where

@@ -19,7 +19,7 @@ loop-number-init g c = record {
 pub loop-number-preserved-then-not-meets : goal.loop-number-preserved-then-not-meets
 loop-number-preserved-then-not-meets g c =
     let at = c.loop-number.invariant in
-    let places : ℕ → ℕ → ℕ → Bool = g.L.Land.places c.args.land.now in
+    let places : ℕ → ℕ → ℕ → Bool = g.L.PlaceSet.places c.args.land.now in
     let number =
     section_is c.loop-number.number c.unwrap-section.result _ c.new.ensures c.unwrap-section.ensures in
     let met = rw c.whole.ensures at c.meets.ensures in
@@ -48,7 +48,7 @@ loop-number-preserved g c =
     section_is c.loop-number.number c.unwrap-section.result _ c.new.ensures c.unwrap-section.ensures in
     record {
       sum =
-          sum-next c.args.account c.args.plat.now (g.L.Land.places c.args.land.now) c.loop-number.number
+          sum-next c.args.account c.args.plat.now (g.L.PlaceSet.places c.args.land.now) c.loop-number.number
           c.unwrap-section.result c.loop-number.units c.units_in_section-units.result at.first number at.sum
           added.sum;
       most =
@@ -59,16 +59,16 @@ loop-number-preserved g c =
 
 pub returns-in_default : goal.returns-in_default
 returns-in_default g c =
-    land_area c.args.account c.args.plat.now (g.L.Land.places c.args.land.now) 37 0 c.over-over.result
+    land_area c.args.account c.args.plat.now (g.L.PlaceSet.places c.args.land.now) 37 0 c.over-over.result
     c.zero.result c.over-over.ensures.plat c.requires.whole c.over-over.ensures.value refl
     (sum-none c.args.account c.args.plat.now _ c.in_default.ensures) c.zero.ensures
 
 pub returns : goal.returns
 returns g c =
     let lies = c.in-Some.ensures in
-    land_area c.args.account c.args.plat.now (g.L.Land.places c.args.land.now) 37 c.loop-number.units
+    land_area c.args.account c.args.plat.now (g.L.PlaceSet.places c.args.land.now) 37 c.loop-number.units
     c.over-over.result c.unwrap.result c.over-over.ensures.plat c.requires.whole c.over-over.ensures.value
     refl
-    (sum-last c.args.account c.args.plat.now (g.L.Land.places c.args.land.now) _ _ c.loop-number.number
+    (sum-last c.args.account c.args.plat.now (g.L.PlaceSet.places c.args.land.now) _ _ c.loop-number.number
     c.loop-number.units lies.1 (omega arith) (omega arith) (omega arith) c.loop-number.invariant.sum)
     (area_is c.loop-number.units c.over-over.result _ c.unwrap.result c.new-2.ensures c.unwrap.ensures)

@@ -18,7 +18,7 @@ overflow_add-lot-end g c =
 
 pub loop-lot-init : goal.loop-lot-init
 loop-lot-init g c =
-    let held = g.L.Land.places c.args.land.now c.args.section in
+    let held = g.L.PlaceSet.places c.args.land.now c.args.section in
     let range = c.lot_count-lot-end.ensures.section in
     let counted = rw c.whole.ensures at c.count-off_lots.ensures in
     let none = of_lots-none c.args.section (places_where held) range in
@@ -32,7 +32,7 @@ loop-lot-init g c =
 
 pub overflow_sub-off_lots : goal.overflow_sub-off_lots
 overflow_sub-off_lots g c =
-    let held = g.L.Land.places c.args.land.now c.args.section in
+    let held = g.L.PlaceSet.places c.args.land.now c.args.section in
     let range = c.lot_count-lot-end.ensures.section in
     let at =
     lot_at_is c.args.section c.loop-lot.lot _ c.unwrap-column.result c.lot_place.ensures.position
@@ -49,7 +49,7 @@ overflow_sub-off_lots g c =
 
 pub loop-lot-preserved : goal.loop-lot-preserved
 loop-lot-preserved g c =
-    let held = g.L.Land.places c.args.land.now c.args.section in
+    let held = g.L.PlaceSet.places c.args.land.now c.args.section in
     let range = c.lot_count-lot-end.ensures.section in
     let so_far = c.loop-lot.invariant in
     let column : ℕ = c.unwrap-column.result.0 in
@@ -105,14 +105,14 @@ loop-lot-preserved g c =
 
 pub regular_units-requires-clause-places : goal.regular_units-requires-clause-places
 regular_units-requires-clause-places g c =
-    let few = few_places (g.L.Land.places c.args.land.now c.args.section) in
+    let few = few_places (g.L.PlaceSet.places c.args.land.now c.args.section) in
     omega (arith, c.loop-lot.invariant.taken)
 
 pub returns-clause-sum : goal.returns-clause-sum
 returns-clause-sum g c = λ pieces are.
     rw (c.regular_units.ensures, c.over-over.ensures.value)
     (sum_of_section (over_by c.args.account c.args.plat.now) c.args.section c.loop-lot.lot c.loop-lot.off_lots
-    c.loop-lot.units (g.L.Land.places c.args.land.now c.args.section) (pieces c.args.section)
+    c.loop-lot.units (g.L.PlaceSet.places c.args.land.now c.args.section) (pieces c.args.section)
     (regular_by c.args.account c.args.plat.now pieces c.args.section c.over-over.ensures.plat are
     c.lot_count-lot-end.ensures.section)
     c.lot_count-lot-end.ensures.section
@@ -121,7 +121,7 @@ returns-clause-sum g c = λ pieces are.
 
 pub returns-clause-most : goal.returns-clause-most
 returns-clause-most g c =
-    let few = few_places (g.L.Land.places c.args.land.now c.args.section) in
+    let few = few_places (g.L.PlaceSet.places c.args.land.now c.args.section) in
     let few' = few_lots c.args.section c.lot_count-lot-end.ensures.section in
     let places : c.loop-lot.off_lots ≤ SECTION_PLACES_MOST = omega (arith, c.loop-lot.invariant.taken) in
     let regular = rw c.over-over.ensures.value at c.regular_units.ensures in

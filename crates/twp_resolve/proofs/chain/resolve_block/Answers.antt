@@ -4,19 +4,19 @@ use Rattle.twp_resolve.proofs.chain.resolve_block.Goals as goal
 
 pub returns-then-holds_of_lot-clause-refused : goal.returns-then-holds_of_lot-clause-refused
 returns-then-holds_of_lot-clause-refused g c = λ steps cut.
-    is_on_lot c.args.section steps c.args.at (g.L.Land.places c.args.land.now) c.args.block cut.within
+    is_on_lot c.args.section steps c.args.at (g.L.PlaceSet.places c.args.land.now) c.args.block cut.within
     cut.block_is (c.holds_of_lot.ensures.0 c.if-holds_of_lot.true)
 
 pub returns-clause-taken : goal.returns-clause-taken
 returns-clause-taken g c = λ steps cut.
-    chain_taken c.add_block.result c.args.section steps c.args.at (g.L.Land.places c.args.land.now)
-    (g.L.Land.places c.add_block.new.land) c.args.block
+    chain_taken c.add_block.result c.args.section steps c.args.at (g.L.PlaceSet.places c.args.land.now)
+    (g.L.PlaceSet.places c.add_block.new.land) c.args.block
     cut.within cut.block_is (λ held. absurd (cc (c.holds_of_lot.ensures.1 held, c.if-holds_of_lot.false)))
-    c.add_block.ensures
+    c.add_block.ensures.added
 
 pub returns-clause-refused : goal.returns-clause-refused
 returns-clause-refused g c = λ steps cut.
-    chain_refused c.add_block.result c.args.section steps c.args.at (g.L.Land.places c.args.land.now)
-    (g.L.Land.places c.add_block.new.land) c.args.block
+    chain_refused c.add_block.result c.args.section steps c.args.at (g.L.PlaceSet.places c.args.land.now)
+    (g.L.PlaceSet.places c.add_block.new.land) c.args.block
     cut.within cut.block_is (λ held. absurd (cc (c.holds_of_lot.ensures.1 held, c.if-holds_of_lot.false)))
-    c.add_block.ensures
+    c.add_block.ensures.added

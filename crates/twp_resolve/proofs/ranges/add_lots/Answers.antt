@@ -1,5 +1,5 @@
 -- Lot by lot, the added places grow by a block that shares none with the land before.
-use Rattle.std.proofs.Common.{◌≡◌, ◌-◌, ◌+◌, Some, sym, subst, ◌∙◌, arith}
+use Rattle.std.proofs.Common.{◌≡◌, ◌-◌, ◌+◌, Some, refl, sym, ap, subst, ◌∙◌, arith}
 use Rattle.std.proofs.lemmas.Result.{err_from_is_err_and}
 use Rattle.twp_grid.specs.Lots.{position_of_lot}
 use Rattle.twp_grid.specs.Places.{PLACE_DIGITS}
@@ -22,8 +22,9 @@ loop-lot-init g c =
       least = omega arith;
       added =
           added_none (lots_from PLACE_DIGITS c.args.section c.args.first (c.args.first - 1))
-          (g.L.Land.places c.args.land.now)
+          (g.L.PlaceSet.places c.args.land.now)
           (no_lots PLACE_DIGITS c.args.section c.args.first (c.args.first - 1) (omega (arith, low.0)));
+      room = refl;
     }
 
 pub unwrap-block-requires : goal.unwrap-block-requires
@@ -31,6 +32,10 @@ unwrap-block-requires g c =
     let low = lot_range c.args.section c.args.first c.requires.section c.requires.first in
     let high = lot_range c.args.section c.args.last c.requires.section c.requires.last in
     c.of_lot.ensures.has.1 (omega (arith, low.0, c.loop-lot.invariant.least), omega (arith, high.1))
+
+pub add_block-requires : goal.add_block-requires
+add_block-requires g c =
+    ap (λ has_room. has_room c.args.section) c.loop-lot.invariant.room ∙ c.requires.room
 
 pub returns-in_err-add_block : goal.returns-in_err-add_block
 returns-in_err-add_block g c =
@@ -41,11 +46,11 @@ returns-in_err-add_block g c =
     sym c.of_lot.ensures.block ∙ c.unwrap-block.ensures in
     let gone = err_from_is_err_and c.from_residual.result c.from_residual.ensures.1 in
     rw (gone.1, gone.2) (
-      (c.in_err-add_block.ensures).0,
+      (c.in_err-add_block.ensures.added).0,
       added_stuck (lots_from PLACE_DIGITS c.args.section c.args.first (c.loop-lot.lot - 1))
-          (lots_from PLACE_DIGITS c.args.section c.args.first c.args.last) (g.L.Land.places c.args.land.now)
-          (g.L.Land.places c.loop-lot.land) c.args.section c.unwrap-block.result
-          so_far.added (c.in_err-add_block.ensures).1
+          (lots_from PLACE_DIGITS c.args.section c.args.first c.args.last) (g.L.PlaceSet.places c.args.land.now)
+          (g.L.PlaceSet.places c.loop-lot.land) c.args.section c.unwrap-block.result
+          so_far.added (c.in_err-add_block.ensures.added).1
           (in_next_lot c.args.section c.args.first c.loop-lot.lot c.args.last c.unwrap-block.result
           c.requires.section (omega (arith, low.0, so_far.least)) so_far.least (omega arith)
           (omega (arith, high.1)) is),
@@ -62,20 +67,21 @@ loop-lot-preserved g c =
     record {
       least = omega (arith, so_far.least);
       added = subst (λ n.
-          AreAdded (lots_from PLACE_DIGITS c.args.section c.args.first n) (g.L.Land.places c.args.land.now)
-          (g.L.Land.places c.add_block.new.land)) next
+          AreAdded (lots_from PLACE_DIGITS c.args.section c.args.first n) (g.L.PlaceSet.places c.args.land.now)
+          (g.L.PlaceSet.places c.add_block.new.land)) next
           (added_next (lots_from PLACE_DIGITS c.args.section c.args.first (c.loop-lot.lot - 1))
           (lots_from PLACE_DIGITS c.args.section c.args.first c.loop-lot.lot)
-          (g.L.Land.places c.args.land.now) (g.L.Land.places c.loop-lot.land)
-          (g.L.Land.places c.add_block.new.land) c.args.section c.unwrap-block.result
-          so_far.added (c.in_ok-add_block.ensures).0 (c.in_ok-add_block.ensures).1
+          (g.L.PlaceSet.places c.args.land.now) (g.L.PlaceSet.places c.loop-lot.land)
+          (g.L.PlaceSet.places c.add_block.new.land) c.args.section c.unwrap-block.result
+          so_far.added (c.in_ok-add_block.ensures.added).0 (c.in_ok-add_block.ensures.added).1
           (next_lot c.args.section c.args.first c.loop-lot.lot c.unwrap-block.result c.requires.section
           (omega (arith, low.0, so_far.least)) so_far.least (omega (arith, high.1)) is));
+      room = c.add_block.ensures.room ∙ so_far.room;
     }
 
 pub returns : goal.returns
 returns g c =
     let all : c.loop-lot.lot - 1 ≡ c.args.last = omega (arith, c.requires.order) in
     subst (λ n.
-    AreAdded (lots_from PLACE_DIGITS c.args.section c.args.first n) (g.L.Land.places c.args.land.now)
-    (g.L.Land.places c.loop-lot.land)) all c.loop-lot.invariant.added
+    AreAdded (lots_from PLACE_DIGITS c.args.section c.args.first n) (g.L.PlaceSet.places c.args.land.now)
+    (g.L.PlaceSet.places c.loop-lot.land)) all c.loop-lot.invariant.added

@@ -1,4 +1,4 @@
-use Rattle.std.proofs.Common.{◌-◌, ◌≤◌}
+use Rattle.std.proofs.Common.{◌≡◌, ◌-◌, ◌≤◌}
 use Rattle.twp_grid.specs.Places.{PLACE_DIGITS}
 use Rattle.twp_resolve.specs.steps.ResolvingSteps.{lots_from, AreAdded}
 use Rattle.twp_resolve.proofs.ranges.add_lots.Given as goal
@@ -7,6 +7,7 @@ use Rattle.twp_resolve.proofs.ranges.add_lots.Given as goal
 abbrev pub invariant-loop-lot : goal.invariant-loop-lot
 invariant-loop-lot g l = record {
   least : l.first ≤ l.lot;
-  added : AreAdded (lots_from PLACE_DIGITS l.section l.first (l.lot - 1)) (g.L.Land.places l.initial.land)
-      (g.L.Land.places l.land);
+  added : AreAdded (lots_from PLACE_DIGITS l.section l.first (l.lot - 1)) (g.L.PlaceSet.places l.initial.land)
+      (g.L.PlaceSet.places l.land);
+  room : g.L.PlaceSet.has_room l.land ≡ g.L.PlaceSet.has_room l.initial.land;
 }

@@ -10,7 +10,7 @@ returns-in_err-from-clause-refused g c =
     let gone = err_from_is_err_and c.from_residual.result c.from_residual.ensures.1 in
     rw (gone.1, gone.2, (c.in_err-from.ensures).0)
     (λ township section.
-    sections_no_first section c.args.first c.args.last c.args.whole (g.L.Land.places c.args.land.now)
+    sections_no_first section c.args.first c.args.last c.args.whole (g.L.PlaceSet.places c.args.land.now)
     (c.in_err-from.ensures).1 township)
 
 pub returns-in_err-to-clause-refused : goal.returns-in_err-to-clause-refused
@@ -18,7 +18,7 @@ returns-in_err-to-clause-refused g c =
     let gone = err_from_is_err_and c.from_residual-in_err-to.result c.from_residual-in_err-to.ensures.1 in
     rw (gone.1, gone.2, (c.in_err-to.ensures).0)
     (λ township section.
-    sections_no_last section c.args.first c.args.last c.args.whole (g.L.Land.places c.args.land.now)
+    sections_no_last section c.args.first c.args.last c.args.whole (g.L.PlaceSet.places c.args.land.now)
     (c.in_ok-from.ensures).1 (c.in_err-to.ensures).1 township)
 
 pub returns-in_err-check_order-clause-refused : goal.returns-in_err-check_order-clause-refused
@@ -28,7 +28,7 @@ returns-in_err-check_order-clause-refused g c =
     c.from_residual-in_err-check_order.ensures.1 in
     rw (gone.1, gone.2, (c.in_err-check_order.ensures).0)
     (λ township section.
-    sections_backward section c.args.first c.args.last c.args.whole (g.L.Land.places c.args.land.now)
+    sections_backward section c.args.first c.args.last c.args.whole (g.L.PlaceSet.places c.args.land.now)
     (c.in_ok-from.ensures).1 (c.in_ok-to.ensures).1 (c.in_err-check_order.ensures).1 township)
 
 pub returns-in_err-add_sections-clause-refused : goal.returns-in_err-add_sections-clause-refused
@@ -45,5 +45,5 @@ returns-in_err-add_sections-clause-refused g c =
     c.from_residual-in_err-add_sections.ensures.1 in
     rw (gone.1, gone.2, (c.in_err-add_sections.ensures).0, whole)
     (λ township section.
-    sections_overlap section c.args.first c.args.last (g.L.Land.places c.args.land.now)
+    sections_overlap section c.args.first c.args.last (g.L.PlaceSet.places c.args.land.now)
     (c.in_ok-from.ensures).1 (c.in_ok-to.ensures).1 c.in_ok-check_order.ensures shared township)

@@ -10,6 +10,7 @@ use Rattle.twp_resolve.proofs.LandLots.{land_has_whole_lots}
 use Rattle.twp_resolve.proofs.PlaceAnswers.{no_fault}
 use Rattle.twp_resolve.proofs.ResolvingFacts.{taken_none, taken_next, refused_here, taken_all}
 use Rattle.twp_resolve.proofs.ResolvingFacts.{not_known, may_be_taken, known_next}
+use Rattle.twp_resolve.proofs.RoomFacts.{room_for_each}
 use Rattle.twp_resolve.proofs.resolving.resolve_into.Goals as goal
 
 pub loop-item-init : goal.loop-item-init
@@ -22,8 +23,11 @@ loop-item-init g c = record {
       (rw c.items-items.ensures.items c.items-items.ensures.sections_first);
 }
 
-pub resolve_item-requires : goal.resolve_item-requires
-resolve_item-requires g c =
+pub resolve_item-requires-clause-room : goal.resolve_item-requires-clause-room
+resolve_item-requires-clause-room g c = room_for_each c.loop-item.section c.item-item.result
+
+pub resolve_item-requires-clause-known : goal.resolve_item-requires-clause-known
+resolve_item-requires-clause-known g c =
     may_be_taken c.loop-item.section c.items-items.result.now c.loop-item.item-index c.item-item.result
     c.loop-item-test.true (sym c.item-item.is) c.loop-item.invariant.known
 

@@ -15,7 +15,7 @@ returns-in_err-resolve_heading-in-Heading-clause-refused g c =
     let gone = err_from_is_err_and c.from_residual.result c.from_residual.ensures.1 in
     rw (gone.1, gone.2, (c.in_err-resolve_heading-in-Heading.ensures).0, it.is)
     (heading_refused (number_of_section c.args.section) it.number it.north_south it.range it.east_west it.at
-    (g.L.Land.places c.args.land.now) c.args.township (c.in_err-resolve_heading-in-Heading.ensures).1)
+    (g.L.PlaceSet.places c.args.land.now) c.args.township (c.in_err-resolve_heading-in-Heading.ensures).1)
 
 pub returns-in_err-resolve_sections-in-Sections-clause-refused :
     goal.returns-in_err-resolve_sections-in-Sections-clause-refused
@@ -52,12 +52,12 @@ returns-in-Sections-clause-taken g c =
 pub returns-in_err-add_block-in-All-clause-refused :
     goal.returns-in_err-add_block-in-All-clause-refused
 returns-in_err-add_block-in-All-clause-refused g c =
-    let meets = rw c.whole.ensures at (c.in_err-add_block-in-All.ensures).1 in
+    let meets = rw c.whole.ensures at (c.in_err-add_block-in-All.ensures.added).1 in
     let gone =
     err_from_is_err_and c.from_residual-in_err-add_block-in-All.result
     c.from_residual-in_err-add_block-in-All.ensures.1 in
-    rw (gone.1, gone.2, (c.in_err-add_block-in-All.ensures).0, c.in-All.is, c.unwrap-in-All.ensures)
-    (all_refused c.unwrap-in-All.result c.in-All.at (g.L.Land.places c.args.land.now) c.args.township meets)
+    rw (gone.1, gone.2, (c.in_err-add_block-in-All.ensures.added).0, c.in-All.is, c.unwrap-in-All.ensures)
+    (all_refused c.unwrap-in-All.result c.in-All.at (g.L.PlaceSet.places c.args.land.now) c.args.township meets)
 
 pub returns-clause-taken : goal.returns-clause-taken
 returns-clause-taken g c = elim c.match-item.branch [
@@ -65,7 +65,7 @@ returns-clause-taken g c = elim c.match-item.branch [
       let it = w.in-Heading in
       rw (w.land-is, it.is)
       (heading_taken (number_of_section c.args.section) it.number it.north_south it.range it.east_west it.at
-      (g.L.Land.places c.args.land.now) c.args.township w.in_ok-resolve_heading-in-Heading.ensures)
+      (g.L.PlaceSet.places c.args.land.now) c.args.township w.in_ok-resolve_heading-in-Heading.ensures)
   | in-Lots+in_ok-resolve_lots-in-Lots w ↦
       rw (w.land-is, w.in-Lots.is, w.unwrap.ensures)
       (w.in_ok-resolve_lots-in-Lots.ensures.taken c.args.township)
@@ -73,9 +73,9 @@ returns-clause-taken g c = elim c.match-item.branch [
       rw (w.land-is, w.in-Chain.is, w.unwrap-in-Chain.ensures)
       (w.in_ok-resolve_chain-in-Chain.ensures.taken c.args.township)
   | in-All+in_ok-add_block-in-All w ↦
-      let free = rw w.whole.ensures at (w.in_ok-add_block-in-All.ensures).0 in
-      let grown = rw w.whole.ensures at (w.in_ok-add_block-in-All.ensures).1 in
+      let free = rw w.whole.ensures at (w.in_ok-add_block-in-All.ensures.added).0 in
+      let grown = rw w.whole.ensures at (w.in_ok-add_block-in-All.ensures.added).1 in
       rw (w.land-is, w.in-All.is, w.unwrap-in-All.ensures)
-      (all_taken w.unwrap-in-All.result w.in-All.at (g.L.Land.places c.args.land.now)
-      (g.L.Land.places w.add_block.new.land) c.args.township free grown)
+      (all_taken w.unwrap-in-All.result w.in-All.at (g.L.PlaceSet.places c.args.land.now)
+      (g.L.PlaceSet.places w.add_block.new.land) c.args.township free grown)
 ]

@@ -1,12 +1,12 @@
 -- The item with the first fault is the refused one, if the fault is an overlap.
-use Rattle.std.proofs.Common.{sym, subst, arith}
-use Rattle.std.proofs.lemmas.Option.{slice_get_within}
+use Rattle.std.proofs.Common.{sym, arith}
 use Rattle.twp_grid.specs.Places.{PLACE_DIGITS}
 use Rattle.twp_grammar.specs.OnPlat.{IsLandOfItems}
 use Rattle.twp_resolve.specs.steps.ResolvingSteps.{number_of_section}
 use Rattle.twp_resolve.proofs.ResolvingFacts.{taken_none, taken_next, taken_all}
 use Rattle.twp_resolve.proofs.ResolvingFacts.{not_known, may_be_taken, known_next}
 use Rattle.twp_resolve.proofs.SharedFacts.{not_refused, found_refused, found_section}
+use Rattle.twp_resolve.proofs.RoomFacts.{room_for_each}
 use Rattle.twp_resolve.proofs.shared.refused_item.Goals as goal
 
 pub loop-index-init : goal.loop-index-init
@@ -17,8 +17,11 @@ loop-index-init g c = record {
   known = not_known c.args.items.now c.requires;
 }
 
-pub resolve_item-requires : goal.resolve_item-requires
-resolve_item-requires g c =
+pub resolve_item-requires-clause-room : goal.resolve_item-requires-clause-room
+resolve_item-requires-clause-room g c = room_for_each c.loop-index.section c.index-items-index.result
+
+pub resolve_item-requires-clause-known : goal.resolve_item-requires-clause-known
+resolve_item-requires-clause-known g c =
     may_be_taken c.loop-index.section c.args.items.now c.loop-index.index c.index-items-index.result
     c.loop-index-test.true (sym c.index-items-index.is) c.loop-index.invariant.known
 

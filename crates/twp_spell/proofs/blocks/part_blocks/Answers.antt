@@ -12,7 +12,7 @@ pub returns-then-is_full : goal.returns-then-is_full
 returns-then-is_full g c =
     let whole = whole_of PLACE_DIGITS c.whole-whole.result c.whole-whole.ensures in
     whole_gathered PLACE_DIGITS
-    (off_lots PLACE_DIGITS c.args.section (g.L.Land.places c.args.land.now c.args.section))
+    (off_lots PLACE_DIGITS c.args.section (g.L.PlaceSet.places c.args.land.now c.args.section))
     c.whole-whole.result c.new-blocks.result.items c.gather.new.blocks.items c.new-blocks.ensures.items whole
     ((c.is_full.ensures (square []) whole).0 c.if-is_full.true) c.in_ok-gather.ensures
 
@@ -20,7 +20,7 @@ pub returns : goal.returns
 returns g c =
     let whole = whole_of PLACE_DIGITS c.whole-whole.result c.whole-whole.ensures in
     section_gathered PLACE_DIGITS
-    (off_lots PLACE_DIGITS c.args.section (g.L.Land.places c.args.land.now c.args.section))
+    (off_lots PLACE_DIGITS c.args.section (g.L.PlaceSet.places c.args.land.now c.args.section))
     c.new-blocks.result.items c.gather_square.new.blocks.items c.new-blocks.ensures.items
     (c.in_ok-gather_square.ensures [] whole
     (λ full. false≢true (sym c.if-is_full.false ∙ (c.is_full.ensures (square []) whole).1 full)))

@@ -6,7 +6,7 @@ use Rattle.twp_spell.proofs.open_halves.half_meets.Goals as goal
 
 pub returns : goal.returns
 returns g c = λ quarters of_square none.
-    half_closed PLACE_DIGITS c.args.section (g.L.Land.places c.args.land.now c.args.section) c.args.side
+    half_closed PLACE_DIGITS c.args.section (g.L.PlaceSet.places c.args.land.now c.args.section) c.args.side
     quarters
     c.args.block c.half_toward.result c.meets.result
     (deeper PLACE_DIGITS quarters c.args.block of_square c.requires.0) of_square

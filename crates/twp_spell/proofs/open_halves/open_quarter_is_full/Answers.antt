@@ -13,7 +13,7 @@ returns-then-not-at g c = λ quarters of_square are. (
   (λ full.
       absurd
       (closed_not_full PLACE_DIGITS
-      (off_lots PLACE_DIGITS c.args.section (g.L.Land.places c.args.land.now c.args.section))
+      (off_lots PLACE_DIGITS c.args.section (g.L.PlaceSet.places c.args.land.now c.args.section))
       c.args.corner quarters c.args.halves (deeper PLACE_DIGITS quarters c.args.block of_square c.requires.0)
       are (sym c.at.ensures ∙ c.if-not-at.true) full)),
 )

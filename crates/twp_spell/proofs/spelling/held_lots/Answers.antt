@@ -16,7 +16,7 @@ overflow_add-lot-end g c =
 
 pub loop-lot-init : goal.loop-lot-init
 loop-lot-init g c =
-    let held = g.L.Land.places c.args.land.now c.args.section in
+    let held = g.L.PlaceSet.places c.args.land.now c.args.section in
     record {
       listed = rw c.new-lots.ensures.items
           (below_none (IsLotHeld PLACE_DIGITS c.args.section held) 1
@@ -26,7 +26,7 @@ loop-lot-init g c =
 
 pub loop-lot-preserved : goal.loop-lot-preserved
 loop-lot-preserved g c =
-    let held = g.L.Land.places c.args.land.now c.args.section in
+    let held = g.L.PlaceSet.places c.args.land.now c.args.section in
     let lot = c.loop-lot.lot in
     let range = c.lot_count-lot-end.ensures.section in
     let is : block_of (position_of_lot c.args.section lot) ≡ Some c.unwrap.result =
@@ -52,7 +52,7 @@ loop-lot-preserved g c =
 
 pub returns : goal.returns
 returns g c =
-    let held = g.L.Land.places c.args.land.now c.args.section in
+    let held = g.L.PlaceSet.places c.args.land.now c.args.section in
     below_all (IsLotHeld PLACE_DIGITS c.args.section held) c.loop-lot.lot c.loop-lot.lots.items
     c.loop-lot.invariant.listed
     (λ lot is.

@@ -9,7 +9,7 @@ use Rattle.twp_spell.proofs.spelling.write_if_held.Goals as goal
 
 pub returns-then-not-meets : goal.returns-then-not-meets
 returns-then-not-meets g c = λ begun.
-    let places = g.L.Land.places c.args.land.now in
+    let places = g.L.PlaceSet.places c.args.land.now in
     begun_skip PLACE_DIGITS c.args.township places c.args.section c.args.text.now.items begun
     (λ some.
     false≢true
@@ -18,12 +18,12 @@ returns-then-not-meets g c = λ begun.
 
 pub returns : goal.returns
 returns g c = λ begun.
-    let places = g.L.Land.places c.args.land.now in
+    let places = g.L.PlaceSet.places c.args.land.now in
     let new = c.write_section.new.text.items in
     let some =
     some_of_meets (places c.args.section) c.whole.result c.whole.ensures
     (c.meets.ensures.0 c.if-not-meets.false) in
-    let range = (g.met.L.Land.within c.args.land.now c.args.section some.column some.row some.is_held).0 in
+    let range = (g.met.L.PlaceSet.within c.args.land.now c.args.section some.column some.row some.is_held).0 in
     let before = text_before c.args.township c.args.text.now.items in
     on_ok c.write_section.result (HasSection PLACE_DIGITS places c.args.section before new)
     (AreBegun PLACE_DIGITS c.args.township places (c.args.section + 1) new)

@@ -13,7 +13,7 @@ use Rattle.twp_spell.proofs.spelling.write_section.Goals as goal
 
 pub returns-then-full : goal.returns-then-full
 returns-then-full g c = λ before lead some.
-    let places = g.L.Land.places c.args.land.now in
+    let places = g.L.PlaceSet.places c.args.land.now in
     let new = c.write_all.new.text.items in
     let named =
     c.in_ok-write_number.ensures
@@ -27,7 +27,7 @@ returns-then-full g c = λ before lead some.
 
 pub returns : goal.returns
 returns g c = λ before lead some.
-    let places = g.L.Land.places c.args.land.now in
+    let places = g.L.PlaceSet.places c.args.land.now in
     let lotted = c.write_held_lots.new.text.items in
     let new = c.write_parts.new.text.items in
     let named =

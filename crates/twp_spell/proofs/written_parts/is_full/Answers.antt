@@ -5,11 +5,11 @@ use Rattle.twp_spell.proofs.written_parts.is_full.Goals as goal
 
 pub returns-then-full : goal.returns-then-full
 returns-then-full g c =
-    judged_off PLACE_DIGITS c.args.section (g.L.Land.places c.args.land.now c.args.section) c.args.block
+    judged_off PLACE_DIGITS c.args.section (g.L.PlaceSet.places c.args.land.now c.args.section) c.args.block
     c.full.result c.holds_of_lot.result
     c.full.ensures c.holds_of_lot.ensures c.if-full.true
 
 pub returns-else-full : goal.returns-else-full
 returns-else-full g c =
-    judged_short PLACE_DIGITS c.args.section (g.L.Land.places c.args.land.now c.args.section) c.args.block
+    judged_short PLACE_DIGITS c.args.section (g.L.PlaceSet.places c.args.land.now c.args.section) c.args.block
     c.full.result c.full.ensures c.if-full.false

@@ -18,13 +18,13 @@ returns-then-is_some g c = λ quarters of_square path_is short.
     rw c.row-row.ensures.value (rw c.requires.height at c.row-row.ensures.dyadic.aligned) in
     written_none
     (AreOfSquare PLACE_DIGITS
-    (off_lots PLACE_DIGITS c.args.section (g.L.Land.places c.args.land.now c.args.section)) quarters)
+    (off_lots PLACE_DIGITS c.args.section (g.L.PlaceSet.places c.args.land.now c.args.section)) quarters)
     c.args.text.now.items
     (of_empty PLACE_DIGITS
-    (off_lots PLACE_DIGITS c.args.section (g.L.Land.places c.args.land.now c.args.section)) quarters
+    (off_lots PLACE_DIGITS c.args.section (g.L.PlaceSet.places c.args.land.now c.args.section)) quarters
     (square_fits PLACE_DIGITS quarters of_square.within)
     (fine_lot c.args.section c.column-column.result c.row-row.result
-    (g.L.Land.places c.args.land.now c.args.section) quarters c.args.block of_square c.requires.width
+    (g.L.PlaceSet.places c.args.land.now c.args.section) quarters c.args.block of_square c.requires.width
     c.requires.height c.column-column.ensures.value c.row-row.ensures.value wide high
     (rw (sym c.lot_at-lot.ensures.lot) (sym c.is_some.ensures ∙ c.if-is_some.true))))
 
@@ -37,11 +37,11 @@ returns g c = λ quarters of_square path_is short.
     rw c.row-row.ensures.value (rw c.requires.height at c.row-row.ensures.dyadic.aligned) in
     let free =
     fine_free c.args.section c.column-column.result c.row-row.result
-    (g.L.Land.places c.args.land.now c.args.section) wide high
+    (g.L.PlaceSet.places c.args.land.now c.args.section) wide high
     (not_some _ (rw (sym c.lot_at-lot.ensures.lot) (sym c.is_some.ensures ∙ c.if-is_some.false))) in
     let places =
     fine_places PLACE_DIGITS
-    (off_lots PLACE_DIGITS c.args.section (g.L.Land.places c.args.land.now c.args.section)) quarters
+    (off_lots PLACE_DIGITS c.args.section (g.L.PlaceSet.places c.args.land.now c.args.section)) quarters
     c.args.block c.column-column.result c.row-row.result
     c.held_places-ne.result c.held_places-nw.result c.held_places-sw.result c.held_places-se.result of_square
     c.requires.width c.column-column.ensures.value c.row-row.ensures.value
@@ -94,16 +94,16 @@ returns g c = λ quarters of_square path_is short.
     ∙ free c.column-column.result c.row-row.result (omega arith) (omega arith) (omega arith) (omega arith)) in
     let full =
     fine_full PLACE_DIGITS
-    (off_lots PLACE_DIGITS c.args.section (g.L.Land.places c.args.land.now c.args.section)) quarters
+    (off_lots PLACE_DIGITS c.args.section (g.L.PlaceSet.places c.args.land.now c.args.section)) quarters
     (record { ne = c.all.result; nw = c.all-2.result; sw = c.all-3.result; se = c.all-4.result })
     c.held_places-ne.result c.held_places-nw.result c.held_places-sw.result c.held_places-se.result level
     places c.all.ensures c.all-2.ensures c.all-3.ensures c.all-4.ensures in
     buffer_appended c.append_to.result
     (AreOfSquare PLACE_DIGITS
-    (off_lots PLACE_DIGITS c.args.section (g.L.Land.places c.args.land.now c.args.section)) quarters)
+    (off_lots PLACE_DIGITS c.args.section (g.L.PlaceSet.places c.args.land.now c.args.section)) quarters)
     c.args.text.now.items c.new-buffer.result c.push_fine_square.new.buffer c.append_to.new.text.items
     c.new-buffer.ensures
     (c.push_fine_square.ensures
-    (off_lots PLACE_DIGITS c.args.section (g.L.Land.places c.args.land.now c.args.section)) quarters level
+    (off_lots PLACE_DIGITS c.args.section (g.L.PlaceSet.places c.args.land.now c.args.section)) quarters level
     path_is short full places.0 places.1.0 places.1.1.0 places.1.1.1)
     c.append_to.ensures

@@ -19,7 +19,7 @@ use Rattle.twp_spell.proofs.written_parts.write_quarter_of_section.Goals as goal
 
 pub returns-in-Some : goal.returns-in-Some
 returns-in-Some g c = λ short halves are.
-    let held = off_lots PLACE_DIGITS c.args.section (g.L.Land.places c.args.land.now c.args.section) in
+    let held = off_lots PLACE_DIGITS c.args.section (g.L.PlaceSet.places c.args.land.now c.args.section) in
     let choice =
     choice_made PLACE_DIGITS held [] c.args.full c.chosen_half.result (omega arith) c.chosen_half.ensures are
     short in
@@ -32,7 +32,7 @@ returns-in-Some g c = λ short halves are.
 
 pub returns-then-at : goal.returns-then-at
 returns-then-at g c = λ short halves are.
-    let held = off_lots PLACE_DIGITS c.args.section (g.L.Land.places c.args.land.now c.args.section) in
+    let held = off_lots PLACE_DIGITS c.args.section (g.L.PlaceSet.places c.args.land.now c.args.section) in
     let choice =
     choice_made PLACE_DIGITS held [] c.args.full c.chosen_half.result (omega arith) c.chosen_half.ensures are
     short in
@@ -45,7 +45,7 @@ returns-then-at g c = λ short halves are.
 
 pub returns-then-not-at : goal.returns-then-not-at
 returns-then-not-at g c = λ short halves are.
-    let held = off_lots PLACE_DIGITS c.args.section (g.L.Land.places c.args.land.now c.args.section) in
+    let held = off_lots PLACE_DIGITS c.args.section (g.L.PlaceSet.places c.args.land.now c.args.section) in
     let choice =
     choice_made PLACE_DIGITS held [] c.args.full c.chosen_half.result (omega arith) c.chosen_half.ensures are
     short in
@@ -56,7 +56,7 @@ returns-then-not-at g c = λ short halves are.
 
 pub returns-then-not-meets : goal.returns-then-not-meets
 returns-then-not-meets g c = λ short halves are.
-    let held = off_lots PLACE_DIGITS c.args.section (g.L.Land.places c.args.land.now c.args.section) in
+    let held = off_lots PLACE_DIGITS c.args.section (g.L.PlaceSet.places c.args.land.now c.args.section) in
     let choice =
     choice_made PLACE_DIGITS held [] c.args.full c.chosen_half.result (omega arith) c.chosen_half.ensures are
     short in
@@ -68,13 +68,13 @@ returns-then-not-meets g c = λ short halves are.
     none_written PLACE_DIGITS held [] c.args.corner c.args.text.now.items
     (off_choice PLACE_DIGITS held [] c.chosen_half.result c.args.corner choice c.in_default.ensures)
     (of_empty PLACE_DIGITS held (c.args.corner ∷ []) (omega arith)
-    (empty_block PLACE_DIGITS c.args.section (g.L.Land.places c.args.land.now c.args.section)
+    (empty_block PLACE_DIGITS c.args.section (g.L.PlaceSet.places c.args.land.now c.args.section)
     (square (c.args.corner ∷ [])) c.quarter_of_section-quarter.result of_quarter
     (λ meets. false≢true (sym c.if-not-meets.true ∙ c.meets.ensures.1 meets))))
 
 pub returns : goal.returns
 returns g c = λ short halves are.
-    let held = off_lots PLACE_DIGITS c.args.section (g.L.Land.places c.args.land.now c.args.section) in
+    let held = off_lots PLACE_DIGITS c.args.section (g.L.PlaceSet.places c.args.land.now c.args.section) in
     let choice =
     choice_made PLACE_DIGITS held [] c.args.full c.chosen_half.result (omega arith) c.chosen_half.ensures are
     short in

@@ -3,11 +3,11 @@ use Rattle.std.proofs.Common.{refl, arith}
 use Rattle.twp_grid.specs.Places.{PLACE_DIGITS}
 use Rattle.twp_land.proofs.LandRanges.{nothing_within}
 use Rattle.twp_spell.proofs.SpellingFacts.{begun_from, begun_all}
-use Rattle.twp_spell.proofs.spelling.spell.Goals as goal
+use Rattle.twp_spell.proofs.spelling.spell_set.Goals as goal
 
 pub returns-in_default : goal.returns-in_default
 returns-in_default g c =
-    let places = g.L.Land.places c.args.land.now in
+    let places = g.L.PlaceSet.places c.args.land.now in
     let lie = nothing_within places 1 0 c.in_default.ensures in
     record {
       text =
@@ -20,7 +20,7 @@ pub loop-number-init : goal.loop-number-init
 loop-number-init g c = record {
   begun =
       rw c.number-number.ensures.value
-      (begun_from PLACE_DIGITS c.args.township (g.L.Land.places c.args.land.now) _ _ _ c.in-Some.ensures.1
+      (begun_from PLACE_DIGITS c.args.township (g.L.PlaceSet.places c.args.land.now) _ _ _ c.in-Some.ensures.1
       c.in_ok-text.ensures.items);
   first = omega arith;
 }
@@ -28,7 +28,7 @@ loop-number-init g c = record {
 pub returns : goal.returns
 returns g c = record {
   text =
-      begun_all PLACE_DIGITS c.args.township (g.L.Land.places c.args.land.now) _ _ c.loop-number.number
+      begun_all PLACE_DIGITS c.args.township (g.L.PlaceSet.places c.args.land.now) _ _ c.loop-number.number
       c.loop-number.text.items c.write_end.new.text.items c.in-Some.ensures.1
       c.loop-number.invariant.begun (omega arith) c.in_ok-write_end.ensures.none
       c.in_ok-write_end.ensures.some;
