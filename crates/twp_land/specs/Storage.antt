@@ -1,5 +1,6 @@
--- How the sets are stored: that of a township as one set for each section, by number, or for one of them; that of a
--- section by rows from the south, each by columns from the east, as tests or as the bits of a lane.
+-- How the sets are stored: that of a township as one set for each section, by number, or for one of
+-- them; that of a section by rows from the south, each by columns from the east, as tests or as the
+-- bits of a lane.
 use Rattle.std.specs.Prelude.{◌≡◌, ℕ, ◌-◌, ◌==◌, ◌&&◌, ◌||◌, not, Bool, true, false}
 use Rattle.std.specs.Prelude.{List, [], nat_le, slice_index_or}
 use Rattle.std.specs.List.{slice_get}

@@ -7,7 +7,8 @@ pub returns-in_err-resolve_into : goal.returns-in_err-resolve_into
 returns-in_err-resolve_into c = λ text read.
     let gone = err_from_is_err_and c.from_residual.result c.from_residual.ensures.1 in
     rw gone.1
-    (places_stop_on c.args.plat.now.township text c.args.description.now c.in_err-resolve_into.field-0.0 _ read
+    (places_stop_on c.args.plat.now.township text c.args.description.now c.in_err-resolve_into.field-0.0 _
+    read
     (rw c.township.ensures at c.in_err-resolve_into.ensures.refused) gone.2)
 
 pub returns : goal.returns

@@ -21,7 +21,8 @@ returns-in-Ok c =
 
 pub returns-in-Err : goal.returns-in-Err
 returns-in-Err c =
-    stops_by c.args.plat.now c.in-Some.plat (rw c.in-Some.is at c.plat-kept.ensures) c.args.account c.in-Some-account_of.account
+    stops_by c.args.plat.now c.in-Some.plat (rw c.in-Some.is at c.plat-kept.ensures) c.args.account
+    c.in-Some-account_of.account
     (sym c.account_of.ensures ∙ c.in-Some-account_of.is)
     (λ plat account. HasAcres plat c.args.description.now account) c.args.description.now c.in-Err.stop _
     c.of_stop.ensures c.in-Err.ensures

@@ -23,7 +23,8 @@ returns-in-Ok-clause-answer c =
 
 pub returns-in-Err-clause-answer : goal.returns-in-Err-clause-answer
 returns-in-Err-clause-answer c =
-    stops_by c.args.plat.now c.in-Some.plat (rw c.in-Some.is at c.plat-kept.ensures) c.args.account c.in-Some-account_of.account
+    stops_by c.args.plat.now c.in-Some.plat (rw c.in-Some.is at c.plat-kept.ensures) c.args.account
+    c.in-Some-account_of.account
     (sym c.account_of.ensures ∙ c.in-Some-account_of.is)
     (λ plat account. HasArea plat c.args.description.now account c.args.area.now) c.args.description.now
     c.in-Err.stop _ c.of_stop.ensures c.in-Err.ensures

@@ -48,7 +48,8 @@ returns-in_err-add_block g c =
     rw (gone.1, gone.2) (
       (c.in_err-add_block.ensures.added).0,
       added_stuck (lots_from PLACE_DIGITS c.args.section c.args.first (c.loop-lot.lot - 1))
-          (lots_from PLACE_DIGITS c.args.section c.args.first c.args.last) (g.L.PlaceSet.places c.args.land.now)
+          (lots_from PLACE_DIGITS c.args.section c.args.first c.args.last)
+          (g.L.PlaceSet.places c.args.land.now)
           (g.L.PlaceSet.places c.loop-lot.land) c.args.section c.unwrap-block.result
           so_far.added (c.in_err-add_block.ensures.added).1
           (in_next_lot c.args.section c.args.first c.loop-lot.lot c.args.last c.unwrap-block.result
@@ -67,7 +68,8 @@ loop-lot-preserved g c =
     record {
       least = omega (arith, so_far.least);
       added = subst (λ n.
-          AreAdded (lots_from PLACE_DIGITS c.args.section c.args.first n) (g.L.PlaceSet.places c.args.land.now)
+          AreAdded (lots_from PLACE_DIGITS c.args.section c.args.first n)
+          (g.L.PlaceSet.places c.args.land.now)
           (g.L.PlaceSet.places c.add_block.new.land)) next
           (added_next (lots_from PLACE_DIGITS c.args.section c.args.first (c.loop-lot.lot - 1))
           (lots_from PLACE_DIGITS c.args.section c.args.first c.loop-lot.lot)

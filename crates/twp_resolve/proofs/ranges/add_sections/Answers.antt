@@ -14,7 +14,9 @@ add_block-requires g c =
     section_is c.loop-number.number c.unwrap-section.result _ c.new.ensures c.unwrap-section.ensures in
     rw number
     (ap (λ has_room. has_room c.loop-number.number) c.loop-number.invariant.room
-    ∙ c.requires.room c.loop-number.number (omega (arith, c.requires.first.0, c.loop-number.invariant.least), omega (arith, c.requires.last.1)) c.loop-number.invariant.least (omega arith))
+    ∙ c.requires.room c.loop-number.number
+    (omega (arith, c.requires.first.0, c.loop-number.invariant.least), omega (arith, c.requires.last.1))
+    c.loop-number.invariant.least (omega arith))
 
 pub returns-in_err-add_block : goal.returns-in_err-add_block
 returns-in_err-add_block g c =
@@ -48,7 +50,8 @@ loop-number-preserved g c =
           (g.L.PlaceSet.places c.add_block.new.land)) next
           (added_next (sections_from PLACE_DIGITS c.args.first (c.loop-number.number - 1))
           (sections_from PLACE_DIGITS c.args.first c.loop-number.number) (g.L.PlaceSet.places c.args.land.now)
-          (g.L.PlaceSet.places c.loop-number.land) (g.L.PlaceSet.places c.add_block.new.land) c.loop-number.number
+          (g.L.PlaceSet.places c.loop-number.land) (g.L.PlaceSet.places c.add_block.new.land)
+          c.loop-number.number
           (whole_block PLACE_DIGITS)
           so_far.added free grown
           (next_section c.args.first c.loop-number.number (omega (arith, c.requires.first.0, so_far.least))

@@ -35,7 +35,8 @@ returns-clause-taken g c =
 
 pub returns-clause-refused : goal.returns-clause-refused
 returns-clause-refused g c =
-    lots_refused c.add_lots.result c.args.section c.args.first c.args.last (g.L.PlaceSet.places c.args.land.now)
+    lots_refused c.add_lots.result c.args.section c.args.first c.args.last
+    (g.L.PlaceSet.places c.args.land.now)
     (g.L.PlaceSet.places c.add_lots.new.land)
     c.in_ok-check_order.ensures (c.in_ok-from.ensures.lot).1 (c.in_ok-to.ensures.lot).1
     (rw ((c.in_ok-from.ensures.lot).0, (c.in_ok-to.ensures.lot).0) at c.add_lots.ensures)

@@ -57,7 +57,8 @@ returns-in_err-add_block-in-All-clause-refused g c =
     err_from_is_err_and c.from_residual-in_err-add_block-in-All.result
     c.from_residual-in_err-add_block-in-All.ensures.1 in
     rw (gone.1, gone.2, (c.in_err-add_block-in-All.ensures.added).0, c.in-All.is, c.unwrap-in-All.ensures)
-    (all_refused c.unwrap-in-All.result c.in-All.at (g.L.PlaceSet.places c.args.land.now) c.args.township meets)
+    (all_refused c.unwrap-in-All.result c.in-All.at (g.L.PlaceSet.places c.args.land.now) c.args.township
+    meets)
 
 pub returns-clause-taken : goal.returns-clause-taken
 returns-clause-taken g c = elim c.match-item.branch [

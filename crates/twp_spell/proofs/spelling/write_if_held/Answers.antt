@@ -23,7 +23,8 @@ returns g c = λ begun.
     let some =
     some_of_meets (places c.args.section) c.whole.result c.whole.ensures
     (c.meets.ensures.0 c.if-not-meets.false) in
-    let range = (g.met.L.PlaceSet.within c.args.land.now c.args.section some.column some.row some.is_held).0 in
+    let range =
+    (g.met.L.PlaceSet.within c.args.land.now c.args.section some.column some.row some.is_held).0 in
     let before = text_before c.args.township c.args.text.now.items in
     on_ok c.write_section.result (HasSection PLACE_DIGITS places c.args.section before new)
     (AreBegun PLACE_DIGITS c.args.township places (c.args.section + 1) new)

@@ -11,7 +11,8 @@ pub returns : goal.returns
 returns g c = λ short.
     let held = off_lots PLACE_DIGITS c.args.section (g.L.PlaceSet.places c.args.land.now c.args.section) in
     let not_full : ¬ IsFull PLACE_DIGITS held (square []) = λ full.
-    short (whole_held PLACE_DIGITS c.args.section (g.L.PlaceSet.places c.args.land.now c.args.section) full) in
+    short
+    (whole_held PLACE_DIGITS c.args.section (g.L.PlaceSet.places c.args.land.now c.args.section) full) in
     let halves = c.open_halves-halves.ensures [] (whole_of PLACE_DIGITS c.whole.result c.whole.ensures) in
     let are =
     c.full_open_quarters-full.ensures [] (whole_of PLACE_DIGITS c.whole-2.result c.whole-2.ensures) halves in
