@@ -11,22 +11,7 @@ impl<'a> Finder<'a> {
     /// The township and range at an index.
     pub(crate) fn heading(&mut self, index: usize) -> Option<Phrase> {
         let from = self.draft.extent();
-        let pieces = &self.draft.pieces;
-        let mut next = index;
-        if pieces.is(next, b"all")
-            && (pieces.is(plus(next, 1), b"in") || pieces.is(plus(next, 1), b"of"))
-        {
-            self.draft.leave_out(next, plus(next, 1), Rule::Word);
-            next = plus(next, 1);
-        }
-        if self.draft.pieces.is(next, b"of") {
-            self.draft.leave_out(next, plus(next, 1), Rule::Heading);
-            next = plus(next, 1);
-        }
-        if self.draft.pieces.is(next, b"in") {
-            self.draft.leave_out(next, plus(next, 1), Rule::Heading);
-            next = plus(next, 1);
-        }
+        let next = self.after_words_for_heading(index);
         if let Some(end) = self.draft.pieces.after_same_township(next) {
             self.draft.shrink(from);
             let names = Names::Nothing(Rule::MovedHeading);
@@ -37,45 +22,69 @@ impl<'a> Finder<'a> {
         if !has_word && !self.is_side(plus(next, 1)) {
             return None;
         }
-        next = self.heading_word(next, has_word, b"T.", b"T. ");
-        let Some(after) = self.tier(next, has_word) else {
-            return None;
-        };
-        next = after;
-        let is_run = self.draft.pieces.is(next, b"nr") || self.draft.pieces.is(next, b"sr");
-        if is_run {
-            let place = self.draft.pieces.start(next).saturating_add(1);
-            self.draft.write(place, place, b" ", Rule::Heading);
-            next = plus(next, 1);
-        } else {
-            if !self.draft.pieces.is_north_south(next) {
-                return None;
-            }
-            next = self.side(next);
-            next = self.after_same_tier(next);
-            next = self.before_range(next, has_word);
-            if self.has_range_word(next) != has_word {
-                return None;
-            }
-            next = self.range_word(next, has_word);
-        }
-        let Some(after) = self.tier(next, has_word) else {
-            return None;
-        };
-        if !self.draft.pieces.is_east_west(after) {
+        let next = self.heading_word(next, has_word, b"T.", b"T. ");
+        let next = self.tier(next, has_word)?;
+        let next = self.between_tiers(next, has_word)?;
+        let next = self.tier(next, has_word)?;
+        if !self.draft.pieces.is_east_west(next) {
             return None;
         }
-        let end = self.side(after);
-        // A digit that is joined to a side may be of a half, as in `R3 W2`.
-        if self.draft.pieces.is_joined(end)
-            && (self.draft.pieces.is(end, b"2")
-                || (self.draft.pieces.number(end).unwrap_or(0) > 0
-                    && self.draft.last_section.is_some()))
-        {
+        let end = self.side(next);
+        if self.may_begin_half(end) {
             self.draft.doubt();
         }
         let end = self.after_same_tier(end);
         Some(self.draft.phrase(Names::Heading, index, end, from))
+    }
+
+    /// Leaves out words before a heading, as in `all in T. 2 N.`, and returns where it begins.
+    fn after_words_for_heading(&mut self, index: usize) -> usize {
+        let pieces = &self.draft.pieces;
+        let second = plus(index, 1);
+        let is_all = pieces.is(index, b"all")
+            && (pieces.is(second, b"in") || pieces.is(second, b"of"));
+        let next = self.without_word(index, is_all, Rule::Word);
+        let is_of = self.draft.pieces.is(next, b"of");
+        let next = self.without_word(next, is_of, Rule::Heading);
+        let is_in = self.draft.pieces.is(next, b"in");
+        self.without_word(next, is_in, Rule::Heading)
+    }
+
+    /// Leaves out the word at an index, if it is one, and returns the index after it.
+    fn without_word(&mut self, index: usize, is_word: bool, rule: Rule) -> usize {
+        if !is_word {
+            return index;
+        }
+        self.draft.leave_out(index, plus(index, 1), rule);
+        plus(index, 1)
+    }
+
+    /// The index of the range's number, after the side of the township and the word for the range.
+    fn between_tiers(&mut self, index: usize, has_word: bool) -> Option<usize> {
+        let pieces = &self.draft.pieces;
+        if pieces.is(index, b"nr") || pieces.is(index, b"sr") {
+            let place = pieces.start(index).saturating_add(1);
+            self.draft.write(place, place, b" ", Rule::Heading);
+            return Some(plus(index, 1));
+        }
+        if !pieces.is_north_south(index) {
+            return None;
+        }
+        let next = self.side(index);
+        let next = self.after_same_tier(next);
+        let next = self.before_range(next, has_word);
+        if self.has_range_word(next) != has_word {
+            return None;
+        }
+        Some(self.range_word(next, has_word))
+    }
+
+    /// Whether a digit that is joined to a side may be of a half, as in `R3 W2`.
+    fn may_begin_half(&self, index: usize) -> bool {
+        let pieces = &self.draft.pieces;
+        pieces.is_joined(index)
+            && (pieces.is(index, b"2")
+                || (pieces.number(index).unwrap_or(0) > 0 && self.draft.last_section.is_some()))
     }
 
     /// The index after the township or the range that is repeated in parentheses at an index, as in

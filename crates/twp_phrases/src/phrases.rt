@@ -8,6 +8,52 @@ use twp_pieces::plus;
 /// The most pieces that join two phrases.
 const JOINING_MOST: usize = 16;
 
+/// A kind of phrase that is looked for.
+#[derive(Clone, Copy)]
+enum Sought {
+    Aside,
+    Register,
+    LetterOfRegister,
+    Heading,
+    Sections,
+    SectionOfLetter,
+    BareSection,
+    SectionBeforeColon,
+    DamagedSections,
+    Lots,
+    All,
+    Part,
+    DamagedPart,
+    Except,
+    Remark,
+}
+
+/// What a number may begin, in the order in which it is looked for.
+const OF_NUMBERS: [Sought; 8] = [
+    Sought::SectionBeforeColon,
+    Sought::Aside,
+    Sought::Register,
+    Sought::Heading,
+    Sought::DamagedSections,
+    Sought::DamagedPart,
+    Sought::BareSection,
+    Sought::Remark,
+];
+
+/// What a word or a mark may begin.
+const OF_WORDS: [Sought; 10] = [
+    Sought::Aside,
+    Sought::LetterOfRegister,
+    Sought::Heading,
+    Sought::Sections,
+    Sought::SectionOfLetter,
+    Sought::Lots,
+    Sought::All,
+    Sought::Part,
+    Sought::Except,
+    Sought::Remark,
+];
+
 impl<'a> Finder<'a> {
     /// Adds the phrases to the draft. Where a piece is in none, and doesn't join them, the text isn't sure, nor
     /// where many pieces join two of them.
@@ -201,104 +247,103 @@ impl<'a> Finder<'a> {
     /// The phrase at an index that a number begins: a township and range, if a side is joined to the number,
     /// or what else it may begin.
     fn phrase_of_number(&mut self, index: usize) -> Option<Phrase> {
-        let from = self.draft.extent();
+        if self.begins_tier_or_register(index) {
+            let from = self.draft.extent();
+            if let Some(phrase) = self.register_or_heading(index) {
+                return Some(phrase);
+            }
+            self.draft.shrink(from);
+        }
+        self.first_of(&OF_NUMBERS, index)
+    }
+
+    /// Whether the number at an index is surely that of a township, or begins a row of a register.
+    fn begins_tier_or_register(&self, index: usize) -> bool {
         let pieces = &self.draft.pieces;
         let next = plus(index, 1);
         let is_short = pieces.bytes(index).len() <= 2 && pieces.is_joined(next);
-        let is_unsure = self.draft.is_unsure;
-        if (is_short && pieces.is_north_south(next)) || pieces.begins_register(index) {
-            if let Some(phrase) = self.of_register(index) {
-                return Some(phrase);
-            }
-            self.draft.shrink(from);
-            if let Some(phrase) = self.heading(index) {
-                let end = phrase.end;
-                // Those of a parcel's code go on with digits.
-                if !self.draft.pieces.is_joined(end) || self.draft.pieces.number(end).is_none() {
-                    return Some(phrase);
-                }
-                self.draft.is_unsure = is_unsure;
-            }
-            self.draft.shrink(from);
-        }
-        if matches!(self.draft.pieces.kind(next), Kind::Colon)
-            && self.section_number(index).is_some()
-        {
-            if let Some(phrase) = self.bare_section(index) {
-                return Some(phrase);
-            }
-            self.draft.shrink(from);
-        }
-        if let Some(phrase) = self.aside(index) {
-            return Some(phrase);
-        }
-        self.draft.shrink(from);
+        (is_short && pieces.is_north_south(next)) || pieces.begins_register(index)
+    }
+
+    /// The row of a register, or the township and range, at an index. Those of a parcel's code go on with
+    /// digits, and are none.
+    fn register_or_heading(&mut self, index: usize) -> Option<Phrase> {
+        let from = self.draft.extent();
         if let Some(phrase) = self.of_register(index) {
             return Some(phrase);
         }
         self.draft.shrink(from);
-        if let Some(phrase) = self.heading(index) {
-            return Some(phrase);
+        let is_unsure = self.draft.is_unsure;
+        let phrase = self.heading(index)?;
+        let pieces = &self.draft.pieces;
+        if pieces.is_joined(phrase.end) && pieces.number(phrase.end).is_some() {
+            self.draft.is_unsure = is_unsure;
+            return None;
         }
-        self.draft.shrink(from);
-        if self.draft.pieces.is_damaged_section_word(index) {
-            if let Some(phrase) = self.sections(index) {
-                return Some(phrase);
-            }
-            self.draft.shrink(from);
-        }
-        if matches!(self.draft.pieces.kind(index), Kind::Number(5 | 8)) {
-            if let Some(phrase) = self.sure_part(index) {
-                return Some(phrase);
-            }
-            self.draft.shrink(from);
-        }
-        if let Some(phrase) = self.bare_section(index) {
-            return Some(phrase);
-        }
-        self.draft.shrink(from);
-        self.remark(index)
+        Some(phrase)
     }
 
     /// The phrase at an index that a word or a mark begins.
     fn phrase_of_word(&mut self, index: usize) -> Option<Phrase> {
+        self.first_of(&OF_WORDS, index)
+    }
+
+    /// The first phrase at an index of some kinds, in their order.
+    fn first_of(&mut self, kinds: &[Sought], index: usize) -> Option<Phrase> {
         let from = self.draft.extent();
-        if let Some(phrase) = self.aside(index) {
-            return Some(phrase);
+        for kind in kinds {
+            if let Some(phrase) = self.phrase_of_kind(*kind, index) {
+                return Some(phrase);
+            }
+            self.draft.shrink(from);
         }
-        self.draft.shrink(from);
-        if let Some(phrase) = self.letter_of_register(index) {
-            return Some(phrase);
+        None
+    }
+
+    /// The phrase of a kind at an index.
+    fn phrase_of_kind(&mut self, kind: Sought, index: usize) -> Option<Phrase> {
+        match kind {
+            Sought::Aside => self.aside(index),
+            Sought::Register => self.of_register(index),
+            Sought::LetterOfRegister => self.letter_of_register(index),
+            Sought::Heading => self.heading(index),
+            Sought::Sections => self.sections(index),
+            Sought::SectionOfLetter => self.section_of_letter(index),
+            Sought::BareSection => self.bare_section(index),
+            Sought::SectionBeforeColon => self.section_before_colon(index),
+            Sought::DamagedSections => self.damaged_sections(index),
+            Sought::Lots => self.lots(index),
+            Sought::All => self.all(index),
+            Sought::Part => self.sure_part(index),
+            Sought::DamagedPart => self.damaged_part(index),
+            Sought::Except => self.except(index),
+            Sought::Remark => self.remark(index),
         }
-        if let Some(phrase) = self.heading(index) {
-            return Some(phrase);
+    }
+
+    /// The section at an index that has no word for it, and a colon after it.
+    fn section_before_colon(&mut self, index: usize) -> Option<Phrase> {
+        if !matches!(self.draft.pieces.kind(plus(index, 1)), Kind::Colon) {
+            return None;
         }
-        self.draft.shrink(from);
-        if let Some(phrase) = self.sections(index) {
-            return Some(phrase);
+        self.section_number(index)?;
+        self.bare_section(index)
+    }
+
+    /// The sections at an index whose word begins with a digit for an `S`.
+    fn damaged_sections(&mut self, index: usize) -> Option<Phrase> {
+        if !self.draft.pieces.is_damaged_section_word(index) {
+            return None;
         }
-        self.draft.shrink(from);
-        if let Some(phrase) = self.section_of_letter(index) {
-            return Some(phrase);
+        self.sections(index)
+    }
+
+    /// The aliquot part at an index that begins with a 5 or an 8 for an `S`.
+    fn damaged_part(&mut self, index: usize) -> Option<Phrase> {
+        if !matches!(self.draft.pieces.kind(index), Kind::Number(5 | 8)) {
+            return None;
         }
-        self.draft.shrink(from);
-        if let Some(phrase) = self.lots(index) {
-            return Some(phrase);
-        }
-        self.draft.shrink(from);
-        if let Some(phrase) = self.all(index) {
-            return Some(phrase);
-        }
-        self.draft.shrink(from);
-        if let Some(phrase) = self.sure_part(index) {
-            return Some(phrase);
-        }
-        self.draft.shrink(from);
-        if let Some(phrase) = self.except(index) {
-            return Some(phrase);
-        }
-        self.draft.shrink(from);
-        self.remark(index)
+        self.sure_part(index)
     }
 
     /// The section of a location, or the aliquot part, at an index.

@@ -6,65 +6,90 @@ use twp_pieces::{letters_of, plus};
 use twp_rules::Rule;
 use twp_words::{Size, written_step};
 
+/// A side or a corner in words.
+#[derive(Clone, Copy)]
+struct Direction {
+    letters: &'static [u8],
+    /// The index of the second word, if it is in two.
+    second: Option<usize>,
+    /// The index after it.
+    end: usize,
+}
+
 impl<'a> Finder<'a> {
     /// The step in words at an index.
     pub(crate) fn step_in_words(&mut self, index: usize) -> Option<usize> {
-        let pieces = &self.draft.pieces;
-        let Some(letters) = letters_of(pieces.lower(index)) else {
-            return None;
-        };
-        let next = plus(index, 1);
-        let is_two = letters.len() == 1
-            && (pieces.is(index, b"north") || pieces.is(index, b"south"))
-            && (pieces.is_second_word(next)
-                || (pieces.is(next, b"-") && pieces.is_second_word(plus(next, 1))));
-        let second = if pieces.is(next, b"-") {
-            plus(next, 1)
-        } else {
-            next
-        };
-        let (after, letters) = if is_two {
-            (plus(second, 1), self.corner_in_words(index, second))
-        } else {
-            (next, letters)
-        };
-        let size = if letters.len() == 1 {
+        let direction = self.direction_in_words(index)?;
+        let size = if direction.letters.len() == 1 {
             Size::Half
         } else {
             Size::Quarter
         };
-        let start = pieces.start(index);
-        let end = pieces.end_before(after);
+        let start = self.draft.pieces.start(index);
+        let written = written_step(direction.letters);
         let extent = self.draft.extent();
-        let written = written_step(letters);
-        if is_two {
-            self.write_direction(index);
-            let first_end = self.draft.pieces.end(index);
-            let second_start = self.draft.pieces.start(second);
-            self.leave_out_bytes(first_end, second_start);
-            self.write_direction(second);
-        } else {
-            self.draft.write(start, end, letters, Rule::Direction);
-        }
-        if let Some(stop) = self.fraction(after, size) {
+        self.write_letters(index, &direction);
+        if let Some(stop) = self.fraction(direction.end, size) {
             self.push_step(start, stop, written);
             return Some(stop);
         }
-        let mut word = after;
-        if self.draft.pieces.is(word, b"one") {
-            word = plus(word, 1);
-            if self.draft.pieces.is(word, b"-") {
-                word = plus(word, 1);
-            }
-        }
+        let word = self.after_one(direction.end);
         if !size.is_word(self.draft.pieces.lower(word)) {
             self.draft.shrink(extent);
             return None;
         }
+        let end = self.draft.pieces.end_before(direction.end);
         let stop = self.draft.pieces.end(word);
         self.draft.write(end, stop, size.fraction(), rule_of(size));
         self.push_step_to(start, stop, written);
         Some(plus(word, 1))
+    }
+
+    /// The side or the corner at an index, in a word or in two, as in `north east`.
+    fn direction_in_words(&self, index: usize) -> Option<Direction> {
+        let pieces = &self.draft.pieces;
+        let letters = letters_of(pieces.lower(index))?;
+        let next = plus(index, 1);
+        let second = plus(next, usize::from(pieces.is(next, b"-")));
+        let is_two = (pieces.is(index, b"north") || pieces.is(index, b"south"))
+            && pieces.is_second_word(second);
+        if !is_two {
+            return Some(Direction {
+                letters,
+                second: None,
+                end: next,
+            });
+        }
+        Some(Direction {
+            letters: self.corner_in_words(index, second),
+            second: Some(second),
+            end: plus(second, 1),
+        })
+    }
+
+    /// Writes the letters of a side or a corner.
+    fn write_letters(&mut self, index: usize, direction: &Direction) {
+        let pieces = &self.draft.pieces;
+        let (start, end) = (pieces.start(index), pieces.end(index));
+        let Some(second) = direction.second else {
+            return self
+                .draft
+                .write(start, end, direction.letters, Rule::Direction);
+        };
+        let second_start = pieces.start(second);
+        self.write_direction(index);
+        self.leave_out_bytes(end, second_start);
+        self.write_direction(second);
+    }
+
+    /// The index of the word for a fraction, after `one` and a hyphen.
+    fn after_one(&self, index: usize) -> usize {
+        let pieces = &self.draft.pieces;
+        if !pieces.is(index, b"one") {
+            return index;
+        }
+        let next = plus(index, 1);
+        plus(next, usize::from(pieces.is(next, b"-")))
     }
 
     /// Writes the letter of the word for a side at an index.
