@@ -50,19 +50,11 @@ pub fn end_of_remark(pieces: &Pieces<'_>, index: usize, position: Position) -> O
         || is_homesite_of_acreage(pieces, index);
     let mut next = index;
     for place in index..plus(index, PIECES_MOST) {
-        let is_last = place >= pieces.len();
-        if place > index && (is_last || ends_remark(pieces, place, position)) {
-            let last = place.saturating_sub(1);
-            let is_whole = (!is_last || position == Position::AfterLand)
-                && !(position == Position::BeforeLand && is_title_of_other(pieces, last))
-                && !(place > plus(index, 1) && points_into(pieces.lower(last)));
-            return if has_word && is_whole && is_sure {
-                let is_colon = matches!(pieces.kind(place), Kind::Colon)
-                    && !pieces.begins_column(place);
-                Some(plus(place, usize::from(is_colon)))
-            } else {
-                None
-            };
+        if place > index && (place >= pieces.len() || ends_remark(pieces, place, position)) {
+            if !has_word || !is_sure || !may_end_remark(pieces, index, place, position) {
+                return None;
+            }
+            return Some(plus(place, usize::from(is_colon_of_remark(pieces, place))));
         }
         if place < next {
             continue;
@@ -73,32 +65,59 @@ pub fn end_of_remark(pieces: &Pieces<'_>, index: usize, position: Position) -> O
             is_sure = true;
             continue;
         }
-        let is_name = position == Position::BeforeLand
-            && is_of_water(pieces.lower(place))
-            && pieces.begins_column(plus(place, 1));
-        // Less than a quarter section may be less than the land that follows.
-        let figure = place.saturating_sub(1);
-        let is_area = position == Position::BeforeLand
-            && is_acres(pieces.lower(place))
-            && place > index
-            && (pieces.is(plus(place, 1), b"of")
-                || !(pieces.number(figure).unwrap_or(0) >= QUARTER_ACRES));
-        let is_after = position == Position::AfterLand
-            && (may_be_parcel(pieces, index, place)
-                || is_boundary(pieces.lower(place))
-                || limits_land_at(pieces, place)
-                || may_end_label(pieces, place));
-        if is_after
-            || is_area
-            || (pieces.may_be_section(place) && !may_be_well(pieces, index, place, position))
-            || (!is_name && is_beyond_remark(pieces, place))
-        {
+        if leaves_remark(pieces, index, place, position) {
             return None;
         }
         has_word = has_word || says_something(pieces, place);
         is_sure = is_sure || is_known_at(pieces, place);
     }
     None
+}
+
+/// Whether a remark from an index may end at a place: more would follow the end of the text, or its last word.
+fn may_end_remark(pieces: &Pieces<'_>, index: usize, place: usize, position: Position) -> bool {
+    let last = place.saturating_sub(1);
+    match position {
+        Position::BeforeLand if place >= pieces.len() || is_title_of_other(pieces, last) => false,
+        _ => place <= plus(index, 1) || !points_into(pieces.lower(last)),
+    }
+}
+
+/// Whether a colon after a remark is part of it.
+fn is_colon_of_remark(pieces: &Pieces<'_>, place: usize) -> bool {
+    matches!(pieces.kind(place), Kind::Colon) && !pieces.begins_column(place)
+}
+
+/// Whether the piece at a place is not part of a remark from an index, which then is none.
+fn leaves_remark(pieces: &Pieces<'_>, index: usize, place: usize, position: Position) -> bool {
+    let is_limit = match position {
+        Position::BeforeLand => is_area_before_land(pieces, index, place),
+        Position::AfterLand => {
+            may_be_parcel(pieces, index, place)
+                || is_boundary(pieces.lower(place))
+                || limits_land_at(pieces, place)
+                || may_end_label(pieces, place)
+        }
+    };
+    is_limit
+        || (pieces.may_be_section(place) && !may_be_well(pieces, index, place, position))
+        || (is_beyond_remark(pieces, place) && !is_name_of_water(pieces, place, position))
+}
+
+/// Whether acreage may be of less than the land that follows: it is less than a quarter section.
+fn is_area_before_land(pieces: &Pieces<'_>, index: usize, place: usize) -> bool {
+    let figure = place.saturating_sub(1);
+    is_acres(pieces.lower(place))
+        && place > index
+        && (pieces.is(plus(place, 1), b"of")
+            || !(pieces.number(figure).unwrap_or(0) >= QUARTER_ACRES))
+}
+
+/// Whether a word of water is part of a name in a column.
+fn is_name_of_water(pieces: &Pieces<'_>, place: usize, position: Position) -> bool {
+    position == Position::BeforeLand
+        && is_of_water(pieces.lower(place))
+        && pieces.begins_column(plus(place, 1))
 }
 
 /// Whether other land may be named in a remark that begins at an index, and not in a sum or a price.

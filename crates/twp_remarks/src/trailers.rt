@@ -110,43 +110,51 @@ fn is_beyond_trailer(pieces: &Pieces<'_>, trailer: Trailer, index: usize) -> boo
             is_conveyance(word)
                 || (is_same(word, b"boundary") && pieces.is(plus(index, 1), b"line"))
         }
-        Trailer::Granted => {
-            is_same(word, b"lands")
-                || is_same(word, b"place")
-                || is_same(word, b"street")
-                || is_same(word, b"bed")
-                || is_same(word, b"ground")
-                || is_same(word, b"farm")
-                || is_same(word, b"field")
-                || is_same(word, b"meadow")
-                || is_same(word, b"mill")
-                || is_same(word, b"mining")
-                || is_same(word, b"property")
-                || is_same(word, b"quarry")
-                || is_same(word, b"reservoir")
-                || is_same(word, b"tracts")
-                || is_same(word, b"acreage")
-        }
+        Trailer::Granted => is_land_by_name(word),
         _ => false,
     };
     is_limit || is_part || is_beyond || is_of_town(word) || alters_land(word)
 }
 
+/// Whether a word names land, other than a right.
+fn is_land_by_name(word: &[u8]) -> bool {
+    is_same(word, b"lands")
+        || is_same(word, b"place")
+        || is_same(word, b"street")
+        || is_same(word, b"bed")
+        || is_same(word, b"ground")
+        || is_same(word, b"farm")
+        || is_same(word, b"field")
+        || is_same(word, b"meadow")
+        || is_same(word, b"mill")
+        || is_same(word, b"mining")
+        || is_same(word, b"property")
+        || is_same(word, b"quarry")
+        || is_same(word, b"reservoir")
+        || is_same(word, b"tracts")
+        || is_same(word, b"acreage")
+}
+
 /// What is said at an index.
 fn trailer_at(pieces: &Pieces<'_>, index: usize) -> Option<Trailer> {
-    let next = plus(index, 1);
     if !matches!(pieces.kind(index), Kind::Other | Kind::All) {
         return None;
     }
     let word = pieces.lower(index);
-    if is_same(word, b"in") {
-        let is_district = pieces.is(next, b"the") && pieces.is(plus(next, 1), b"district");
-        return if is_district {
-            Some(Trailer::Office)
-        } else {
-            None
-        };
+    if let Some(trailer) = trailer_of(word) {
+        return Some(trailer);
     }
+    if let Some(trailer) = trailer_with_next(pieces, word, plus(index, 1)) {
+        return Some(trailer);
+    }
+    if begins_terms(word) && !may_be_block(pieces, word, index) {
+        return Some(Trailer::Terms);
+    }
+    None
+}
+
+/// The trailer that a word begins, whatever follows it.
+fn trailer_of(word: &[u8]) -> Option<Trailer> {
     if is_same(word, b"subject") || is_same(word, b"subj") {
         return Some(Trailer::Rights);
     }
@@ -156,89 +164,80 @@ fn trailer_at(pieces: &Pieces<'_>, index: usize) -> Option<Trailer> {
     if is_same(word, b"according") {
         return Some(Trailer::Survey);
     }
-    if is_same(word, b"excepting") {
-        return if pieces.is(next, b"and") && pieces.is(plus(next, 1), b"reserving") {
-            Some(Trailer::Reserved)
-        } else {
-            None
-        };
-    }
-    if is_same(word, b"grantor") {
-        return if reserves(pieces, next) {
-            Some(Trailer::Reserved)
-        } else {
-            None
-        };
-    }
-    if is_same(word, b"together") {
-        return if pieces.is(next, b"with") {
-            Some(Trailer::Granted)
-        } else {
-            None
-        };
-    }
-    if is_same(word, b"as") {
-        return if pieces.is(next, b"to") {
-            Some(Trailer::Depths)
-        } else if pieces.is(next, b"shown") && is_soon(pieces, next, b"official") {
-            Some(Trailer::Terms)
-        } else {
-            None
-        };
-    }
-    if is_same(word, b"all") {
-        return if pieces.is(next, b"depths") {
-            Some(Trailer::Depths)
-        } else {
-            None
-        };
-    }
-    if is_same(word, b"insofar") || is_same(word, b"limited") || is_same(word, b"depths") {
+    if is_word_for_depths(word) {
         return Some(Trailer::Depths);
     }
-    if is_same(word, b"only") && matches!(pieces.kind(next), Kind::Stop | Kind::Semicolon) {
-        return Some(Trailer::Terms);
-    }
-    if is_same(word, b"only") {
-        return if pieces.is(next, b"as") || pieces.is(next, b"insofar") {
-            Some(Trailer::Depths)
-        } else {
-            None
-        };
-    }
-    if is_same(word, b"from") || is_same(word, b"down") {
-        let is_known = pieces.is(next, b"the")
-            || pieces.is(next, b"to")
-            || pieces.is(next, b"surface");
-        return if is_known {
-            Some(Trailer::Depths)
-        } else {
-            None
-        };
-    }
-    if is_same(word, b"below")
+    None
+}
+
+/// Whether a word is of depths, whatever follows it.
+fn is_word_for_depths(word: &[u8]) -> bool {
+    is_same(word, b"insofar")
+        || is_same(word, b"limited")
+        || is_same(word, b"depths")
+        || is_same(word, b"below")
         || is_same(word, b"above")
         || is_same(word, b"surface")
         || is_same(word, b"minerals")
         || is_same(word, b"mineral")
         || is_same(word, b"oil")
-    {
+}
+
+/// The trailer that a word begins with what follows it at an index.
+fn trailer_with_next(pieces: &Pieces<'_>, word: &[u8], next: usize) -> Option<Trailer> {
+    if (is_same(word, b"in") && pieces.is(next, b"the")) && pieces.is(plus(next, 1), b"district") {
+        return Some(Trailer::Office);
+    }
+    if is_reservation(pieces, word, next) {
+        return Some(Trailer::Reserved);
+    }
+    if is_same(word, b"together") && pieces.is(next, b"with") {
+        return Some(Trailer::Granted);
+    }
+    if are_depths(pieces, word, next) {
         return Some(Trailer::Depths);
     }
-    if !begins_terms(word) {
-        return None;
+    let is_shown = is_same(word, b"as")
+        && pieces.is(next, b"shown")
+        && is_soon(pieces, next, b"official");
+    let is_end = is_same(word, b"only")
+        && matches!(pieces.kind(next), Kind::Stop | Kind::Semicolon);
+    if is_shown || is_end {
+        return Some(Trailer::Terms);
     }
-    // A book without a page may be a block.
-    let is_book = is_same(word, b"bk") || is_same(word, b"book");
-    let has_page = is_soon(pieces, index, b"pg")
-        || is_soon(pieces, index, b"p")
-        || is_soon(pieces, index, b"page")
-        || is_soon(pieces, index, b"/");
-    if is_book && !has_page {
-        None
-    } else {
-        Some(Trailer::Terms)
+    None
+}
+
+/// Whether a word begins what is reserved, with what follows it at an index.
+fn is_reservation(pieces: &Pieces<'_>, word: &[u8], next: usize) -> bool {
+    if is_same(word, b"excepting") {
+        return pieces.is(next, b"and") && pieces.is(plus(next, 1), b"reserving");
     }
+    is_same(word, b"grantor") && reserves(pieces, next)
+}
+
+/// Whether a word begins depths with what follows it at an index.
+fn are_depths(pieces: &Pieces<'_>, word: &[u8], next: usize) -> bool {
+    if is_same(word, b"as") {
+        return pieces.is(next, b"to");
+    }
+    if is_same(word, b"all") {
+        return pieces.is(next, b"depths");
+    }
+    if is_same(word, b"only") {
+        return pieces.is(next, b"as") || pieces.is(next, b"insofar");
+    }
+    (is_same(word, b"from") || is_same(word, b"down"))
+        && (pieces.is(next, b"the") || pieces.is(next, b"to") || pieces.is(next, b"surface"))
+}
+
+/// Whether the word at an index may be of a block: it is a book without a page.
+fn may_be_block(pieces: &Pieces<'_>, word: &[u8], index: usize) -> bool {
+    (is_same(word, b"bk") || is_same(word, b"book"))
+        && !(is_soon(pieces, index, b"pg")
+            || is_soon(pieces, index, b"p")
+            || is_soon(pieces, index, b"page")
+            || is_soon(pieces, index, b"/"))
 }
 
 /// Whether a word is among the next pieces after an index.
