@@ -12,6 +12,7 @@ mod heading;
 mod lists;
 mod mark;
 mod parts;
+mod said;
 mod sentence;
 mod span;
 mod spelled;

@@ -1,9 +1,39 @@
 //! What a note says of several numbers after a word in the singular.
+use crate::note::said::Said::{Number, Numbers, Words};
+use crate::note::said::{say, text_of};
 use crate::note::sentence::Doubtful;
 use crate::note::span::{after_word, end_of_list, number_from, second_number, section_at};
-use crate::note::spelled::{between, write_numbers};
+use crate::note::spelled::between;
 use std::alloc::{AllocError, Global};
 use twp_grammar::{Kind, Tokens};
+
+/// The numbers after a word.
+#[derive(Clone, Copy)]
+struct List<'a> {
+    /// All of them.
+    numbers: &'a [u8],
+    /// The first.
+    number: u16,
+    /// Those after the first, unless they are a range.
+    others: Option<&'a [u8]>,
+}
+
+/// The numbers after the word at a doubtful place.
+fn list_at<'a>(doubtful: &Doubtful<'a>) -> List<'a> {
+    let bytes = doubtful.bytes;
+    let first = after_word(bytes, doubtful.at);
+    let end = end_of_list(bytes, first);
+    let others = if is_range(bytes, first) {
+        None
+    } else {
+        Some(between(bytes, second_number(bytes, first), end))
+    };
+    List {
+        numbers: between(bytes, first, end),
+        number: number_from(bytes, first).unwrap_or(0),
+        others,
+    }
+}
 
 /// Appends what is said of several sections.
 pub(crate) fn write_sections(
@@ -11,42 +41,62 @@ pub(crate) fn write_sections(
     doubtful: &Doubtful<'_>,
     out: &mut String,
 ) -> Result<(), AllocError> {
-    let bytes = doubtful.bytes;
-    let first = after_word(bytes, doubtful.at);
-    let end = end_of_list(bytes, first);
-    let number = number_from(bytes, first).unwrap_or(0);
-    let mut land = String::new(alloc);
-    land.push_str("secs. ")?;
-    write_numbers(between(bytes, first, end), &mut land)?;
-    out.push_str("sec. ")?;
-    write_numbers(between(bytes, first, end), out)?;
-    write!(out, " is read as {land}")?;
-    doubtful
-        .reckoner
-        .write_acres(alloc, " (", land.as_str(), ")", out)?;
-    if is_range(bytes, first) {
-        return write!(
-            out,
-            "; if section {number} alone was meant, write sec. {number}"
-        );
-    }
-    let others = between(bytes, second_number(bytes, first), end);
-    let (word, verb) = if is_one(others) {
-        ("lot", "was")
-    } else {
-        ("lots", "were")
-    };
-    let mut lots = String::new(alloc);
-    write!(lots, "{word} ")?;
-    write_numbers(others, &mut lots)?;
-    let other = format!(in alloc; "sec. {number}, {lots}")?;
-    write!(
+    let List {
+        numbers,
+        number,
+        others,
+    } = list_at(doubtful);
+    let land = text_of(alloc, &[Words("secs. "), Numbers(numbers)])?;
+    let read = Words(" is read as ");
+    say(
+        &[Words("sec. "), Numbers(numbers), read, Words(land.as_str())],
         out,
-        "; if {lots} of section {number} {verb} meant, write {other}"
     )?;
-    doubtful
-        .reckoner
-        .write_acres(alloc, " (", other.as_str(), ")", out)
+    doubtful.write_acres(alloc, land.as_str(), out)?;
+    match others {
+        Some(others) => write_section_and_lots(alloc, doubtful, number, others, out),
+        None => {
+            let alone = Words(" alone was meant, write sec. ");
+            say(
+                &[
+                    Words("; if section "),
+                    Number(number),
+                    alone,
+                    Number(number),
+                ],
+                out,
+            )
+        }
+    }
+}
+
+/// Appends how a section is written whose lots have the other numbers.
+fn write_section_and_lots(
+    alloc: Global,
+    doubtful: &Doubtful<'_>,
+    section: u16,
+    lots: &[u8],
+    out: &mut String,
+) -> Result<(), AllocError> {
+    let (word, verb) = if is_one(lots) {
+        ("lot ", " was meant, write ")
+    } else {
+        ("lots ", " were meant, write ")
+    };
+    let lots = text_of(alloc, &[Words(word), Numbers(lots)])?;
+    let lots = Words(lots.as_str());
+    let land = text_of(alloc, &[Words("sec. "), Number(section), Words(", "), lots])?;
+    let of = Words(" of section ");
+    let written = [
+        Words("; if "),
+        lots,
+        of,
+        Number(section),
+        Words(verb),
+        Words(land.as_str()),
+    ];
+    say(&written, out)?;
+    doubtful.write_acres(alloc, land.as_str(), out)
 }
 
 /// Appends what is said of several lots.
@@ -55,37 +105,67 @@ pub(crate) fn write_lots(
     doubtful: &Doubtful<'_>,
     out: &mut String,
 ) -> Result<(), AllocError> {
-    let bytes = doubtful.bytes;
-    let first = after_word(bytes, doubtful.at);
-    let end = end_of_list(bytes, first);
-    let number = number_from(bytes, first).unwrap_or(0);
-    let section = section_at(bytes, doubtful.at).unwrap_or(0);
-    let mut land = String::new(alloc);
-    write!(land, "sec. {section}, lots ")?;
-    write_numbers(between(bytes, first, end), &mut land)?;
-    out.push_str("lot ")?;
-    write_numbers(between(bytes, first, end), out)?;
-    out.push_str(" is read as lots ")?;
-    write_numbers(between(bytes, first, end), out)?;
-    doubtful
-        .reckoner
-        .write_acres(alloc, " (", land.as_str(), ")", out)?;
-    if is_range(bytes, first) {
-        return write!(out, "; if lot {number} alone was meant, write lot {number}");
-    }
-    let others = between(bytes, second_number(bytes, first), end);
-    let word = if is_one(others) { "sec." } else { "secs." };
-    let mut sections = String::new(alloc);
-    write!(sections, "{word} ")?;
-    write_numbers(others, &mut sections)?;
-    let other = format!(in alloc; "sec. {section}, lot {number}; {sections}")?;
-    write!(
-        out,
-        "; if lot {number} and {sections} were meant, write {other}"
+    let List {
+        numbers,
+        number,
+        others,
+    } = list_at(doubtful);
+    let section = section_at(doubtful.bytes, doubtful.at).unwrap_or(0);
+    let lots = Words(", lots ");
+    let land = text_of(
+        alloc,
+        &[Words("sec. "), Number(section), lots, Numbers(numbers)],
     )?;
-    doubtful
-        .reckoner
-        .write_acres(alloc, " (", other.as_str(), ")", out)
+    let read = Words(" is read as lots ");
+    say(
+        &[Words("lot "), Numbers(numbers), read, Numbers(numbers)],
+        out,
+    )?;
+    doubtful.write_acres(alloc, land.as_str(), out)?;
+    match others {
+        Some(others) => write_lot_and_sections(alloc, doubtful, section, number, others, out),
+        None => {
+            let alone = Words(" alone was meant, write lot ");
+            say(
+                &[Words("; if lot "), Number(number), alone, Number(number)],
+                out,
+            )
+        }
+    }
+}
+
+/// Appends how a lot of a section is written, and sections that have the other numbers.
+fn write_lot_and_sections(
+    alloc: Global,
+    doubtful: &Doubtful<'_>,
+    section: u16,
+    lot: u16,
+    sections: &[u8],
+    out: &mut String,
+) -> Result<(), AllocError> {
+    let word = if is_one(sections) { "sec. " } else { "secs. " };
+    let sections = text_of(alloc, &[Words(word), Numbers(sections)])?;
+    let sections = Words(sections.as_str());
+    let of_section = [
+        Words("sec. "),
+        Number(section),
+        Words(", lot "),
+        Number(lot),
+    ];
+    let mut land = text_of(alloc, &of_section)?;
+    say(&[Words("; "), sections], &mut land)?;
+    let and = Words(" and ");
+    let write = Words(" were meant, write ");
+    let written = [
+        Words("; if lot "),
+        Number(lot),
+        and,
+        sections,
+        write,
+        Words(land.as_str()),
+    ];
+    say(&written, out)?;
+    doubtful.write_acres(alloc, land.as_str(), out)
 }
 
 /// Whether a list is one number.

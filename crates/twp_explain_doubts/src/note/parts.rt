@@ -1,9 +1,11 @@
 //! What a note says of parts: two that are read as one, and two of which one has an `of`, which is perhaps for both.
+use crate::note::said::Said::{Number, Part, Row, Steps, Words};
+use crate::note::said::{Said, say, text_of};
 use crate::note::sentence::Doubtful;
 use crate::note::span::{
-    Row, after_and, end_of_row, last_place_of, place_of, section_at, start_of_part,
+    Row as RowOf, after_and, end_of_row, last_place_of, place_of, section_at, start_of_part,
 };
-use crate::note::spelled::{between, write_part, write_steps};
+use crate::note::spelled::between;
 use std::alloc::{AllocError, Global};
 use twp_grammar::Kind;
 
@@ -15,26 +17,30 @@ pub(crate) fn write_joined(
 ) -> Result<(), AllocError> {
     let bytes = doubtful.bytes;
     let at = doubtful.at;
-    let first = between(bytes, start_of_part(bytes, at), at);
-    let second = between(bytes, at, end_of_row(bytes, at, Row::Part));
-    write_steps(first, out)?;
-    out.push_str(" ")?;
-    write_steps(second, out)?;
-    out.push_str(" is read as one part")?;
-    let one = land_of(alloc, doubtful, &[first, second], "")?;
+    let first = Steps(between(bytes, start_of_part(bytes, at), at));
+    let second = Steps(between(bytes, at, end_of_row(bytes, at, RowOf::Part)));
+    say(
+        &[first, Words(" "), second, Words(" is read as one part")],
+        out,
+    )?;
+    let one = land_of(alloc, doubtful, &[first, second])?;
     doubtful
         .reckoner
         .write_acres(alloc, " of ", one.as_str(), "", out)?;
-    out.push_str(", the ")?;
-    write_steps(first, out)?;
-    out.push_str(" of the ")?;
-    write_steps(second, out)?;
-    out.push_str("; if two parts were meant, write a comma after ")?;
-    write_steps(first, out)?;
-    let two = land_of(alloc, doubtful, &[first, second], ", ")?;
-    doubtful
-        .reckoner
-        .write_acres(alloc, " (", two.as_str(), ")", out)
+    let comma = Words("; if two parts were meant, write a comma after ");
+    say(
+        &[
+            Words(", the "),
+            first,
+            Words(" of the "),
+            second,
+            comma,
+            first,
+        ],
+        out,
+    )?;
+    let two = land_of(alloc, doubtful, &[first, Words(", "), second])?;
+    doubtful.write_acres(alloc, two.as_str(), out)
 }
 
 /// Appends what is said of a part without `of`, `and`, and a part with `of`.
@@ -50,17 +56,13 @@ pub(crate) fn write_shared(
     let of = place_of(bytes, second, Kind::Of);
     let first = between(bytes, at, and);
     let own = between(bytes, second, of);
-    let shared = between(bytes, of, end_of_row(bytes, of, Row::Part));
-    write_steps(first, out)?;
-    out.push_str(" and ")?;
-    write_steps(own, out)?;
-    write_part(shared, out)?;
-    out.push_str(" is read as two parts, the ")?;
-    write_land(alloc, doubtful, &[first], out)?;
-    out.push_str(" and the ")?;
-    write_land(alloc, doubtful, &[own, shared], out)?;
-    out.push_str("; if both are of the ")?;
-    write_steps(shared, out)?;
+    let shared = between(bytes, of, end_of_row(bytes, of, RowOf::Part));
+    say(
+        &[Steps(first), Words(" and "), Steps(own), Part(shared)],
+        out,
+    )?;
+    write_two(alloc, doubtful, &[first], &[own, shared], out)?;
+    say(&[Words("; if both are of the "), Steps(shared)], out)?;
     write_both(alloc, doubtful, &[first, shared], &[own, shared], out)
 }
 
@@ -76,19 +78,33 @@ pub(crate) fn write_spread(
     let and = place_of(bytes, at, Kind::And);
     let next = after_and(bytes, at);
     let first = between(bytes, at, and);
-    let second = between(bytes, next, end_of_row(bytes, next, Row::Steps));
+    let second = between(bytes, next, end_of_row(bytes, next, RowOf::Steps));
     let spread = between(bytes, at, last_place_of(bytes, at, and, Kind::Of));
-    write_part(first, out)?;
-    out.push_str(" and ")?;
-    write_steps(second, out)?;
-    out.push_str(" is read as two parts, the ")?;
-    write_land(alloc, doubtful, &[first], out)?;
-    out.push_str(" and the ")?;
-    write_land(alloc, doubtful, &[second], out)?;
-    out.push_str("; if the ")?;
-    write_steps(spread, out)?;
-    out.push_str(" of both was meant")?;
+    say(&[Part(first), Words(" and "), Steps(second)], out)?;
+    write_two(alloc, doubtful, &[first], &[second], out)?;
+    say(
+        &[
+            Words("; if the "),
+            Steps(spread),
+            Words(" of both was meant"),
+        ],
+        out,
+    )?;
     write_both(alloc, doubtful, &[first], &[spread, second], out)
+}
+
+/// Appends that the steps of some texts are read as two parts, with the acres of each.
+fn write_two(
+    alloc: Global,
+    doubtful: &Doubtful<'_>,
+    first: &[&[u8]],
+    second: &[&[u8]],
+    out: &mut String,
+) -> Result<(), AllocError> {
+    out.push_str(" is read as two parts, the ")?;
+    write_land(alloc, doubtful, first, out)?;
+    out.push_str(" and the ")?;
+    write_land(alloc, doubtful, second, out)
 }
 
 /// Appends how two parts are written, each of the steps of some texts in turn, and their acres.
@@ -99,38 +115,11 @@ fn write_both(
     second: &[&[u8]],
     out: &mut String,
 ) -> Result<(), AllocError> {
-    let mut both = String::new(alloc);
-    write_row(first, &mut both)?;
-    both.push_str(", ")?;
-    write_row(second, &mut both)?;
-    write!(out, ", write {both}")?;
-    let section = section_at(doubtful.bytes, doubtful.at).unwrap_or(0);
-    let land = format!(in alloc; "sec. {section}, {both}")?;
-    doubtful
-        .reckoner
-        .write_acres(alloc, " (", land.as_str(), ")", out)
-}
-
-/// The steps of some texts in turn, with some bytes between them, as a part of the section.
-fn land_of(
-    alloc: Global,
-    doubtful: &Doubtful<'_>,
-    steps: &[&[u8]],
-    between: &str,
-) -> Result<String, AllocError> {
-    let mut land = String::new(alloc);
-    write!(
-        land,
-        "sec. {}",
-        section_at(doubtful.bytes, doubtful.at).unwrap_or(0)
-    )?;
-    let mut mark = ", ";
-    for text in steps {
-        land.push_str(mark)?;
-        write_steps(text, &mut land)?;
-        mark = between;
-    }
-    Ok(land)
+    let both = [Row(first), Words(", "), Row(second)];
+    let land = land_of(alloc, doubtful, &both)?;
+    out.push_str(", write ")?;
+    say(&both, out)?;
+    doubtful.write_acres(alloc, land.as_str(), out)
 }
 
 /// Appends the steps of some texts in turn, and their acres.
@@ -140,17 +129,19 @@ fn write_land(
     steps: &[&[u8]],
     out: &mut String,
 ) -> Result<(), AllocError> {
-    write_row(steps, out)?;
-    let land = land_of(alloc, doubtful, steps, "")?;
-    doubtful
-        .reckoner
-        .write_acres(alloc, " (", land.as_str(), ")", out)
+    let land = land_of(alloc, doubtful, &[Row(steps)])?;
+    say(&[Row(steps)], out)?;
+    doubtful.write_acres(alloc, land.as_str(), out)
 }
 
-/// Appends the steps of some texts in turn.
-fn write_row(steps: &[&[u8]], out: &mut String) -> Result<(), AllocError> {
-    for text in steps {
-        write_steps(text, out)?;
-    }
-    Ok(())
+/// The section of a doubtful place, and land of it.
+fn land_of(
+    alloc: Global,
+    doubtful: &Doubtful<'_>,
+    land: &[Said<'_>],
+) -> Result<String, AllocError> {
+    let section = section_at(doubtful.bytes, doubtful.at).unwrap_or(0);
+    let mut text = text_of(alloc, &[Words("sec. "), Number(section), Words(", ")])?;
+    say(land, &mut text)?;
+    Ok(text)
 }

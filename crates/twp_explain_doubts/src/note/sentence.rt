@@ -15,6 +15,18 @@ pub struct Doubtful<'a> {
     pub reckoner: Reckoner<'a>,
 }
 
+impl Doubtful<'_> {
+    /// Appends the acres of land in parentheses, if it is on the plat.
+    pub(crate) fn write_acres(
+        &self,
+        alloc: Global,
+        land: &str,
+        out: &mut String,
+    ) -> Result<(), AllocError> {
+        self.reckoner.write_acres(alloc, " (", land, ")", out)
+    }
+}
+
 /// A sentence that has begun, with the reading of a doubtful place and the other one.
 pub(crate) fn sentence_of(
     alloc: Global,
