@@ -15,16 +15,16 @@ use Rattle.twp_acres.specs.ReportAnswers.{IsReportAnswer}
 use Rattle.twp_acres.specs.declared.verdict.Verdict.{Verdict}
 use Rattle.twp_acres.specs.declared.verdict.RunFault.{RunFault}
 use Rattle.twp_acres.specs.declared.verdict.RunFault.TheVariants.{Read, Write, Memory}
-use Rattle.twp_program.specs.Joined.{joined_description, joined_notes}
-use Rattle.twp_program.specs.Statuses.{failing}
-use Rattle.twp_program.specs.Tasks.{HasKindAt, IsFaultOf, IsTaskOf}
-use Rattle.twp_program.specs.declared.ending.Ending.{Ending}
-use Rattle.twp_program.specs.declared.ending.Ending.TheVariants.{Answered, Helps, Misused, Failed}
-use Rattle.twp_program.specs.declared.ending.Failure.{Failure}
-use Rattle.twp_program.specs.declared.ending.Failure.TheVariants.{Open, Run}
-use Rattle.twp_program.specs.declared.task.Task.{Task}
-use Rattle.twp_program.specs.declared.task.Task.TheVariants.{Plat, Acres, Normal, Report}
-use Rattle.twp_program.specs.declared.task.TaskFault.TheVariants.{Usage}
+use Rattle.twp_task.specs.Joined.{joined_description, joined_notes}
+use Rattle.twp_task.specs.Statuses.{failing}
+use Rattle.twp_task.specs.Tasks.{HasKindAt, IsFaultOf, IsTaskOf}
+use Rattle.twp_task.specs.declared.ending.Ending.{Ending}
+use Rattle.twp_task.specs.declared.ending.Ending.TheVariants.{Answered, Helps, Misused, Failed}
+use Rattle.twp_task.specs.declared.ending.Failure.{Failure}
+use Rattle.twp_task.specs.declared.ending.Failure.TheVariants.{Open, Run}
+use Rattle.twp_task.specs.declared.task.Task.{Task}
+use Rattle.twp_task.specs.declared.task.Task.TheVariants.{Plat, Acres, Normal, Report}
+use Rattle.twp_task.specs.declared.task.TaskFault.TheVariants.{Usage}
 
 -- the task has this file
 abbrev pub IsFileOf : Task → Text → Type 0

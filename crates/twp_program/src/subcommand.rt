@@ -10,11 +10,8 @@ ghost use Rattle.twp_acres.specs.Runs.{RunsOnPlat, used};
 ghost use Rattle.twp_acres.specs.Tracts.{TRACTS_LIMIT};
 ghost use Rattle.twp_program.specs.Endings.{EndsRun, FailsOn, IsVerdictOf, RunsOnNotes};
 
-use crate::ending::{Failure, outcome_of};
 use crate::files::{OpenedNotes, OpenedText, open_notes, open_text};
-use crate::name::Name;
 use crate::showing::{show_land, show_list, show_plat};
-use crate::task::Task;
 use std::alloc::Global;
 use std::io;
 use std::rt::Files;
@@ -24,6 +21,7 @@ use twp_acres::{
 use twp_explain_text::Suggests;
 use twp_grid::{Device, Sink, Source};
 use twp_read::Clarity;
+use twp_task::{Failure, Name, Task, outcome_of};
 
 /// Opens the files of a task, in order, and runs it.
 pub(crate) fn run_task<S: Suggests, R: Files + Print + Eprint + AllocGlobal>(

@@ -1,0 +1,6 @@
+pub mod KeptBytes
+pub mod Joined
+pub mod Commands
+pub mod Tasks
+pub mod Statuses
+pub mod steps
