@@ -71,7 +71,7 @@ NO_SENTENCES = {"docs/BENCHMARKS.md", "docs/PERFORMANCE.md", "docs/TRUST.md"}
 
 #: What is read of standard input: a description, a line feed, and one byte more than notes may have.
 JOINED = {
-    "crates/twp_program/src/joined.rt": r"const MOST_BYTES: usize = ",
+    "crates/twp_task/src/joined.rt": r"const MOST_BYTES: usize = ",
     "tests/library/c/case_records.py": r"^JOINED_MOST = ",
     "bindings/python/tests/test_cases.py": r"^JOINED_MOST = ",
 }
