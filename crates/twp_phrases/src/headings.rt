@@ -61,13 +61,12 @@ impl<'a> Finder<'a> {
 
     /// The index of the range's number, after the side of the township and the word for the range.
     fn between_tiers(&mut self, index: usize, has_word: bool) -> Option<usize> {
-        let pieces = &self.draft.pieces;
-        if pieces.is(index, b"nr") || pieces.is(index, b"sr") {
-            let place = pieces.start(index).saturating_add(1);
+        if self.draft.pieces.is(index, b"nr") || self.draft.pieces.is(index, b"sr") {
+            let place = self.draft.pieces.start(index).saturating_add(1);
             self.draft.write(place, place, b" ", Rule::Heading);
             return Some(plus(index, 1));
         }
-        if !pieces.is_north_south(index) {
+        if !self.draft.pieces.is_north_south(index) {
             return None;
         }
         let next = self.side(index);

@@ -84,18 +84,13 @@ fn write_section_and_lots(
         ("lots ", " were meant, write ")
     };
     let lots = text_of(alloc, &[Words(word), Numbers(lots)])?;
-    let lots = Words(lots.as_str());
-    let land = text_of(alloc, &[Words("sec. "), Number(section), Words(", "), lots])?;
+    let land = format!(in alloc; "sec. {section}, {lots}")?;
     let of = Words(" of section ");
-    let written = [
-        Words("; if "),
-        lots,
-        of,
-        Number(section),
-        Words(verb),
-        Words(land.as_str()),
-    ];
-    say(&written, out)?;
+    say(
+        &[Words("; if "), Words(lots.as_str()), of, Number(section)],
+        out,
+    )?;
+    say(&[Words(verb), Words(land.as_str())], out)?;
     doubtful.write_acres(alloc, land.as_str(), out)
 }
 
@@ -145,26 +140,15 @@ fn write_lot_and_sections(
 ) -> Result<(), AllocError> {
     let word = if is_one(sections) { "sec. " } else { "secs. " };
     let sections = text_of(alloc, &[Words(word), Numbers(sections)])?;
-    let sections = Words(sections.as_str());
-    let of_section = [
-        Words("sec. "),
-        Number(section),
-        Words(", lot "),
-        Number(lot),
-    ];
-    let mut land = text_of(alloc, &of_section)?;
-    say(&[Words("; "), sections], &mut land)?;
-    let and = Words(" and ");
+    let mut land = String::new(alloc);
+    write!(land, "sec. {section}, lot {lot}; ")?;
+    land.push_str(sections.as_str())?;
+    write!(out, "; if lot {lot} and ")?;
     let write = Words(" were meant, write ");
-    let written = [
-        Words("; if lot "),
-        Number(lot),
-        and,
-        sections,
-        write,
-        Words(land.as_str()),
-    ];
-    say(&written, out)?;
+    say(
+        &[Words(sections.as_str()), write, Words(land.as_str())],
+        out,
+    )?;
     doubtful.write_acres(alloc, land.as_str(), out)
 }
 

@@ -108,11 +108,11 @@ fn write_two(
 }
 
 /// Appends how two parts are written, each of the steps of some texts in turn, and their acres.
-fn write_both(
+fn write_both<'a>(
     alloc: Global,
     doubtful: &Doubtful<'_>,
-    first: &[&[u8]],
-    second: &[&[u8]],
+    first: &'a [&'a [u8]],
+    second: &'a [&'a [u8]],
     out: &mut String,
 ) -> Result<(), AllocError> {
     let both = [Row(first), Words(", "), Row(second)];
