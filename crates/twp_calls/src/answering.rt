@@ -37,15 +37,13 @@ pub fn township_acres(
 ) -> TownshipAnswer
     ensures { IsAcresCall plat.now description.now account result }
 {
-    // Taken by reference, since it would be copied.
-    let kept = plat.plat();
-    let Some(plat) = &kept else {
+    let Some(plat) = plat.plat() else {
         return TownshipAnswer::bare(NO_PLAT);
     };
     let Some(account) = account_of(account) else {
         return TownshipAnswer::bare(NO_ACCOUNT);
     };
-    match acres_on(alloc, plat, description, account) {
+    match acres_on(alloc, &plat, description, account) {
         Ok(hundredths) => TownshipAnswer::of_acres(hundredths),
         Err(stop) => TownshipAnswer::of_stop(stop),
     }
@@ -62,14 +60,13 @@ pub fn township_area(
     ensures answer { IsAreaCall plat.now description.now account area.new result }
     ensures kept { result.verdict ≢ ACCEPTED → area.new ≡ area.old }
 {
-    let kept = plat.plat();
-    let Some(plat) = &kept else {
+    let Some(plat) = plat.plat() else {
         return TownshipAnswer::bare(NO_PLAT);
     };
     let Some(account) = account_of(account) else {
         return TownshipAnswer::bare(NO_ACCOUNT);
     };
-    match area_on(alloc, plat, description, account) {
+    match area_on(alloc, &plat, description, account) {
         Ok(exact) => {
             *area = TownshipFraction::of(&exact);
             TownshipAnswer::bare(ACCEPTED)

@@ -6,12 +6,12 @@ use Rattle.twp_calls.proofs.answering.township_acres.Goals as goal
 
 pub returns-in_default-account_of : goal.returns-in_default-account_of
 returns-in_default-account_of c =
-    on_plat c.in-Some.plat (rw c.in-Some.is at c.plat-kept.ensures)
+    on_plat c.in-Some.plat c.in-Some.ensures
     (by_none (sym c.account_of.ensures ∙ c.in_default-account_of.is) c.bare-in_default-account_of.ensures)
 
 pub returns-in-Ok : goal.returns-in-Ok
 returns-in-Ok c =
-    on_plat c.in-Some.plat (rw c.in-Some.is at c.plat-kept.ensures)
+    on_plat c.in-Some.plat c.in-Some.ensures
     (by_account c.in-Some-account_of.account (sym c.account_of.ensures ∙ c.in-Some-account_of.is)
     (accepted (record {
       hundredths = c.in-Ok.hundredths;
@@ -21,8 +21,7 @@ returns-in-Ok c =
 
 pub returns-in-Err : goal.returns-in-Err
 returns-in-Err c =
-    stops_by c.args.plat.now c.in-Some.plat (rw c.in-Some.is at c.plat-kept.ensures) c.args.account
-    c.in-Some-account_of.account
+    stops_by c.args.plat.now c.in-Some.plat c.in-Some.ensures c.args.account c.in-Some-account_of.account
     (sym c.account_of.ensures ∙ c.in-Some-account_of.is)
     (λ plat account. HasAcres plat c.args.description.now account) c.args.description.now c.in-Err.stop _
     c.of_stop.ensures c.in-Err.ensures

@@ -7,12 +7,12 @@ use Rattle.twp_calls.proofs.answering.township_area.Goals as goal
 
 pub returns-in_default-account_of-clause-answer : goal.returns-in_default-account_of-clause-answer
 returns-in_default-account_of-clause-answer c =
-    on_plat c.in-Some.plat (rw c.in-Some.is at c.plat-kept.ensures)
+    on_plat c.in-Some.plat c.in-Some.ensures
     (by_none (sym c.account_of.ensures ∙ c.in_default-account_of.is) c.bare-in_default-account_of.ensures)
 
 pub returns-in-Ok-clause-answer : goal.returns-in-Ok-clause-answer
 returns-in-Ok-clause-answer c =
-    on_plat c.in-Some.plat (rw c.in-Some.is at c.plat-kept.ensures)
+    on_plat c.in-Some.plat c.in-Some.ensures
     (by_account c.in-Some-account_of.account (sym c.account_of.ensures ∙ c.in-Some-account_of.is)
     (accepted (record {
       area = c.in-Ok.exact;
@@ -23,8 +23,7 @@ returns-in-Ok-clause-answer c =
 
 pub returns-in-Err-clause-answer : goal.returns-in-Err-clause-answer
 returns-in-Err-clause-answer c =
-    stops_by c.args.plat.now c.in-Some.plat (rw c.in-Some.is at c.plat-kept.ensures) c.args.account
-    c.in-Some-account_of.account
+    stops_by c.args.plat.now c.in-Some.plat c.in-Some.ensures c.args.account c.in-Some-account_of.account
     (sym c.account_of.ensures ∙ c.in-Some-account_of.is)
     (λ plat account. HasArea plat c.args.description.now account c.args.area.now) c.args.description.now
     c.in-Err.stop _ c.of_stop.ensures c.in-Err.ensures
