@@ -26,8 +26,10 @@ ADDED = ("tasks", "crate", "edits", "first", "waits", "is_well", "kept", "start"
 LOG = Path(__file__).resolve().parent.parent / "gate.log"
 # What rt says of a crate begins with a line of two equals signs, and ends with this one.
 ENDED = re.compile(r"rt: \w+(?:: its tests are)? (proved|NOT PROVED)$")
-# A wrong body that a goal refuses, and a test that passes.
-EXPECTED = re.compile(r"rt: must-fail \S+: refused, as it must be(?: *$|:)|test \S+ \.\.\. ok$")
+# A wrong body that a goal refuses, how long those of a crate took, and a test that passes.
+EXPECTED = re.compile(
+    r"rt: must-fail \S+: refused, as it must be(?: *$|:)|rt: \w+: its must-fail edits took|test \S+ \.\.\. ok$"
+)
 
 
 class Brief:

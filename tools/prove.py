@@ -39,9 +39,10 @@ NEEDED = (
     "Crate.has_tests",
     "rtlib.crates_below",
 )
-# A crate gets one more process for each of so many lines, up to a number. It can't be given more once it has begun, so the
-# one that all others wait for gets them at once, and the others share what is left of the processors. A proof takes a
-# third more processor time with three processes than with one, so more processes than processors make all of it slower.
+# A crate gets one more process for each of so many lines, up to a number, but only as many as there are processors that
+# no other crate could use now: a proof takes a third more processor time with three processes than with one. At first
+# there are enough crates for all processors; the last ones wait for one another. With three, the last but one left no
+# memory for the last.
 LINES_FOR_A_PROCESS = 600
 PROCESSES_MOST = 2
 # The share of the free memory that is used, and the share that each further process takes of what a crate needs, which
@@ -108,7 +109,8 @@ class Progress:
 class Lanes:
     """Which of rt's tasks run. A task is what it waits for, its work in lines, its memory, and a call that gets what the
     others gave and how many processes it may use. As many processes run as there are processors, first those of the tasks
-    with the longest chain of others above them; the longest of all gets some for its lines, as far as there is memory."""
+    with the longest chain of others above them, and each task gets those that no other one could use, as far as it has
+    lines and there is memory for them."""
 
     def __init__(self, tasks, processors, memory):
         self.tasks, self.processors, self.memory = tasks, processors, memory
@@ -130,9 +132,8 @@ class Lanes:
         free = self.processors - sum(count for _, count in running)
         if running and (free < 1 or room < self.memory_of(key, 1)):
             return 0
-        count = min(PROCESSES_MOST, 1 + self.tasks[key][1] // LINES_FOR_A_PROCESS)
-        if self.chain[key] < max(self.chain[it] for it in [*self.waiting, *(it for it, _ in running)]):
-            count = min(count, max(1, free // ready))
+        idle = max(0, free - ready)
+        count = min(PROCESSES_MOST, 1 + self.tasks[key][1] // LINES_FOR_A_PROCESS, 1 + idle)
         while count > 1 and room < self.memory_of(key, count):
             count -= 1
         return count

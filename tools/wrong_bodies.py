@@ -14,7 +14,8 @@ A wrong body counts as refused here only if
   count.
 
 All others, such as one that breaks a goal of a caller, are tried by rt itself, one at a time and over the work of these
-checks, if the crate is also proved over it as it stands. So are all of a check that finds an error in a definition or a
+checks, if the crate is also proved over it as it stands; what is said of them ends with `[tried alone]`. Each takes as
+long as a proof of the crate, so a wrong body that a goal of its own function refuses is better. So are all of a check that finds an error in a definition or a
 lemma, which functions share.
 
 The gate begins with nothing, and checks the functions that are changed, and those they call, alone. A second check, of
@@ -25,18 +26,19 @@ the work of those before it, and one of the crate as it stands.
 import re
 import shutil
 import tempfile
+import time
 from dataclasses import dataclass
 from pathlib import Path
 
 # What `rt fmt` makes of the first line of a function, and of an `impl` or a trait. The last line is the next one that
 # is a closing brace with the same indent.
 FUNCTION = re.compile(r"( *)(?:pub(?:\([\w:]+\))? )?(?:unsafe )?(?:extern \"C\" )?fn (\w+)")
-OWNER = re.compile(r"(?:pub )?(?:unsafe )?(?:impl(?:<.*?>)? (?:([\w:]+).* for )?|trait )([\w:]+)")
+OWNER = re.compile(r"(?:pub )?(?:unsafe )?(?:impl(?:<.*?>)? (?:([\w:]+).* for )?|trait )([\w:]*\w)")
 # A constant, or a static table, which ends as an item does; and a line that can change no meaning by itself.
 NAMED = re.compile(r"(?:pub(?:\([\w:]+\))? )?(?:const|static) (\w+):")
 IMPORT = re.compile(r"use .*;$")
 # What a check says of a goal that isn't proved: of code, and of a written answer.
-OF_CODE = re.compile(r"note: (src/\S+\.rt):(\d+):\d+: it is not proved ")
+OF_CODE = re.compile(r"note: (src/\S+\.rt):(\d+):\d+: (?:it is not proved |`search` found no proof )")
 OF_ANSWER = re.compile(r"(?:\./)?proofs/(\S+)/(?:Answers|Invariants|Proof)\.antt:\d+:\d+: error: ")
 LACKS_NAME = re.compile(r"has no field|is not in scope|has no `|was not admitted")
 # An error in a definition or a lemma, which several functions may rest on.
@@ -77,12 +79,11 @@ class Function:
         return path == self.path and self.first <= line <= self.last
 
     def has_answers(self, folder):
-        """Whether its answers are in this folder of proofs/, such as line/Line/index for `Line::index` of src/line.rt.
-        The folder of a trait's method also names the trait, as in lanes/LaneRowsPlot/meets."""
+        """Whether its answers are in this folder of proofs/, such as line/Line/index for `Line::index`. That of a method
+        is in the module of its type, whatever file has the method, and names its trait, too, as lanes/LaneRowsPlot/meets."""
         *around, name = folder.split("/")
-        owner = around[len(self.module) :]
-        is_owner = len(owner) == 1 and owner[0].startswith(self.owner) if self.owner else not owner
-        return name == self.name and around[: len(self.module)] == self.module and is_owner
+        is_owner = bool(around) and around[-1].startswith(self.owner)
+        return name == self.name and (is_owner if self.owner else around == self.module)
 
     def may_share_answers(self, other):
         """Whether the folder of its answers may be that of another function: both may be a type's `fmt`, of two traits."""
@@ -143,12 +144,16 @@ def start_of(lines, head, indent):
 
 def end_of(lines, first, indent):
     """Where an item ends that begins in a line: at its closing brace, or in a line that ends in a semicolon, as a
-    function without a body."""
+    function without a body, which may have clauses."""
+    has_body = False
     for at in range(first, len(lines)):
-        if lines[at] == f"{indent}}}" or lines[at].startswith(f"{indent}{{}}") or (at == first and lines[at].endswith("}")):
+        line = lines[at]
+        if line == f"{indent}}}" or line.startswith(f"{indent}{{}}") or (at == first and line.endswith("}")):
             return at
-        if lines[at].endswith(";") and len(lines[at]) - len(lines[at].lstrip()) <= len(indent):
+        is_outer = len(line) - len(line.lstrip()) <= len(indent)
+        if line.endswith(";") and (is_outer or not has_body):
             return at
+        has_body = has_body or (is_outer and line.endswith("{"))
     return len(lines) - 1
 
 
@@ -267,13 +272,19 @@ class Trying:
             yield these
 
     def together(self, edits):
-        """Tries wrong bodies. Returns those that were refused, each with the goal. A check in parts that is not the first
-        one counts only if these parts, as they stand, are proved over the same work."""
-        found = {}
-        for number, these in enumerate(self.groups(edits)):
+        """Tries wrong bodies. Returns those that were refused, each with the goal. The goals of a function may wait for
+        the proof of one that it calls, which another wrong body in the same check changes: so those that a check doesn't
+        refuse are tried once more without the others. A check in parts that is not the first one counts only if these
+        parts, as they stand, are proved over the same work."""
+        found, waiting, is_first = {}, list(self.groups(edits)), True
+        while waiting:
+            these = waiting.pop(0)
             refused = self.refused(these)
-            if number == 0 or not self.in_parts or self.are_proved(these):
+            if is_first or not self.in_parts or self.are_proved(these):
                 found.update(refused)
+            is_first = False
+            left = [it for it in these.edits if it not in refused]
+            waiting += self.groups(left) if refused else []
         return found
 
     def refused(self, these):
@@ -321,7 +332,7 @@ class Trying:
         if goal and (is_sound or self.in_parts):
             return refused, said_of(self.crate, edit, goal)
         if alone and is_sound and (alone[0] == refused or is_known):
-            return alone
+            return alone[0], f"{alone[1]} [tried alone]"
         return self.rt.must_fail(self.crate, edit.file, self.flags)
 
 
@@ -362,7 +373,10 @@ def in_one_task(rt):
             left = [at for at in range(len(edits)) if at not in earlier]
             if not is_well(given, len(left)):
                 return None
+            begun = time.monotonic()
             found = dict(zip(left, must_fail_all(rt, crate, [edits[at] for at in left], ["--jobs", "1"])))
+            if left:
+                print(f"rt: {crate.name}: its must-fail edits took {time.monotonic() - begun:.0f} s", flush=True)
             if kept.is_untouched(crate) and named == names():
                 for at, (kind, said) in found.items():
                     if kind in rt.SETTLED:

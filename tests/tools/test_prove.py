@@ -82,7 +82,7 @@ class Proving(unittest.TestCase):
         self.assertFalse(is_built(self.library) or is_built(self.program))
         self.assertTrue(kept.is_dir())
 
-    def test_crates_come_by_the_longest_chain_and_get_processes_for_their_lines(self):
+    def test_crates_come_by_the_longest_chain(self):
         begun = []
 
         def task(name, lines, *below):
@@ -92,15 +92,15 @@ class Proving(unittest.TestCase):
 
             return [(it, "proof") for it in below], lines, 1, call
 
-        # `grid` is shorter than `excerpt`, but not with `land` above it.
+        # `grid` is shorter than `excerpt`, but not with `land` above it. There is no processor for a second process.
         tasks = {("excerpt", "proof"): task("excerpt", 650), ("grid", "proof"): task("grid", 500)}
         tasks["land", "proof"] = task("land", 9_000, "grid")
         tasks["land", "tests"] = [], 0, 1, None
         given = Lanes(tasks, processors=1, memory=1_000).run()
         self.assertEqual(given, dict.fromkeys(tasks, True))
-        self.assertEqual(begun, [("grid", 1), ("land", 2), ("excerpt", 2)])
+        self.assertEqual(begun, [("grid", 1), ("land", 1), ("excerpt", 1)])
 
-    def test_crates_beside_the_longest_share_the_other_processes(self):
+    def test_the_longest_gets_the_processes_that_no_other_could_use(self):
         begun = []
 
         def task(name, lines):
@@ -109,6 +109,11 @@ class Proving(unittest.TestCase):
         tasks = {(name, "proof"): task(name, 9_000 - at) for at, name in enumerate(("one", "two", "three"))}
         Lanes(tasks, processors=4, memory=1_000).run()
         self.assertEqual(sorted(begun), [("one", 2), ("three", 1), ("two", 1)])
+
+    def test_the_last_crate_gets_no_more_processes_than_it_has_lines_for(self):
+        for lines, wanted in ((500, 1), (700, 2), (9_000, 2)):
+            tasks = {("cmd", "proof"): ([], lines, 1, lambda given, count: count)}
+            self.assertEqual(Lanes(tasks, processors=4, memory=1_000).run(), {("cmd", "proof"): wanted})
 
     def test_a_program_is_compiled_by_both_compilers_at_once(self):
         other = threading.Event()

@@ -42,6 +42,9 @@ pub fn sides(section: Section) -> Sides {
 }
 """
 
+# The line of `sides` that a wrong body changes.
+LINE_OF_SIDES = 27
+
 
 def text_of(path):
     return SOURCE if path == "src/line.rt" else ""
@@ -105,6 +108,10 @@ class Functions(unittest.TestCase):
 
 
 class Goals(unittest.TestCase):
+    def test_an_invariant_of_a_result_is_a_goal_too(self):
+        said = "note: src/line.rt:12:9: `search` found no proof (`invariant_of-result`)"
+        self.assertTrue(names_goal(said, INDEX))
+
     def test_goals_in_the_lines_of_a_function(self):
         said = "note: src/line.rt:{}:9: it is not proved that what the function ensures holds when it returns (`returns`)"
         self.assertTrue(names_goal(said.format(12), INDEX))
@@ -117,6 +124,8 @@ class Goals(unittest.TestCase):
         self.assertTrue(names_goal(said.format("Line/index"), INDEX))
         self.assertTrue(names_goal(said.format("SectionsLand/meets"), MEETS))
         self.assertTrue(names_goal(said.format("sides"), SIDES))
+        # A method in a file of its own has its answers beside those of its type's other methods.
+        self.assertTrue(names_goal("./proofs/lines/Line/index/Answers.antt:9:3: error: `returns`", INDEX))
         self.assertFalse(names_goal(said.format("Line/number"), INDEX))
         self.assertFalse(names_goal(said.format("index"), INDEX))
         self.assertFalse(names_goal(said.format("Line/sides"), SIDES))
@@ -149,6 +158,30 @@ class Checks(unittest.TestCase):
         self.assertEqual(these.refused(f"fn twp_grid::line::Line::index: not proved\n{goal}\n"), {other: goal})
 
 
+class TraitFunctions(unittest.TestCase):
+    """The functions of a trait, most of which have no body."""
+
+    SOURCE = """pub trait Plot: Copy + Drop {
+    fn empty() -> Self
+        ensures { held result ≡ nothing_held };
+
+    fn is_untouched(&self) -> bool
+        ensures { IsTrue result → held self.now ≡ nothing_held }
+    {
+        false
+    }
+}
+
+fn added<P: Plot>(plot: &mut P) {
+    plot.add();
+}
+"""
+
+    def test_each_ends_with_its_clauses_or_its_body(self):
+        found = [(it.owner, it.name, it.first, it.last) for it in functions_of("src/plot.rt", self.SOURCE)]
+        self.assertEqual(found, [("Plot", "empty", 2, 3), ("Plot", "is_untouched", 5, 9), ("", "added", 12, 14)])
+
+
 class OneTask(unittest.TestCase):
     """All wrong bodies of a crate in one task of rt's."""
 
@@ -167,6 +200,8 @@ class OneTask(unittest.TestCase):
             file.write_text(f"file: src/line.rt\nold: {old}\nnew: {new}\n")
             self.files[name] = str(file)
         self.checks, self.alone, self.kept, self.is_proved, self.unnamed = [], [], {}, True, []
+        # Whether `sides` is refused where no other function is changed.
+        self.waits = False
         self.crate = types.SimpleNamespace(name="twp_grid", folder=str(folder), count=lambda it: 30)
         self.rt = types.SimpleNamespace(
             checked=self.checked,
@@ -187,7 +222,8 @@ class OneTask(unittest.TestCase):
         if not texts:
             return types.SimpleNamespace(stdout="logic=proved", returncode=int(not self.is_proved))
         end = "only=2 proved=1" if "--only" in flags else "logic=not-proved"
-        return types.SimpleNamespace(stdout=f"note: src/line.rt:12:9: it is not proved that ..\n{end}", returncode=1)
+        line = LINE_OF_SIDES if self.waits and "Line::index" not in flags else 12
+        return types.SimpleNamespace(stdout=f"note: src/line.rt:{line}:9: it is not proved that ..\n{end}", returncode=1)
 
     def must_fail(self, crate, file, flags, kept=None):
         """A try of one wrong body, by which it is refused if that begins with nothing."""
@@ -217,12 +253,24 @@ class OneTask(unittest.TestCase):
         found, _ = self.tried("one", "sides", "lines")
         self.assertEqual([it[0] for it in found], ["refused"] * 3)
         self.assertIn("must-fail twp_grid/one.edit: refused, as it must be: note: src/line.rt:12", found[0][1])
-        ((text, flags), whole) = self.checks
+        ((text, flags), again, same, whole) = self.checks
         self.assertEqual(whole, ("as it stands", ["--jobs", "1"]))
         self.assertTrue("return 2;" in text and "south:" in text)
+        self.assertTrue("return 2;" not in again[0] and "south:" in again[0] and same[0] == "as it stands")
         self.assertEqual(flags, ["--jobs", "1", "--only", "Line::index", "--only", "line::sides"])
         # The others are tried alone: over the work of the check, and from nothing if that is no refusal.
         self.assertEqual(self.alone, [("sides", True), ("lines", True), ("sides", False), ("lines", False)])
+
+    def test_one_that_waits_for_a_function_that_another_changes_is_tried_once_more(self):
+        self.waits = True
+        found, _ = self.tried("one", "sides")
+        self.assertIn(f"src/line.rt:{LINE_OF_SIDES}:9", found[1][1])
+        self.assertEqual(self.alone, [])
+        self.assertEqual([it[1][2:] for it in self.checks[1:]], [["--only", "line::sides"]] * 2)
+
+    def test_one_that_only_a_try_by_itself_refuses_is_marked(self):
+        self.rt.must_fail = lambda crate, file, flags, kept=None: ("refused", "refused, as it must be")
+        self.assertEqual(self.tried("lines")[0], [("refused", "refused, as it must be [tried alone]")])
 
     def test_a_function_whose_name_is_not_taken_is_checked_with_its_module(self):
         self.unnamed = ["Line::index"]
@@ -247,7 +295,7 @@ class OneTask(unittest.TestCase):
 
     def test_over_earlier_work_whole_crates_are_checked(self):
         self.assertEqual([it[1] for it in self.over("two", "sides")[1:]], ["from nothing"])
-        self.assertEqual([it[1] for it in self.checks], [[], []])
+        self.assertEqual([it[1] for it in self.checks], [[], [], []])
         self.assertEqual((self.checks[-1][0], self.alone), ("as it stands", [("sides", True), ("sides", False)]))
 
     def test_one_that_is_known_to_be_let_through_is_not_tried_from_nothing(self):

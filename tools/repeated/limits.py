@@ -32,9 +32,9 @@ LIMITS = (
         {"crates/twp_read/src/fault.rt": r"const TEXT_LIMIT: usize = ", HEADER: r"#define TOWNSHIP_DESCRIPTION_MOST "},
     ),
     Limit(
-        "crates/twp_acres/specs/Tracts.antt",
+        "crates/twp_answers/specs/Tracts.antt",
         "TRACTS_LIMIT",
-        {"crates/twp_acres/src/tract_fault.rt": r"const TRACTS_LIMIT: u32 = ", HEADER: r"#define TOWNSHIP_LIST_MOST "},
+        {"crates/twp_answers/src/tract_fault.rt": r"const TRACTS_LIMIT: u32 = ", HEADER: r"#define TOWNSHIP_LIST_MOST "},
     ),
     Limit(
         "crates/twp_lots/specs/LotRecords.antt",
@@ -42,18 +42,18 @@ LIMITS = (
         {"crates/twp_lots/src/fault.rt": r"const MOST_BYTES: u32 = ", HEADER: r"#define TOWNSHIP_LOTS_TEXT_MOST "},
     ),
     Limit(
-        "crates/twp_acres/specs/Tracts.antt",
+        "crates/twp_answers/specs/Tracts.antt",
         "TRACTS_MOST",
         {
-            "crates/twp_acres/src/tract_fault.rt": r"const TRACTS_MOST: u32 = ",
+            "crates/twp_answers/src/tract_fault.rt": r"const TRACTS_MOST: u32 = ",
             HEADER: r"#define TOWNSHIP_TRACTS_MOST ",
         },
     ),
     Limit(
-        "crates/twp_acres/specs/Tracts.antt",
+        "crates/twp_answers/specs/Tracts.antt",
         "NAME_MOST",
         {
-            "crates/twp_acres/src/tract.rt": r"const NAME_MOST: usize = ",
+            "crates/twp_answers/src/tract.rt": r"const NAME_MOST: usize = ",
             "crates/twp_explain/src/rows.rt": r"const NAME_MOST: usize = ",
             HEADER: r"#define TOWNSHIP_NAME_MOST ",
         },
@@ -64,7 +64,7 @@ LIMITS = (
 SENTENCES = (
     *("README.md", "SECURITY.md", HEADER, "man/township.1.in", "bindings/*/README.md", "docs/*.md"),
     *("bindings/python/src/**/*.py", "bindings/rust/src/**/*.rs", "crates/twp_explain*/src/**/*.rt"),
-    *("crates/twp_notes/src/fault.rt", "crates/twp_read/src/fault.rt", "crates/twp_acres/src/tract_fault.rt"),
+    *("crates/twp_notes/src/fault.rt", "crates/twp_read/src/fault.rt", "crates/twp_answers/src/tract_fault.rt"),
 )
 NO_SENTENCES = {"docs/BENCHMARKS.md", "docs/PERFORMANCE.md", "docs/TRUST.md"}
 
