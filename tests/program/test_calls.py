@@ -90,7 +90,13 @@ MORE = "here could stand a part of the section, or another section's number"
     [
         (f"answered\n{HEADING}sec. 14, N1/2, SE1/4.", "sec. 14, SE1/4, NE1/4, NW1/4."),
         (f"answered\n{HEADING}sec. 1, all;\nsec. 6, lots 1, 3, 4, 5.", "sec. 6, lots 5, 1, 3 thru 4; sec. 1."),
+        ("the heading at 0 is of another township than the field notes", "T. 2 N., R. 3 E., sec. 14."),
+        ("the number at 5 is no section's: they are 1 to 36", "sec. 37."),
+        ("the range that ends at 11 runs backward", "secs. 9 to 4."),
+        ("the number at 12 is no lot of its section", "sec. 5, lot 5."),
+        ("the aliquot part at 9 is too fine", "sec. 14, N1/2NE1/4NE1/4NE1/4NE1/4NE1/4."),
         ("the aliquot part at 8 holds land of a lot", "sec. 5, N1/2."),
+        ("at 19 land is named that was named before", "sec. 14, NE1/4 and N1/2."),
         (f"the description goes wrong at 8: {MORE}", "sec. 14,"),
     ],
 )

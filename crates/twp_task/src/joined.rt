@@ -3,9 +3,10 @@ ghost use Rattle.std.specs.Prelude.{IsErrOf, IsOkUnless};
 ghost use Rattle.std.specs.List.{before_first, after_first, position_or_len};
 ghost use Rattle.twp_grid.specs.Devices.{TakesAtMost};
 ghost use Rattle.twp_grid.specs.Devices.{TakesFirst};
-ghost use Rattle.twp_acres.specs.Answers.{IsAcresAnswer};
+ghost use Rattle.twp_answers.specs.Answers.{IsAcresAnswer};
 ghost use Rattle.twp_task.specs.Joined.{JOINED_MOST, joined_notes, joined_description};
-ghost use Rattle.twp_acres.specs.Runs.{IsRun, Reads};
+ghost use Rattle.twp_answers.specs.Uses.{Reads};
+ghost use Rattle.twp_acres.specs.Runs.{IsRun};
 
 use memchr::memchr;
 use std::alloc::Global;

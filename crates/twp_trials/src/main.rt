@@ -5,10 +5,13 @@
 //!   of the uneven township, `samples/b1.csv`.
 //! - With the name of a call, it makes this call alone: `tests/program/growths.sh` refuses it
 //!   memory, and `tests/program/test_calls.py` compares its answer.
+//! - With the word `devices`, it makes the runs that standard input asks for, on devices that fail or
+//!   are slow, for `tests/program/test_devices.py`.
 //! - With a kind of land, or `text`, it does work whose instructions `make bench` counts.
 #![tactic(auto)]
 
 mod counted;
+mod devices;
 mod mixed;
 mod single;
 mod trials;
@@ -23,9 +26,16 @@ fn main(rt: HostRuntime) -> io::Result<ExitCode> {
     let Some(first) = words.next() else {
         return trials::try_all(&rt);
     };
-    if first.as_str() == "text" {
-        counted::read_text(&rt)?;
-        return Ok(ExitCode::SUCCESS);
+    match first.as_str() {
+        "text" => {
+            counted::read_text(&rt)?;
+            return Ok(ExitCode::SUCCESS);
+        }
+        "devices" => {
+            devices::run_lines(&rt)?;
+            return Ok(ExitCode::SUCCESS);
+        }
+        _ => {}
     }
     let (Some(second), third) = (words.next(), words.next()) else {
         return misused(&rt);
@@ -56,7 +66,7 @@ fn ended(rt: &HostRuntime, is_made: bool) -> io::Result<ExitCode> {
 /// How the program ends if its words ask for nothing that it does.
 fn misused(rt: &HostRuntime) -> io::Result<ExitCode> {
     eprintln!(rt;
-        "twp_trials [CALL INPUT [ROOM] | grid|lanes WORK TIMES | text]: see src/main.rt"
+        "twp_trials [CALL INPUT [ROOM] | devices | grid|lanes WORK TIMES | text]: see src/main.rt"
     )?;
     Ok(ExitCode::from(2))
 }

@@ -3,6 +3,7 @@
 
 mod blocks;
 mod descriptions;
+mod faults;
 mod figures;
 mod fronts;
 mod lands;
@@ -29,6 +30,7 @@ pub fn try_all(rt: &HostRuntime) -> io::Result<ExitCode> {
     descriptions::try_descriptions(rt, &plat)?;
     fronts::try_fronts(rt, &plat)?;
     parcels::try_parcels(rt, &plat)?;
+    faults::try_faults(rt)?;
     Ok(ExitCode::SUCCESS)
 }
 

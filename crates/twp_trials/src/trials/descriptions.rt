@@ -3,9 +3,9 @@
 use crate::trials::figures::print_area;
 use std::io;
 use std::io::Write;
-use twp_acres::{Stop, area_of};
+use twp_answers::Stop;
 use twp_land::{Grid, Land, Lanes};
-use twp_plat::Plat;
+use twp_plat::{Plat, area_of};
 use twp_read::Description;
 use twp_resolve::resolve;
 use twp_spell::spell;

@@ -2,8 +2,8 @@
 
 use crate::trials::descriptions::DESCRIPTIONS;
 use std::io;
-use twp_acres::{Account, Stop, acres_on};
-use twp_plat::Plat;
+use twp_answers::{Stop, acres_on};
+use twp_plat::{Account, Plat};
 
 /// A description with the answer for each of its prefixes printed.
 const SHORT: &str = "sec. 14, NE1/4.";

@@ -1,11 +1,11 @@
 //! Land as a value: combined, compared, and as plain data; and its acres by a lot table.
 
 use std::io;
-use twp_acres::{Account, Stop, acres_of, land_of};
+use twp_answers::{Stop, acres_of, land_of};
 use twp_grid::Bytes;
 use twp_land::{Comparison, Land, LandRows, Lanes, compare};
 use twp_lots::{LOTS, LotTable, area_by_lots};
-use twp_plat::Plat;
+use twp_plat::{Account, Plat};
 use twp_spell::spell;
 
 /// Pairs of descriptions, which are combined and compared.

@@ -2,7 +2,7 @@
 
 use std::alloc::AllocError;
 use std::io;
-use twp_acres::Account;
+use twp_plat::Account;
 use twp_program::{Name, Task, TaskFault, read_task};
 
 /// Words separated by single spaces.
