@@ -1,5 +1,5 @@
 -- A section's places, stored in lanes of bits.
-use Rattle.std.proofs.Common.{◌≡◌, ◌↔◌, IsTrue, ◌≢◌, ◌==◌, ℕ, zero, suc, ◌+◌, ◌%◌, ◌^◌, ◌<◌, ◌||◌}
+use Rattle.std.proofs.Common.{◌≡◌, ◌↔◌, IsTrue, ◌≢◌, ◌==◌, ℕ, zero, suc, ◌+◌, ◌%◌, ◌^◌, ◌<◌, ◌&&◌, ◌||◌}
 use Rattle.std.proofs.Common.{◌⊎◌, Bool, true, false, not, List, length, get_or, nat_lt, ap, refl}
 use Rattle.std.proofs.Common.{sym, ◌∙◌, inl, inr, arith, replicate, min, max, map}
 use Rattle.std.proofs.Math.Path.{fun_ext}
@@ -301,3 +301,9 @@ module _ (lanes block_lanes : List ℕ) (block : Rectangle) (count : length lane
 pub held_in_no_lanes : (n : ℕ) → held_by_lane (replicate n 0) ≡ nothing_held
 held_in_no_lanes n =
     fun_ext (λ column. fun_ext (λ row. and_right (is_place PLACE_DIGITS column row) _ (no_bit n column row)))
+
+-- what is kept of no places is no places
+pub nothing_kept : (held keep : ℕ → ℕ → Bool) → held ≡ nothing_held
+    → (λ column row. held column row && keep column row) ≡ nothing_held
+nothing_kept held keep none =
+    ap (λ places. λ column row. places column row && keep column row) none

@@ -57,7 +57,9 @@ pub(crate) fn block_lanes(block: Block) -> LaneVector
 {
     let rows = LaneVector::splat(ones(block.row(), block.height()));
     let columns = LaneVector::splat(column_bits(block));
-    let row_bits = vector(&ROW_BITS);
+    // An array is known where the code is compiled, and what is read by a reference isn't: so the lanes of a known block
+    // are constants.
+    let row_bits = LaneVector::from_array(ROW_BITS);
     (rows & row_bits)
         .simd_eq(row_bits)
         .select(columns, LaneVector::splat(0))

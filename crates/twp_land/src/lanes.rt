@@ -1,7 +1,7 @@
-ghost use Rattle.std.specs.Prelude.{◌≡◌, ◌+◌, ◌-◌};
+ghost use Rattle.std.specs.Prelude.{◌≡◌, ◌+◌, ◌-◌, false};
 ghost use Rattle.twp_grid.specs.Places.{PLACE_DIGITS};
 ghost use Rattle.twp_grid.specs.Spans.{IsDyadic};
-ghost use Rattle.twp_land.specs.Storage.{held_by_lane};
+ghost use Rattle.twp_land.specs.Storage.{held_by_lane, nothing_held};
 
 use crate::bits::{Lane, block_lanes, column_bits, count_bits, vector};
 use crate::plot::Plot;
@@ -22,6 +22,9 @@ pub type Lanes = Sections<LaneRows>;
 #[derive(Clone, Copy)]
 pub struct LaneRows {
     lanes: [Lane; PLACES_ACROSS],
+    /// Whether places were added. Most sections of a land have none, and are passed over by this.
+    touched: bool,
+    ghost untouched: { touched ≡ false → held_by_lane lanes ≡ nothing_held },
 }
 
 /// The most rows of a block that has only a first and a last row.
@@ -44,7 +47,10 @@ impl LaneRows {
     pub(crate) fn of_lanes(lanes: &[Lane; PLACES_ACROSS]) -> LaneRows
         ensures { ⟦<LaneRows as Plot>⟧.held result ≡ held_by_lane lanes.now }
     {
-        LaneRows { lanes: *lanes }
+        LaneRows {
+            lanes: *lanes,
+            touched: true,
+        }
     }
 
     /// The lanes, with a one bit for each place.
@@ -68,6 +74,7 @@ impl Plot for LaneRows {
     fn empty() -> Self {
         LaneRows {
             lanes: [0; PLACES_ACROSS],
+            touched: false,
         }
     }
 
@@ -93,6 +100,11 @@ impl Plot for LaneRows {
     }
 
     #[inline]
+    fn is_untouched(&self) -> bool {
+        !self.touched
+    }
+
+    #[inline]
     fn count(&self, block: Block) -> u32 {
         let held = vector(&self.lanes) & block_lanes(block);
         count_bits(&held.to_array())
@@ -100,6 +112,7 @@ impl Plot for LaneRows {
 
     #[inline]
     fn add(&mut self, block: Block) {
+        self.touched = true;
         if block.height() <= LOW {
             let bits = column_bits(block);
             let (first, last) = end_rows(block);
@@ -135,6 +148,7 @@ impl Plot for LaneRows {
 
     #[inline]
     fn add_plot(&mut self, other: &Self) {
+        self.touched = true;
         let held = vector(&self.lanes) | vector(&other.lanes);
         held.copy_to_slice(&mut self.lanes);
     }

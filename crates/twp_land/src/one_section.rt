@@ -62,6 +62,11 @@ impl<P: Plot> PlaceSet for OneSection<P> {
     }
 
     #[inline]
+    fn is_untouched(&self, _section: Section) -> bool {
+        false
+    }
+
+    #[inline]
     fn count(&self, section: Section, block: Block) -> u32 {
         if section.number() != self.number {
             return P::empty().count(block);

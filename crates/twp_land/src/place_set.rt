@@ -1,6 +1,7 @@
 ghost use Rattle.std.specs.Prelude.{◌≡◌, ◌<◌, ◌≤◌, ◌↔◌, ℕ, Bool, true, false, IsTrue, MatchOption};
 ghost use Rattle.twp_grid.specs.Winding.{IsSection};
 ghost use Rattle.twp_grid.specs.Places.{PLACE_DIGITS, places_across, IsPlace};
+ghost use Rattle.twp_grid.specs.Spans.{whole_block};
 ghost use Rattle.twp_grid.specs.Lands.{no_places, union, block_places, count_held, Meets, HoldsAll};
 ghost use Rattle.twp_grid.specs.Lands.{LieWithin};
 
@@ -29,6 +30,11 @@ pub trait PlaceSet: Drop {
     /// Whether the set contains every place of a section's block.
     fn full(&self, section: Section, block: Block) -> bool
         ensures { IsTrue result ↔ HoldsAll (places self.now section) block };
+
+    /// Whether the set is known to contain no place of a section, without a look at its places. It
+    /// may contain none even if not.
+    fn is_untouched(&self, section: Section) -> bool
+        ensures { IsTrue result → ¬ Meets (places self.now section) (whole_block PLACE_DIGITS) };
 
     /// How many places of a section's block the set contains.
     fn count(&self, section: Section, block: Block) -> u32
@@ -86,6 +92,11 @@ impl<L: Land> PlaceSet for L {
     #[inline]
     fn full(&self, section: Section, block: Block) -> bool {
         Land::full(self, section, block)
+    }
+
+    #[inline]
+    fn is_untouched(&self, section: Section) -> bool {
+        Land::is_untouched(self, section)
     }
 
     #[inline]

@@ -30,6 +30,14 @@ pub trait Plot: Copy + Drop {
     fn full(&self, block: Block) -> bool
         ensures { IsTrue result ↔ HoldsAll (held self.now) block };
 
+    /// Whether the set is known to be empty without a look at its places. It may be empty even if
+    /// not.
+    fn is_untouched(&self) -> bool
+        ensures { IsTrue result → held self.now ≡ nothing_held }
+    {
+        false
+    }
+
     /// How many places of a block the set contains.
     fn count(&self, block: Block) -> u32
         ensures { result ≡ count_held (held self.now) block };

@@ -75,6 +75,10 @@ impl<P: Plot> Land for Sections<P> {
         self.plot(section).full(block)
     }
 
+    fn is_untouched(&self, section: Section) -> bool {
+        self.plot(section).is_untouched()
+    }
+
     fn count(&self, section: Section, block: Block) -> u32 {
         self.plot(section).count(block)
     }

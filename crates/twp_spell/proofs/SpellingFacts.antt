@@ -122,17 +122,16 @@ lots_end old new lots i first count is =
     (is ∙ ap (λ t. old ++ (lead_of (length lots) ++ numbers_text t)) (take_all i lots (omega arith)))
 
 -- a section that the land contains wholly
-pub all_done : (g : ℕ) (places : ℕ → ℕ → ℕ → Bool) (section : ℕ) (old mid named new : List ℕ)
+pub all_done : (g : ℕ) (places : ℕ → ℕ → ℕ → Bool) (section : ℕ) (old named new : List ℕ)
     → HoldsEach g (places section)
-    → mid ≡ old ++ codes "sec. " → named ≡ mid ++ decimal section → new ≡ named ++ codes ", all"
+    → named ≡ old ++ (codes "sec. " ++ decimal section) → new ≡ named ++ codes ", all"
     → HasSection g places section old new
-all_done g places section old mid named new each is is' is'' = record {
+all_done g places section old named new each is is' = record {
   line = codes "sec. " ++ decimal section ++ codes ", " ++ codes "all";
   is = record { list = codes "all"; list_is = all each refl; text_is = refl };
   text_is =
-      is''
-      ∙ ap (λ t. t ++ codes ", all")
-      (is' ∙ ap (λ t. t ++ decimal section) is ∙ append_assoc old (codes "sec. ") (decimal section))
+      is'
+      ∙ ap (λ t. t ++ codes ", all") is
       ∙ append_assoc old (codes "sec. " ++ decimal section) (codes ", all")
       ∙ ap (λ t. old ++ t) (sym (append_assoc (codes "sec. " ++ decimal section) (codes ", ") (codes "all")));
 }
@@ -173,13 +172,13 @@ entries_after [] some = absurd (some refl)
 entries_after (first ∷ entries) some = refl
 
 -- a section that the land does not contain wholly
-pub parts_done : (g : ℕ) (places : ℕ → ℕ → ℕ → Bool) (section : ℕ) (old mid named lotted new : List ℕ)
+pub parts_done : (g : ℕ) (places : ℕ → ℕ → ℕ → Bool) (section : ℕ) (old named lotted new : List ℕ)
     → ¬ HoldsEach g (places section) → HoldsSome g (places section)
-    → mid ≡ old ++ codes "sec. " → named ≡ mid ++ decimal section
+    → named ≡ old ++ (codes "sec. " ++ decimal section)
     → HasLots g section (places section) named lotted
     → AreWritten (AreWrittenParts g (off_lots g section (places section))) lotted new
     → HasSection g places section old new
-parts_done g places section old mid named lotted new short some is is' has_lots has_parts =
+parts_done g places section old named lotted new short some is has_lots has_parts =
     let entries = lots_entry has_lots.lots ++ map part_text has_parts.parts in
     let name = codes "sec. " ++ decimal section in
     let texts : entries_text entries ≡ entries_text (lots_entry has_lots.lots) ++ parts_text has_parts.parts =
@@ -199,9 +198,7 @@ parts_done g places section old mid named lotted new short some is is' has_lots 
       text_is =
           has_parts.text_is
           ∙ ap (λ t. t ++ parts_text has_parts.parts)
-          (has_lots.text_is
-          ∙ ap (λ t. t ++ entries_text (lots_entry has_lots.lots))
-          (is' ∙ ap (λ t. t ++ decimal section) is ∙ append_assoc old (codes "sec. ") (decimal section)))
+          (has_lots.text_is ∙ ap (λ t. t ++ entries_text (lots_entry has_lots.lots)) is)
           ∙ append_assoc (old ++ name) (entries_text (lots_entry has_lots.lots)) (parts_text has_parts.parts)
           ∙ append_assoc old name (entries_text (lots_entry has_lots.lots) ++ parts_text has_parts.parts)
           ∙ ap (λ t. old ++ (name ++ t)) (sym texts ∙ after)
@@ -225,13 +222,25 @@ pub text_before : Designation → List ℕ → List ℕ
 text_before township [] = heading_line township
 text_before township (byte ∷ more) = (byte ∷ more) ++ (codes ";" ++ line_end)
 
-pub lead_written : (township : Designation) (old new : List ℕ)
-    → (old ≡ [] → new ≡ heading_line township ++ codes "sec. ")
-    → (¬ (old ≡ []) → new ≡ (old ++ (codes ";" ++ line_end)) ++ codes "sec. ")
-    → new ≡ text_before township old ++ codes "sec. "
+-- the start of the first line was appended to an empty text, if there was room
+pub first_lead : {T E : Type 0} (result : Result T E) (old new start named heading number : List ℕ)
+    → old ≡ [] → start ≡ heading ++ codes "sec. " → named ≡ start ++ number
+    → OnOk result (new ≡ old ++ named) → OnOk result (new ≡ heading ++ (codes "sec. " ++ number))
+first_lead (Ok value) old new start named heading number none is is' is'' =
+    is''
+    ∙ ap (λ t. t ++ named) none
+    ∙ is'
+    ∙ ap (λ t. t ++ number) is
+    ∙ append_assoc heading (codes "sec. ") number
+first_lead (Err fault) old new start named heading number none is is' is'' = tt
+
+pub lead_written : (township : Designation) (old new lead : List ℕ)
+    → (old ≡ [] → new ≡ heading_line township ++ lead)
+    → (¬ (old ≡ []) → new ≡ (old ++ (codes ";" ++ line_end)) ++ lead)
+    → new ≡ text_before township old ++ lead
 unfolding text_before
-lead_written township [] new first after = first refl
-lead_written township (byte ∷ more) new first after = after (λ none. cc none)
+lead_written township [] new lead first after = first refl
+lead_written township (byte ∷ more) new lead first after = after (λ none. cc none)
 
 before_first : (township : Designation) (old : List ℕ) → old ≡ []
     → text_before township old ≡ heading_line township

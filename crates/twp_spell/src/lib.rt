@@ -6,6 +6,7 @@ mod blocks;
 mod fine_parts;
 mod full_quarters;
 pub mod laws;
+mod line_start;
 mod open_halves;
 mod part_buffer;
 mod part_text;

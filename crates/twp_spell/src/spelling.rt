@@ -1,16 +1,17 @@
 //! The canonical text of land: its sections by ascending number, each with its lots and its parts.
-ghost use Rattle.std.specs.Prelude.{◌≡◌, ◌+◌, ◌++◌, ◌<◌, [], ℕ, List, OnOk, IfOk, codes, decimal};
+ghost use Rattle.std.specs.Prelude.{◌≡◌, ◌+◌, ◌++◌, ◌∷◌, ◌<◌, ◌≤◌, [], ℕ, List, OnOk, IfOk};
+ghost use Rattle.std.specs.Prelude.{codes, decimal};
 ghost use Rattle.twp_grid.specs.Places.{PLACE_DIGITS};
 ghost use Rattle.twp_spell.specs.Listing.{AreListed};
 ghost use Rattle.twp_spell.specs.CanonicalText.{lots_entry, heading_line, line_end};
 ghost use Rattle.twp_spell.specs.CanonicalText.{HoldsSome, IsLotHeld, IsCanonicalText};
-ghost use Rattle.twp_spell.specs.CanonicalText.{north_south_letter, east_west_letter};
 ghost use Rattle.twp_spell.specs.steps.SpellingSteps.{entries_text, HasLots, HasSection, AreBegun};
 
+use crate::line_start::LineStart;
 use crate::written_parts::write_parts;
 use itoa::Buffer;
 use std::alloc::{AllocError, Global};
-use twp_grid::{Block, EastWest, NorthSouth, Section, Township, lot_count};
+use twp_grid::{Block, Section, Township, lot_count};
 use twp_land::{Land, PlaceSet};
 
 /// There is room from the start for the text of some ten parts, in bytes.
@@ -60,25 +61,27 @@ fn write_if_held<L: PlaceSet>(
         → OnOk result
         (AreBegun PLACE_DIGITS township (L.places land.now) (section + 1) text.new.items) }
 {
+    if land.is_untouched(section) {
+        return Ok(());
+    }
     if !land.meets(section, Block::whole()) {
         return Ok(());
     }
-    write_lead(township, text)?;
+    write_lead(township, section, text)?;
     write_section(alloc, land, section, text)
 }
 
-/// Appends the text before a section's number: the heading's line, or the end of the previous line,
-/// and then `sec. `. Known texts beside one another are appended in one piece.
-fn write_lead(township: Township, text: &mut Vec<u8>) -> Result<(), AllocError>
-    ensures first { text.old.items ≡ []
-        → OnOk result (text.new.items ≡ heading_line township ++ codes "sec. ") }
-    ensures after { ¬ (text.old.items ≡ []) → OnOk result
-        (text.new.items ≡ (text.old.items ++ (codes ";" ++ line_end)) ++ codes "sec. ") }
+/// Appends the text before a section's list: the heading's line, or the end of the previous line,
+/// and then `sec. ` and the section's number.
+fn write_lead(township: Township, section: Section, text: &mut Vec<u8>) -> Result<(), AllocError>
+    ensures first { text.old.items ≡ [] → OnOk result (text.new.items
+        ≡ heading_line township ++ (codes "sec. " ++ decimal section)) }
+    ensures after { ¬ (text.old.items ≡ []) → OnOk result (text.new.items
+        ≡ (text.old.items ++ (codes ";" ++ line_end)) ++ (codes "sec. " ++ decimal section)) }
 {
-    if text.is_empty() {
-        return write_heading(township, text);
-    }
-    text.extend_from_slice(b";\nsec. ")
+    let mut start = LineStart::new(township, text.is_empty());
+    start.push_number(section.number());
+    start.append_to(text)
 }
 
 /// Appends the end of the last line, if there are any lines.
@@ -93,41 +96,8 @@ fn write_end(text: &mut Vec<u8>) -> Result<(), AllocError>
     text.extend_from_slice(b".\n")
 }
 
-/// Appends the heading's line, and the text before a section's number.
-fn write_heading(township: Township, text: &mut Vec<u8>) -> Result<(), AllocError>
-    ensures { OnOk result
-        (text.new.items ≡ text.old.items ++ (heading_line township ++ codes "sec. ")) }
-{
-    text.extend_from_slice(b"T. ")?;
-    write_number(township.number(), text)?;
-    text.extend_from_slice(after_number(township.north_south()))?;
-    write_number(township.range(), text)?;
-    text.extend_from_slice(after_range(township.east_west()))
-}
-
-/// The heading between the number of the township and that of the range.
-fn after_number(direction: NorthSouth) -> &'static [u8]
-    ensures { result.now ≡ codes " " ++ north_south_letter direction ++ codes "., R. " }
-{
-    match direction {
-        NorthSouth::N => b" N., R. ",
-        NorthSouth::S => b" S., R. ",
-    }
-}
-
-/// The end of the heading after the number of the range, and the text before a section's number.
-fn after_range(direction: EastWest) -> &'static [u8]
-    ensures { result.now
-        ≡ codes " " ++ east_west_letter direction ++ codes ".," ++ line_end ++ codes "sec. " }
-{
-    match direction {
-        EastWest::E => b" E.,\nsec. ",
-        EastWest::W => b" W.,\nsec. ",
-    }
-}
-
-/// Appends a section that the land meets, with its list, after `sec. `. Inlined, it would make the
-/// masks of its blocks before the first section, whether or not they are needed.
+/// Appends the list of a section that the land meets, after the section's number. Inlined, it would
+/// make the masks of its blocks before the first section, whether or not they are needed.
 #[inline(never)]
 fn write_section<L: PlaceSet>(
     alloc: Global,
@@ -135,11 +105,10 @@ fn write_section<L: PlaceSet>(
     section: Section,
     text: &mut Vec<u8>,
 ) -> Result<(), AllocError>
-    ensures { (before : List ℕ) → text.old.items ≡ before ++ codes "sec. "
+    ensures { (before : List ℕ) → text.old.items ≡ before ++ (codes "sec. " ++ decimal section)
         → HoldsSome PLACE_DIGITS (L.places land.now section) → OnOk result
         (HasSection PLACE_DIGITS (L.places land.now) section before text.new.items) }
 {
-    write_number(section.number(), text)?;
     if land.full(section, Block::whole()) {
         return write_all(text);
     }
@@ -215,15 +184,22 @@ fn lots_lead(count: usize) -> &'static [u8]
     b", lots "
 }
 
-/// Appends a number in decimal. Most have one digit or two.
+/// Appends the number of a lot in decimal, which has one digit.
 fn write_number(number: u8, text: &mut Vec<u8>) -> Result<(), AllocError>
     ensures { OnOk result (text.new.items ≡ text.old.items ++ decimal number) }
 {
     if number < 10 {
-        return text.extend_from_slice(&[b'0' + number]);
-    }
-    if number < 100 {
-        return text.extend_from_slice(&[b'0' + number / 10, b'0' + number % 10]);
+        return write_digit(number, text);
     }
     text.extend_from_slice(Buffer::new().format(number).as_bytes())
+}
+
+/// Appends a digit of a number.
+#[inline(always)]
+fn write_digit(digit: u8, text: &mut Vec<u8>) -> Result<(), AllocError>
+    requires { digit ≤ 9 }
+    ensures { OnOk result (text.new.items ≡ text.old.items ++ ((48 + digit) ∷ [])) }
+{
+    text.push(b'0' + digit)?;
+    Ok(())
 }

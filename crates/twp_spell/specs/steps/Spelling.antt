@@ -115,6 +115,14 @@ PART_MOST = 2 + QUARTER_LENGTH + QUARTER_LENGTH + PATH_MOST
 abbrev pub BUFFER_MOST : ℕ
 BUFFER_MOST = FINE_SIDE * FINE_SIDE * PART_MOST
 
+-- the length of the longest number of a township, a range, or a section, in bytes
+abbrev pub NUMBER_MOST : ℕ
+NUMBER_MOST = 3
+
+-- the bytes that are kept for the start of a line, up to its section's number
+abbrev pub START_MOST : ℕ
+START_MOST = 32
+
 -- quarters as they are written after a smaller part
 abbrev pub quarters_text : List Corner → List ℕ
 quarters_text quarters = flat_map step_text (map (λ corner. Quarter corner) quarters)

@@ -8,8 +8,6 @@ returns-clause-lanes c =
     let rows : c.ones-rows.result
     ≡ 2 ^ (c.args.block.rows.start + c.args.block.rows.len) - 2 ^ c.args.block.rows.start =
     rw (c.row.ensures.value, c.height.ensures.value) at c.ones-rows.ensures in
-    let are =
     are_block_lanes c.args.block c.ones-rows.result c.column_bits-columns.result
     (dyadic_in_section c.args.block c.row.ensures.dyadic c.column_bits-columns.ensures.dyadic) rows
-    c.column_bits-columns.ensures.value in
-    rw c.vector-row_bits.ensures.lanes are
+    c.column_bits-columns.ensures.value

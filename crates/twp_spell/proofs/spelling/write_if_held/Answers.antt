@@ -1,11 +1,20 @@
 -- A section without places in the land is skipped, and any other is written after those before it.
-use Rattle.std.proofs.Common.{◌+◌, sym, ◌∙◌}
+use Rattle.std.proofs.Common.{◌+◌, ◌++◌, codes, decimal, refl, sym, ◌∙◌}
 use Rattle.std.proofs.lemmas.Bool.{false≢true}
 use Rattle.twp_grid.specs.Places.{PLACE_DIGITS}
+use Rattle.twp_grid.specs.Spans.{whole_block}
 use Rattle.twp_spell.specs.steps.SpellingSteps.{HasSection, AreBegun}
 use Rattle.twp_spell.proofs.HeldFacts.{some_of_meets, meets_of_some}
 use Rattle.twp_spell.proofs.SpellingFacts.{on_ok, begun_skip, begun_next, text_before, lead_written}
 use Rattle.twp_spell.proofs.spelling.write_if_held.Goals as goal
+
+pub returns-then-is_untouched : goal.returns-then-is_untouched
+returns-then-is_untouched g c = λ begun.
+    let places = g.L.PlaceSet.places c.args.land.now in
+    begun_skip PLACE_DIGITS c.args.township places c.args.section c.args.text.now.items begun
+    (λ some.
+    c.is_untouched.ensures c.if-is_untouched.true
+    (meets_of_some (places c.args.section) (whole_block PLACE_DIGITS) refl some))
 
 pub returns-then-not-meets : goal.returns-then-not-meets
 returns-then-not-meets g c = λ begun.
@@ -30,5 +39,7 @@ returns g c = λ begun.
     (AreBegun PLACE_DIGITS c.args.township places (c.args.section + 1) new)
     (c.write_section.ensures before
     (lead_written c.args.township c.args.text.now.items c.write_lead.new.text.items
-    c.in_ok-write_lead.ensures.first c.in_ok-write_lead.ensures.after) some)
+    (codes "sec. " ++ decimal c.args.section) c.in_ok-write_lead.ensures.first
+    c.in_ok-write_lead.ensures.after)
+    some)
     (begun_next PLACE_DIGITS c.args.township places c.args.section c.args.text.now.items new begun range some)

@@ -1,5 +1,5 @@
 -- The land contains the section wholly, or the section's lots and parts are written.
-use Rattle.std.proofs.Common.{◌≡◌, ◌++◌, codes, decimal, sym, ap, ◌∙◌}
+use Rattle.std.proofs.Common.{◌≡◌, ◌++◌, codes, sym, ◌∙◌}
 use Rattle.std.proofs.lemmas.Bool.{false≢true}
 use Rattle.twp_grid.specs.Places.{PLACE_DIGITS}
 use Rattle.twp_spell.specs.WrittenParts.{AreWrittenParts}
@@ -15,24 +15,17 @@ pub returns-then-full : goal.returns-then-full
 returns-then-full g c = λ before lead some.
     let places = g.L.PlaceSet.places c.args.land.now in
     let new = c.write_all.new.text.items in
-    let named =
-    c.in_ok-write_number.ensures
-    ∙ ap (λ n. c.args.text.now.items ++ decimal n) c.number.ensures.value in
-    on_ok c.write_all.result (new ≡ c.write_number.new.text.items ++ codes ", all")
+    on_ok c.write_all.result (new ≡ c.args.text.now.items ++ codes ", all")
     (HasSection PLACE_DIGITS places c.args.section before new) c.write_all.ensures
-    (all_done PLACE_DIGITS places c.args.section before c.args.text.now.items
-    c.write_number.new.text.items new
+    (all_done PLACE_DIGITS places c.args.section before c.args.text.now.items new
     (each_of_all (places c.args.section) c.whole.result c.whole.ensures (c.full.ensures.0 c.if-full.true))
-    lead named)
+    lead)
 
 pub returns : goal.returns
 returns g c = λ before lead some.
     let places = g.L.PlaceSet.places c.args.land.now in
     let lotted = c.write_held_lots.new.text.items in
     let new = c.write_parts.new.text.items in
-    let named =
-    c.in_ok-write_number.ensures
-    ∙ ap (λ n. c.args.text.now.items ++ decimal n) c.number.ensures.value in
     let short : ¬ HoldsEach PLACE_DIGITS (places c.args.section) = λ each.
     false≢true
     (sym c.if-full.false
@@ -41,6 +34,5 @@ returns g c = λ before lead some.
     (AreWritten (AreWrittenParts PLACE_DIGITS (off_lots PLACE_DIGITS c.args.section (places c.args.section)))
     lotted new)
     (HasSection PLACE_DIGITS places c.args.section before new) (c.write_parts.ensures short)
-    (parts_done PLACE_DIGITS places c.args.section before c.args.text.now.items
-    c.write_number.new.text.items lotted new
-    short some lead named c.in_ok-write_held_lots.ensures)
+    (parts_done PLACE_DIGITS places c.args.section before c.args.text.now.items lotted
+    new short some lead c.in_ok-write_held_lots.ensures)
