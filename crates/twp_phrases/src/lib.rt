@@ -15,6 +15,7 @@ mod parts;
 mod phrases;
 mod registers;
 mod sections;
+mod sought;
 mod sure;
 mod whole;
 mod worded;

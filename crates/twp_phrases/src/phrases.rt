@@ -1,58 +1,13 @@
 //! The phrases of a text, from left to right.
 
 use crate::finder::Finder;
+use crate::sought::{OF_NUMBERS, OF_WORDS};
 use twp_draft::{Claimed, Names, Phrase};
 use twp_grammar::Kind;
 use twp_pieces::plus;
 
 /// The most pieces that join two phrases.
 const JOINING_MOST: usize = 16;
-
-/// A kind of phrase that is looked for.
-#[derive(Clone, Copy)]
-enum Sought {
-    Aside,
-    Register,
-    LetterOfRegister,
-    Heading,
-    Sections,
-    SectionOfLetter,
-    BareSection,
-    SectionBeforeColon,
-    DamagedSections,
-    Lots,
-    All,
-    Part,
-    DamagedPart,
-    Except,
-    Remark,
-}
-
-/// What a number may begin, in the order in which it is looked for.
-const OF_NUMBERS: [Sought; 8] = [
-    Sought::SectionBeforeColon,
-    Sought::Aside,
-    Sought::Register,
-    Sought::Heading,
-    Sought::DamagedSections,
-    Sought::DamagedPart,
-    Sought::BareSection,
-    Sought::Remark,
-];
-
-/// What a word or a mark may begin.
-const OF_WORDS: [Sought; 10] = [
-    Sought::Aside,
-    Sought::LetterOfRegister,
-    Sought::Heading,
-    Sought::Sections,
-    Sought::SectionOfLetter,
-    Sought::Lots,
-    Sought::All,
-    Sought::Part,
-    Sought::Except,
-    Sought::Remark,
-];
 
 impl<'a> Finder<'a> {
     /// Adds the phrases to the draft. Where a piece is in none, and doesn't join them, the text isn't sure, nor
@@ -265,8 +220,8 @@ impl<'a> Finder<'a> {
         (is_short && pieces.is_north_south(next)) || pieces.begins_register(index)
     }
 
-    /// The row of a register, or the township and range, at an index. Those of a parcel's code go on with
-    /// digits, and are none.
+    /// The row of a register, or the township and range, at an index. If a digit follows them at once, they are
+    /// part of a parcel's code.
     fn register_or_heading(&mut self, index: usize) -> Option<Phrase> {
         let from = self.draft.extent();
         if let Some(phrase) = self.of_register(index) {
@@ -288,64 +243,6 @@ impl<'a> Finder<'a> {
         self.first_of(&OF_WORDS, index)
     }
 
-    /// The first phrase at an index of some kinds, in their order.
-    fn first_of(&mut self, kinds: &[Sought], index: usize) -> Option<Phrase> {
-        let from = self.draft.extent();
-        for kind in kinds {
-            if let Some(phrase) = self.phrase_of_kind(*kind, index) {
-                return Some(phrase);
-            }
-            self.draft.shrink(from);
-        }
-        None
-    }
-
-    /// The phrase of a kind at an index.
-    fn phrase_of_kind(&mut self, kind: Sought, index: usize) -> Option<Phrase> {
-        match kind {
-            Sought::Aside => self.aside(index),
-            Sought::Register => self.of_register(index),
-            Sought::LetterOfRegister => self.letter_of_register(index),
-            Sought::Heading => self.heading(index),
-            Sought::Sections => self.sections(index),
-            Sought::SectionOfLetter => self.section_of_letter(index),
-            Sought::BareSection => self.bare_section(index),
-            Sought::SectionBeforeColon => self.section_before_colon(index),
-            Sought::DamagedSections => self.damaged_sections(index),
-            Sought::Lots => self.lots(index),
-            Sought::All => self.all(index),
-            Sought::Part => self.sure_part(index),
-            Sought::DamagedPart => self.damaged_part(index),
-            Sought::Except => self.except(index),
-            Sought::Remark => self.remark(index),
-        }
-    }
-
-    /// The section at an index that has no word for it, and a colon after it.
-    fn section_before_colon(&mut self, index: usize) -> Option<Phrase> {
-        if !matches!(self.draft.pieces.kind(plus(index, 1)), Kind::Colon) {
-            return None;
-        }
-        self.section_number(index)?;
-        self.bare_section(index)
-    }
-
-    /// The sections at an index whose word begins with a digit for an `S`.
-    fn damaged_sections(&mut self, index: usize) -> Option<Phrase> {
-        if !self.draft.pieces.is_damaged_section_word(index) {
-            return None;
-        }
-        self.sections(index)
-    }
-
-    /// The aliquot part at an index that begins with a 5 or an 8 for an `S`.
-    fn damaged_part(&mut self, index: usize) -> Option<Phrase> {
-        if !matches!(self.draft.pieces.kind(index), Kind::Number(5 | 8)) {
-            return None;
-        }
-        self.sure_part(index)
-    }
-
     /// The section of a location, or the aliquot part, at an index.
     fn half_or_section(&mut self, index: usize) -> Option<Phrase> {
         let from = self.draft.extent();
@@ -357,7 +254,7 @@ impl<'a> Finder<'a> {
     }
 
     /// The aliquot part at an index, which is doubted if it may be something else.
-    fn sure_part(&mut self, index: usize) -> Option<Phrase> {
+    pub(crate) fn sure_part(&mut self, index: usize) -> Option<Phrase> {
         let Some(part) = self.part(index) else {
             return None;
         };
