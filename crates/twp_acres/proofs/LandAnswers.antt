@@ -4,7 +4,7 @@ use Rattle.twp_grid.specs.Places.{PLACE_DIGITS}
 use Rattle.twp_plat.specs.PlatAccounts.{IsAreaBy}
 use Rattle.twp_spell.proofs.ReadBack.{read_back}
 use Rattle.twp_acres.specs.OnLandLaws.{AcresOnAreOfLand, TextOfLandIsItsDescription}
-use Rattle.twp_acres.proofs.OneAnswer.{one_land}
+use Rattle.twp_answers.proofs.OneAnswer.{one_land}
 
 pub acres_on_are_of_land : AcresOnAreOfLand
 acres_on_are_of_land plat description account places hundredths is = (

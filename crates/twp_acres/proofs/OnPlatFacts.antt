@@ -12,33 +12,27 @@ use Rattle.twp_plat.specs.declared.account.Account.{Account}
 use Rattle.twp_plat.specs.declared.account.Account.TheVariants.{Exact, Plat}
 use Rattle.twp_plat.proofs.AreaLaws.{one_land_area}
 use Rattle.twp_plat.proofs.PlatLaws.{one_plat_area}
-use Rattle.twp_acres.specs.Answers.{ArePlatted, Describe, IsNoDescription, IsLandOnPlat, IsRefusal}
-use Rattle.twp_acres.specs.Answers.{refusal_line}
+use Rattle.twp_answers.specs.Answers.{ArePlatted, Describe, IsNoDescription, IsLandOnPlat, IsRefusal}
+use Rattle.twp_answers.specs.Answers.{refusal_line}
 use Rattle.twp_acres.specs.AccountAnswers.{HasAcresBy, IsAcresAnswerBy}
 use Rattle.twp_acres.specs.NormalAnswers.{IsNormalAnswer, IsNormalForm}
-use Rattle.twp_acres.specs.PlatAnswers.{IsPrintedPlat}
-use Rattle.twp_acres.specs.OnPlats.{HasAcresOn, HasNormalOn, IsTextOfPlat, StopsOn}
+use Rattle.twp_answers.specs.PlatAnswers.{IsPrintedPlat}
+use Rattle.twp_answers.specs.OnPlats.{HasAcresOn, HasNormalOn, IsTextOfPlat, StopsOn}
 use Rattle.twp_acres.specs.OnPlatLaws.{AcresOnAreOfNotes, NormalOnIsOfNotes, TextOfPlatIsOfNotes}
 use Rattle.twp_acres.specs.OnPlatLaws.{RefusalOnIsOfNotes, AnsweredOrRefusedOn, OneAreaOn}
 use Rattle.twp_acres.specs.Runs.{AnswerRelation, ReadsTwo}
 use Rattle.twp_acres.specs.steps.OnPlatSteps.{IsAcresAnswerOn, IsNormalAnswerOn}
-use Rattle.twp_acres.specs.steps.Stops.{AnswersStop, IfRefused, IfFailed}
+use Rattle.twp_acres.specs.steps.Stops.{AnswersStop}
 use Rattle.twp_acres.specs.declared.answer.Answer.{Answer}
-use Rattle.twp_acres.specs.declared.stop.Stop.{Stop}
-use Rattle.twp_acres.specs.declared.stop.Stop.TheVariants as stop
-use Rattle.twp_acres.specs.declared.verdict.RunFault.{RunFault}
-use Rattle.twp_acres.specs.declared.verdict.RunFault.TheVariants.{Memory}
-use Rattle.twp_acres.specs.declared.verdict.Verdict.{Verdict}
-use Rattle.twp_acres.specs.declared.verdict.Verdict.TheVariants as verdict
-use Rattle.twp_acres.proofs.OneAnswer.{one_plat, one_land, not_described, not_platted}
+use Rattle.twp_answers.specs.declared.stop.Stop.{Stop}
+use Rattle.twp_answers.specs.declared.stop.Stop.TheVariants as stop
+use Rattle.twp_answers.specs.declared.verdict.RunFault.{RunFault}
+use Rattle.twp_answers.specs.declared.verdict.RunFault.TheVariants.{Memory}
+use Rattle.twp_answers.specs.declared.verdict.Verdict.{Verdict}
+use Rattle.twp_answers.specs.declared.verdict.Verdict.TheVariants as verdict
+use Rattle.twp_answers.proofs.OneAnswer.{one_plat, one_land, not_described, not_platted}
 
--- a stop for a refused description, or because memory ran out
-pub stops_on : (township : Designation) (d : List ℕ) (by : Stop) → IfRefused by (IsNoDescription township d)
-    → IfFailed by (λ fault. fault ≡ Memory) → StopsOn township d by
-stops_on township d (stop.Refused refusal) refused memory = refused
-stops_on township d (stop.Failed fault) refused memory = memory
-
--- with such a stop, the answer can only fail because memory runs out
+-- with a stop on the plat, the answer can only fail because memory runs out
 pub stop_memory : (township : Designation) (d : List ℕ) (by : Stop) (r : Result Answer RunFault)
     → StopsOn township d by → AnswersStop by r → IfErr r (λ fault. fault ≡ Memory)
 stop_memory township d (stop.Refused refusal) (Ok answer) is answers = tt

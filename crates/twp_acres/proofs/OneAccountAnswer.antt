@@ -6,13 +6,14 @@ use Rattle.twp_grid.specs.declared.refusal.Refusal.{Refusal}
 use Rattle.twp_plat.specs.Plats.{TownshipPlat}
 use Rattle.twp_acres.specs.AccountAnswers.{ArePlatHundredthsOf, HasAcresBy, HasPlatAcres}
 use Rattle.twp_acres.specs.AccountAnswers.{IsAcresAnswerBy}
-use Rattle.twp_acres.specs.Answers.{Describe, IsRefusal}
+use Rattle.twp_answers.specs.Answers.{Describe, IsRefusal}
 use Rattle.twp_acres.specs.Laws.{OneAnswerBy}
 use Rattle.twp_plat.specs.declared.account.Account.{Account}
 use Rattle.twp_plat.specs.declared.account.Account.TheVariants.{Exact, Plat}
-use Rattle.twp_acres.specs.declared.verdict.Verdict.{Verdict}
-use Rattle.twp_acres.specs.declared.verdict.Verdict.TheVariants.{Accepted, Refused, TractRefused}
-use Rattle.twp_acres.proofs.OneAnswer.{not_land, one_acres, one_land, one_plat, one_refusal}
+use Rattle.twp_answers.specs.declared.verdict.Verdict.{Verdict}
+use Rattle.twp_answers.specs.declared.verdict.Verdict.TheVariants.{Accepted, Refused, TractRefused}
+use Rattle.twp_answers.proofs.OneAnswer.{one_land, one_plat, one_refusal}
+use Rattle.twp_acres.proofs.OneAnswer.{not_land, one_acres}
 use Rattle.twp_plat.proofs.PlatLaws.{one_plat_area}
 
 -- the plat area of land rounds to only one number of hundredths

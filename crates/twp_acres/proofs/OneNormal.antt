@@ -6,11 +6,12 @@ use Rattle.twp_grid.specs.declared.refusal.Refusal.{Refusal}
 use Rattle.twp_plat.specs.Plats.{TownshipPlat}
 use Rattle.twp_spell.specs.CanonicalText.{IsCanonicalText}
 use Rattle.twp_spell.proofs.CanonicalFacts.{one_text}
-use Rattle.twp_acres.specs.Answers.{Describe, IsRefusal}
+use Rattle.twp_answers.specs.Answers.{Describe, IsRefusal}
 use Rattle.twp_acres.specs.NormalAnswers.{IsNormalForm, IsNormalAnswer}
-use Rattle.twp_acres.specs.declared.verdict.Verdict.{Verdict}
-use Rattle.twp_acres.specs.declared.verdict.Verdict.TheVariants.{Accepted, Refused, TractRefused}
-use Rattle.twp_acres.proofs.OneAnswer.{one_plat, one_land, not_land, one_refusal}
+use Rattle.twp_answers.specs.declared.verdict.Verdict.{Verdict}
+use Rattle.twp_answers.specs.declared.verdict.Verdict.TheVariants.{Accepted, Refused, TractRefused}
+use Rattle.twp_answers.proofs.OneAnswer.{one_plat, one_land, one_refusal}
+use Rattle.twp_acres.proofs.OneAnswer.{not_land}
 
 one_form : (notes d text text' : List ℕ) → IsNormalForm notes d text → IsNormalForm notes d text'
     → text ≡ text'

@@ -8,15 +8,15 @@ use Rattle.twp_grid.specs.Lots.{number_of_lots, position_of_lot}
 use Rattle.twp_grid.proofs.LotFacts.{position_of_lot_is, lot_count_is, count_by_code}
 use Rattle.twp_grid.specs.declared.refusal.Refusal.{Refusal}
 use Rattle.twp_plat.specs.Plats.{TownshipPlat}
-use Rattle.twp_acres.specs.Answers.{IsNoPlat}
+use Rattle.twp_answers.specs.Answers.{IsNoPlat}
 use Rattle.twp_plat.specs.PlatFigures.{PlatFigures, AreFigures}
-use Rattle.twp_acres.specs.PlatAnswers.{texts_to, lot_text, lots_text}
-use Rattle.twp_acres.specs.PlatAnswers.{section_line, section_name, total_text, plat_text}
-use Rattle.twp_acres.specs.PlatAnswers.{IsPrintedPlat, IsPlatAnswer}
-use Rattle.twp_acres.specs.declared.verdict.Verdict.{Verdict}
-use Rattle.twp_acres.specs.declared.verdict.Verdict.TheVariants.{Accepted, Refused, TractRefused}
+use Rattle.twp_answers.specs.PlatAnswers.{texts_to, lot_text, lots_text}
+use Rattle.twp_answers.specs.PlatAnswers.{section_line, section_name, total_text, plat_text}
+use Rattle.twp_answers.specs.PlatAnswers.{IsPrintedPlat, IsPlatAnswer}
+use Rattle.twp_answers.specs.declared.verdict.Verdict.{Verdict}
+use Rattle.twp_answers.specs.declared.verdict.Verdict.TheVariants.{Accepted, Refused, TractRefused}
 use Rattle.twp_plat.proofs.PlatFigureFacts.{same_lot, same_section, same_township}
-use Rattle.twp_acres.proofs.OneAnswer.{one_plat, not_platted, one_plat_refusal}
+use Rattle.twp_answers.proofs.OneAnswer.{one_plat, not_platted, one_plat_refusal}
 
 -- texts are the same if they agree on the numbers from 1 on
 texts_agree : (n : ℕ) (text text' : ℕ → List ℕ) → ((k : ℕ) → 1 ≤ k → k ≤ n → text k ≡ text' k)

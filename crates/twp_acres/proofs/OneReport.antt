@@ -5,23 +5,24 @@ use Rattle.std.proofs.lemmas.List.{ext_get_or}
 use Rattle.twp_grid.specs.Townships.{Designation}
 use Rattle.twp_notes.specs.Records.{Fields, record_at}
 use Rattle.twp_plat.specs.Plats.{TownshipPlat}
-use Rattle.twp_acres.specs.Answers.{IsNoDescription}
-use Rattle.twp_acres.specs.Answers.{AreHundredthsOf}
-use Rattle.twp_acres.specs.Tracts.{tract_records, name_in, description_in, IsTractList}
-use Rattle.twp_acres.specs.TractFaults.{HasTractFault, IsFirstTractFault, IsFrom, record_of}
-use Rattle.twp_acres.specs.TractFaults.{turn_of, verdict_of}
-use Rattle.twp_acres.specs.ReportAnswers.{tract_line, IsTractLine, AreTractLines, other_places}
-use Rattle.twp_acres.specs.ReportAnswers.{IsAccount, IsAccountOf, IsListRefused, AnswersList}
-use Rattle.twp_acres.specs.ReportAnswers.{IsAnswerOnPlat, IsPlatRefused, refusal_lines}
+use Rattle.twp_answers.specs.Answers.{IsNoDescription}
+use Rattle.twp_answers.specs.Answers.{AreHundredthsOf}
+use Rattle.twp_answers.specs.Tracts.{tract_records, name_in, description_in, IsTractList}
+use Rattle.twp_answers.specs.TractFaults.{HasTractFault, IsFirstTractFault, IsFrom, record_of}
+use Rattle.twp_answers.specs.TractFaults.{turn_of, verdict_of}
+use Rattle.twp_answers.specs.ReportAnswers.{tract_line, IsTractLine, AreTractLines, other_places}
+use Rattle.twp_answers.specs.ReportAnswers.{IsAccount, IsAccountOf, IsListRefused, AnswersList}
+use Rattle.twp_answers.specs.ReportAnswers.{IsAnswerOnPlat, IsPlatRefused, refusal_lines}
 use Rattle.twp_acres.specs.TractLaws.{OneReportAnswer}
-use Rattle.twp_acres.specs.declared.verdict.Verdict.{Verdict}
-use Rattle.twp_acres.specs.declared.verdict.Verdict.TheVariants.{Accepted, Refused, TractRefused}
-use Rattle.twp_acres.specs.declared.tract_fault.TractFault.{TractFault}
-use Rattle.twp_acres.specs.declared.tract_fault.TractFault.TheVariants as fault
-use Rattle.twp_acres.proofs.OneAnswer.{one_plat, one_land, one_hundredths, one_plat_refusal}
-use Rattle.twp_acres.proofs.OneAnswer.{one_description_refusal, not_platted}
-use Rattle.twp_acres.proofs.TractLands.{one_land_of_tracts}
-use Rattle.twp_acres.proofs.FirstTractFaults.{none_before}
+use Rattle.twp_answers.specs.declared.verdict.Verdict.{Verdict}
+use Rattle.twp_answers.specs.declared.verdict.Verdict.TheVariants.{Accepted, Refused, TractRefused}
+use Rattle.twp_answers.specs.declared.tract_fault.TractFault.{TractFault}
+use Rattle.twp_answers.specs.declared.tract_fault.TractFault.TheVariants as fault
+use Rattle.twp_answers.proofs.OneAnswer.{one_plat, one_land, one_plat_refusal}
+use Rattle.twp_acres.proofs.OneAnswer.{one_hundredths}
+use Rattle.twp_answers.proofs.OneAnswer.{one_description_refusal, not_platted}
+use Rattle.twp_answers.proofs.TractLands.{one_land_of_tracts}
+use Rattle.twp_answers.proofs.FirstTractFaults.{none_before}
 
 -- a tract has only one line
 one_line : (plat : TownshipPlat) (fields : Fields) (line line' : List ℕ) → IsTractLine plat fields line

@@ -10,10 +10,10 @@ use Rattle.twp_spell.specs.ReadBack.{IsTownshipLand, HasTownshipNumbers}
 use Rattle.twp_resolve.proofs.DescribedLand.{names_some_place, is_of_township}
 use Rattle.twp_spell.proofs.ReadBack.{read_back}
 use Rattle.twp_read.proofs.FirstTextFaults.{too_large_first}
-use Rattle.twp_acres.specs.Answers.{ArePlatted, refusal_line}
+use Rattle.twp_answers.specs.Answers.{ArePlatted, refusal_line}
 use Rattle.twp_acres.specs.NormalAnswers.{IsNormalForm, IsNormalAnswer}
 use Rattle.twp_acres.specs.NormalLaws.{too_large}
-use Rattle.twp_acres.specs.declared.verdict.Verdict.TheVariants.{Accepted, Refused}
+use Rattle.twp_answers.specs.declared.verdict.Verdict.TheVariants.{Accepted, Refused}
 
 -- the numbers of the township in field notes are valid
 township_numbers : (notes : List ℕ) (plat : TownshipPlat) → ArePlatted notes plat

@@ -1,33 +1,25 @@
 -- What runs read and write, over plain values.
 use Rattle.std.proofs.Common.{◌≡◌, ◌≢◌, ℕ, List, [], Option, Some, None, Result, Ok, Err, inl, inr}
 use Rattle.std.proofs.Common.{refl, ap, subst, sym, ◌∙◌, Bool, true, false, ◌⊎◌, ◌↔◌}
-use Rattle.std.specs.Prelude.{IfOk, IfErr, IfSome, OnOk, OnErr, IsErrOf, IsOkUnless, is_err, unwrap_or}
+use Rattle.std.specs.Prelude.{IfOk, IfErr, OnOk, OnErr, IsErrOf, IsOkUnless, is_err, unwrap_or}
 use Rattle.std.specs.Io.KnownBytes.{Appends}
 use Rattle.twp_grid.specs.Devices.{Tells}
 use Rattle.twp_notes.specs.declared.reading.ReadFault.{ReadFault}
 use Rattle.twp_notes.specs.declared.reading.ReadFault.TheVariants as reading
-use Rattle.twp_acres.specs.steps.PassedFaults.{run_fault_of, IsStopOfPlaces, IsStopOfText}
-use Rattle.twp_acres.specs.OnPlats.{StopsOn}
+use Rattle.twp_answers.specs.steps.PassedFaults.{run_fault_of}
 use Rattle.twp_acres.specs.Runs.{AnswerRelation, AnyFailed, AppendsFront, IsAnswered, IsRun}
-use Rattle.twp_acres.specs.Runs.{Reads, ReadsTwo, RunsOnPlat, Use, used}
-use Rattle.twp_grid.specs.Places.{PLACE_DIGITS}
-use Rattle.twp_grid.specs.Townships.{Designation}
+use Rattle.twp_answers.specs.Uses.{Reads, Use, used}
+use Rattle.twp_acres.specs.Runs.{ReadsTwo, RunsOnPlat}
 use Rattle.twp_grid.specs.declared.refusal.Refusal.{Refusal}
-use Rattle.twp_read.specs.TextFaults.{IsReadAs}
-use Rattle.twp_read.specs.TextFaults as text_faults
-use Rattle.twp_read.specs.declared.fault.TextFault.{TextFault}
-use Rattle.twp_resolve.specs.PlaceFaults.{IsFirstPlaceFault}
-use Rattle.twp_grammar.specs.declared.item.Item.{Item}
-use Rattle.twp_resolve.specs.declared.place_fault.PlaceFault.{PlaceFault}
-use Rattle.twp_acres.specs.Answers.{IsNoDescription, IsNoPlat, IsRefusal, MakePlat}
+use Rattle.twp_answers.specs.Answers.{IsNoPlat, IsRefusal, MakePlat}
 use Rattle.twp_acres.specs.steps.Stages.{ReadsOnPlat, same_fault}
-use Rattle.twp_acres.specs.steps.Stops.{IfRefused, IfFailed}
-use Rattle.twp_acres.specs.declared.stop.Stop.{Stop}
-use Rattle.twp_acres.specs.declared.stop.Stop.TheVariants as stop
-use Rattle.twp_acres.specs.declared.verdict.RunFault.{RunFault}
-use Rattle.twp_acres.specs.declared.verdict.RunFault.TheVariants.{Memory, Read, Write}
-use Rattle.twp_acres.specs.declared.verdict.Verdict.{Verdict}
-use Rattle.twp_acres.proofs.OneAnswer.{not_platted}
+use Rattle.twp_answers.specs.PlatReading.{IfRefused}
+use Rattle.twp_answers.specs.declared.stop.Stop.{Stop}
+use Rattle.twp_answers.specs.declared.stop.Stop.TheVariants as stop
+use Rattle.twp_answers.specs.declared.verdict.RunFault.{RunFault}
+use Rattle.twp_answers.specs.declared.verdict.RunFault.TheVariants.{Memory, Read, Write}
+use Rattle.twp_answers.specs.declared.verdict.Verdict.{Verdict}
+use Rattle.twp_answers.proofs.OneAnswer.{not_platted}
 
 -- the known bytes of a device, or some bytes if they are not known
 pub some_bytes : (told : Option (List ℕ)) → Tells told (unwrap_or told [])
@@ -78,43 +70,6 @@ plat_stops_by_fault told n (stop.Refused refusal) read is makes not_read not_wri
 plat_stops_by_fault told n (stop.Failed Read) read is makes not_read not_write not_memory = not_read refl
 plat_stops_by_fault told n (stop.Failed Write) read is makes not_read not_write not_memory = not_write refl
 plat_stops_by_fault told n (stop.Failed Memory) read is makes not_read not_write not_memory = not_memory refl
-
--- items that do not lie on the plat stop the run with their refusal
-pub stopped_by_places : (township : Designation) (d : List ℕ) (is : List Item) (fault : PlaceFault)
-    (stopped : Stop)
-    → IsReadAs d is
-    → IsFirstPlaceFault PLACE_DIGITS township is fault → IsStopOfPlaces fault stopped
-    → IfRefused stopped (IsNoDescription township d)
-stopped_by_places township d is fault (stop.Refused refusal) read first by =
-    inr (record { items = is; read = read; fault = fault; first = first; refusal_is = by })
-stopped_by_places township d is fault (stop.Failed failed) read first by = tt
-
--- on an existing plat, a text that cannot be read stops a call with its refusal, or for want of memory
-pub text_stops_on : (township : Designation) (d : List ℕ) (fault : TextFault) (stopped : Stop)
-    → IfSome (text_faults.refusal_of fault) (λ _. text_faults.IsFirstTextFault d fault)
-    → IsStopOfText fault stopped
-    → StopsOn township d stopped
-text_stops_on township d fault (stop.Refused refusal) first by =
-    inl (record { fault = fault; first = rw by at first; refusal_is = by })
-text_stops_on township d fault (stop.Failed Memory) first by = refl
-text_stops_on township d fault (stop.Failed Read) first by = absurd by
-text_stops_on township d fault (stop.Failed Write) first by = absurd by
-
--- and items that do not lie on it, with theirs
-pub places_stop_on : (township : Designation) (d : List ℕ) (is : List Item) (fault : PlaceFault)
-    (stopped : Stop)
-    → IsReadAs d is
-    → IsFirstPlaceFault PLACE_DIGITS township is fault → IsStopOfPlaces fault stopped
-    → StopsOn township d stopped
-places_stop_on township d is fault (stop.Refused refusal) read first by =
-    inr (record { items = is; read = read; fault = fault; first = first; refusal_is = by })
-places_stop_on township d is fault (stop.Failed failed) read first by = absurd by
-
--- they do not stop it for anything that failed
-pub places_never_fail : (fault : PlaceFault) (stopped : Stop) (Holds : RunFault → Type 0)
-    → IsStopOfPlaces fault stopped → IfFailed stopped Holds
-places_never_fail fault (stop.Refused refusal) Holds by = tt
-places_never_fail fault (stop.Failed failed) Holds by = absurd by
 
 -- an answer was written, or a prefix of it
 pub written : (Answers : AnswerRelation) (old new : Option (List ℕ)) (text : List ℕ) (verdict : Verdict)

@@ -6,16 +6,18 @@ use Rattle.std.specs.Prelude.{IfOk, IfErr, IsErrOf, unwrap_or}
 use Rattle.twp_grid.specs.Devices.{TakesAtMost}
 use Rattle.twp_grid.specs.declared.refusal.Refusal.{Refusal}
 use Rattle.twp_notes.specs.FieldNotes.{NOTES_MOST}
-use Rattle.twp_acres.specs.Answers.{IsNoPlat, refusal_line}
-use Rattle.twp_acres.specs.Runs.{AnswerRelation, AnyFailed, Reads, ReadsTwo, Use, used}
-use Rattle.twp_acres.specs.steps.Stages.{ReadsUpTo, ReadsOnPlat, same_fault}
-use Rattle.twp_acres.specs.steps.Stops.{AnswersStop, IfRefused}
+use Rattle.twp_answers.specs.Answers.{IsNoPlat, refusal_line}
+use Rattle.twp_answers.specs.Uses.{Reads, Use, used}
+use Rattle.twp_acres.specs.Runs.{AnswerRelation, AnyFailed, ReadsTwo}
+use Rattle.twp_answers.specs.PlatReading.{IfRefused, ReadsUpTo}
+use Rattle.twp_acres.specs.steps.Stages.{ReadsOnPlat, same_fault}
+use Rattle.twp_acres.specs.steps.Stops.{AnswersStop}
 use Rattle.twp_acres.specs.declared.answer.Answer.{Answer}
-use Rattle.twp_acres.specs.declared.stop.Stop.{Stop}
-use Rattle.twp_acres.specs.declared.stop.Stop.TheVariants as stop
-use Rattle.twp_acres.specs.declared.verdict.RunFault.{RunFault}
-use Rattle.twp_acres.specs.declared.verdict.RunFault.TheVariants.{Memory, Read, Write}
-use Rattle.twp_acres.specs.declared.verdict.Verdict.TheVariants as verdict
+use Rattle.twp_answers.specs.declared.stop.Stop.{Stop}
+use Rattle.twp_answers.specs.declared.stop.Stop.TheVariants as stop
+use Rattle.twp_answers.specs.declared.verdict.RunFault.{RunFault}
+use Rattle.twp_answers.specs.declared.verdict.RunFault.TheVariants.{Memory, Read, Write}
+use Rattle.twp_answers.specs.declared.verdict.Verdict.TheVariants as verdict
 use Rattle.twp_acres.proofs.RunFacts.{plat_stops_by_fault, some_bytes}
 
 -- a stage that has a value, and a stage that stopped

@@ -1,5 +1,6 @@
--- The area of the land of all tracts is the sum of the tracts' areas.
-use Rattle.std.proofs.Common.{◌≡◌, ℕ, zero, suc, ◌+◌, ◌<◌, Bool, List, length, ap, subst, arith}
+-- The area of the land of all tracts is the sum of the tracts' areas, and the area of all other land is the
+-- rest of the township's.
+use Rattle.std.proofs.Common.{◌≡◌, ℕ, zero, suc, ◌+◌, ◌<◌, Bool, List, length, ap, subst, arith, ◌-◌, ◌≤◌}
 use Rattle.twp_measure.specs.Areas.{Fraction}
 use Rattle.twp_grid.specs.Places.{PLACE_DIGITS}
 use Rattle.twp_grid.specs.Spans.{total}
@@ -11,11 +12,22 @@ use Rattle.twp_plat.specs.Pieces.{over_of}
 use Rattle.twp_plat.specs.Pieces.{ArePieces}
 use Rattle.twp_plat.specs.LandAreas.{IsLandArea}
 use Rattle.twp_plat.specs.LandAreaLaws.{AreDisjoint}
-use Rattle.twp_acres.specs.Tracts.{tract_records, AreTracts, IsLandOfTracts}
-use Rattle.twp_acres.specs.TractLaws.{AreTractAreas, TractsAddUp}
-use Rattle.twp_plat.proofs.AreaLaws.{one_land_area, disjoint_areas_add}
-use Rattle.twp_acres.proofs.TractAreas.{no_area}
-use Rattle.twp_acres.proofs.TractLands.{no_land, land_next, one_land_of_tracts}
+use Rattle.twp_answers.specs.ReportAnswers.{other_places}
+use Rattle.twp_answers.specs.Tracts.{tract_records, AreTracts, IsLandOfTracts}
+use Rattle.twp_acres.specs.TractLaws.{AreTractAreas, RestAddsUp, TractsAddUp}
+use Rattle.twp_plat.proofs.AreaLaws.{one_land_area, disjoint_areas_add, rest_of_places}
+use Rattle.twp_answers.proofs.TractAreas.{no_area}
+use Rattle.twp_answers.proofs.TractLands.{no_land, land_next, one_land_of_tracts}
+
+pub rest_adds_up : RestAddsUp
+rest_adds_up plat places area rest whole is others all =
+    let left = rest_of_places PLACE_DIGITS (omega arith) plat places area whole is all in
+    let same : rest ≡ record { units = whole.units - area.units; over = whole.over } =
+    one_land_area PLACE_DIGITS (omega arith) plat (other_places places) rest
+    (record { units = whole.units - area.units; over = whole.over }) others left.1 in
+    let units : rest.units ≡ whole.units - area.units = ap (λ (f : Fraction). f.units) same in
+    let within : area.units ≤ whole.units = left.0 in
+    omega arith
 
 -- the units of the first areas
 abbrev units_to : (ℕ → Fraction) → ℕ → ℕ

@@ -4,13 +4,13 @@ use Rattle.std.specs.Prelude.{◌≡◌, ℕ, List, Bool}
 use Rattle.twp_measure.specs.Areas.{Fraction, IsRounded}
 use Rattle.twp_grid.specs.Places.{PLACE_DIGITS}
 use Rattle.twp_plat.specs.Plats.{TownshipPlat}
-use Rattle.twp_acres.specs.Answers.{AnswersRefusal, IsLandOnPlat, IsRefusal}
-use Rattle.twp_acres.specs.Answers.{HasAcres, acres_line}
+use Rattle.twp_answers.specs.Answers.{AnswersRefusal, IsLandOnPlat, IsRefusal}
+use Rattle.twp_answers.specs.Answers.{HasAcres, acres_line}
 use Rattle.twp_plat.specs.PlatAccounts.{IsPlatArea}
 use Rattle.twp_acres.specs.Runs.{AnswerRelation}
 use Rattle.twp_plat.specs.declared.account.Account.{Account}
 use Rattle.twp_plat.specs.declared.account.Account.TheVariants.{Exact, Plat}
-use Rattle.twp_acres.specs.declared.verdict.Verdict.TheVariants.{Accepted, Refused, TractRefused}
+use Rattle.twp_answers.specs.declared.verdict.Verdict.TheVariants.{Accepted, Refused, TractRefused}
 
 -- The hundredths of an acre of a set of places by the plat: its plat area, rounded once, half up.
 pub record ArePlatHundredthsOf (plat : TownshipPlat) (places : ℕ → ℕ → ℕ → Bool) (hundredths : ℕ)

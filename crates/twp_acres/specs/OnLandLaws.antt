@@ -8,8 +8,8 @@ use Rattle.twp_plat.specs.declared.account.Account.{Account}
 use Rattle.twp_read.specs.TextFaults.{TEXT_LIMIT}
 use Rattle.twp_spell.specs.ReadBack.{IsTownshipLand, HasTownshipNumbers}
 use Rattle.twp_spell.specs.CanonicalText.{IsCanonicalText}
-use Rattle.twp_acres.specs.OnPlats.{HasAcresOn}
-use Rattle.twp_acres.specs.OnLands.{IsLandOf, AreAcresOf}
+use Rattle.twp_answers.specs.OnPlats.{HasAcresOn}
+use Rattle.twp_answers.specs.OnLands.{IsLandOf, AreAcresOf}
 
 -- the acres of a description on a plat are those of its land
 abbrev pub AcresOnAreOfLand : Type 0

@@ -5,11 +5,11 @@ use Rattle.twp_measure.specs.Areas.{Fraction}
 use Rattle.twp_grid.specs.declared.refusal.Refusal.{Refusal}
 use Rattle.twp_plat.specs.Plats.{TownshipPlat}
 use Rattle.twp_plat.specs.declared.account.Account.{Account}
-use Rattle.twp_acres.specs.Answers.{ArePlatted, IsNoDescription, IsRefusal}
+use Rattle.twp_answers.specs.Answers.{ArePlatted, IsNoDescription, IsRefusal}
 use Rattle.twp_acres.specs.AccountAnswers.{HasAcresBy}
 use Rattle.twp_acres.specs.NormalAnswers.{IsNormalForm}
-use Rattle.twp_acres.specs.PlatAnswers.{IsPrintedPlat}
-use Rattle.twp_acres.specs.OnPlats.{HasAreaOn, HasAcresOn, HasNormalOn, IsTextOfPlat}
+use Rattle.twp_answers.specs.PlatAnswers.{IsPrintedPlat}
+use Rattle.twp_answers.specs.OnPlats.{HasAreaOn, HasAcresOn, HasNormalOn, IsTextOfPlat}
 
 -- with any notes that make the plat, the acres on it are those of the notes and the description
 abbrev pub AcresOnAreOfNotes : Type 0

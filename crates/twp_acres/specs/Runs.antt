@@ -5,10 +5,11 @@ use Rattle.std.specs.Io.KnownBytes.{Appends, Keeps}
 use Rattle.twp_grid.specs.Devices.{Tells, TakesAtMost}
 use Rattle.twp_notes.specs.FieldNotes.{NOTES_MOST}
 use Rattle.twp_grid.specs.Devices.{TakesFirst}
-use Rattle.twp_acres.specs.Answers.{MakePlat}
-use Rattle.twp_acres.specs.declared.verdict.Verdict.{Verdict}
-use Rattle.twp_acres.specs.declared.verdict.RunFault.{RunFault}
-use Rattle.twp_acres.specs.declared.verdict.RunFault.TheVariants.{Read, Write, Memory}
+use Rattle.twp_answers.specs.Answers.{MakePlat}
+use Rattle.twp_answers.specs.Uses.{Use}
+use Rattle.twp_answers.specs.declared.verdict.Verdict.{Verdict}
+use Rattle.twp_answers.specs.declared.verdict.RunFault.{RunFault}
+use Rattle.twp_answers.specs.declared.verdict.RunFault.TheVariants.{Read, Write, Memory}
 
 -- an answer and its verdict
 abbrev pub AnswerRelation : Type 1
@@ -48,13 +49,8 @@ abbrev pub IsAnswered : Option (List ℕ) → Option (List ℕ) → List ℕ →
     → Result Verdict RunFault → Type 0
 IsAnswered old new answer verdict result = IfOk result (λ given. (given ≡ verdict) × Appends old new answer)
 
--- These are the bytes that a source had to give: the known ones, if they are known.
-pub record Reads (told : Option (List ℕ)) (Holds : List ℕ → Type 0) : Type 0 where
-  pub bytes : List ℕ
-  pub tells : Tells told bytes
-  pub holds : Holds bytes
-
--- The same for two sources, the second of which was read only if the bytes of the first allow it.
+-- These are the bytes that two sources had to give, the second of which was read only if the bytes of the
+-- first allow it.
 pub record ReadsTwo (first second : Option (List ℕ)) (GoesOn : List ℕ → Type 0) (unread : Type 0)
     (Holds : List ℕ → List ℕ → Type 0) : Type 0 where
   pub first_bytes : List ℕ
@@ -67,17 +63,6 @@ pub record ReadsTwo (first second : Option (List ℕ)) (GoesOn : List ℕ → Ty
 -- one of two devices has failed
 abbrev pub AnyFailed : Bool → Bool → Type 0
 AnyFailed first second = (first ≡ true) ⊎ (second ≡ true)
-
--- How a call used a device: the known bytes before the call and after it, which are those left in a
--- source and those taken by a sink, and whether it has failed.
-pub record Use : Type 0 where
-  pub old : Option (List ℕ)
-  pub new : Option (List ℕ)
-  pub has_failed : Bool
-
--- a device that was used like this
-abbrev pub used : Option (List ℕ) → Option (List ℕ) → Bool → Use
-used old new has_failed = record { old = old; new = new; has_failed = has_failed }
 
 -- What each run promises that reads field notes and, only if the notes make a plat, a second text
 -- up to a limit of bytes.

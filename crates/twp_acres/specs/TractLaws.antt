@@ -5,12 +5,12 @@ use Rattle.twp_grid.specs.Places.{PLACE_DIGITS}
 use Rattle.twp_grid.specs.Spans.{total}
 use Rattle.twp_notes.specs.Records.{Fields, record_at}
 use Rattle.twp_plat.specs.Plats.{TownshipPlat}
-use Rattle.twp_acres.specs.Answers.{Describe}
+use Rattle.twp_answers.specs.Answers.{Describe}
 use Rattle.twp_plat.specs.LandAreas.{IsLandArea}
 use Rattle.twp_plat.specs.LandAreaLaws.{township_places}
 use Rattle.twp_acres.specs.Laws.{IsOne}
-use Rattle.twp_acres.specs.Tracts.{description_in, tract_records, IsTractList, IsLandOfTracts}
-use Rattle.twp_acres.specs.ReportAnswers.{other_places, IsReportAnswer}
+use Rattle.twp_answers.specs.Tracts.{description_in, tract_records, IsTractList, IsLandOfTracts}
+use Rattle.twp_answers.specs.ReportAnswers.{other_places, IsReportAnswer}
 
 -- the area of a set of places and the area of all others add up to the area of the township
 abbrev pub RestAddsUp : Type 0

@@ -2,18 +2,18 @@
 ghost use Rattle.std.specs.Prelude.{◌≡◌, ℕ, List, Some, false, IfOk, IfErr};
 ghost use Rattle.twp_read.specs.Doubts.{HasNoDoubtfulPlace};
 ghost use Rattle.twp_read.specs.TextFaults.{TEXT_LIMIT};
-ghost use Rattle.twp_acres.specs.Answers.{MakePlat};
-ghost use Rattle.twp_acres.specs.Answers.{acres_line};
+ghost use Rattle.twp_answers.specs.Answers.{MakePlat};
+ghost use Rattle.twp_answers.specs.Answers.{acres_line};
 ghost use Rattle.twp_acres.specs.AccountAnswers.{IsAcresAnswerBy};
-ghost use Rattle.twp_acres.specs.Runs.{ReadsTwo, used};
+ghost use Rattle.twp_answers.specs.Uses.{used};
+ghost use Rattle.twp_acres.specs.Runs.{ReadsTwo};
 ghost use Rattle.twp_acres.specs.steps.Stages.{ReadsOnPlat, same_fault};
 ghost use Rattle.twp_acres.specs.steps.OnPlatSteps.{IsAcresAnswerOn};
 
-use crate::answer::{Answer, answer_stop, write_acres_line};
-use crate::on_plat::acres_noting;
-use crate::stages::read_texts;
-use crate::verdict::{RunFault, Verdict};
+use crate::answer::{Answer, answer_stop};
+use crate::texts::read_texts;
 use std::alloc::Global;
+use twp_answers::{RunFault, Verdict, acres_noting, write_acres_line};
 use twp_grid::Source;
 use twp_plat::{Account, Plat};
 use twp_read::Clarity;

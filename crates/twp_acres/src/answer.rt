@@ -1,14 +1,11 @@
 ghost use Rattle.std.specs.Prelude.{◌≡◌, ◌++◌, OnOk, IfOk, IfErr};
-ghost use Rattle.twp_acres.specs.Answers.{refusal_line};
-ghost use Rattle.twp_acres.specs.Answers.{acres_line};
+ghost use Rattle.twp_answers.specs.Answers.{refusal_line};
 ghost use Rattle.twp_acres.specs.steps.Stops.{AnswersStop};
 
-use crate::stop::Stop;
-use crate::verdict::{RunFault, Verdict};
 use itoa::Buffer;
 use std::alloc::{AllocError, Global};
+use twp_answers::{RunFault, Stop, Verdict};
 use twp_grid::Refusal;
-use twp_measure::write_acres;
 
 /// The answer of a run.
 #[derive(Drop)]
@@ -52,12 +49,4 @@ pub fn write_refusal(refusal: Refusal, text: &mut Vec<u8>) -> Result<(), AllocEr
     text.extend_from_slice(b" at ")?;
     text.extend_from_slice(buffer.format(refusal.at).as_bytes())?;
     text.extend_from_slice(b"\n")
-}
-
-/// Appends the line of a number of hundredths of an acre, such as `40.45 acres`.
-pub fn write_acres_line(hundredths: u64, text: &mut Vec<u8>) -> Result<(), AllocError>
-    ensures ok { OnOk result (text.new.items ≡ text.old.items ++ acres_line hundredths) }
-{
-    write_acres(hundredths, text)?;
-    text.extend_from_slice(b" acres\n")
 }

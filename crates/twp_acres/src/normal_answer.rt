@@ -2,17 +2,17 @@
 ghost use Rattle.std.specs.Prelude.{◌≡◌, ℕ, List, Some, false, IfOk, IfErr};
 ghost use Rattle.twp_read.specs.Doubts.{HasNoDoubtfulPlace};
 ghost use Rattle.twp_read.specs.TextFaults.{TEXT_LIMIT};
-ghost use Rattle.twp_acres.specs.Answers.{MakePlat};
+ghost use Rattle.twp_answers.specs.Answers.{MakePlat};
 ghost use Rattle.twp_acres.specs.NormalAnswers.{IsNormalAnswer};
-ghost use Rattle.twp_acres.specs.Runs.{ReadsTwo, used};
+ghost use Rattle.twp_answers.specs.Uses.{used};
+ghost use Rattle.twp_acres.specs.Runs.{ReadsTwo};
 ghost use Rattle.twp_acres.specs.steps.Stages.{ReadsOnPlat, same_fault};
 ghost use Rattle.twp_acres.specs.steps.OnPlatSteps.{IsNormalAnswerOn};
 
 use crate::answer::{Answer, answer_stop};
-use crate::on_plat::normal_noting;
-use crate::stages::read_texts;
-use crate::verdict::{RunFault, Verdict};
+use crate::texts::read_texts;
 use std::alloc::Global;
+use twp_answers::{RunFault, Verdict, normal_noting};
 use twp_grid::Source;
 use twp_plat::Plat;
 use twp_read::Clarity;

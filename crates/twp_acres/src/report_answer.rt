@@ -1,19 +1,18 @@
 //! The answer of the report run.
 ghost use Rattle.std.specs.Prelude.{◌≡◌, ◌≢◌, ℕ, List, Some, false, IfOk, IfErr};
-ghost use Rattle.twp_acres.specs.Answers.{MakePlat};
-ghost use Rattle.twp_acres.specs.ClearTracts.{IsClearList};
-ghost use Rattle.twp_acres.specs.Tracts.{TRACTS_LIMIT};
-ghost use Rattle.twp_acres.specs.TractFaults.{verdict_of};
-ghost use Rattle.twp_acres.specs.ReportAnswers.{IsReportAnswer, AnswersList, refusal_lines};
-ghost use Rattle.twp_acres.specs.Runs.{Reads, ReadsTwo, used};
-ghost use Rattle.twp_acres.specs.steps.Stages.{ReadsUpTo, ReadsOnPlat, same_fault};
+ghost use Rattle.twp_answers.specs.Answers.{MakePlat};
+ghost use Rattle.twp_answers.specs.ClearTracts.{IsClearList};
+ghost use Rattle.twp_answers.specs.Tracts.{TRACTS_LIMIT};
+ghost use Rattle.twp_answers.specs.TractFaults.{verdict_of};
+ghost use Rattle.twp_answers.specs.ReportAnswers.{IsReportAnswer, AnswersList, refusal_lines};
+ghost use Rattle.twp_answers.specs.Uses.{Reads, used};
+ghost use Rattle.twp_acres.specs.Runs.{ReadsTwo};
+ghost use Rattle.twp_answers.specs.PlatReading.{ReadsUpTo};
+ghost use Rattle.twp_acres.specs.steps.Stages.{ReadsOnPlat, same_fault};
 
 use crate::answer::{Answer, answer_stop, write_refusal};
-use crate::stages::read_plat;
-use crate::tract_fault::{TRACTS_LIMIT, TractFault};
-use crate::tracts::account_noting;
-use crate::verdict::{RunFault, Verdict};
 use std::alloc::Global;
+use twp_answers::{RunFault, TRACTS_LIMIT, TractFault, Verdict, account_noting, read_plat};
 use twp_grid::Source;
 use twp_notes::read_whole;
 use twp_plat::Plat;

@@ -12,10 +12,10 @@ use Rattle.twp_calls.specs.TractNames.{NAME_ROOM}
 use Rattle.std.proofs.Math.ListN.{get_or-append}
 use Rattle.std.proofs.Math.Seq.{get_or-append_seam}
 use Rattle.twp_plat.specs.Plats.{TownshipPlat}
-use Rattle.twp_acres.specs.AccountFigures.{line_of as figure_line}
-use Rattle.twp_acres.proofs.TractLands.{earlier_or_last}
-use Rattle.twp_acres.specs.ReportAnswers.{IsAccountOf, total_lines}
-use Rattle.twp_acres.specs.declared.account_figures.TractFigure.{TractFigure}
+use Rattle.twp_answers.specs.AccountFigures.{line_of as figure_line}
+use Rattle.twp_answers.proofs.TractLands.{earlier_or_last}
+use Rattle.twp_answers.specs.ReportAnswers.{IsAccountOf, total_lines}
+use Rattle.twp_answers.specs.declared.account_figures.TractFigure.{TractFigure}
 use Rattle.twp_calls.specs.Accounts.{HasAccount, HasEndedName, account_text, line_of, tract_count}
 use Rattle.twp_calls.specs.Answers.{ACCEPTED, NO_ROOM, bare, with_text}
 use Rattle.twp_calls.specs.declared.account_call.TownshipTotals.{TownshipTotals}

@@ -5,14 +5,14 @@ use Rattle.std.proofs.Math.Nat.{mod-add-div}
 use Rattle.twp_grid.specs.Townships.{Designation}
 use Rattle.twp_grid.specs.declared.refusal.Refusal.{Refusal}
 use Rattle.twp_plat.specs.Plats.{TownshipPlat}
-use Rattle.twp_acres.specs.Answers.{IsNoPlat, IsNoDescription}
-use Rattle.twp_acres.specs.OnPlats.{StopsOn}
-use Rattle.twp_acres.specs.PlatReading.{IfRefused}
-use Rattle.twp_acres.specs.TractFaults.{AnswersFault, IsFirstTractFault, verdict_of}
-use Rattle.twp_acres.specs.declared.verdict.Verdict.{Verdict}
-use Rattle.twp_acres.specs.declared.stop.Stop.{Stop}
-use Rattle.twp_acres.specs.declared.stop.Stop.TheVariants as stop
-use Rattle.twp_acres.specs.declared.tract_fault.TractFault.{TractFault}
+use Rattle.twp_answers.specs.Answers.{IsNoPlat, IsNoDescription}
+use Rattle.twp_answers.specs.OnPlats.{StopsOn}
+use Rattle.twp_answers.specs.PlatReading.{IfRefused}
+use Rattle.twp_answers.specs.TractFaults.{AnswersFault, IsFirstTractFault, verdict_of}
+use Rattle.twp_answers.specs.declared.verdict.Verdict.{Verdict}
+use Rattle.twp_answers.specs.declared.stop.Stop.{Stop}
+use Rattle.twp_answers.specs.declared.stop.Stop.TheVariants as stop
+use Rattle.twp_answers.specs.declared.tract_fault.TractFault.{TractFault}
 use Rattle.twp_calls.specs.Answers.{stopped, answer_of_fault, answer_of_verdict}
 use Rattle.twp_plat.specs.declared.account.Account.{Account}
 use Rattle.twp_calls.specs.Answers.{ACCEPTED, bare}
@@ -21,8 +21,8 @@ use Rattle.twp_calls.specs.Calls.{OfDescription, OfDescriptionBy, account_of, on
 use Rattle.twp_calls.specs.Calls.{IsPut, IsTextPut}
 use Rattle.twp_calls.specs.Explanations.{IsExplained, IsExplainedFault, IsOfAccount, IsOfFirstFault}
 use Rattle.twp_calls.specs.Answers.{IsRefused, verdict_answer}
-use Rattle.twp_acres.specs.TractFaults.{refusal_of}
-use Rattle.twp_acres.specs.declared.tract_fault.TractFault.TheVariants as fault
+use Rattle.twp_answers.specs.TractFaults.{refusal_of}
+use Rattle.twp_answers.specs.declared.tract_fault.TractFault.TheVariants as fault
 use Rattle.twp_calls.specs.GivenPlats.{IsGivenPlat}
 use Rattle.twp_calls.specs.declared.plat.TownshipPlat.{TownshipPlat as GivenPlat}
 use Rattle.twp_calls.specs.declared.answer.TownshipAnswer.{TownshipAnswer}

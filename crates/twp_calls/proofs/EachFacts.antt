@@ -2,19 +2,19 @@
 use Rattle.std.proofs.Common.{◌≡◌, ℕ, ◌+◌, ◌<◌, ◌≤◌, List, [], ◌∷◌, length, get_or, set}
 use Rattle.std.proofs.Common.{sym, ◌∙◌, ap, subst, refl, inl, inr, arith}
 use Rattle.std.specs.List.{SameFrom}
-use Rattle.twp_acres.proofs.TractLands.{earlier_or_last}
+use Rattle.twp_answers.proofs.TractLands.{earlier_or_last}
 use Rattle.std.proofs.lemmas.List.{get_or-set_same, get_or-set_other, get_or_read}
 use Rattle.twp_notes.specs.Records.{Fields}
 use Rattle.twp_plat.specs.Plats.{TownshipPlat}
-use Rattle.twp_acres.specs.EachTract.{AreAnswersTo, IsAnswerAt, IsListFault, IsListOfRecords}
-use Rattle.twp_acres.specs.TractFaults.{verdict_of}
-use Rattle.twp_acres.specs.Tracts.{TRACTS_LIMIT, TRACTS_MOST, tract_records}
-use Rattle.twp_acres.specs.declared.verdict.Verdict.TheVariants.{Refused}
+use Rattle.twp_answers.specs.EachTract.{AreAnswersTo, IsAnswerAt, IsListFault, IsListOfRecords}
+use Rattle.twp_answers.specs.TractFaults.{verdict_of}
+use Rattle.twp_answers.specs.Tracts.{TRACTS_LIMIT, TRACTS_MOST, tract_records}
+use Rattle.twp_answers.specs.declared.verdict.Verdict.TheVariants.{Refused}
 use Rattle.twp_grid.specs.declared.refusal.Refusal.{Refusal}
 use Rattle.std.specs.Prelude.{Some}
-use Rattle.twp_acres.specs.declared.each_tract.TractAnswer.{TractAnswer}
-use Rattle.twp_acres.specs.declared.tract_fault.TractFault.{TractFault}
-use Rattle.twp_acres.specs.declared.tract_fault.TractFault.TheVariants as fault
+use Rattle.twp_answers.specs.declared.each_tract.TractAnswer.{TractAnswer}
+use Rattle.twp_answers.specs.declared.tract_fault.TractFault.{TractFault}
+use Rattle.twp_answers.specs.declared.tract_fault.TractFault.TheVariants as fault
 use Rattle.twp_calls.specs.Accounts.{tract_count}
 use Rattle.twp_calls.specs.Answers.{ACCEPTED, NO_ROOM, answer_of_fault, answer_of_verdict, bare, with_text}
 use Rattle.twp_calls.specs.Calls.{Answers, no_memory, refused_for}

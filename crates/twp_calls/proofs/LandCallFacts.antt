@@ -8,9 +8,9 @@ use Rattle.twp_grid.specs.Lands.{HasWholeLots}
 use Rattle.twp_land.specs.Storage.{land_of_rows}
 use Rattle.twp_land.proofs.CombinedLots.{combined_lots_are_whole}
 use Rattle.twp_land.proofs.WholeDecided.{whole_lots_decided}
-use Rattle.twp_acres.specs.Answers.{IsNoDescription}
-use Rattle.twp_acres.specs.OnPlats.{StopsOn}
-use Rattle.twp_acres.specs.declared.stop.Stop.{Stop}
+use Rattle.twp_answers.specs.Answers.{IsNoDescription}
+use Rattle.twp_answers.specs.OnPlats.{StopsOn}
+use Rattle.twp_answers.specs.declared.stop.Stop.{Stop}
 use Rattle.twp_calls.specs.Answers.{NO_LAND, OTHER_TOWNSHIP, bare, stopped}
 use Rattle.twp_calls.specs.Calls.{Answers, IsRefusedFor}
 use Rattle.twp_calls.specs.LandCalls.{InOneTownship, InTownship, OnLand, combined, in_one, in_two}

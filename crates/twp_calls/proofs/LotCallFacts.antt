@@ -6,8 +6,8 @@ use Rattle.twp_lots.specs.LotAreas.{IsFirstLacking}
 use Rattle.twp_lots.specs.LotTables.{ReturnedLots}
 use Rattle.twp_lots.specs.LotsFaults.{IsFirstFault, lacking_refusal, refusal_of}
 use Rattle.twp_lots.specs.declared.fault.LotsFault.{LotsFault}
-use Rattle.twp_acres.specs.declared.stop.Stop.{Stop}
-use Rattle.twp_acres.specs.declared.stop.Stop.TheVariants as stop
+use Rattle.twp_answers.specs.declared.stop.Stop.{Stop}
+use Rattle.twp_answers.specs.declared.stop.Stop.TheVariants as stop
 use Rattle.twp_calls.specs.Answers.{answer_of_refusal, refused, stopped}
 use Rattle.twp_calls.specs.Calls.{Answers, IsRefusedFor, no_memory, refused_for}
 use Rattle.twp_calls.specs.LotCalls.{AreNoLots}

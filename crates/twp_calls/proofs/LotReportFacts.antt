@@ -4,10 +4,10 @@ use Rattle.std.proofs.Common.{refl, sym, ◌∙◌, subst, inl, inr, arith}
 use Rattle.std.specs.List.{SameFrom}
 use Rattle.twp_lots.specs.LotTables.{ReturnedLots}
 use Rattle.twp_notes.specs.Records.{Fields, record_at}
-use Rattle.twp_acres.specs.TractFaults.{verdict_of}
-use Rattle.twp_acres.specs.declared.account_figures.TractFigure.{TractFigure}
-use Rattle.twp_acres.specs.declared.tract_fault.TractFault.{TractFault}
-use Rattle.twp_acres.specs.declared.verdict.Verdict.{Verdict}
+use Rattle.twp_answers.specs.TractFaults.{verdict_of}
+use Rattle.twp_answers.specs.declared.account_figures.TractFigure.{TractFigure}
+use Rattle.twp_answers.specs.declared.tract_fault.TractFault.{TractFault}
+use Rattle.twp_answers.specs.declared.verdict.Verdict.{Verdict}
 use Rattle.twp_lot_account.specs.LotAccounts.{AreFiguresByLots, AreTractAcres, IsAccountByLots}
 use Rattle.twp_lot_account.specs.LotAccounts.{IsFigureByLots}
 use Rattle.twp_lot_account.specs.LotTractFaults.{AnswersFaultByLots, IsFirstFaultByLots}

@@ -7,8 +7,8 @@ use Rattle.std.specs.List.{PartBy, SameFrom}
 use Rattle.std.proofs.lemmas.List.{get_or-set_same, get_or-set_other}
 use Rattle.twp_plat.specs.Plats.{TownshipPlat}
 use Rattle.twp_plat.specs.declared.account.Account.{Account}
-use Rattle.twp_acres.specs.OnPlats.{HasAcresOn, StopsOn}
-use Rattle.twp_acres.specs.declared.stop.Stop.{Stop}
+use Rattle.twp_answers.specs.OnPlats.{HasAcresOn, StopsOn}
+use Rattle.twp_answers.specs.declared.stop.Stop.{Stop}
 use Rattle.twp_calls.specs.Answers.{ACCEPTED, NO_ROOM, accepted_acres, bare, stopped, with_text}
 use Rattle.twp_calls.specs.Calls.{HasAcres, accepted, account_of, by_account, on_plat}
 use Rattle.twp_calls.specs.GivenPlats.{IsGivenPlat}

@@ -4,8 +4,8 @@ use Rattle.std.proofs.Common.{ap, inl, inr, arith}
 use Rattle.twp_measure.specs.Areas.{Fraction}
 use Rattle.twp_plat.specs.Plats.{TownshipPlat}
 use Rattle.twp_plat.specs.declared.account.Account.TheVariants.{Exact}
-use Rattle.twp_acres.specs.OnPlats.{HasAreaOn}
-use Rattle.twp_acres.specs.ReportAnswers.{IsAccountOf}
+use Rattle.twp_answers.specs.OnPlats.{HasAreaOn}
+use Rattle.twp_answers.specs.ReportAnswers.{IsAccountOf}
 use Rattle.twp_diagnose.specs.declared.given.Given.{Given}
 use Rattle.twp_explain_doubts.specs.ShownNotes.{IsNoteOf, ShowsNoteIn}
 use Rattle.twp_explain_doubts.specs.declared.note.Note.{Note}

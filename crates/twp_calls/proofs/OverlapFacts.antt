@@ -4,7 +4,7 @@ use Rattle.std.proofs.Common.{sym, ◌∙◌, ap, subst, arith}
 use Rattle.std.specs.List.{SameFrom}
 use Rattle.std.proofs.lemmas.Grind.{common_steps}
 use Rattle.std.proofs.lemmas.List.{get_or-set_other, map-append}
-use Rattle.twp_acres.specs.declared.overlaps.TractOverlap.{TractOverlap}
+use Rattle.twp_answers.specs.declared.overlaps.TractOverlap.{TractOverlap}
 use Rattle.twp_calls.specs.Answers.{ACCEPTED, NO_ROOM, bare, with_text}
 use Rattle.twp_calls.specs.OverlapCalls.{AreOverlapsPut, no_room, overlap_of, overlaps_put}
 use Rattle.twp_calls.specs.declared.answer.TownshipAnswer.{TownshipAnswer}

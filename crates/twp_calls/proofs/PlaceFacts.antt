@@ -13,11 +13,11 @@ use Rattle.twp_grid.specs.declared.refusal.Refusal.{Refusal}
 use Rattle.twp_read.specs.TextFaults.{TEXT_LIMIT, IsFrom, stage_of, place_of, refusal_of}
 use Rattle.twp_read.specs.declared.fault.TextFault.{TextFault}
 use Rattle.twp_read.specs.declared.fault.TextFault.TheVariants as fault
-use Rattle.twp_acres.specs.Answers.{IsNoDescription}
-use Rattle.twp_acres.specs.OnPlats.{StopsOn}
-use Rattle.twp_acres.specs.declared.stop.Stop.{Stop}
-use Rattle.twp_acres.specs.declared.stop.Stop.TheVariants as stop
-use Rattle.twp_acres.proofs.OneAnswer.{one_description_refusal}
+use Rattle.twp_answers.specs.Answers.{IsNoDescription}
+use Rattle.twp_answers.specs.OnPlats.{StopsOn}
+use Rattle.twp_answers.specs.declared.stop.Stop.{Stop}
+use Rattle.twp_answers.specs.declared.stop.Stop.TheVariants as stop
+use Rattle.twp_answers.proofs.OneAnswer.{one_description_refusal}
 use Rattle.twp_explain_text.specs.ShownPlaces.{TOO_LARGE}
 use Rattle.twp_diagnose.specs.Spots.{MOST_BYTES, IsSpotIn}
 use Rattle.twp_diagnose.specs.declared.explanation.Explanation.{Explanation}

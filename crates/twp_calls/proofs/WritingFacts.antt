@@ -6,7 +6,7 @@ use Rattle.twp_notes.proofs.WrittenNotes.{written_is_read}
 use Rattle.twp_plat.specs.Plats.{TownshipPlat, closing_quarter_of}
 use Rattle.twp_plat.specs.PlatNotes.{AreNotesFor, IsTextFor}
 use Rattle.twp_plat.proofs.PlatNoteFacts.{are_lengths, plat_of}
-use Rattle.twp_acres.specs.Answers.{ArePlatted}
+use Rattle.twp_answers.specs.Answers.{ArePlatted}
 use Rattle.twp_calls.specs.GivenPlats.{IsGivenPlat}
 use Rattle.twp_calls.specs.declared.plat.TownshipPlat.{TownshipPlat as GivenPlat}
 

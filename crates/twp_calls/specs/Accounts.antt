@@ -2,8 +2,8 @@
 use Rattle.std.specs.Prelude.{◌≡◌, ◌⊎◌, ℕ, ◌<◌, ◌≤◌, List, ◌++◌, length, take}
 use Rattle.std.specs.List.{All, SameFrom, flat_map}
 use Rattle.twp_plat.specs.Plats.{TownshipPlat}
-use Rattle.twp_acres.specs.ReportAnswers.{IsAccountOf, tract_line, total_lines}
-use Rattle.twp_acres.specs.Tracts.{IsTractList, tract_records}
+use Rattle.twp_answers.specs.ReportAnswers.{IsAccountOf, tract_line, total_lines}
+use Rattle.twp_answers.specs.Tracts.{IsTractList, tract_records}
 use Rattle.twp_calls.specs.Answers.{ACCEPTED, NO_ROOM, bare, with_text}
 use Rattle.twp_calls.specs.Calls.{Answers, IsRefusedList, OnPlat}
 use Rattle.twp_calls.specs.TractNames.{IsEnded}

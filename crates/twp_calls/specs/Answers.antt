@@ -1,12 +1,12 @@
 -- What a call answers. What a verdict doesn't speak of is 0, but NO_ROOM keeps what there was to say.
 use Rattle.std.specs.Prelude.{ℕ, ◌≡◌, ◌⊎◌, Option, Some, None}
 use Rattle.twp_grid.specs.declared.refusal.Refusal.{Refusal}
-use Rattle.twp_acres.specs.declared.stop.Stop.{Stop}
-use Rattle.twp_acres.specs.declared.stop.Stop.TheVariants.{Refused, Failed}
-use Rattle.twp_acres.specs.TractFaults.{verdict_of}
-use Rattle.twp_acres.specs.declared.tract_fault.TractFault.{TractFault}
-use Rattle.twp_acres.specs.declared.verdict.Verdict.{Verdict}
-use Rattle.twp_acres.specs.declared.verdict.Verdict.TheVariants as verdict
+use Rattle.twp_answers.specs.declared.stop.Stop.{Stop}
+use Rattle.twp_answers.specs.declared.stop.Stop.TheVariants.{Refused, Failed}
+use Rattle.twp_answers.specs.TractFaults.{verdict_of}
+use Rattle.twp_answers.specs.declared.tract_fault.TractFault.{TractFault}
+use Rattle.twp_answers.specs.declared.verdict.Verdict.{Verdict}
+use Rattle.twp_answers.specs.declared.verdict.Verdict.TheVariants as verdict
 use Rattle.twp_calls.specs.declared.answer.TownshipAnswer.{TownshipAnswer}
 
 -- the verdicts

@@ -6,12 +6,12 @@ use Rattle.twp_grid.specs.declared.refusal.Refusal.{Refusal}
 use Rattle.twp_plat.specs.Plats.{TownshipPlat}
 use Rattle.twp_plat.specs.declared.account.Account.{Account}
 use Rattle.twp_plat.specs.declared.account.Account.TheVariants.{Exact, Plat}
-use Rattle.twp_acres.specs.Answers.{ArePlatted, IsNoPlat, IsNoDescription}
-use Rattle.twp_acres.specs.OnPlats.{HasAcresOn, HasAreaOn, HasNormalOn, IsTextOfPlat}
-use Rattle.twp_acres.specs.ReportAnswers.{IsAccountOf}
-use Rattle.twp_acres.specs.TractFaults.{IsFirstTractFault, verdict_of}
-use Rattle.twp_acres.specs.declared.verdict.Verdict.{Verdict}
-use Rattle.twp_acres.specs.declared.tract_fault.TractFault.{TractFault}
+use Rattle.twp_answers.specs.Answers.{ArePlatted, IsNoPlat, IsNoDescription}
+use Rattle.twp_answers.specs.OnPlats.{HasAcresOn, HasAreaOn, HasNormalOn, IsTextOfPlat}
+use Rattle.twp_answers.specs.ReportAnswers.{IsAccountOf}
+use Rattle.twp_answers.specs.TractFaults.{IsFirstTractFault, verdict_of}
+use Rattle.twp_answers.specs.declared.verdict.Verdict.{Verdict}
+use Rattle.twp_answers.specs.declared.tract_fault.TractFault.{TractFault}
 use Rattle.twp_calls.specs.Answers.{ACCEPTED, NO_PLAT, NO_ACCOUNT, NO_MEMORY, bare, accepted_acres}
 use Rattle.twp_calls.specs.Answers.{with_text, without_room, refused, verdict_answer}
 use Rattle.twp_calls.specs.GivenPlats.{IsGivenPlat, IsNoGivenPlat, given_of}

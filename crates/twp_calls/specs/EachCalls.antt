@@ -4,11 +4,11 @@ use Rattle.std.specs.Prelude.{Err}
 use Rattle.std.specs.List.{SameFrom}
 use Rattle.twp_notes.specs.Records.{Fields, record_at}
 use Rattle.twp_plat.specs.Plats.{TownshipPlat}
-use Rattle.twp_acres.specs.EachTract.{IsListFault, IsListOfRecords, IsOfTract}
-use Rattle.twp_acres.specs.TractFaults.{verdict_of}
-use Rattle.twp_acres.specs.Tracts.{IsTractRecord, name_in, tract_records}
-use Rattle.twp_acres.specs.declared.tract_fault.TractFault.{TractFault}
-use Rattle.twp_acres.specs.declared.verdict.Verdict.{Verdict}
+use Rattle.twp_answers.specs.EachTract.{IsListFault, IsListOfRecords, IsOfTract}
+use Rattle.twp_answers.specs.TractFaults.{verdict_of}
+use Rattle.twp_answers.specs.Tracts.{IsTractRecord, name_in, tract_records}
+use Rattle.twp_answers.specs.declared.tract_fault.TractFault.{TractFault}
+use Rattle.twp_answers.specs.declared.verdict.Verdict.{Verdict}
 use Rattle.twp_calls.specs.Accounts.{tract_count}
 use Rattle.twp_calls.specs.Answers.{ACCEPTED, NO_ROOM, accepted_acres, answer_of_fault, bare, verdict_answer}
 use Rattle.twp_calls.specs.Answers.{with_text}

@@ -12,8 +12,8 @@ use Rattle.twp_plat.specs.Plats.{TownshipPlat}
 use Rattle.twp_plat.specs.PlatAccounts.{IsAreaBy}
 use Rattle.twp_plat.specs.declared.account.Account.{Account}
 use Rattle.twp_spell.specs.CanonicalText.{IsCanonicalText}
-use Rattle.twp_acres.specs.Answers.{IsNoDescription}
-use Rattle.twp_acres.specs.OnLands.{IsLandOf, AreAcresOf}
+use Rattle.twp_answers.specs.Answers.{IsNoDescription}
+use Rattle.twp_answers.specs.OnLands.{IsLandOf, AreAcresOf}
 use Rattle.twp_calls.specs.Answers.{ACCEPTED, NO_LAND, NO_TOWNSHIP, NO_OPERATION, OTHER_TOWNSHIP}
 use Rattle.twp_calls.specs.Answers.{bare, accepted_acres}
 use Rattle.twp_calls.specs.Calls.{Answers, ByAccount, IsFractionOf, IsRefusedFor, IsTextPut, OnPlat}

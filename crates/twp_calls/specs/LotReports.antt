@@ -3,11 +3,11 @@ use Rattle.std.specs.Prelude.{◌≡◌, ◌⊎◌, ℕ, ◌<◌, ◌≤◌, Lis
 use Rattle.std.specs.List.{SameFrom}
 use Rattle.twp_lots.specs.LotTables.{ReturnedLots}
 use Rattle.twp_notes.specs.Records.{Fields, record_at}
-use Rattle.twp_acres.specs.TractFaults.{verdict_of}
-use Rattle.twp_acres.specs.Tracts.{IsTractList, name_in, tract_records}
-use Rattle.twp_acres.specs.declared.account_figures.TractFigure.{TractFigure}
-use Rattle.twp_acres.specs.declared.tract_fault.TractFault.{TractFault}
-use Rattle.twp_acres.specs.declared.verdict.Verdict.{Verdict}
+use Rattle.twp_answers.specs.TractFaults.{verdict_of}
+use Rattle.twp_answers.specs.Tracts.{IsTractList, name_in, tract_records}
+use Rattle.twp_answers.specs.declared.account_figures.TractFigure.{TractFigure}
+use Rattle.twp_answers.specs.declared.tract_fault.TractFault.{TractFault}
+use Rattle.twp_answers.specs.declared.verdict.Verdict.{Verdict}
 use Rattle.twp_lot_account.specs.LotAccounts.{AreTractAcres, IsAccountByLots, IsTotalByLots}
 use Rattle.twp_lot_account.specs.LotTractFaults.{IsFirstFaultByLots}
 use Rattle.twp_calls.specs.Accounts.{tract_count}

@@ -2,10 +2,10 @@
 use Rattle.std.specs.Prelude.{◌≡◌, ◌⊎◌, ℕ, ◌<◌, ◌≤◌, List, length, map, take}
 use Rattle.std.specs.List.{SameFrom}
 use Rattle.twp_plat.specs.Plats.{TownshipPlat}
-use Rattle.twp_acres.specs.EachTract.{IsListOfRecords}
-use Rattle.twp_acres.specs.Overlaps.{AreOverlaps}
-use Rattle.twp_acres.specs.Tracts.{tract_records}
-use Rattle.twp_acres.specs.declared.overlaps.TractOverlap.{TractOverlap}
+use Rattle.twp_answers.specs.EachTract.{IsListOfRecords}
+use Rattle.twp_answers.specs.Overlaps.{AreOverlaps}
+use Rattle.twp_answers.specs.Tracts.{tract_records}
+use Rattle.twp_answers.specs.declared.overlaps.TractOverlap.{TractOverlap}
 use Rattle.twp_calls.specs.Answers.{ACCEPTED, NO_ROOM, bare, with_text}
 use Rattle.twp_calls.specs.Calls.{Answers, OnPlat}
 use Rattle.twp_calls.specs.EachCalls.{IsWholeListRefused}

@@ -1,6 +1,6 @@
 -- The field notes that are written for a plat: read again, they make that plat.
 use Rattle.std.specs.Prelude.{ℕ, List}
-use Rattle.twp_acres.specs.Answers.{ArePlatted}
+use Rattle.twp_answers.specs.Answers.{ArePlatted}
 use Rattle.twp_calls.specs.Calls.{Answers, IsTextPut, OnPlat}
 use Rattle.twp_calls.specs.declared.answer.TownshipAnswer.{TownshipAnswer}
 use Rattle.twp_calls.specs.declared.plat.TownshipPlat.{TownshipPlat as GivenPlat}

@@ -1,7 +1,7 @@
 ghost use Rattle.std.specs.Prelude.{◌≡◌};
 ghost use Rattle.twp_calls.specs.Calls.{account_of};
 
-use twp_acres::Account;
+use twp_plat::Account;
 
 /// The account that a number stands for.
 pub(crate) fn account_of(code: u32) -> Option<Account>

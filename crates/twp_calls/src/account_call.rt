@@ -2,8 +2,8 @@
 ghost use Rattle.std.specs.Prelude.{◌≡◌, ◌≢◌, ◌≤◌, ◌++◌, List, ℕ, length, take};
 ghost use Rattle.std.specs.List.{All, SameFrom, flat_map};
 ghost use Rattle.twp_plat.specs.Plats.{TownshipPlat as PlatMade};
-ghost use Rattle.twp_acres.specs.AccountFigures.{line_of as figure_line};
-ghost use Rattle.twp_acres.specs.ReportAnswers.{IsAccountOf, total_lines};
+ghost use Rattle.twp_answers.specs.AccountFigures.{line_of as figure_line};
+ghost use Rattle.twp_answers.specs.ReportAnswers.{IsAccountOf, total_lines};
 ghost use Rattle.twp_calls.specs.Accounts.{HasAccount, HasEndedName, IsAccountCall, line_of};
 ghost use Rattle.twp_calls.specs.Accounts.{tract_count};
 ghost use Rattle.twp_calls.specs.Answers.{ACCEPTED};
@@ -15,7 +15,7 @@ use crate::name::{NAME_ROOM, ended};
 use crate::plat::TownshipPlat;
 use crate::verdict::{ACCEPTED, NO_PLAT, NO_ROOM};
 use std::alloc::Global;
-use twp_acres::{TractFigure, figures_on};
+use twp_answers::{TractFigure, figures_on};
 
 /// A tract in an account.
 #[repr(C)]

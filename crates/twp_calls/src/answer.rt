@@ -5,7 +5,7 @@ ghost use Rattle.twp_calls.specs.Answers.{stopped, answer_of_fault, answer_of_re
 ghost use Rattle.twp_lots.specs.LotsFaults.{refusal_of};
 
 use crate::verdict;
-use twp_acres::{Stop, TractFault};
+use twp_answers::{Stop, TractFault};
 use twp_grid::Refusal;
 use twp_lots::LotsFault;
 

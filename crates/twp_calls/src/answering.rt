@@ -12,7 +12,7 @@ use crate::reading::plat_of_notes;
 use crate::text::put;
 use crate::verdict::{ACCEPTED, NO_ACCOUNT, NO_MEMORY, NO_PLAT};
 use std::alloc::Global;
-use twp_acres::{account_on, acres_on, area_on, normal_on, print_plat};
+use twp_answers::{account_on, acres_on, area_on, normal_on, print_plat};
 
 /// Makes the plat of field notes.
 pub fn township_read(alloc: Global, notes: &[u8], plat: &mut TownshipPlat) -> TownshipAnswer

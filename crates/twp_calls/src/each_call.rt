@@ -1,8 +1,8 @@
 //! The answer to each tract of a list.
 ghost use Rattle.std.specs.Prelude.{◌≡◌, ◌≢◌, List, ℕ};
 ghost use Rattle.twp_plat.specs.Plats.{TownshipPlat as PlatMade};
-ghost use Rattle.twp_acres.specs.EachTract.{AreAnswersTo, IsListOfRecords};
-ghost use Rattle.twp_acres.specs.Tracts.{tract_records};
+ghost use Rattle.twp_answers.specs.EachTract.{AreAnswersTo, IsListOfRecords};
+ghost use Rattle.twp_answers.specs.Tracts.{tract_records};
 ghost use Rattle.twp_calls.specs.Accounts.{tract_count};
 ghost use Rattle.twp_calls.specs.Answers.{ACCEPTED};
 ghost use Rattle.twp_calls.specs.EachCalls.{HasAnswers, IsEachCall, answer_of_tract};
@@ -14,7 +14,7 @@ use crate::name::{NAME_ROOM, ended};
 use crate::plat::TownshipPlat;
 use crate::verdict::{ACCEPTED, NO_PLAT, NO_ROOM};
 use std::alloc::Global;
-use twp_acres::{TractAnswer, TractFault, each_on};
+use twp_answers::{TractAnswer, TractFault, each_on};
 
 /// The answer to a tract.
 #[repr(C)]

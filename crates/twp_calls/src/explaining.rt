@@ -17,12 +17,13 @@ use crate::text::put;
 use crate::verdict::{ACCEPTED, NO_MEMORY, NO_PLAT};
 use crate::version::VERSION;
 use std::alloc::{AllocError, Global};
-use twp_acres::{Account, Stop, account_on, area_on};
+use twp_answers::{Stop, account_on, area_on};
 use twp_diagnose::{Explanation, Given};
 use twp_excerpt::Spot;
 use twp_explain::{explain_description, explain_notes, explain_tracts};
 use twp_explain_doubts::{Note, note_description, note_tracts};
 use twp_perhaps::OnlyReading;
+use twp_plat::Account;
 
 /// What a text is called that has no name of its own.
 const UNNAMED: &str = "input";

@@ -15,7 +15,7 @@ use crate::verdict::{
     ACCEPTED, NO_ACCOUNT, NO_LAND, NO_MEMORY, NO_PLAT, NO_TOWNSHIP, OTHER_TOWNSHIP,
 };
 use std::alloc::Global;
-use twp_acres::{acres_of, land_of};
+use twp_answers::{acres_of, land_of};
 use twp_plat::area_by;
 use twp_spell::spell;
 

@@ -12,7 +12,7 @@ use crate::land::TownshipLand;
 use crate::lots::TownshipLots;
 use crate::verdict::{ACCEPTED, NO_LAND, NO_LOTS, OTHER_TOWNSHIP};
 use std::alloc::Global;
-use twp_acres::{Stop, land_of};
+use twp_answers::{Stop, land_of};
 use twp_grid::Bytes;
 use twp_lots::{LotTable, area_by_lots};
 use twp_measure::Area;

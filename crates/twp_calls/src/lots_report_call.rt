@@ -11,7 +11,7 @@ use crate::lots::TownshipLots;
 use crate::many::counted;
 use crate::verdict::{ACCEPTED, NO_LOTS, NO_ROOM};
 use std::alloc::Global;
-use twp_acres::TractFigure;
+use twp_answers::TractFigure;
 use twp_lot_account::account_by_lots;
 
 /// The account of a list of tracts by a lot table: the tracts and their number, and the total.

@@ -11,8 +11,8 @@ use crate::answer::TownshipAnswer;
 use crate::plat::TownshipPlat;
 use crate::verdict::{ACCEPTED, NO_ACCOUNT, NO_PLAT, NO_RANGE, NO_ROOM};
 use std::alloc::Global;
-use twp_acres::{Account, acres_on};
-use twp_plat::Plat;
+use twp_answers::acres_on;
+use twp_plat::{Account, Plat};
 
 /// The answers of `township_acres` to many descriptions, which are given as bytes in a row: the first
 /// description is from the first offset to the second, the next from there to the third, and so on.

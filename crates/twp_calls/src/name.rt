@@ -1,6 +1,6 @@
 //! The names of tracts, as bytes for C.
 ghost use Rattle.std.specs.Prelude.{◌≡◌, ◌≤◌, ◌++◌, length, take, drop};
-ghost use Rattle.twp_acres.specs.Tracts.{NAME_MOST};
+ghost use Rattle.twp_answers.specs.Tracts.{NAME_MOST};
 ghost use Rattle.twp_calls.specs.TractNames.{IsEnded};
 
 /// Room for the longest name, which has 64 bytes, and zero bytes after it.

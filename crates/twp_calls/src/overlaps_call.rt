@@ -8,7 +8,7 @@ use crate::many::counted;
 use crate::plat::TownshipPlat;
 use crate::verdict::{ACCEPTED, NO_PLAT, NO_ROOM};
 use std::alloc::Global;
-use twp_acres::{TractOverlap, overlaps_on};
+use twp_answers::{TractOverlap, overlaps_on};
 
 /// Two tracts of a list that overlap.
 #[repr(C)]

@@ -1,7 +1,7 @@
-ghost use Rattle.twp_acres.specs.PlatReading.{IsPlatted};
+ghost use Rattle.twp_answers.specs.PlatReading.{IsPlatted};
 
 use std::alloc::Global;
-use twp_acres::{Stop, read_plat};
+use twp_answers::{Stop, read_plat};
 use twp_grid::Bytes;
 use twp_plat::Plat;
 

@@ -16,10 +16,10 @@ use Rattle.twp_grammar.specs.Sentences.{IsReadAs}
 use Rattle.twp_grammar.specs.declared.item.Item.{Item}
 use Rattle.twp_resolve.specs.PlaceFaults as place_faults
 use Rattle.twp_resolve.specs.declared.place_fault.PlaceFault.{PlaceFault}
-use Rattle.twp_acres.specs.Answers.{ArePlatted, IsNoPlat, IsNoDescription, IsRefusal}
-use Rattle.twp_acres.specs.declared.verdict.Verdict.{Verdict}
-use Rattle.twp_acres.specs.declared.verdict.Verdict.TheVariants.{Refused}
-use Rattle.twp_acres.proofs.OneAnswer.{not_platted, not_described, one_plat_refusal, one_refusal, one_plat}
+use Rattle.twp_answers.specs.Answers.{ArePlatted, IsNoPlat, IsNoDescription, IsRefusal}
+use Rattle.twp_answers.specs.declared.verdict.Verdict.{Verdict}
+use Rattle.twp_answers.specs.declared.verdict.Verdict.TheVariants.{Refused}
+use Rattle.twp_answers.proofs.OneAnswer.{not_platted, not_described, one_plat_refusal, one_refusal, one_plat}
 use Rattle.twp_read.specs.declared.fault.TextFault.TheVariants as text
 use Rattle.twp_explain_text.specs.OtherPlaces.{IsOtherPlace}
 use Rattle.twp_explain_text.specs.ShownPlaces.{IfShown}

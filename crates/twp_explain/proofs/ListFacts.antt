@@ -3,12 +3,12 @@ use Rattle.std.proofs.Common.{◌≡◌, ◌≢◌, ℕ, List, Some, refl, inl, 
 use Rattle.twp_grid.specs.Townships.{Designation}
 use Rattle.twp_grid.specs.declared.refusal.Refusal.{Refusal}
 use Rattle.twp_plat.specs.Plats.{TownshipPlat}
-use Rattle.twp_acres.specs.Answers.{ArePlatted, IsNoPlat}
-use Rattle.twp_acres.specs.TractFaults.{AnswersFault, IsFirstTractFault, refusal_of, verdict_of}
-use Rattle.twp_acres.specs.declared.tract_fault.TractFault.{TractFault}
-use Rattle.twp_acres.specs.declared.tract_fault.TractFault.TheVariants as fault
-use Rattle.twp_acres.specs.declared.verdict.Verdict.{Verdict}
-use Rattle.twp_acres.specs.declared.verdict.Verdict.TheVariants.{Refused, TractRefused}
+use Rattle.twp_answers.specs.Answers.{ArePlatted, IsNoPlat}
+use Rattle.twp_answers.specs.TractFaults.{AnswersFault, IsFirstTractFault, refusal_of, verdict_of}
+use Rattle.twp_answers.specs.declared.tract_fault.TractFault.{TractFault}
+use Rattle.twp_answers.specs.declared.tract_fault.TractFault.TheVariants as fault
+use Rattle.twp_answers.specs.declared.verdict.Verdict.{Verdict}
+use Rattle.twp_answers.specs.declared.verdict.Verdict.TheVariants.{Refused, TractRefused}
 use Rattle.twp_explain.specs.Refusals.{first_refusal, IsListRefusal}
 use Rattle.twp_diagnose.specs.Findings.{IfFound, IsOf}
 use Rattle.twp_diagnose.specs.declared.finding.Failure.{Failure}

@@ -1,7 +1,7 @@
 -- In which file what is explained is shown, over plain values.
 use Rattle.std.proofs.Common.{Option, Some, None, Result, Ok, Err}
 use Rattle.std.specs.Prelude.{IfOk, IfSome}
-use Rattle.twp_acres.specs.Answers.{MakePlat, IsNoPlat}
+use Rattle.twp_answers.specs.Answers.{MakePlat, IsNoPlat}
 use Rattle.twp_diagnose.specs.declared.given.Given.{Given}
 use Rattle.twp_diagnose.specs.Findings.{IfFound, IsOf}
 use Rattle.twp_diagnose.specs.ShownMessages.{ShowsIn}

@@ -5,10 +5,10 @@ use Rattle.std.specs.Prelude.{IfSome}
 use Rattle.twp_grid.specs.Townships.{Designation}
 use Rattle.twp_grid.specs.Lands.{SharePlace}
 use Rattle.twp_notes.specs.Records.{Fields, record_at, records_of}
-use Rattle.twp_acres.specs.Answers.{Describe}
-use Rattle.twp_acres.specs.Tracts.{description_in, tract_records, Overlap}
-use Rattle.twp_acres.proofs.OneAnswer.{one_land}
-use Rattle.twp_acres.proofs.TractLands.{earlier_or_last}
+use Rattle.twp_answers.specs.Answers.{Describe}
+use Rattle.twp_answers.specs.Tracts.{description_in, tract_records, Overlap}
+use Rattle.twp_answers.proofs.OneAnswer.{one_land}
+use Rattle.twp_answers.proofs.TractLands.{earlier_or_last}
 use Rattle.twp_diagnose.specs.RecordFields.{number_listed, IsListedAt}
 use Rattle.twp_diagnose.specs.declared.listed.Listed.{Listed}
 use Rattle.twp_explain.specs.steps.Sharing.{IsFirstSharing, IsFirstSharingRecord}

@@ -20,8 +20,8 @@ use Rattle.twp_explain_text.specs.ShownPlaces.{TOO_LARGE}
 use Rattle.twp_diagnose.specs.declared.explanation.OtherPlace.{OtherPlace}
 use Rattle.twp_diagnose.specs.declared.origin.Origin.{Origin}
 use Rattle.twp_explain.specs.FoundFaults.{IsMessageOf, ShowsFound, ShowsLand, ShowsLandIn}
-use Rattle.twp_acres.specs.Answers.{MakePlat, IsNoPlat}
-use Rattle.twp_acres.proofs.OneAnswer.{not_platted}
+use Rattle.twp_answers.specs.Answers.{MakePlat, IsNoPlat}
+use Rattle.twp_answers.proofs.OneAnswer.{not_platted}
 use Rattle.twp_explain.specs.ExplainedPlaces.{IsSpotOfStop, IsSpotRefused, IsExplainedWhereRefused}
 
 -- a place of a text that is a file is the same in the file

@@ -4,8 +4,8 @@ use Rattle.std.proofs.Common.{sym, subst, inl, inr, arith}
 use Rattle.std.specs.Prelude.{IfErr, OnOk}
 use Rattle.twp_grid.specs.Townships.{Designation}
 use Rattle.twp_notes.specs.Records.{Fields, records_of}
-use Rattle.twp_acres.specs.Tracts.{name_in}
-use Rattle.twp_acres.proofs.TractLands.{earlier_or_last}
+use Rattle.twp_answers.specs.Tracts.{name_in}
+use Rattle.twp_answers.proofs.TractLands.{earlier_or_last}
 use Rattle.twp_diagnose.specs.Findings.{IfFinds}
 use Rattle.twp_diagnose.specs.RecordFields.{IsListedAt, fields_listed, number_listed}
 use Rattle.twp_diagnose.specs.declared.explanation.OtherPlace.{OtherPlace}

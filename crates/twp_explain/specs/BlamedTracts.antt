@@ -3,9 +3,9 @@ use Rattle.std.specs.Prelude.{◌≡◌, ◌≢◌, ℕ, zero, suc, ◌≤◌, �
 use Rattle.std.specs.Prelude.{Option, None}
 use Rattle.twp_notes.specs.Records.{Fields, field, record_numbered, records_of}
 use Rattle.twp_grid.specs.Townships.{Designation}
-use Rattle.twp_acres.specs.Tracts.{description_in, name_in}
-use Rattle.twp_acres.specs.declared.tract_fault.TractFault.{TractFault}
-use Rattle.twp_acres.specs.declared.tract_fault.TractFault.TheVariants as fault
+use Rattle.twp_answers.specs.Tracts.{description_in, name_in}
+use Rattle.twp_answers.specs.declared.tract_fault.TractFault.{TractFault}
+use Rattle.twp_answers.specs.declared.tract_fault.TractFault.TheVariants as fault
 use Rattle.twp_diagnose.specs.Origins.{IsFieldAt}
 use Rattle.twp_diagnose.specs.RecordFields.{fields_listed, listed_span, number_listed, start_listed}
 use Rattle.twp_diagnose.specs.RecordFields.{IsListedAt}

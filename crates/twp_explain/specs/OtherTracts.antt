@@ -2,9 +2,9 @@
 use Rattle.std.specs.Prelude.{◌≡◌, ℕ, Bool, Option, None, IfSome, length, ◌<◌}
 use Rattle.twp_grid.specs.Townships.{Designation}
 use Rattle.twp_notes.specs.Records.{records_of}
-use Rattle.twp_acres.specs.Tracts.{name_in}
-use Rattle.twp_acres.specs.declared.tract_fault.TractFault.{TractFault}
-use Rattle.twp_acres.specs.declared.tract_fault.TractFault.TheVariants as fault
+use Rattle.twp_answers.specs.Tracts.{name_in}
+use Rattle.twp_answers.specs.declared.tract_fault.TractFault.{TractFault}
+use Rattle.twp_answers.specs.declared.tract_fault.TractFault.TheVariants as fault
 use Rattle.twp_diagnose.specs.RecordFields.{IsListedAt, fields_listed, listed_span, number_listed}
 use Rattle.twp_diagnose.specs.declared.explanation.OtherPlace.{OtherPlace}
 use Rattle.twp_diagnose.specs.declared.given.Given.{Given}

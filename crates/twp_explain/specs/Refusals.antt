@@ -3,12 +3,12 @@ use Rattle.std.specs.Prelude.{◌≡◌, ◌≢◌, ◌⊎◌, ℕ, Bool, List, 
 use Rattle.twp_grid.specs.Townships.{Designation}
 use Rattle.twp_grid.specs.declared.refusal.Refusal.{Refusal}
 use Rattle.twp_plat.specs.Plats.{TownshipPlat}
-use Rattle.twp_acres.specs.Answers.{ArePlatted, Describe, IsNoPlat}
-use Rattle.twp_acres.specs.ReportAnswers.{IsAccountOf}
-use Rattle.twp_acres.specs.TractFaults.{IsFirstTractFault, refusal_of, verdict_of}
-use Rattle.twp_acres.specs.declared.tract_fault.TractFault.{TractFault}
-use Rattle.twp_acres.specs.declared.verdict.Verdict.{Verdict}
-use Rattle.twp_acres.specs.declared.verdict.Verdict.TheVariants.{Accepted, Refused, TractRefused}
+use Rattle.twp_answers.specs.Answers.{ArePlatted, Describe, IsNoPlat}
+use Rattle.twp_answers.specs.ReportAnswers.{IsAccountOf}
+use Rattle.twp_answers.specs.TractFaults.{IsFirstTractFault, refusal_of, verdict_of}
+use Rattle.twp_answers.specs.declared.tract_fault.TractFault.{TractFault}
+use Rattle.twp_answers.specs.declared.verdict.Verdict.{Verdict}
+use Rattle.twp_answers.specs.declared.verdict.Verdict.TheVariants.{Accepted, Refused, TractRefused}
 use Rattle.twp_diagnose.specs.declared.finding.Failure.{Failure}
 use Rattle.twp_diagnose.specs.declared.finding.Failure.TheVariants.{Found, Memory}
 

@@ -1,5 +1,5 @@
 -- In which file an explanation shows the fault.
-use Rattle.twp_acres.specs.Answers.{MakePlat, IsNoPlat}
+use Rattle.twp_answers.specs.Answers.{MakePlat, IsNoPlat}
 use Rattle.twp_diagnose.specs.ShownMessages.{ShowsIn}
 use Rattle.twp_diagnose.specs.declared.explanation.Explanation.{Explanation}
 use Rattle.twp_diagnose.specs.declared.given.Given.{Given}

@@ -1,17 +1,17 @@
 //! Explanations, by what was asked of a run. Each stage of the run is gone through again on the
 //! bytes that it read, up to its refusal.
 ghost use Rattle.std.specs.Prelude.{◌≡◌, Some, None, IfOk, IfSome, IfErr};
-ghost use Rattle.twp_acres.specs.Answers.{ArePlatted, MakePlat, IsNoPlat, IsNoDescription, IsRefusal};
+ghost use Rattle.twp_answers.specs.Answers.{ArePlatted, MakePlat, IsNoPlat, IsNoDescription, IsRefusal};
 ghost use Rattle.twp_explain.specs.Refusals.{IsOfNone, IsNotOf, DescribeLand};
 ghost use Rattle.twp_explain.specs.ExplainedPlaces.{IsSpotOfStop, IsExplainedWhereRefused};
 ghost use Rattle.twp_diagnose.specs.Findings.{IfFinds, IfFound, IsOf};
 ghost use Rattle.twp_diagnose.specs.ShownMessages.{ShowsIn};
 ghost use Rattle.twp_explain.specs.FoundFaults.{ShowsFound};
 ghost use Rattle.twp_explain.specs.ShownFaults.{ShowsFault};
-ghost use Rattle.twp_acres.specs.declared.verdict.Verdict.TheVariants.{Refused};
+ghost use Rattle.twp_answers.specs.declared.verdict.Verdict.TheVariants.{Refused};
 
 use std::alloc::{AllocError, Global};
-use twp_acres::Verdict;
+use twp_answers::Verdict;
 use twp_diagnose::{Explanation, Failure, Given, Origin};
 use twp_explain_notes::{stop_of_notes, stop_of_plat};
 use twp_explain_text::{Suggests, stop_of_places, stop_of_text};

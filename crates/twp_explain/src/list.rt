@@ -1,6 +1,6 @@
 //! The explanation of a refused list of tracts.
 ghost use Rattle.std.specs.Prelude.{◌≡◌, ◌<◌, ◌≤◌, Some, None, length, IfOk, IfSome};
-ghost use Rattle.twp_acres.specs.TractFaults.{IsFirstTractFault, refusal_of, verdict_of};
+ghost use Rattle.twp_answers.specs.TractFaults.{IsFirstTractFault, refusal_of, verdict_of};
 ghost use Rattle.twp_diagnose.specs.ShownMessages.{ShowsIn};
 ghost use Rattle.twp_explain.specs.ShownFaults.{ShowsFault};
 ghost use Rattle.twp_explain.specs.Refusals.{IsListRefusal, HasAccount, first_refusal};
@@ -8,7 +8,7 @@ ghost use Rattle.twp_explain.specs.Refusals.{IsListRefusal, HasAccount, first_re
 use crate::explaining::{explain, plat_of};
 use crate::tracts;
 use std::alloc::{AllocError, Global};
-use twp_acres::{TRACTS_LIMIT, TractFault, Verdict, account_of_tracts};
+use twp_answers::{TRACTS_LIMIT, TractFault, Verdict, account_of_tracts};
 use twp_diagnose::{Explanation, Given};
 use twp_explain_text::Suggests;
 use twp_grid::{Refusal, Township};

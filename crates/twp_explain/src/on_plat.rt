@@ -1,8 +1,8 @@
 //! Explanations without a run: of field notes, and on a plat that is kept of a description and of a
 //! list of tracts. The first fault is explained, and nothing is explained where there is none.
 ghost use Rattle.std.specs.Prelude.{◌≡◌, Some, None, IfOk, IfSome};
-ghost use Rattle.twp_acres.specs.Answers.{MakePlat, IsNoPlat, IsNoDescription};
-ghost use Rattle.twp_acres.specs.TractFaults.{IsFirstTractFault, refusal_of};
+ghost use Rattle.twp_answers.specs.Answers.{MakePlat, IsNoPlat, IsNoDescription};
+ghost use Rattle.twp_answers.specs.TractFaults.{IsFirstTractFault, refusal_of};
 ghost use Rattle.twp_explain.specs.Refusals.{DescribeLand, HasAccount};
 ghost use Rattle.twp_diagnose.specs.ShownMessages.{ShowsIn};
 ghost use Rattle.twp_explain.specs.ExplainedPlaces.{IsSpotOfStop, IsExplainedWhereRefused};
@@ -12,7 +12,7 @@ ghost use Rattle.twp_explain.specs.FoundFaults.{IsMessageOf, ShowsLandIn};
 use crate::explaining::{describe, plat_of};
 use crate::list::{explain_fault, fault_of};
 use std::alloc::{AllocError, Global};
-use twp_acres::TractFault;
+use twp_answers::TractFault;
 use twp_diagnose::{Explanation, Failure, Given, Origin};
 use twp_explain_text::Suggests;
 use twp_grid::Township;

@@ -2,8 +2,8 @@
 ghost use Rattle.std.specs.Prelude.{◌≡◌, IfOk, IfSome, IsTrue};
 ghost use Rattle.csv.specs.Records.{fields_of};
 ghost use Rattle.twp_notes.specs.Records.{record_at, records_left, IsReading};
-ghost use Rattle.twp_acres.specs.Answers.{Describe};
-ghost use Rattle.twp_acres.specs.Tracts.{tract_records, description_in};
+ghost use Rattle.twp_answers.specs.Answers.{Describe};
+ghost use Rattle.twp_answers.specs.Tracts.{tract_records, description_in};
 ghost use Rattle.twp_diagnose.specs.RecordFields.{number_listed};
 ghost use Rattle.twp_explain.specs.steps.Sharing.{IsFirstSharing, IsFirstSharingRecord};
 

@@ -2,7 +2,7 @@
 ghost use Rattle.std.specs.Prelude.{◌≡◌, ◌≤◌, ◌↔◌, None, IfOk, IfErr, IfSome, IsTrue, OnOk};
 ghost use Rattle.csv.specs.Records.{fields_of};
 ghost use Rattle.twp_notes.specs.Records.{records_of};
-ghost use Rattle.twp_acres.specs.Tracts.{name_in};
+ghost use Rattle.twp_answers.specs.Tracts.{name_in};
 ghost use Rattle.twp_diagnose.specs.RecordFields.{fields_listed, listed_span, number_listed};
 ghost use Rattle.twp_diagnose.specs.RecordFields.{start_listed, IsListedAt};
 ghost use Rattle.twp_diagnose.specs.declared.location.Location.TheVariants.{Field, Line, Whole};
@@ -19,7 +19,7 @@ use crate::rows;
 use crate::sharing::{FIRST_TRACT, first_sharing_record};
 use csv::ByteRecord;
 use std::alloc::{AllocError, Global};
-use twp_acres::TractFault;
+use twp_answers::TractFault;
 use twp_diagnose::{Failure, Finding, Given, Listed, Location, Origin, OtherPlace, text_in};
 use twp_excerpt::write_escaped;
 use twp_explain_text::{Suggests, write_land};

@@ -2,7 +2,7 @@
 use Rattle.std.proofs.Common.{◌≡◌, ◌≤◌, ◌+◌, ℕ, List, length, Option, Some, None, Result, Ok, Err}
 use Rattle.std.proofs.Common.{IfOk, MatchOption, sym, ap, ◌∙◌, subst, inl, inr, arith}
 use Rattle.twp_notes.specs.Records.{records_of}
-use Rattle.twp_acres.proofs.TractLands.{earlier_or_last}
+use Rattle.twp_answers.proofs.TractLands.{earlier_or_last}
 use Rattle.twp_read.specs.Doubts.{AreDoubts, HasNoDoubtfulPlace}
 use Rattle.twp_read.specs.declared.doubt.DoubtfulPlace.{DoubtfulPlace}
 use Rattle.twp_read.specs.declared.doubt.Doubts.{Doubts}

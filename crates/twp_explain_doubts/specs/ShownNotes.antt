@@ -1,7 +1,7 @@
 -- What is noted of accepted input, and what the text of a note says of its place.
 use Rattle.std.specs.Prelude.{◌≡◌, ◌≤◌, ◌<◌, List, ℕ, ◌+◌, length, Option, MatchOption}
 use Rattle.twp_notes.specs.Records.{record_numbered, records_of}
-use Rattle.twp_acres.specs.Tracts.{TRACTS_MOST, description_in}
+use Rattle.twp_answers.specs.Tracts.{TRACTS_MOST, description_in}
 use Rattle.twp_diagnose.specs.Origins.{IsFieldAt, place_of}
 use Rattle.twp_diagnose.specs.RecordFields.{listed_span, IsListedAt}
 use Rattle.twp_diagnose.specs.Spots.{IsSpotAt, IsSpotOf}

@@ -23,12 +23,12 @@ use crate::note::sentence::sentence_of;
 use crate::note::span::end_of_place;
 use csv::ByteRecord;
 use std::alloc::{AllocError, Global};
-use twp_acres::{Account, TRACTS_MOST, read_plat};
+use twp_answers::{TRACTS_MOST, read_plat};
 use twp_diagnose::{Given, Listed, Located, Location, Origin, message_at, text_in};
 use twp_excerpt::{Parts, Span, Spot, write_escaped};
 use twp_grid::Bytes;
 use twp_notes::Records;
-use twp_plat::Plat;
+use twp_plat::{Account, Plat};
 use twp_read::{Doubts, doubts_in};
 
 /// What is noted of input that was accepted.

@@ -5,15 +5,15 @@ use Rattle.std.specs.Prelude.{IfSome}
 use Rattle.std.proofs.lemmas.Bool.{cases_lt, cases_eq}
 use Rattle.twp_lots.specs.LotTables.{ReturnedLots}
 use Rattle.twp_notes.specs.Records.{Fields, record_at, record_numbered, records_of}
-use Rattle.twp_acres.specs.EarlierTracts.{AreEarlier, Earlier, IsNamedAnew}
-use Rattle.twp_acres.specs.TractFaults.{HasAt, IsFrom, record_of, turn_of, verdict_of}
-use Rattle.twp_acres.specs.Tracts.{TRACTS_LIMIT, TRACTS_MOST, tracts_heading, tract_records}
-use Rattle.twp_acres.specs.Tracts.{AreTracts}
-use Rattle.twp_acres.specs.declared.tract_fault.TractFault.{TractFault}
-use Rattle.twp_acres.specs.declared.tract_fault.TractFault.TheVariants as fault
-use Rattle.twp_acres.proofs.FirstTractFaults.{at_tract, too_many, any_turn, none_before, number_is}
-use Rattle.twp_acres.proofs.FirstTractFaults.{overlaps_one, repeats, turn_of_land, turn_of_name}
-use Rattle.twp_acres.proofs.FirstTractFaults.{turn_of_record, where_is}
+use Rattle.twp_answers.specs.EarlierTracts.{AreEarlier, Earlier, IsNamedAnew}
+use Rattle.twp_answers.specs.TractFaults.{HasAt, IsFrom, record_of, turn_of, verdict_of}
+use Rattle.twp_answers.specs.Tracts.{TRACTS_LIMIT, TRACTS_MOST, tracts_heading, tract_records}
+use Rattle.twp_answers.specs.Tracts.{AreTracts}
+use Rattle.twp_answers.specs.declared.tract_fault.TractFault.{TractFault}
+use Rattle.twp_answers.specs.declared.tract_fault.TractFault.TheVariants as fault
+use Rattle.twp_answers.proofs.FirstTractFaults.{at_tract, too_many, any_turn, none_before, number_is}
+use Rattle.twp_answers.proofs.FirstTractFaults.{overlaps_one, repeats, turn_of_land, turn_of_name}
+use Rattle.twp_answers.proofs.FirstTractFaults.{turn_of_record, where_is}
 use Rattle.twp_lot_account.specs.LotTractFaults.{HasFaultByLots, IsFirstFaultByLots, LacksLotAt}
 use Rattle.twp_lot_account.specs.steps.LotTaking.{AreRefusedByLots, HasAtByLots, IsNextRefusedByLots}
 use Rattle.twp_lot_account.specs.steps.LotTaking.{IsRefusedByLots, LackNoLots, OverlapsByLots}

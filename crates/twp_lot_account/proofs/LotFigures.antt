@@ -9,16 +9,16 @@ use Rattle.twp_grid.specs.Places.{PLACE_DIGITS}
 use Rattle.twp_lots.specs.LotAreas.{HasFigures}
 use Rattle.twp_lots.specs.LotTables.{ReturnedLots}
 use Rattle.twp_notes.specs.Records.{Fields, record_at, record_numbered, records_of}
-use Rattle.twp_acres.specs.Answers.{Describe}
-use Rattle.twp_acres.specs.EarlierTracts.{AreEarlier, Earlier}
-use Rattle.twp_acres.specs.Tracts.{TRACTS_LIMIT, TRACTS_MOST, tracts_heading, tract_records}
-use Rattle.twp_acres.specs.Tracts.{name_in, description_in}
-use Rattle.twp_acres.specs.declared.account_figures.TractFigure.{TractFigure}
-use Rattle.twp_acres.specs.declared.tract_fault.TractFault.{TractFault}
-use Rattle.twp_acres.specs.declared.tract_fault.TractFault.TheVariants as fault
-use Rattle.twp_acres.proofs.EarlierFacts.{taken_places}
-use Rattle.twp_acres.proofs.OneAnswer.{one_land}
-use Rattle.twp_acres.proofs.TractLands.{earlier_or_last}
+use Rattle.twp_answers.specs.Answers.{Describe}
+use Rattle.twp_answers.specs.EarlierTracts.{AreEarlier, Earlier}
+use Rattle.twp_answers.specs.Tracts.{TRACTS_LIMIT, TRACTS_MOST, tracts_heading, tract_records}
+use Rattle.twp_answers.specs.Tracts.{name_in, description_in}
+use Rattle.twp_answers.specs.declared.account_figures.TractFigure.{TractFigure}
+use Rattle.twp_answers.specs.declared.tract_fault.TractFault.{TractFault}
+use Rattle.twp_answers.specs.declared.tract_fault.TractFault.TheVariants as fault
+use Rattle.twp_answers.proofs.EarlierFacts.{taken_places}
+use Rattle.twp_answers.proofs.OneAnswer.{one_land}
+use Rattle.twp_answers.proofs.TractLands.{earlier_or_last}
 use Rattle.twp_lot_account.specs.LotAccounts.{AreFiguresByLots, IsAccountByLots, IsFigureByLots}
 use Rattle.twp_lot_account.specs.LotLands.{HasLotArea}
 use Rattle.twp_lot_account.specs.LotTractFaults.{LacksLotAt}

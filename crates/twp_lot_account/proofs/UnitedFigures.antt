@@ -15,7 +15,7 @@ use Rattle.twp_plat.proofs.SectionSums.{held_of_lot, places_where}
 use Rattle.twp_lots.specs.LotAreas.{HasFigures}
 use Rattle.twp_lots.specs.LotTables.{ReturnedLots}
 use Rattle.twp_lots.proofs.LackingFacts.{number_within}
-use Rattle.twp_acres.proofs.TractLands.{either_way}
+use Rattle.twp_answers.proofs.TractLands.{either_way}
 
 -- the first place of a position
 abbrev first_place : (ℕ → ℕ → ℕ → Bool) → ℕ → ℕ → ℕ → Bool

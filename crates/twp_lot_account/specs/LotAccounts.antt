@@ -4,8 +4,8 @@ use Rattle.std.specs.Prelude.{◌≡◌, ℕ, ◌<◌, Bool, List, length, slice
 use Rattle.twp_measure.specs.Areas.{Fraction, IsRounded}
 use Rattle.twp_lots.specs.LotTables.{ReturnedLots}
 use Rattle.twp_notes.specs.Records.{Fields, record_at}
-use Rattle.twp_acres.specs.Tracts.{name_in, description_in, tract_records, IsTractList, IsLandOfTracts}
-use Rattle.twp_acres.specs.declared.account_figures.TractFigure.{TractFigure}
+use Rattle.twp_answers.specs.Tracts.{name_in, description_in, tract_records, IsTractList, IsLandOfTracts}
+use Rattle.twp_answers.specs.declared.account_figures.TractFigure.{TractFigure}
 use Rattle.twp_lot_account.specs.LotLands.{HasLotArea, HasLotAreaOf}
 
 -- these are the hundredths of an acre of the land of a record's tract by the table: its area, rounded once,

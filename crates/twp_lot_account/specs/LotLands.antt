@@ -7,8 +7,8 @@ use Rattle.twp_grid.specs.declared.refusal.Refusal.{Refusal}
 use Rattle.twp_lots.specs.LotAreas.{HasFigures, IsFirstLacking, IsLotArea}
 use Rattle.twp_lots.specs.LotTables.{ReturnedLots}
 use Rattle.twp_lots.specs.LotsFaults.{lacking_refusal}
-use Rattle.twp_acres.specs.Answers.{IsNoDescription}
-use Rattle.twp_acres.specs.OnLands.{IsLandOf}
+use Rattle.twp_answers.specs.Answers.{IsNoDescription}
+use Rattle.twp_answers.specs.OnLands.{IsLandOf}
 
 -- the set contains a lot that the table lacks, and this is the refusal of the first one
 pub record IsLackingLot (table : ReturnedLots) (places : ℕ → ℕ → ℕ → Bool) (refusal : Refusal)

@@ -3,10 +3,10 @@
 use Rattle.std.specs.Prelude.{◌≡◌, ◌⊎◌, ℕ, ◌+◌, ◌<◌, List, length, IfSome}
 use Rattle.twp_lots.specs.LotTables.{ReturnedLots}
 use Rattle.twp_notes.specs.Records.{Fields, record_at}
-use Rattle.twp_acres.specs.Tracts.{description_in, tract_records}
-use Rattle.twp_acres.specs.TractFaults.{HasTractFault, IsFrom, record_of, turn_of, verdict_of}
-use Rattle.twp_acres.specs.declared.tract_fault.TractFault.{TractFault}
-use Rattle.twp_acres.specs.declared.tract_fault.TractFault.TheVariants as fault
+use Rattle.twp_answers.specs.Tracts.{description_in, tract_records}
+use Rattle.twp_answers.specs.TractFaults.{HasTractFault, IsFrom, record_of, turn_of, verdict_of}
+use Rattle.twp_answers.specs.declared.tract_fault.TractFault.{TractFault}
+use Rattle.twp_answers.specs.declared.tract_fault.TractFault.TheVariants as fault
 use Rattle.twp_lot_account.specs.LotLands.{LacksLotOf}
 
 -- the table lacks a lot of the tract at the index, which is reported at its record

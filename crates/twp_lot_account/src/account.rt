@@ -4,8 +4,8 @@ ghost use Rattle.csv.specs.Records.{fields_of};
 ghost use Rattle.twp_grid.specs.Places.{PLACE_DIGITS};
 ghost use Rattle.twp_lots.specs.LotAreas.{HasFigures};
 ghost use Rattle.twp_notes.specs.Records.{records_left, IsReading};
-ghost use Rattle.twp_acres.specs.EarlierTracts.{earlier_of, AreEarlier};
-ghost use Rattle.twp_acres.specs.Tracts.{TRACTS_MOST};
+ghost use Rattle.twp_answers.specs.EarlierTracts.{earlier_of, AreEarlier};
+ghost use Rattle.twp_answers.specs.Tracts.{TRACTS_MOST};
 ghost use Rattle.twp_lot_account.specs.LotAccounts.{AreFiguresByLots, IsAccountByLots};
 ghost use Rattle.twp_lot_account.specs.LotTractFaults.{AnswersFaultByLots};
 ghost use Rattle.twp_lot_account.specs.steps.LotTaking.{AreRefusedByLots, IsRefusedByLots};
@@ -13,7 +13,7 @@ ghost use Rattle.twp_lot_account.specs.steps.LotTaking.{TakesByLots};
 
 use csv::ByteRecord;
 use std::alloc::Global;
-use twp_acres::{
+use twp_answers::{
     EarlierTracts, FIRST_TRACT, TRACTS_LIMIT, TRACTS_MOST, TractFault, TractFigure, figure_of,
     is_heading,
 };

@@ -56,7 +56,7 @@ pub fn area_by<L: PlaceSet>(account: Account, plat: &Plat, land: &L) -> Area
     let mut units = 0;
     for number in first.number()..last.number() + 1 {
         let section = Section::new(number).unwrap();
-        if !land.meets(section, Block::whole()) {
+        if land.is_untouched(section) {
             continue;
         }
         units += units_in_section(account, plat, land, section);

@@ -2,12 +2,13 @@
 use Rattle.std.proofs.Common.{ℕ, List, Result, Ok, Err, Option}
 use Rattle.std.specs.Prelude.{IfOk, IfErr}
 use Rattle.clap.specs.Words.{Text}
-use Rattle.twp_acres.specs.PlatAnswers.{IsPlatAnswer}
-use Rattle.twp_acres.specs.Answers.{IsAcresAnswer}
-use Rattle.twp_acres.specs.Runs.{IsRun, Reads, RunsOnPlat, Use}
-use Rattle.twp_acres.specs.declared.verdict.Verdict.{Verdict}
-use Rattle.twp_acres.specs.declared.verdict.RunFault.{RunFault}
-use Rattle.twp_acres.specs.declared.verdict.RunFault.TheVariants.{Read, Write, Memory}
+use Rattle.twp_answers.specs.PlatAnswers.{IsPlatAnswer}
+use Rattle.twp_answers.specs.Answers.{IsAcresAnswer}
+use Rattle.twp_answers.specs.Uses.{Reads, Use}
+use Rattle.twp_acres.specs.Runs.{IsRun, RunsOnPlat}
+use Rattle.twp_answers.specs.declared.verdict.Verdict.{Verdict}
+use Rattle.twp_answers.specs.declared.verdict.RunFault.{RunFault}
+use Rattle.twp_answers.specs.declared.verdict.RunFault.TheVariants.{Read, Write, Memory}
 use Rattle.twp_program.specs.Endings.{AnswerTo, EndsAs, EndsRun, FailsOn, IsJoinedVerdict, IsRunFailure}
 use Rattle.twp_program.specs.Endings.{IsVerdictOf, RunsOnNotes}
 use Rattle.twp_task.specs.Joined.{joined_description, joined_notes}

@@ -6,15 +6,16 @@ use Rattle.clap.specs.declared.error.kind.ErrorKind.TheVariants.{DisplayHelp}
 use Rattle.twp_grid.specs.Devices.{TakesAtMost}
 use Rattle.twp_notes.specs.FieldNotes.{NOTES_MOST}
 use Rattle.twp_grid.specs.Devices.{TakesFirst}
-use Rattle.twp_acres.specs.Runs.{AnswerRelation, IsRun, Reads, Use}
-use Rattle.twp_acres.specs.PlatAnswers.{IsPlatAnswer}
-use Rattle.twp_acres.specs.Answers.{IsAcresAnswer}
+use Rattle.twp_answers.specs.Uses.{Reads, Use}
+use Rattle.twp_acres.specs.Runs.{AnswerRelation, IsRun}
+use Rattle.twp_answers.specs.PlatAnswers.{IsPlatAnswer}
+use Rattle.twp_answers.specs.Answers.{IsAcresAnswer}
 use Rattle.twp_acres.specs.AccountAnswers.{IsAcresAnswerBy}
 use Rattle.twp_acres.specs.NormalAnswers.{IsNormalAnswer}
-use Rattle.twp_acres.specs.ReportAnswers.{IsReportAnswer}
-use Rattle.twp_acres.specs.declared.verdict.Verdict.{Verdict}
-use Rattle.twp_acres.specs.declared.verdict.RunFault.{RunFault}
-use Rattle.twp_acres.specs.declared.verdict.RunFault.TheVariants.{Read, Write, Memory}
+use Rattle.twp_answers.specs.ReportAnswers.{IsReportAnswer}
+use Rattle.twp_answers.specs.declared.verdict.Verdict.{Verdict}
+use Rattle.twp_answers.specs.declared.verdict.RunFault.{RunFault}
+use Rattle.twp_answers.specs.declared.verdict.RunFault.TheVariants.{Read, Write, Memory}
 use Rattle.twp_task.specs.Joined.{joined_description, joined_notes}
 use Rattle.twp_task.specs.Statuses.{failing}
 use Rattle.twp_task.specs.Tasks.{HasKindAt, IsFaultOf, IsTaskOf}

@@ -2,7 +2,7 @@
 //! explanation of a refusal or, for accepted land, a note if a place in its description can be read
 //! in two ways. It is left out if memory for it runs out.
 ghost use Rattle.std.specs.Prelude.{◌≡◌, ◌≢◌, ◌↔◌, Ok, Some, IfSome, IsTrue};
-ghost use Rattle.twp_acres.specs.declared.verdict.Verdict.TheVariants.{Accepted};
+ghost use Rattle.twp_answers.specs.declared.verdict.Verdict.TheVariants.{Accepted};
 ghost use Rattle.twp_explain.specs.Refusals.{first_refusal};
 ghost use Rattle.twp_task.specs.KeptBytes.{copy_of};
 ghost use Rattle.twp_program.specs.ShownExplanations.{AreJoinedNotes, IsExplanationOf, IsFile};

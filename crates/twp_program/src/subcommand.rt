@@ -4,10 +4,11 @@ ghost use Rattle.std.specs.Prelude.{◌≡◌, IfErr, IfOk, false};
 ghost use Rattle.twp_read.specs.TextFaults.{TEXT_LIMIT};
 ghost use Rattle.twp_acres.specs.AccountAnswers.{IsAcresAnswerBy};
 ghost use Rattle.twp_acres.specs.NormalAnswers.{IsNormalAnswer};
-ghost use Rattle.twp_acres.specs.PlatAnswers.{IsPlatAnswer};
-ghost use Rattle.twp_acres.specs.ReportAnswers.{IsReportAnswer};
-ghost use Rattle.twp_acres.specs.Runs.{RunsOnPlat, used};
-ghost use Rattle.twp_acres.specs.Tracts.{TRACTS_LIMIT};
+ghost use Rattle.twp_answers.specs.PlatAnswers.{IsPlatAnswer};
+ghost use Rattle.twp_answers.specs.ReportAnswers.{IsReportAnswer};
+ghost use Rattle.twp_answers.specs.Uses.{used};
+ghost use Rattle.twp_acres.specs.Runs.{RunsOnPlat};
+ghost use Rattle.twp_answers.specs.Tracts.{TRACTS_LIMIT};
 ghost use Rattle.twp_program.specs.Endings.{EndsRun, FailsOn, IsVerdictOf, RunsOnNotes};
 
 use crate::files::{OpenedNotes, OpenedText, open_notes, open_text};

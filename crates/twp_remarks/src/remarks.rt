@@ -88,7 +88,7 @@ fn is_colon_of_remark(pieces: &Pieces<'_>, place: usize) -> bool {
     matches!(pieces.kind(place), Kind::Colon) && !pieces.begins_column(place)
 }
 
-/// Whether the piece at a place is not part of a remark from an index, which then is none.
+/// Whether the piece at a place can't be in a remark that begins at an index. Then there is no such remark.
 fn leaves_remark(pieces: &Pieces<'_>, index: usize, place: usize, position: Position) -> bool {
     let is_limit = match position {
         Position::BeforeLand => is_area_before_land(pieces, index, place),

@@ -3,15 +3,15 @@
 use Rattle.std.specs.Prelude.{◌≡◌, ℕ, List, Result, Ok, Err}
 use Rattle.twp_plat.specs.Plats.{TownshipPlat}
 use Rattle.twp_plat.specs.declared.account.Account.{Account}
-use Rattle.twp_acres.specs.Answers.{AnswersRefusal, ArePlatted, IsNoDescription, IsNoText}
-use Rattle.twp_acres.specs.Answers.{IsRefusal}
-use Rattle.twp_acres.specs.Answers.{acres_line}
-use Rattle.twp_acres.specs.OnPlats.{HasAcresOn, HasNormalOn}
+use Rattle.twp_answers.specs.Answers.{AnswersRefusal, ArePlatted, IsNoDescription, IsNoText}
+use Rattle.twp_answers.specs.Answers.{IsRefusal}
+use Rattle.twp_answers.specs.Answers.{acres_line}
+use Rattle.twp_answers.specs.OnPlats.{HasAcresOn, HasNormalOn}
 use Rattle.twp_acres.specs.Runs.{AnswerRelation}
-use Rattle.twp_acres.specs.steps.Stops.{IfRefused}
-use Rattle.twp_acres.specs.declared.stages.Texts.{Texts}
-use Rattle.twp_acres.specs.declared.stop.Stop.{Stop}
-use Rattle.twp_acres.specs.declared.verdict.Verdict.TheVariants.{Accepted, Refused, TractRefused}
+use Rattle.twp_answers.specs.PlatReading.{IfRefused}
+use Rattle.twp_acres.specs.declared.texts.Texts.{Texts}
+use Rattle.twp_answers.specs.declared.stop.Stop.{Stop}
+use Rattle.twp_answers.specs.declared.verdict.Verdict.TheVariants.{Accepted, Refused, TractRefused}
 
 -- the bytes that were read, or their refusal
 abbrev pub IsTextRead : {V : Type 0} → (V → List ℕ) → List ℕ → Result V Stop → Type 0

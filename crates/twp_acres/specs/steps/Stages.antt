@@ -4,11 +4,11 @@ use Rattle.std.specs.Prelude.{IfErr, IsErrOf}
 use Rattle.twp_grid.specs.Devices.{TakesAtMost}
 use Rattle.twp_notes.specs.FieldNotes.{NOTES_MOST}
 use Rattle.twp_grid.specs.Devices.{TakesFirst}
-use Rattle.twp_acres.specs.Answers.{MakePlat}
-pub use Rattle.twp_acres.specs.PlatReading.{ReadsUpTo}
-use Rattle.twp_acres.specs.Runs.{AnyFailed, Use}
-use Rattle.twp_acres.specs.declared.verdict.RunFault.{RunFault}
-use Rattle.twp_acres.specs.declared.verdict.RunFault.TheVariants.{Read, Write, Memory}
+use Rattle.twp_answers.specs.Answers.{MakePlat}
+use Rattle.twp_answers.specs.Uses.{Use}
+use Rattle.twp_acres.specs.Runs.{AnyFailed}
+use Rattle.twp_answers.specs.declared.verdict.RunFault.{RunFault}
+use Rattle.twp_answers.specs.declared.verdict.RunFault.TheVariants.{Read, Write, Memory}
 
 -- a fault of a run that stays the same
 abbrev pub same_fault : RunFault → RunFault

@@ -2,9 +2,9 @@
 use Rattle.std.specs.Prelude.{◌≡◌, ℕ, List, Result, Ok, Err}
 use Rattle.twp_measure.specs.Areas.{Fraction}
 use Rattle.twp_lots.specs.LotTables.{ReturnedLots}
-use Rattle.twp_acres.specs.declared.stop.Stop.{Stop}
-use Rattle.twp_acres.specs.declared.stop.Stop.TheVariants as stop
-use Rattle.twp_acres.specs.declared.verdict.RunFault.TheVariants as run
+use Rattle.twp_answers.specs.declared.stop.Stop.{Stop}
+use Rattle.twp_answers.specs.declared.stop.Stop.TheVariants as stop
+use Rattle.twp_answers.specs.declared.verdict.RunFault.TheVariants as run
 use Rattle.twp_lot_account.specs.LotLands.{HasLotAreaOf, HasNoLotAreaOf}
 
 -- why a description has no area by a lot table: it is refused, or memory ran out

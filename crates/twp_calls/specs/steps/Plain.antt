@@ -1,7 +1,7 @@
 -- The answers to tracts, and their figures, as plain data. No public contract cites this module.
 use Rattle.std.specs.Prelude.{◌≡◌, ℕ, ◌<◌, List, length, take, slice_index_or}
-use Rattle.twp_acres.specs.declared.account_figures.TractFigure.{TractFigure}
-use Rattle.twp_acres.specs.declared.each_tract.TractAnswer.{TractAnswer}
+use Rattle.twp_answers.specs.declared.account_figures.TractFigure.{TractFigure}
+use Rattle.twp_answers.specs.declared.each_tract.TractAnswer.{TractAnswer}
 use Rattle.twp_calls.specs.EachCalls.{answer_of_tract}
 use Rattle.twp_calls.specs.TractNames.{IsEnded}
 use Rattle.twp_calls.specs.declared.account_call.TownshipTract.{TownshipTract}

@@ -3,7 +3,7 @@ use Rattle.std.specs.Prelude.{◌≡◌, ℕ, ◌-◌, ◌≤◌, ◌<◌, Bool,
 use Rattle.twp_grid.specs.Townships.{Designation}
 use Rattle.twp_grid.specs.Lands.{intersection}
 use Rattle.twp_notes.specs.Records.{Fields, record_at}
-use Rattle.twp_acres.specs.Tracts.{Overlap, tract_records}
+use Rattle.twp_answers.specs.Tracts.{Overlap, tract_records}
 use Rattle.twp_diagnose.specs.RecordFields.{number_listed, IsListedAt}
 use Rattle.twp_diagnose.specs.declared.listed.Listed.{Listed}
 use Rattle.twp_explain.specs.BlamedTracts.{FIRST_TRACT}

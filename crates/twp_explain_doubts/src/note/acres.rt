@@ -1,7 +1,7 @@
 //! The acres of the readings that a note names.
 use std::alloc::{AllocError, Global};
-use twp_acres::{Account, RunFault, Stop, acres_on};
-use twp_plat::Plat;
+use twp_answers::{RunFault, Stop, acres_on};
+use twp_plat::{Account, Plat};
 
 /// What acres are reckoned by: the plat, if there is one, and the account.
 #[derive(Clone, Copy)]

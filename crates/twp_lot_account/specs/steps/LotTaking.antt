@@ -7,12 +7,12 @@ use Rattle.twp_grid.specs.Lands.{SharePlace}
 use Rattle.twp_lots.specs.LotAreas.{HasFigures}
 use Rattle.twp_lots.specs.LotTables.{ReturnedLots}
 use Rattle.twp_notes.specs.Records.{Fields}
-use Rattle.twp_acres.specs.Answers.{Describe}
-use Rattle.twp_acres.specs.EarlierTracts.{Earlier, IsNamedAnew, IsUnread, TakesLand}
-use Rattle.twp_acres.specs.TractFaults.{HasAt, turn_of}
-use Rattle.twp_acres.specs.Tracts.{TRACTS_MOST, AreTracts, description_in}
-use Rattle.twp_acres.specs.declared.tract_fault.TractFault.{TractFault}
-use Rattle.twp_acres.specs.declared.tract_fault.TractFault.TheVariants as fault
+use Rattle.twp_answers.specs.Answers.{Describe}
+use Rattle.twp_answers.specs.EarlierTracts.{Earlier, IsNamedAnew, IsUnread, TakesLand}
+use Rattle.twp_answers.specs.TractFaults.{HasAt, turn_of}
+use Rattle.twp_answers.specs.Tracts.{TRACTS_MOST, AreTracts, description_in}
+use Rattle.twp_answers.specs.declared.tract_fault.TractFault.{TractFault}
+use Rattle.twp_answers.specs.declared.tract_fault.TractFault.TheVariants as fault
 use Rattle.twp_lot_account.specs.LotLands.{HasLotArea, HasNoLotAreaOf}
 use Rattle.twp_lot_account.specs.LotTractFaults.{LacksLotAt}
 

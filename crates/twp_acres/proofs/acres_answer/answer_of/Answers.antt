@@ -1,7 +1,7 @@
 -- The texts that were read do not change, and a stop is answered with its refusal.
 use Rattle.std.proofs.Common.{refl}
 use Rattle.twp_read.specs.TextFaults.{TEXT_LIMIT}
-use Rattle.twp_acres.specs.Answers.{IsRefusal}
+use Rattle.twp_answers.specs.Answers.{IsRefusal}
 use Rattle.twp_acres.specs.AccountAnswers.{IsAcresAnswerBy}
 use Rattle.twp_acres.specs.steps.OnPlatSteps.{IsAcresAnswerOn}
 use Rattle.twp_acres.proofs.OnPlatFacts.{acres_answered, answered_of_two}

@@ -1,4 +1,4 @@
-use Rattle.twp_acres.proofs.TractAreas as laws
+use Rattle.twp_acres.proofs.TractSums as laws
 use Rattle.twp_acres.proofs.laws.rest_adds_up.Goals as goal
 
 pub returns : goal.returns

@@ -2,8 +2,8 @@
 use Rattle.std.proofs.Common.{refl}
 use Rattle.twp_notes.specs.FieldNotes.{NOTES_MOST}
 use Rattle.twp_plat.specs.Plats.{TownshipPlat}
-use Rattle.twp_acres.specs.Answers.{IsNoPlat}
-use Rattle.twp_acres.specs.PlatAnswers.{IsPlatAnswer}
+use Rattle.twp_answers.specs.Answers.{IsNoPlat}
+use Rattle.twp_answers.specs.PlatAnswers.{IsPlatAnswer}
 use Rattle.twp_acres.proofs.StopFacts.{accepted_up_to, refused_of_one, stopped_up_to}
 use Rattle.twp_acres.proofs.plat_answer.answer_of.Goals as goal
 

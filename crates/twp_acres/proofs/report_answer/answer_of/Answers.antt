@@ -2,9 +2,9 @@
 use Rattle.std.proofs.Common.{inl, refl}
 use Rattle.std.specs.Prelude.{⊤}
 use Rattle.twp_plat.specs.Plats.{TownshipPlat}
-use Rattle.twp_acres.specs.Answers.{IsNoPlat}
-use Rattle.twp_acres.specs.Tracts.{TRACTS_LIMIT}
-use Rattle.twp_acres.specs.ReportAnswers.{IsReportAnswer}
+use Rattle.twp_answers.specs.Answers.{IsNoPlat}
+use Rattle.twp_answers.specs.Tracts.{TRACTS_LIMIT}
+use Rattle.twp_answers.specs.ReportAnswers.{IsReportAnswer}
 use Rattle.twp_acres.specs.steps.Stages.{same_fault}
 use Rattle.twp_acres.proofs.StopFacts.{first_stopped, refused_of_first, second_read, stopped_on_plat}
 use Rattle.twp_acres.proofs.report_answer.answer_of.Goals as goal

@@ -3,8 +3,8 @@ use Rattle.std.proofs.Common.{[]}
 use Rattle.std.specs.Prelude.{unwrap_or}
 use Rattle.std.proofs.lemmas.Result.{err_from_is_err_and}
 use Rattle.twp_acres.proofs.RunFacts.{some_bytes, if_ok}
-use Rattle.twp_acres.specs.declared.tract_fault.TractFault.TheVariants.{TractsTooLarge}
-use Rattle.twp_acres.proofs.FirstTractFaults.{large_first, list_refused}
+use Rattle.twp_answers.specs.declared.tract_fault.TractFault.TheVariants.{TractsTooLarge}
+use Rattle.twp_answers.proofs.FirstTractFaults.{large_first, list_refused}
 use Rattle.twp_acres.proofs.report_answer.report_on.Goals as goal
 
 pub returns-in_err-bytes-clause-answer : goal.returns-in_err-bytes-clause-answer

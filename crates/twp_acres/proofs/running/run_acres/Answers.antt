@@ -1,8 +1,8 @@
 -- It is the run by the exact account; for the known bytes of the sources, there is only one answer.
 use Rattle.std.proofs.Common.{refl}
-use Rattle.twp_acres.specs.Answers.{IsAcresAnswer, acres_line}
-use Rattle.twp_acres.specs.Answers.{refusal_line}
-use Rattle.twp_acres.specs.declared.verdict.Verdict.TheVariants.{Accepted, Refused}
+use Rattle.twp_answers.specs.Answers.{IsAcresAnswer, acres_line}
+use Rattle.twp_answers.specs.Answers.{refusal_line}
+use Rattle.twp_answers.specs.declared.verdict.Verdict.TheVariants.{Accepted, Refused}
 use Rattle.twp_acres.proofs.OneAnswer.{one_answer}
 use Rattle.twp_acres.proofs.RunFacts.{answered}
 use Rattle.twp_acres.proofs.running.run_acres.Goals as goal

@@ -1,7 +1,7 @@
 -- The run stopped, or had the answer and wrote it.
 use Rattle.std.proofs.lemmas.Result.{err_from_is_err_and}
-use Rattle.twp_acres.specs.ReportAnswers.{IsReportAnswer}
-use Rattle.twp_acres.specs.Tracts.{TRACTS_LIMIT}
+use Rattle.twp_answers.specs.ReportAnswers.{IsReportAnswer}
+use Rattle.twp_answers.specs.Tracts.{TRACTS_LIMIT}
 use Rattle.twp_acres.proofs.RunFacts.{run_on_plat, run_stopped}
 use Rattle.twp_acres.proofs.running.run_report_noting.Goals as goal
 

@@ -2,7 +2,7 @@
 use Rattle.std.proofs.Common.{◌≡◌, subst, arith, take, length}
 use Rattle.std.specs.List.{All, SameFrom, flat_map}
 use Rattle.std.proofs.lemmas.Grind.{common_steps}
-use Rattle.twp_acres.specs.AccountFigures.{line_of as figure_line}
+use Rattle.twp_answers.specs.AccountFigures.{line_of as figure_line}
 use Rattle.twp_calls.specs.Accounts.{HasEndedName, line_of}
 use Rattle.twp_calls.specs.steps.Plain.{ArePlainTractsTo}
 use Rattle.twp_calls.proofs.AccountFacts.{ended_next, kept_next, lines_next, plain_next}

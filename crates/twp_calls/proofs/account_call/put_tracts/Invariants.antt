@@ -1,6 +1,6 @@
 use Rattle.std.proofs.Common.{◌≡◌, length, take}
 use Rattle.std.specs.List.{All, SameFrom, flat_map}
-use Rattle.twp_acres.specs.AccountFigures.{line_of as figure_line}
+use Rattle.twp_answers.specs.AccountFigures.{line_of as figure_line}
 use Rattle.twp_calls.specs.Accounts.{HasEndedName, line_of}
 use Rattle.twp_calls.specs.steps.Plain.{ArePlainTractsTo}
 use Rattle.twp_calls.proofs.account_call.put_tracts.Given as goal

@@ -1,5 +1,5 @@
 -- The canonical text was put there, or the description is refused, or memory ran out.
-use Rattle.twp_acres.specs.OnPlats.{HasNormalOn}
+use Rattle.twp_answers.specs.OnPlats.{HasNormalOn}
 use Rattle.twp_calls.specs.Calls.{IsTextPut, accepted, on_plat}
 use Rattle.twp_calls.proofs.CallFacts.{text_put, stops_on}
 use Rattle.twp_calls.proofs.answering.township_normal.Goals as goal

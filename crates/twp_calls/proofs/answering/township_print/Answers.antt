@@ -1,5 +1,5 @@
 -- The text of the plat was put there, or memory ran out.
-use Rattle.twp_acres.specs.OnPlats.{IsTextOfPlat}
+use Rattle.twp_answers.specs.OnPlats.{IsTextOfPlat}
 use Rattle.twp_calls.specs.Calls.{accepted, no_memory, on_plat}
 use Rattle.twp_calls.proofs.CallFacts.{text_put}
 use Rattle.twp_calls.proofs.answering.township_print.Goals as goal

@@ -1,6 +1,6 @@
 -- The account was put there, or the list is refused, or memory ran out.
 use Rattle.std.proofs.Common.{sym, subst}
-use Rattle.twp_acres.specs.ReportAnswers.{IsAccountOf}
+use Rattle.twp_answers.specs.ReportAnswers.{IsAccountOf}
 use Rattle.twp_calls.specs.Calls.{Answers, IsTextPut, IsRefusedList, accepted, on_plat}
 use Rattle.twp_calls.proofs.CallFacts.{text_put, stopped_list}
 use Rattle.twp_calls.proofs.answering.township_report.Goals as goal

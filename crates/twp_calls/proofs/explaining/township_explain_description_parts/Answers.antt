@@ -2,7 +2,7 @@
 -- own; or memory ran out.
 use Rattle.std.proofs.Common.{IfOk, subst, ap, inl}
 use Rattle.twp_calls.specs.Calls.{refused_for, no_memory, on_plat}
-use Rattle.twp_acres.specs.Answers.{IsNoDescription}
+use Rattle.twp_answers.specs.Answers.{IsNoDescription}
 use Rattle.twp_diagnose.specs.ShownMessages.{ShowsIn}
 use Rattle.twp_explain_doubts.specs.ShownNotes.{IsNoteOf}
 use Rattle.twp_calls.proofs.CallFacts.{held_by}

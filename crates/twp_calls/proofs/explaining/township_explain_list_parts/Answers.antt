@@ -1,7 +1,7 @@
 -- There may be a note on what has an account; the fault that is explained is the list's first; or memory ran
 -- out.
 use Rattle.std.proofs.Common.{◌≡◌, Some, sym, subst, ◌∙◌}
-use Rattle.twp_acres.specs.TractFaults.{IsFirstTractFault, refusal_of}
+use Rattle.twp_answers.specs.TractFaults.{IsFirstTractFault, refusal_of}
 use Rattle.twp_calls.specs.Calls.{no_memory, on_plat}
 use Rattle.twp_diagnose.specs.ShownMessages.{ShowsIn}
 use Rattle.twp_calls.proofs.CallFacts.{explained_list, held_by, kept_list, refused_verdict}

@@ -1,6 +1,6 @@
 -- The explanation is of the refusal of the notes; or memory ran out.
 use Rattle.std.proofs.Common.{subst}
-use Rattle.twp_acres.specs.Answers.{IsNoPlat}
+use Rattle.twp_answers.specs.Answers.{IsNoPlat}
 use Rattle.twp_calls.specs.Calls.{refused_for}
 use Rattle.twp_calls.specs.Explanations.{PutsExplanation}
 use Rattle.twp_diagnose.specs.ShownMessages.{ShowsIn}

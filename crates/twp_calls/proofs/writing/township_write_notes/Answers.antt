@@ -1,5 +1,5 @@
 -- The notes were put there, or memory ran out.
-use Rattle.twp_acres.specs.Answers.{ArePlatted}
+use Rattle.twp_answers.specs.Answers.{ArePlatted}
 use Rattle.twp_calls.specs.Calls.{accepted, no_memory, on_plat}
 use Rattle.twp_calls.proofs.CallFacts.{text_put}
 use Rattle.twp_calls.proofs.WritingFacts.{platted}

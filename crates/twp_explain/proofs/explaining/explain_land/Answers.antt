@@ -1,6 +1,6 @@
 -- Nothing is explained of land on the plat of the notes, or where the refusal is another.
 use Rattle.std.proofs.Common.{subst}
-use Rattle.twp_acres.specs.Answers.{IsNoDescription}
+use Rattle.twp_answers.specs.Answers.{IsNoDescription}
 use Rattle.twp_diagnose.specs.Findings.{IfFound}
 use Rattle.twp_explain.specs.Refusals.{DescribeLand}
 use Rattle.twp_explain.proofs.FindingFacts.{land_is_none, none_of_land, of_land, of_description}

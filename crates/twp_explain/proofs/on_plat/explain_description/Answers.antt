@@ -1,4 +1,4 @@
-use Rattle.twp_acres.specs.Answers.{IsNoDescription}
+use Rattle.twp_answers.specs.Answers.{IsNoDescription}
 use Rattle.twp_explain.proofs.ShownFacts.{found_is, explained_where, shown_land}
 use Rattle.twp_explain.proofs.on_plat.explain_description.Goals as goal
 

@@ -1,6 +1,6 @@
 -- The fault that is explained is the list's first; where there is none, the list has an account.
 use Rattle.std.proofs.Common.{IfSome, subst}
-use Rattle.twp_acres.specs.TractFaults.{IsFirstTractFault}
+use Rattle.twp_answers.specs.TractFaults.{IsFirstTractFault}
 use Rattle.twp_explain.proofs.on_plat.explain_tracts.Goals as goal
 
 pub returns-in_default-clause-none : goal.returns-in_default-clause-none

@@ -1,6 +1,6 @@
 use Rattle.std.proofs.Common.{◌≡◌, ℕ, ◌<◌, drop}
 use Rattle.twp_notes.specs.Records.{records_left, record_at, IsReading}
-use Rattle.twp_acres.specs.Tracts.{Overlap}
+use Rattle.twp_answers.specs.Tracts.{Overlap}
 use Rattle.twp_explain.proofs.sharing.first_left.Given as goal
 
 -- the tracts so far don't overlap the one at the index, and the other records are left

@@ -2,8 +2,8 @@
 use Rattle.std.proofs.Common.{◌≡◌, ◌-◌, drop, sym, ap, subst, ◌∙◌, arith, inl, inr}
 use Rattle.twp_notes.specs.Records.{record_numbered, records_of}
 use Rattle.twp_notes.proofs.Taking.{next_record_is}
-use Rattle.twp_acres.specs.Tracts.{name_in}
-use Rattle.twp_acres.proofs.TractLands.{earlier_or_last}
+use Rattle.twp_answers.specs.Tracts.{name_in}
+use Rattle.twp_answers.proofs.TractLands.{earlier_or_last}
 use Rattle.twp_diagnose.specs.RecordFields.{fields_listed}
 use Rattle.twp_explain.proofs.tracts.first_named.Goals as goal
 

@@ -1,6 +1,6 @@
 use Rattle.std.proofs.Common.{◌≡◌, ◌≢◌, ◌≤◌, ◌<◌, ◌-◌, ℕ, drop}
 use Rattle.twp_notes.specs.Records.{record_numbered, records_left, records_of, IsReading}
-use Rattle.twp_acres.specs.Tracts.{name_in}
+use Rattle.twp_answers.specs.Tracts.{name_in}
 use Rattle.twp_diagnose.specs.RecordFields.{fields_listed}
 use Rattle.twp_explain.specs.BlamedTracts.{FIRST_TRACT}
 use Rattle.twp_explain.proofs.tracts.first_named.Given as goal

@@ -2,7 +2,7 @@
 use Rattle.std.proofs.Common.{◌-◌, drop, sym, ap, ◌∙◌, arith}
 use Rattle.twp_notes.specs.Records.{records_of}
 use Rattle.twp_notes.proofs.Taking.{next_record_is, no_record_left}
-use Rattle.twp_acres.specs.Tracts.{description_in}
+use Rattle.twp_answers.specs.Tracts.{description_in}
 use Rattle.twp_explain_doubts.proofs.NoteFacts.{found_all, takes_more}
 use Rattle.twp_explain_doubts.proofs.note.doubts_of_list.Goals as goal
 

@@ -2,8 +2,8 @@
 use Rattle.std.proofs.Common.{sym, ◌∙◌, subst, arith}
 use Rattle.std.proofs.lemmas.Result.{err_from_is_err_and}
 use Rattle.twp_notes.specs.Records.{records_left}
-use Rattle.twp_acres.proofs.EarlierFacts.{no_earlier}
-use Rattle.twp_acres.proofs.FirstTractFaults.{after_of_word}
+use Rattle.twp_answers.proofs.EarlierFacts.{no_earlier}
+use Rattle.twp_answers.proofs.FirstTractFaults.{after_of_word}
 use Rattle.twp_lot_account.specs.steps.LotTaking.{AreRefusedByLots}
 use Rattle.twp_lot_account.proofs.FirstLotTractFaults.{first_refused_by}
 use Rattle.twp_lot_account.proofs.LotFigures.{account_of}

@@ -7,9 +7,9 @@ use Rattle.twp_notes.proofs.Taking.{next_record_is, no_record_left}
 use Rattle.twp_grid.specs.Places.{PLACE_DIGITS}
 use Rattle.twp_grid.specs.Lands.{no_places}
 use Rattle.twp_lots.specs.LotAreas.{HasFigures}
-use Rattle.twp_acres.specs.EarlierTracts.{earlier_of, AreEarlier}
-use Rattle.twp_acres.proofs.EarlierFacts.{next_earlier}
-use Rattle.twp_acres.proofs.TractLands.{no_land, one_land_of_tracts}
+use Rattle.twp_answers.specs.EarlierTracts.{earlier_of, AreEarlier}
+use Rattle.twp_answers.proofs.EarlierFacts.{next_earlier}
+use Rattle.twp_answers.proofs.TractLands.{no_land, one_land_of_tracts}
 use Rattle.twp_lot_account.proofs.UnitedFigures.{none_lacking}
 use Rattle.twp_lot_account.specs.LotAccounts.{AreFiguresByLots}
 use Rattle.twp_lot_account.proofs.FirstLotTractFaults.{refused_next_by}

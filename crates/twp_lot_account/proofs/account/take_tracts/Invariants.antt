@@ -2,8 +2,8 @@ use Rattle.std.proofs.Common.{◌≡◌, ◌≤◌, length, drop}
 use Rattle.twp_grid.specs.Places.{PLACE_DIGITS}
 use Rattle.twp_lots.specs.LotAreas.{HasFigures}
 use Rattle.twp_notes.specs.Records.{records_left, IsReading}
-use Rattle.twp_acres.specs.EarlierTracts.{earlier_of, AreEarlier}
-use Rattle.twp_acres.specs.Tracts.{TRACTS_MOST}
+use Rattle.twp_answers.specs.EarlierTracts.{earlier_of, AreEarlier}
+use Rattle.twp_answers.specs.Tracts.{TRACTS_MOST}
 use Rattle.twp_lot_account.specs.LotAccounts.{AreFiguresByLots}
 use Rattle.twp_lot_account.specs.steps.LotTaking.{LackNoLots}
 use Rattle.twp_lot_account.proofs.account.take_tracts.Given as goal

@@ -16,16 +16,15 @@ loop-number-init g c = record {
   first = omega arith;
 }
 
-pub loop-number-preserved-then-not-meets : goal.loop-number-preserved-then-not-meets
-loop-number-preserved-then-not-meets g c =
+pub loop-number-preserved-then-is_untouched : goal.loop-number-preserved-then-is_untouched
+loop-number-preserved-then-is_untouched g c =
     let at = c.loop-number.invariant in
     let places : ℕ → ℕ → ℕ → Bool = g.L.PlaceSet.places c.args.land.now in
     let number =
     section_is c.loop-number.number c.unwrap-section.result _ c.new.ensures c.unwrap-section.ensures in
-    let met = rw c.whole.ensures at c.meets.ensures in
     let none : (pieces : ℕ → ℕ → ℕ) → section_sum PLACE_DIGITS pieces (places c.unwrap-section.result) ≡ 0 =
     λ pieces.
-    none_held pieces (places c.unwrap-section.result) (λ held. cc (met.1 held, c.if-not-meets.true)) in
+    none_held pieces (places c.unwrap-section.result) (c.is_untouched.ensures c.if-is_untouched.true) in
     let same : c.loop-number.units + 0 ≡ c.loop-number.units = omega arith in
     let sum =
     sum-next c.args.account c.args.plat.now places c.loop-number.number c.unwrap-section.result
@@ -52,8 +51,8 @@ loop-number-preserved g c =
           c.unwrap-section.result c.loop-number.units c.units_in_section-units.result at.first number at.sum
           added.sum;
       most =
-          grows c.loop-number.number _ c.loop-number.units c.units_in_section-units.result at.first at.most
-          added.most;
+          grows c.loop-number.number (SECTION_UNITS_MOST * over_by c.args.account c.args.plat.now)
+          c.loop-number.units c.units_in_section-units.result at.first at.most added.most;
       first = omega arith;
     }
 

@@ -1,6 +1,0 @@
--- A list with too many bytes is refused for that.
-use Rattle.twp_acres.proofs.FirstTractFaults.{large_first}
-use Rattle.twp_acres.proofs.on_plat.account_on.Goals as goal
-
-pub returns-then-list-clause-fault : goal.returns-then-list-clause-fault
-returns-then-list-clause-fault c = large_first c.args.plat.now.township c.args.list.now c.if-list.true

@@ -1,0 +1,14 @@
+pub mod OneAnswer
+pub mod StopsOnPlat
+pub mod PlatTexts
+pub mod NameFacts
+pub mod TractFacts
+pub mod TractLands
+pub mod ClearFacts
+pub mod EarlierFacts
+pub mod TallyFacts
+pub mod FigureLines
+pub mod EachFacts
+pub mod OverlapFacts
+pub mod FirstTractFaults
+pub mod TractAreas

@@ -1,0 +1,16 @@
+pub mod Answers
+pub mod Uses
+pub mod PlatReading
+pub mod PlatAnswers
+pub mod OnPlats
+pub mod OnLands
+pub mod Tracts
+pub mod ClearTracts
+pub mod TractFaults
+pub mod Names
+pub mod EarlierTracts
+pub mod ReportAnswers
+pub mod AccountFigures
+pub mod EachTract
+pub mod Overlaps
+pub mod steps

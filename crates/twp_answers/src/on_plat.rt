@@ -1,0 +1,170 @@
+//! The answers on an existing plat: each is for a plat and the bytes of a description.
+ghost use Rattle.std.specs.Prelude.{◌≡◌, ℕ, List, IfOk, IfErr};
+ghost use Rattle.twp_grid.specs.Townships.{Designation};
+ghost use Rattle.twp_read.specs.Doubts.{HasNoDoubtfulPlace};
+ghost use Rattle.twp_read.specs.TextFaults.{IsReadAs};
+ghost use Rattle.twp_answers.specs.OnPlats.{AnswersOn, HasAcresOn, HasAreaOn, HasNormalOn, StopsOn};
+ghost use Rattle.twp_answers.specs.ReportAnswers.{IsAccountOf};
+ghost use Rattle.twp_answers.specs.TractFaults.{AnswersFault};
+
+use crate::stop::Stop;
+use crate::tract_fault::{TRACTS_LIMIT, TractFault};
+use crate::tracts::account_of;
+use std::alloc::Global;
+use twp_land::{Land, Lanes, OneLanes};
+use twp_measure::Area;
+use twp_plat::{Account, Plat, area_by};
+use twp_read::{Clarity, Description};
+use twp_resolve::{names_one_section, resolve_if_room, resolve_into};
+use twp_spell::{spell, spell_set};
+
+/// The acres of the land described on a plat, by an account: the exact area in hundredths of an
+/// acre, rounded once, half up. `Stop::Refused` is the first fault of the description, at its byte;
+/// `Stop::Failed` means that memory ran out.
+pub fn acres_on(
+    alloc: Global,
+    plat: &Plat,
+    description: &[u8],
+    account: Account,
+) -> Result<u64, Stop>
+    ensures { AnswersOn (HasAcresOn plat.now description.now account)
+        plat.now description.now result }
+{
+    let mut clarity = Clarity::Unclear;
+    acres_noting(alloc, plat, description, account, &mut clarity)
+}
+
+/// The same, and notes whether a place in the description may be doubtful.
+pub fn acres_noting(
+    alloc: Global,
+    plat: &Plat,
+    description: &[u8],
+    account: Account,
+    clarity: &mut Clarity,
+) -> Result<u64, Stop>
+    ensures acres { AnswersOn (HasAcresOn plat.now description.now account)
+        plat.now description.now result }
+    ensures clear { clarity.new ≡ Clarity.Clear → HasNoDoubtfulPlace description.now }
+{
+    let area = area_noting(alloc, plat, description, account, clarity)?;
+    Ok(area.hundredths())
+}
+
+/// The area of the land described on a plat, by an account, which `acres_on` rounds.
+pub fn area_on(
+    alloc: Global,
+    plat: &Plat,
+    description: &[u8],
+    account: Account,
+) -> Result<Area, Stop>
+    ensures { AnswersOn (HasAreaOn plat.now description.now account)
+        plat.now description.now result }
+{
+    let mut clarity = Clarity::Unclear;
+    area_noting(alloc, plat, description, account, &mut clarity)
+}
+
+/// The same, and notes whether a place in the description may be doubtful.
+fn area_noting(
+    alloc: Global,
+    plat: &Plat,
+    description: &[u8],
+    account: Account,
+    clarity: &mut Clarity,
+) -> Result<Area, Stop>
+    ensures area { AnswersOn (HasAreaOn plat.now description.now account)
+        plat.now description.now result }
+    ensures clear { clarity.new ≡ Clarity.Clear → HasNoDoubtfulPlace description.now }
+{
+    let read = read_noting(alloc, description, clarity)?;
+    if !names_one_section(&read) {
+        return area_in_all(plat, &read, account);
+    }
+    let mut land = OneLanes::empty();
+    if !resolve_if_room(&mut land, &read, plat.township())? {
+        return area_in_all(plat, &read, account);
+    }
+    Ok(area_by(account, plat, &land))
+}
+
+/// The same for a description that was read, in however many sections it names land. The set of land
+/// is cleared where this function begins, which land in one section doesn't need.
+#[inline(never)]
+fn area_in_all(plat: &Plat, description: &Description, account: Account) -> Result<Area, Stop>
+    ensures { (text : List ℕ) → IsReadAs text description.now
+        → AnswersOn (HasAreaOn plat.now text account) plat.now text result }
+{
+    let mut lanes = Lanes::empty();
+    resolve_into(&mut lanes, description, plat.township())?;
+    Ok(area_by(account, plat, &lanes))
+}
+
+/// The canonical text of the land described on a plat, or why there is none, as for `acres_on`.
+pub fn normal_on(alloc: Global, plat: &Plat, description: &[u8]) -> Result<Vec<u8>, Stop>
+    ensures { AnswersOn (λ text. HasNormalOn plat.now description.now text.items)
+        plat.now description.now result }
+{
+    let mut clarity = Clarity::Unclear;
+    normal_noting(alloc, plat, description, &mut clarity)
+}
+
+/// The same, and notes whether a place in the description may be doubtful.
+pub fn normal_noting(
+    alloc: Global,
+    plat: &Plat,
+    description: &[u8],
+    clarity: &mut Clarity,
+) -> Result<Vec<u8>, Stop>
+    ensures text { AnswersOn (λ text. HasNormalOn plat.now description.now text.items)
+        plat.now description.now result }
+    ensures clear { clarity.new ≡ Clarity.Clear → HasNoDoubtfulPlace description.now }
+{
+    let read = read_noting(alloc, description, clarity)?;
+    if !names_one_section(&read) {
+        return normal_in_all(alloc, plat, &read);
+    }
+    let mut land = OneLanes::empty();
+    if !resolve_if_room(&mut land, &read, plat.township())? {
+        return normal_in_all(alloc, plat, &read);
+    }
+    Ok(spell_set(alloc, &land, plat.township())?)
+}
+
+/// The same for a description that was read, as for its area.
+#[inline(never)]
+fn normal_in_all(alloc: Global, plat: &Plat, description: &Description) -> Result<Vec<u8>, Stop>
+    ensures { (text : List ℕ) → IsReadAs text description.now
+        → AnswersOn (λ written. HasNormalOn plat.now text written.items) plat.now text result }
+{
+    let mut lanes = Lanes::empty();
+    resolve_into(&mut lanes, description, plat.township())?;
+    Ok(spell(alloc, &lanes, plat.township())?)
+}
+
+/// Reads a description, and notes whether a place in it may be doubtful.
+fn read_noting(
+    alloc: Global,
+    description: &[u8],
+    clarity: &mut Clarity,
+) -> Result<Description, Stop>
+    ensures read { IfOk result (IsReadAs description.now) }
+    ensures stopped { IfErr result (λ stop. (township : Designation)
+        → StopsOn township description.now stop) }
+    ensures clear { clarity.new ≡ Clarity.Clear → HasNoDoubtfulPlace description.now }
+{
+    *clarity = Clarity::Unclear;
+    let noted = Description::read_noting(alloc, description)?;
+    *clarity = noted.clarity;
+    Ok(noted.description)
+}
+
+/// The text of the account of a list of tracts on a plat, or the list's first fault.
+pub fn account_on(alloc: Global, plat: &Plat, list: &[u8]) -> Result<Vec<u8>, TractFault>
+    ensures account { IfOk result (λ text. IsAccountOf plat.now list.now text.items) }
+    ensures fault { IfErr result (AnswersFault plat.now.township list.now) }
+{
+    if list.len() > TRACTS_LIMIT as usize {
+        return Err(TractFault::TractsTooLarge);
+    }
+    account_of(alloc, plat, list)
+}
