@@ -57,8 +57,8 @@ pub(crate) fn block_lanes(block: Block) -> LaneVector
 {
     let rows = LaneVector::splat(ones(block.row(), block.height()));
     let columns = LaneVector::splat(column_bits(block));
-    // An array is known where the code is compiled, and what is read by a reference isn't: so the lanes of a known block
-    // are constants.
+    // The compiler knows an array that is passed by value, but not what is read by a reference. So
+    // the lanes of a known block are constants.
     let row_bits = LaneVector::from_array(ROW_BITS);
     (rows & row_bits)
         .simd_eq(row_bits)

@@ -32,8 +32,8 @@ pub trait Land: Drop {
     fn full(&self, section: Section, block: Block) -> bool
         ensures { IsTrue result ↔ HoldsAll (places self.now section) block };
 
-    /// Whether the set is known to contain no place of a section, without a look at its places. It
-    /// may contain none even if not.
+    /// Whether the set is known to contain no place of a section, without a look at its places. If it
+    /// isn't, the set may still be empty there.
     fn is_untouched(&self, section: Section) -> bool
         ensures { IsTrue result → ¬ Meets (places self.now section) (whole_block PLACE_DIGITS) }
     {

@@ -1,4 +1,4 @@
-ghost use Rattle.std.specs.Prelude.{◌≡◌, ◌+◌, ◌-◌, false};
+ghost use Rattle.std.specs.Prelude.{◌≡◌, ◌+◌, ◌-◌, true, false};
 ghost use Rattle.twp_grid.specs.Places.{PLACE_DIGITS};
 ghost use Rattle.twp_grid.specs.Spans.{IsDyadic};
 ghost use Rattle.twp_land.specs.Storage.{held_by_lane, nothing_held};
@@ -51,6 +51,15 @@ impl LaneRows {
             lanes: *lanes,
             touched: true,
         }
+    }
+
+    /// Notes that places are added.
+    #[inline(always)]
+    fn touch(&mut self)
+        ensures lanes { self.new.lanes ≡ self.old.lanes }
+        ensures touched { self.new.touched ≡ true }
+    {
+        self.touched = true;
     }
 
     /// The lanes, with a one bit for each place.
@@ -112,7 +121,7 @@ impl Plot for LaneRows {
 
     #[inline]
     fn add(&mut self, block: Block) {
-        self.touched = true;
+        self.touch();
         if block.height() <= LOW {
             let bits = column_bits(block);
             let (first, last) = end_rows(block);
@@ -148,7 +157,7 @@ impl Plot for LaneRows {
 
     #[inline]
     fn add_plot(&mut self, other: &Self) {
-        self.touched = true;
+        self.touch();
         let held = vector(&self.lanes) | vector(&other.lanes);
         held.copy_to_slice(&mut self.lanes);
     }

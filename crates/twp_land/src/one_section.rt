@@ -1,6 +1,6 @@
-ghost use Rattle.std.specs.Prelude.{◌≡◌, ◌==◌};
+ghost use Rattle.std.specs.Prelude.{◌≡◌, ◌==◌, ◌&&◌};
 ghost use Rattle.twp_grid.specs.Lands.{no_places};
-ghost use Rattle.twp_land.specs.Storage.{held_in_one};
+ghost use Rattle.twp_land.specs.Storage.{held_in_one, is_section, nothing_held};
 
 use crate::lanes::LaneRows;
 use crate::place_set::PlaceSet;
@@ -19,6 +19,7 @@ pub type OneLanes = OneSection<LaneRows>;
 pub struct OneSection<P: Plot> {
     number: u8,
     plot: P,
+    ghost unused: { number ≡ 0 → P.held plot ≡ nothing_held },
 }
 
 impl<P: Plot> OneSection<P> {
@@ -36,7 +37,7 @@ impl<P: Plot> OneSection<P> {
 impl<P: Plot> PlaceSet for OneSection<P> {
     ghost places = { λ set. held_in_one set.number (P.held set.plot) };
 
-    ghost has_room = { λ set section. set.number == section };
+    ghost has_room = { λ set section. is_section section && (set.number == section) };
 
     ghost use Rattle.twp_land.specs.steps.Within.{one_within};
 
@@ -79,19 +80,21 @@ impl<P: Plot> PlaceSet for OneSection<P> {
         let number = section.number();
         if self.number == NO_SECTION {
             self.number = number;
-            self.plot = P::empty();
         }
         self.number == number
     }
 
     #[inline(always)]
-    fn add_apart(&mut self, section: Section, block: Block) -> bool {
-        section.number() == self.number && add_apart(&mut self.plot, block)
+    fn add_apart(&mut self, _section: Section, block: Block) -> bool {
+        add_apart(&mut self.plot, block)
     }
 
     #[inline]
     fn clear(&mut self) {
-        self.number = NO_SECTION;
+        if self.number != NO_SECTION {
+            self.number = NO_SECTION;
+            self.plot = P::empty();
+        }
     }
 
     fn sections(&self) -> Option<(Section, Section)> {

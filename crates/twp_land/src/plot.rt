@@ -30,8 +30,8 @@ pub trait Plot: Copy + Drop {
     fn full(&self, block: Block) -> bool
         ensures { IsTrue result ↔ HoldsAll (held self.now) block };
 
-    /// Whether the set is known to be empty without a look at its places. It may be empty even if
-    /// not.
+    /// Whether the set is known to be empty, without a look at its places. If it isn't, the set may
+    /// still be empty.
     fn is_untouched(&self) -> bool
         ensures { IsTrue result → held self.now ≡ nothing_held }
     {
