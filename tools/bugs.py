@@ -2,8 +2,8 @@
 """Tries the wrong bodies that are kept for releases: `bugs.py [--lanes N] [NAME..]`, for these crates or for all.
 
 They are in crates/NAME/must-fail-release, in the form of those in must-fail, which every run of the tests tries. This
-proves the libraries that the crates depend on, several at a time, and tries the edits over what was proved of their
-crates, many in one check (tools/wrong_bodies.py). A name may also be that of one edit, such as
+proves the crates and the libraries that they depend on, several at a time, and tries the edits over these proofs, many
+in one check (tools/wrong_bodies.py). A name may also be that of one edit, such as
 twp_grid/lot_count_of_section_six.
 
 Some wrong bodies can't be refused by any contract, such as one that answers that memory ran out. Those are listed,
@@ -88,13 +88,13 @@ def check(edits):
     return 1 if any(found.values()) else 0
 
 
-def prove_below(names):
-    """Proves the libraries that crates depend on."""
+def prove(names):
+    """Proves crates, and the libraries that they depend on."""
     for name in names:
         command = [sys.executable, str(ROOT / "tools" / "prove.py"), name]
         # Where prove.py can't use the kit's rt, its status is 3, and the checks prove what is below.
         if subprocess.run(command, stdout=subprocess.DEVNULL, check=False).returncode not in (0, 3):
-            sys.exit(f"bugs.py: a library below {name} is not proved")
+            sys.exit(f"bugs.py: {name} is not proved")
 
 
 def lanes():
@@ -121,7 +121,7 @@ def tried(edits, known, many):
         through = [file for it, file in files.items() if f"{name}/{it}" in known]
         kept = folder / "out" / "incremental"
         over = kept if kept.is_dir() else None
-        tried = wrong_bodies.must_fail_over(rt, crate, list(files.values()), ["--jobs", "1"], over, through)
+        tried = wrong_bodies.must_fail_all(rt, crate, list(files.values()), ["--jobs", "1"], over, through)
         with alone:
             for _, said in tried:
                 print(said, flush=True)
@@ -150,7 +150,7 @@ def main(words):
     edits, known = chosen(options.names), listed()
     if options.check:
         return check(edits)
-    prove_below(edits)
+    prove(edits)
     results = tried(edits, known, options.lanes or lanes())
     every = [f"{crate}/{edit}" for crate, names in edits.items() for edit in names]
     refused = [it for it in every if results.get(it) == "refused" and it not in known]

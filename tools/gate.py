@@ -18,7 +18,7 @@ import sys
 from pathlib import Path
 
 import wrong_bodies
-from kit import give_one_process, loaded_rt
+from kit import give_one_process, keep_proofs, loaded_rt
 
 # What an rt is asked for that has a task for each wrong body.
 ADDED = ("tasks", "crate", "edits", "first", "waits", "is_well", "kept", "start", "in_ci")
@@ -92,9 +92,10 @@ def takes(rt, name, *parameters):
 
 
 def main():
-    rt = loaded_rt("ci", "processors", "free", *wrong_bodies.NEEDED)
+    rt = loaded_rt("ci", "processors", "free", "Crate.build_rlib", *wrong_bodies.NEEDED)
     if rt:
         give_one_process(rt)
+        keep_proofs(rt, LOG.parent)
     if rt and takes(rt, "must_fail_all", "crate", "edits", "flags"):
         rt.must_fail_all = lambda crate, edits, flags: wrong_bodies.must_fail_all(rt, crate, edits, flags)
     elif rt and takes(rt, "add_edits", *ADDED) and takes(rt, "must_fail", "crate", "edit", "flags", "kept"):

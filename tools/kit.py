@@ -4,9 +4,13 @@ import importlib.util
 import os
 import shutil
 import sys
+from pathlib import Path
 
 # The most memory that a check takes, in bytes.
 MEMORY = 4_000_000_000
+# How many crates may stand on a library whose checked modules are left in what is built of it. A module takes each of them
+# some 3 thousandths of a second to load, and a function has 10 to 20 of them.
+MOST_ABOVE = 5
 
 
 def loaded_rt(*names):
@@ -24,6 +28,32 @@ def loaded_rt(*names):
     except (AttributeError, SyntaxError):
         return None
     return rt
+
+
+def below_each(root):
+    """The names of the repository's crates below each crate, of the file crates.txt in a folder."""
+    lines = [line.split(":") for line in (Path(root) / "crates.txt").read_text().splitlines() if not line.startswith("#")]
+    named, below = {left.split()[0]: right.split() for left, right in lines}, {}
+
+    def all_below(name):
+        if name not in below:
+            below[name] = {more for it in named[name] if it in named for more in (it, *all_below(it))}
+        return below[name]
+
+    return {name: all_below(name) for name in named}
+
+
+def keep_proofs(rt, root):
+    """Has rt leave the checked modules of a library that few crates stand on in what it builds (checked.py), and not only
+    the statements that these crates need: the checks of its wrong bodies need not prove it again. Each crate above it
+    takes longer to load for that."""
+    build, below = rt.Crate.build_rlib, below_each(root)
+
+    def build_rlib(crate, flags, anew):
+        crate.cuts_libraries = sum(crate.name in it for it in below.values()) > MOST_ABOVE
+        return build(crate, flags, anew)
+
+    rt.Crate.build_rlib = build_rlib
 
 
 def give_one_process(rt):

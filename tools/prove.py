@@ -1,5 +1,5 @@
 #!/usr/bin/env python3
-"""Proves the libraries that a crate depends on, several at a time, and a program too, which it also builds.
+"""Proves a crate and the libraries that it depends on, several at a time, and builds them; of a static library, only those.
 
     python3 tools/prove.py twp_cmd
 
@@ -23,7 +23,7 @@ import time
 from concurrent.futures import FIRST_COMPLETED, ThreadPoolExecutor, wait
 from pathlib import Path
 
-from kit import loaded_rt
+from kit import keep_proofs, loaded_rt
 
 ROOT = Path(__file__).resolve().parent.parent
 # What is used of the kit's rt.
@@ -35,6 +35,7 @@ NEEDED = (
     "in_lanes",
     "processors",
     "free",
+    "Crate.build_rlib",
     "Crate.ci",
     "Crate.has_tests",
     "rtlib.crates_below",
@@ -206,6 +207,8 @@ def prove(rt, crates):
         with progress.runs(crate.name):
             return proved_by(crate, flags, tests)
 
+    # As the gate does, which can then go on with these proofs.
+    keep_proofs(rt, ROOT)
     rt.Crate.ci, rt.Crate.has_tests = ci, lambda crate: False
     # Another kit may compile in another way, which then stays as it is.
     if hasattr(rt.Crate, "compile_by"):
@@ -233,7 +236,8 @@ def main():
     # Ctrl-C ends this process at once, and the kit's guard then ends the proofs.
     signal.signal(signal.SIGINT, signal.SIG_DFL)
     *below, crate = rt.rtlib.crates_below(str(ROOT / "crates" / sys.argv[1]))
-    crates = [*below, crate] if crate.is_program else below
+    # A static library is proved where it is built.
+    crates = below if crate.is_static else [*below, crate]
     if all(is_built(it) for it in crates):
         return 0
     return 0 if prove(rt, crates) else 1

@@ -18,17 +18,20 @@ checks, if the crate is also proved over it as it stands; what is said of them e
 long as a proof of the crate, so a wrong body that a goal of its own function refuses is better. So are all of a check that finds an error in a definition or a
 lemma, which functions share.
 
-The gate begins with nothing, and checks the functions that are changed, and those they call, alone. A second check, of
-other wrong bodies of the same functions, is over the work of the first; over that, these functions must also be proved
-as they stand. Those for releases are more for one function, so they take more checks, each of the whole crate and over
-the work of those before it, and one of the crate as it stands.
+A check of a crate that few others stand on begins with what its proof left (checked.py), and checks the functions that
+are changed alone. Of other crates nothing is left: the first check begins with nothing, and checks the functions that
+they call, too. A second check, of other wrong bodies of the same functions, is then over the work of the first; over
+that, these functions must also be proved as they stand.
 """
+import contextlib
 import re
 import shutil
 import tempfile
 import time
 from dataclasses import dataclass
 from pathlib import Path
+
+from checked import Proof
 
 # What `rt fmt` makes of the first line of a function, and of an `impl` or a trait. The last line is the next one that
 # is a closing brace with the same indent.
@@ -40,15 +43,15 @@ IMPORT = re.compile(r"use .*;$")
 # What a check says of a goal that isn't proved: of code, and of a written answer.
 OF_CODE = re.compile(r"note: (src/\S+\.rt):(\d+):\d+: (?:it is not proved |`search` found no proof )")
 OF_ANSWER = re.compile(r"(?:\./)?proofs/(\S+)/(?:Answers|Invariants|Proof)\.antt:\d+:\d+: error: ")
-LACKS_NAME = re.compile(r"has no field|is not in scope|has no `|was not admitted")
+LACKS_NAME = re.compile(r"has no field|\(nearest: |is not in scope|has no `|was not admitted")
 # An error in a definition or a lemma, which several functions may rest on.
 OF_LEMMA = re.compile(r"(?:\./)?(?:specs|proofs)/(?!.*/(?:Answers|Invariants|Proof)\.antt)\S+\.antt:\d+:\d+: error: ")
 
 # A check of some functions takes their names as it prints them. Sources don't always say how that is, as for the methods of
 # a type with arguments; and two types may have the same name.
 UNNAMED = re.compile(r"has no function `([^`]+)`|several functions are named `([^`]+)`")
-# The last line of a check that doesn't prove a crate, and of one of some functions alone.
-JUDGED = re.compile("logic=not-proved"), re.compile(r"only=\d+ proved=\d+$")
+# The last line of a check of some functions alone.
+JUDGED = re.compile(r"only=\d+ proved=\d+$")
 
 # What is used of the kit's rt.
 NEEDED = ("checked", "must_fail", "unread", "rtlib.STALE")
@@ -247,12 +250,22 @@ def names_goal(line, function):
 
 
 class Trying:
-    """The wrong bodies of a crate, and the results so far. They are tried over the work that is kept in a folder, by checks
-    of the whole crate, or of parts of it."""
+    """The wrong bodies of a crate, which are tried over what its proof left, or else over the work of earlier checks, which a
+    folder has; at first, that may be empty."""
 
-    def __init__(self, rt, crate, flags, kept, in_parts):
-        self.rt, self.crate, self.flags, self.kept, self.in_parts = rt, crate, flags, kept, in_parts
+    def __init__(self, rt, crate, flags, kept, proof):
+        self.rt, self.crate, self.flags, self.kept, self.proof = rt, crate, flags, kept, proof
         self.sources, self.unnamed = {}, set()
+
+    @contextlib.contextmanager
+    def work(self):
+        """The folder with the work that a check is over. What a proof left is copied for each check, which changes it."""
+        if not self.proof:
+            yield self.kept
+            return
+        with tempfile.TemporaryDirectory(prefix="rt-edits-") as kept:
+            self.proof.put_into(kept)
+            yield kept
 
     def text_of(self, path):
         """The text of a file of the crate, or no text if there is no such file."""
@@ -274,15 +287,15 @@ class Trying:
     def together(self, edits):
         """Tries wrong bodies. Returns those that were refused, each with the goal. The goals of a function may wait for
         the proof of one that it calls, which another wrong body in the same check changes: so those that a check doesn't
-        refuse are tried once more without the others. A check in parts that is not the first one counts only if these
-        parts, as they stand, are proved over the same work."""
-        found, waiting, is_first = {}, list(self.groups(edits)), True
+        refuse are tried once more without the others. A check over the work of another one counts only if the same
+        functions, as they stand, are proved over that work."""
+        found, waiting = {}, list(self.groups(edits))
         while waiting:
             these = waiting.pop(0)
+            is_over_others = not self.proof and any(Path(self.kept).iterdir())
             refused = self.refused(these)
-            if is_first or not self.in_parts or self.are_proved(these):
+            if not is_over_others or self.are_proved(these):
                 found.update(refused)
-            is_first = False
             left = [it for it in these.edits if it not in refused]
             waiting += self.groups(left) if refused else []
         return found
@@ -291,7 +304,7 @@ class Trying:
         """Those of these wrong bodies that one check refuses."""
         ran = self.checked(these.texts, these)
         lines = ran.stdout.rstrip("\n").split("\n")
-        is_judged = ran.returncode == 1 and JUDGED[self.in_parts].match(lines[-1])
+        is_judged = ran.returncode == 1 and JUDGED.match(lines[-1])
         is_read = not any(self.rt.unread(it, these.texts) or OF_LEMMA.match(it) for it in lines)
         return these.refused(ran.stdout) if is_judged and is_read and not self.rt.rtlib.STALE.search(ran.stdout) else {}
 
@@ -300,12 +313,13 @@ class Trying:
         return not self.checked({}, these).returncode
 
     def checked(self, texts, these):
-        """Checks the crate with these texts in place of its own; in parts, the functions that wrong bodies change, and the
-        whole module of one whose name it doesn't take."""
+        """Checks the functions that wrong bodies change, and the whole module of one whose name rattle doesn't take, with
+        these texts in place of the crate's own."""
         while True:
-            parts = sorted(map(self.part_of, these.functions())) if self.in_parts else []
+            parts = sorted(map(self.part_of, these.functions()))
             only = [word for it in dict.fromkeys(parts) for word in ("--only", it)]
-            ran = self.rt.checked(self.crate, texts, [*self.flags, *only], self.kept)
+            with self.work() as kept:
+                ran = self.rt.checked(self.crate, texts, [*self.flags, *only], kept)
             found = UNNAMED.search(ran.stdout) if ran.returncode == 2 else None
             name = found and (found[1] or found[2])
             if not name or name in self.unnamed or name not in parts:
@@ -317,19 +331,28 @@ class Trying:
 
     def results(self, files, known):
         """Of each wrong body, whether it is refused, and what to say. Those that no goal of their own refuses are tried one
-        at a time; what that says counts only if the crate, as it stands, is proved over the same work, and so does what
-        checks of the whole crate say. Otherwise, and for those that weren't refused, unless they are known to be let
-        through, rt begins with nothing."""
+        at a time; what that says counts only if the crate, as it stands, is proved over the same work. Otherwise, and for
+        those that weren't refused, unless they are known to be let through, rt begins with nothing."""
         edits = [Edit(it) for it in files]
         found = self.together(edits)
-        alone = {it: self.rt.must_fail(self.crate, it.file, self.flags, self.kept) for it in edits if it not in found}
-        is_sound = (self.in_parts and not alone) or not self.rt.checked(self.crate, {}, self.flags, self.kept).returncode
+        alone = {it: self.alone(it) for it in edits if it not in found}
+        is_sound = not alone or self.is_proved()
         return [self.result(it, found.get(it), alone.get(it), is_sound, it.file in known) for it in edits]
+
+    def alone(self, edit):
+        """What rt says of a wrong body by itself."""
+        with self.work() as kept:
+            return self.rt.must_fail(self.crate, edit.file, self.flags, kept)
+
+    def is_proved(self):
+        """Whether the crate is proved as it stands."""
+        with self.work() as kept:
+            return not self.rt.checked(self.crate, {}, self.flags, kept).returncode
 
     def result(self, edit, goal, alone, is_sound, is_known):
         # Kits say that it is refused by `True`, or by a word.
         refused = getattr(self.rt, "REFUSED", True)
-        if goal and (is_sound or self.in_parts):
+        if goal:
             return refused, said_of(self.crate, edit, goal)
         if alone and is_sound and (alone[0] == refused or is_known):
             return alone[0], f"{alone[1]} [tried alone]"
@@ -340,21 +363,14 @@ def said_of(crate, edit, goal):
     return f"must-fail {crate.name}/{edit.name}: refused, as it must be: {goal[:160]}"
 
 
-def must_fail_all(rt, crate, files, flags):
-    """What rt's function of this name returns: of each wrong body, whether it is refused, and what to say."""
+def must_fail_all(rt, crate, files, flags, over=None, known=()):
+    """What rt's function of this name returns: of each wrong body, whether it is refused, and what to say. There may be a
+    folder with the work of earlier checks, which is copied, and some wrong bodies may be known to be let through."""
     with tempfile.TemporaryDirectory(prefix="rt-edits-") as kept:
-        return Trying(rt, crate, flags, kept, in_parts=True).results(files, ())
-
-
-def must_fail_over(rt, crate, files, flags, over=None, known=()):
-    """The same by checks of the whole crate, over a copy of the folder `over` with the work of earlier ones, if there is
-    one. Some may be known to be let through."""
-    if not files:
-        return []
-    with tempfile.TemporaryDirectory(prefix="rt-edits-") as kept:
-        if over:
+        proof = Proof.of(crate)
+        if over and not proof:
             shutil.copytree(over, kept, dirs_exist_ok=True)
-        return Trying(rt, crate, flags, kept, in_parts=False).results(files, known)
+        return Trying(rt, crate, flags, kept, proof).results(files, known)
 
 
 def in_one_task(rt):

@@ -12,6 +12,7 @@ import unittest
 sys.dont_write_bytecode = True
 sys.path.insert(0, str(pathlib.Path(__file__).resolve().parent.parent.parent / "tools"))
 
+from kit import below_each, keep_proofs  # noqa: E402
 from prove import Compilers, Lanes, Progress, is_built, remove_built  # noqa: E402
 
 
@@ -127,6 +128,17 @@ class Proving(unittest.TestCase):
         both = Compilers(compile_by)
         self.assertEqual(both("twp_cmd", "llvm", [], "out/twp_cmd"), 0)
         self.assertEqual(both("twp_cmd", "rattle", [], "out/twp_cmd"), 2)
+
+    def test_proofs_are_left_of_libraries_that_few_crates_stand_on(self):
+        upper = [f"crate_{at}" for at in range(5)]
+        lines = ["# Lowest first.", "low: csv", "high staticlib: low", *(f"{it}: high low std" for it in upper)]
+        with tempfile.TemporaryDirectory() as room:
+            pathlib.Path(room, "crates.txt").write_text("\n".join(lines))
+            self.assertEqual(below_each(room)["crate_0"], {"high", "low"})
+            rt = types.SimpleNamespace(Crate=types.SimpleNamespace(build_rlib=lambda crate, flags, anew: crate.cuts_libraries))
+            keep_proofs(rt, room)
+        cuts = [rt.Crate.build_rlib(types.SimpleNamespace(name=it), [], True) for it in ("low", "high", "crate_0")]
+        self.assertEqual(cuts, [True, False, False])
 
     def test_a_crate_waits_for_memory(self):
         tasks = {(name, "proof"): ([], 9_000, 10, lambda given, count: count) for name in ("one", "other")}

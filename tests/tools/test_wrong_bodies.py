@@ -1,5 +1,6 @@
 #!/usr/bin/env python3
 """Tests how tools/wrong_bodies.py tells which functions an edit changes, and which goals of a check are theirs."""
+import json
 import pathlib
 import re
 import sys
@@ -10,7 +11,8 @@ import unittest
 sys.dont_write_bytecode = True
 sys.path.insert(0, str(pathlib.Path(__file__).resolve().parent.parent.parent / "tools"))
 
-from wrong_bodies import Edit, Together, functions_of, in_one_task, must_fail_over, names_goal  # noqa: E402
+from checked import Proof  # noqa: E402
+from wrong_bodies import Edit, Together, functions_of, in_one_task, must_fail_all, names_goal  # noqa: E402
 
 SOURCE = """//! Lines.
 
@@ -131,8 +133,9 @@ class Goals(unittest.TestCase):
         self.assertFalse(names_goal(said.format("Line/sides"), SIDES))
 
     def test_an_answer_that_lacks_a_name_says_nothing(self):
-        said = "./proofs/line/sides/Answers.antt:9:3: error: `returns`: module `Goals` has no `returns-2` that can be named"
-        self.assertFalse(names_goal(said, SIDES))
+        said = "./proofs/line/sides/Answers.antt:9:3: error: `returns`: "
+        self.assertFalse(names_goal(said + "module `Goals` has no `returns-2` that can be named from here", SIDES))
+        self.assertFalse(names_goal(said + "record `Lts.After-row` (nearest: .if-has_half, .if-at)", SIDES))
 
     def test_other_lines_are_no_goals(self):
         self.assertFalse(names_goal("fn twp_grid::line::sides: no proof: it calls `row`, which is not proved", SIDES))
@@ -182,6 +185,45 @@ fn added<P: Plot>(plot: &mut P) {
         self.assertEqual(found, [("Plot", "empty", 2, 3), ("Plot", "is_untouched", 5, 9), ("", "added", 12, 14)])
 
 
+def rlib_in(folder, names=("Grid", "Grid.Line", "rests/Grid")):
+    """Makes an rlib with checked modules of these names, and returns it."""
+    rlib = pathlib.Path(folder, "out", "rlib", "twp_grid.rlib")
+    (rlib / "toolchain").mkdir(parents=True)
+    module = b"--@ antt-checked 81\n--@ kernel antt-81/1.0\n--@ module "
+    rows = [json.dumps([name, 8 + at * len(module), len(module)]) for at, name in enumerate(names)]
+    (rlib / "toolchain" / "checked.a").write_bytes(b"!<arch>\n" + module * len(names))
+    (rlib / "toolchain" / "checked.json").write_text("\n".join(rows))
+    return str(rlib)
+
+
+class Left(unittest.TestCase):
+    """What a proof left."""
+
+    def setUp(self):
+        room = tempfile.TemporaryDirectory()
+        self.addCleanup(room.cleanup)
+        self.folder = room.name
+
+    def left(self, *names):
+        return Proof.of(types.SimpleNamespace(rlib=rlib_in(self.folder, names)))
+
+    def test_modules_are_put_into_the_folder_of_the_rattle_that_checked_them(self):
+        self.left("Grid", "Grid.Line", "rests/Grid", "sum/all").put_into(self.folder)
+        files = sorted(it.name for it in pathlib.Path(self.folder, "antt-81_1.0").iterdir())
+        self.assertEqual(files, ["Grid.Line.oantt", "Grid.oantt"])
+        self.assertIn("--@ module", pathlib.Path(self.folder, "antt-81_1.0", "Grid.Line.oantt").read_text())
+
+    def test_statements_are_no_proof(self):
+        self.assertIsNone(self.left("part/Grid", "part/Grid.Line", "sum/all"))
+
+    def test_another_form_and_no_rlib_are_no_proof(self):
+        rlib = rlib_in(self.folder)
+        pathlib.Path(rlib, "toolchain", "checked.json").write_text("{}")
+        self.assertIsNone(Proof.of(types.SimpleNamespace(rlib=rlib)))
+        self.assertIsNone(Proof.of(types.SimpleNamespace(rlib=f"{rlib}.none")))
+        self.assertIsNone(Proof.of(types.SimpleNamespace()))
+
+
 class OneTask(unittest.TestCase):
     """All wrong bodies of a crate in one task of rt's."""
 
@@ -200,6 +242,8 @@ class OneTask(unittest.TestCase):
             file.write_text(f"file: src/line.rt\nold: {old}\nnew: {new}\n")
             self.files[name] = str(file)
         self.checks, self.alone, self.kept, self.is_proved, self.unnamed = [], [], {}, True, []
+        # What each check finds that earlier ones, or a proof, left.
+        self.found = []
         # Whether `sides` is refused where no other function is changed.
         self.waits = False
         self.crate = types.SimpleNamespace(name="twp_grid", folder=str(folder), count=lambda it: 30)
@@ -216,6 +260,8 @@ class OneTask(unittest.TestCase):
     def checked(self, crate, texts, flags, kept):
         """A check that refuses `index` of a wrong body, and nothing else."""
         self.checks.append((texts.get("src/line.rt", "as it stands"), flags))
+        self.found.append(sorted(str(it.relative_to(kept)) for it in pathlib.Path(kept).rglob("*.oantt")))
+        pathlib.Path(kept, "changed.oantt").touch()
         if any(it in self.unnamed for it in flags):
             said = f"rattle: error: `twp_grid` has no function `{self.unnamed[0]}`: help: write the name that a check prints"
             return types.SimpleNamespace(stdout=said, returncode=2)
@@ -230,10 +276,10 @@ class OneTask(unittest.TestCase):
         self.alone.append((pathlib.Path(file).stem, bool(kept)))
         return ("missed", "NOT REFUSED") if kept else ("refused", "from nothing")
 
-    def over(self, *names, known=()):
-        """What is said of these wrong bodies over the work of earlier checks."""
+    def all(self, *names, known=()):
+        """What is said of these wrong bodies."""
         files = [self.files[it] for it in names]
-        return must_fail_over(self.rt, self.crate, files, [], None, [self.files[it] for it in known])
+        return must_fail_all(self.rt, self.crate, files, [], None, [self.files[it] for it in known])
 
     def tried(self, *names, is_well=True):
         """What a task gives for these wrong bodies, and how many an earlier run tried."""
@@ -293,17 +339,22 @@ class OneTask(unittest.TestCase):
         self.assertEqual([it[1] for it in self.tried("one", "two")[0]][1], "from nothing")
         self.assertEqual(self.alone, [("two", True), ("two", False)])
 
-    def test_over_earlier_work_whole_crates_are_checked(self):
-        self.assertEqual([it[1] for it in self.over("two", "sides")[1:]], ["from nothing"])
-        self.assertEqual([it[1] for it in self.checks], [[], [], []])
-        self.assertEqual((self.checks[-1][0], self.alone), ("as it stands", [("sides", True), ("sides", False)]))
+    def test_each_check_is_over_what_the_proof_left(self):
+        self.crate.rlib = rlib_in(self.crate.folder)
+        self.assertEqual([it[0] for it in self.all("one", "two")], ["refused"] * 2)
+        self.assertTrue("return 2;" in self.checks[0][0] and "7)" in self.checks[1][0])
+        self.assertEqual(self.found, [["antt-81_1.0/Grid.Line.oantt", "antt-81_1.0/Grid.oantt"]] * 2)
+
+    def test_without_a_proof_a_check_is_over_the_work_of_the_one_before(self):
+        self.all("one", "two")
+        self.assertEqual(self.found, [[], ["changed.oantt"], ["changed.oantt"]])
 
     def test_one_that_is_known_to_be_let_through_is_not_tried_from_nothing(self):
-        self.assertEqual([it[0] for it in self.over("lines", known=["lines"])], ["missed"])
+        self.assertEqual([it[0] for it in self.all("lines", known=["lines"])], ["missed"])
 
-    def test_nothing_is_known_over_work_with_which_the_crate_is_not_proved(self):
+    def test_what_is_said_of_one_alone_counts_only_if_the_crate_is_proved(self):
         self.is_proved = False
-        self.assertEqual([it[1] for it in self.over("one", "two")], ["from nothing"] * 2)
+        self.assertEqual([it[1] for it in self.all("lines", known=["lines"])], ["from nothing"])
 
     def test_what_an_earlier_run_tried_is_not_tried_again(self):
         self.assertEqual(self.tried("one")[1], 0)
