@@ -5,17 +5,32 @@
 # Skipped tests are named and counted before it; if CI is set, a skipped test is a failure.
 . "$(dirname "$0")/lib.sh"
 cd "$root" || exit 1
+
+# Each takes minutes. One that hangs is ended, so that the others are still counted, and standard error says when each
+# ended.
+LONGEST=3000
+begun_at=$(date +%s)
+part() {
+    name=$1
+    shift
+    begin "$name" timeout -k 10 "$LONGEST" "$@"
+}
+ended_now() { echo "tests of $* ended after $((($(date +%s) - begun_at) / 60)) min" >&2; }
+
 {
-    begin quick sh tests/quick.sh
-    begin library sh tests/library/run.sh proved
-    begin program sh tests/e2e.sh crates/twp_cmd/out/twp_cmd
+    part quick sh tests/quick.sh
+    part library sh tests/library/run.sh proved
+    part program sh tests/e2e.sh crates/twp_cmd/out/twp_cmd
     gather
-    begin postgresql sh tests/postgresql/run.sh
-    begin packages sh tests/packages/all.sh
+    ended_now the library and the program
+    part postgresql sh tests/postgresql/run.sh
+    part packages sh tests/packages/all.sh
     gather
+    ended_now PostgreSQL and the packages
     # It measures times, so nothing runs beside it.
-    begin page sh tests/page/run.sh
+    part page sh tests/page/run.sh
     gather
+    ended_now the page
 } > "$work/all"
 cat "$work/all"
 # Once more at the end, since all of this is long.

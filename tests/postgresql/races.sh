@@ -17,7 +17,7 @@ DECLARE
 BEGIN
     FOR next IN SELECT id, land FROM tried ORDER BY chance(id, connection, 1000000) LOOP
         answered := false;
-        WHILE NOT answered LOOP
+        FOR attempt IN 1..1000 LOOP
             BEGIN
                 INSERT INTO leases VALUES (next.id, next.land);
                 answered := true;
@@ -29,7 +29,11 @@ BEGIN
                     INSERT INTO retried VALUES (next.id);
             END;
             COMMIT;
+            EXIT WHEN answered;
         END LOOP;
+        IF NOT answered THEN
+            RAISE 'lease % was ended in all 1000 attempts', next.id;
+        END IF;
     END LOOP;
 END $$;
 END

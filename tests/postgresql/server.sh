@@ -50,6 +50,7 @@ max_connections = 50
 max_parallel_workers = 8
 max_worker_processes = 12
 log_min_messages = fatal
+deadlock_timeout = 100ms
 END
     (
         cd "$work/server"
