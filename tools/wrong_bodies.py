@@ -42,7 +42,9 @@ NAMED = re.compile(r"(?:pub(?:\([\w:]+\))? )?(?:const|static) (\w+):")
 IMPORT = re.compile(r"use .*;$")
 # What a check says of a goal that isn't proved: of code, and of a written answer.
 OF_CODE = re.compile(r"note: (src/\S+\.rt):(\d+):\d+: (?:it is not proved |`search` found no proof )")
-OF_ANSWER = re.compile(r"(?:\./)?proofs/(\S+)/(?:Answers|Invariants|Proof)\.antt:\d+:\d+: error: ")
+OF_ANSWER = re.compile(r"(?:\./)?proofs/(\S+)/(?:Answers|Invariants|Proof)\.antt:\d+:\d+: error: (?:`(\w+)-)?")
+# The folder of the answers of functions that call one another. A goal there begins with the name of its function.
+CYCLE = "+"
 LACKS_NAME = re.compile(r"has no field|\(nearest: |is not in scope|has no `|was not admitted")
 # An error in a definition or a lemma, which several functions may rest on.
 OF_LEMMA = re.compile(r"(?:\./)?(?:specs|proofs)/(?!.*/(?:Answers|Invariants|Proof)\.antt)\S+\.antt:\d+:\d+: error: ")
@@ -81,10 +83,12 @@ class Function:
     def has_line(self, path, line):
         return path == self.path and self.first <= line <= self.last
 
-    def has_answers(self, folder):
+    def has_answers(self, folder, begins):
         """Whether its answers are in this folder of proofs/, such as line/Line/index for `Line::index`. That of a method
-        is in the module of its type, whatever file has the method, and names its trait, too, as lanes/LaneRowsPlot/meets."""
+        is in the module of its type, whatever file has the method, and names its trait, too, as lanes/LaneRowsPlot/meets.
+        That of a cycle has those of several functions, by the word that a goal begins with."""
         *around, name = folder.split("/")
+        name = begins if name.startswith(CYCLE) else name
         is_owner = bool(around) and around[-1].startswith(self.owner)
         return name == self.name and (is_owner if self.owner else around == self.module)
 
@@ -246,7 +250,7 @@ def names_goal(line, function):
     if found := OF_CODE.match(line):
         return function.has_line(found[1], int(found[2]))
     found = OF_ANSWER.match(line)
-    return bool(found) and function.has_answers(found[1]) and not LACKS_NAME.search(line)
+    return bool(found) and function.has_answers(found[1], found[2]) and not LACKS_NAME.search(line)
 
 
 class Trying:

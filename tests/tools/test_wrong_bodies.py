@@ -132,6 +132,12 @@ class Goals(unittest.TestCase):
         self.assertFalse(names_goal(said.format("index"), INDEX))
         self.assertFalse(names_goal(said.format("Line/sides"), SIDES))
 
+    def test_a_goal_of_a_cycle_begins_with_the_name_of_its_function(self):
+        said = "./proofs/line/+descent/Answers.antt:9:3: error: `{}-returns-then-at`: as printed, the types differ"
+        self.assertTrue(names_goal(said.format("sides"), SIDES))
+        self.assertFalse(names_goal(said.format("write_sides"), SIDES))
+        self.assertFalse(names_goal(said.format("index"), INDEX))
+
     def test_an_answer_that_lacks_a_name_says_nothing(self):
         said = "./proofs/line/sides/Answers.antt:9:3: error: `returns`: "
         self.assertFalse(names_goal(said + "module `Goals` has no `returns-2` that can be named from here", SIDES))
