@@ -15,6 +15,8 @@ passed=0
 failed=0
 work=$(mktemp -d)
 trap 'rm -rf "$work"' EXIT
+# A signal ends a shell without the above, unless it is told to exit.
+trap 'exit 1' HUP INT TERM
 
 # The programs to test: ./township, or the first word; and twp_trials of its crate, or the second word.
 name_programs() {

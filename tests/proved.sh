@@ -6,9 +6,9 @@
 . "$(dirname "$0")/lib.sh"
 cd "$root" || exit 1
 
-# Each takes minutes. One that hangs is ended, so that the others are still counted, and standard error says when each
-# ended.
-LONGEST=3000
+# Most of these take minutes. One that hangs is ended, so that the others are still counted, and standard error says when
+# they ended.
+LONGEST=2400
 begun_at=$(date +%s)
 part() {
     name=$1

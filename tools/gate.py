@@ -28,7 +28,8 @@ LOG = Path(__file__).resolve().parent.parent / "gate.log"
 ENDED = re.compile(r"rt: \w+(?:: its tests are)? (proved|NOT PROVED)$")
 # A wrong body that a goal refuses, how long those of a crate took, and a test that passes.
 EXPECTED = re.compile(
-    r"rt: must-fail \S+: refused, as it must be(?: *$|:)|rt: \w+: its must-fail edits took|test \S+ \.\.\. ok$"
+    r"rt: must-fail \S+: refused, as it must be(?: *$|:| \[tried alone\]$)|rt: \w+: its must-fail edits took"
+    r"|test \S+ \.\.\. ok$"
 )
 
 

@@ -8,8 +8,8 @@ from pathlib import Path
 
 # The most memory that a check takes, in bytes.
 MEMORY = 4_000_000_000
-# How many crates may stand on a library whose checked modules are left in what is built of it. A module takes each of them
-# some 3 thousandths of a second to load, and a function has 10 to 20 of them.
+# The most crates that may depend on a library whose checked modules are kept in its rlib. A module takes each of them up to
+# 3 thousandths of a second to load, and a function has 10 to 20 of them.
 MOST_ABOVE = 5
 
 
@@ -32,8 +32,9 @@ def loaded_rt(*names):
 
 def below_each(root):
     """The names of the repository's crates below each crate, of the file crates.txt in a folder."""
-    lines = [line.split(":") for line in (Path(root) / "crates.txt").read_text().splitlines() if not line.startswith("#")]
-    named, below = {left.split()[0]: right.split() for left, right in lines}, {}
+    lines = [line.split("#")[0] for line in (Path(root) / "crates.txt").read_text(encoding="utf-8").splitlines()]
+    rows = [line.split(":") for line in lines if line.strip()]
+    named, below = {left.split()[0]: right.split() for left, right in rows}, {}
 
     def all_below(name):
         if name not in below:
@@ -44,14 +45,18 @@ def below_each(root):
 
 
 def keep_proofs(rt, root):
-    """Has rt leave the checked modules of a library that few crates stand on in what it builds (checked.py), and not only
-    the statements that these crates need: the checks of its wrong bodies need not prove it again. Each crate above it
+    """Has rt keep the checked modules of a library that few crates depend on in its rlib (checked.py), and not only the
+    statements that these crates need: then the checks of its wrong bodies need not prove it again. Each crate above it
     takes longer to load for that."""
     build, below = rt.Crate.build_rlib, below_each(root)
 
     def build_rlib(crate, flags, anew):
         crate.cuts_libraries = sum(crate.name in it for it in below.values()) > MOST_ABOVE
-        return build(crate, flags, anew)
+        status = build(crate, flags, anew)
+        # By its stamp, other commands would take it with other libraries below it.
+        if rt.Crate.cuts_libraries:
+            Path(crate.folder, "out", "rlib", "stamp").unlink(missing_ok=True)
+        return status
 
     rt.Crate.build_rlib = build_rlib
 

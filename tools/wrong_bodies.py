@@ -13,10 +13,10 @@ A wrong body counts as refused here only if
   of `proofs/` that has the answers to their goals. An answer that only lacks a name that the edit took away doesn't
   count.
 
-All others, such as one that breaks a goal of a caller, are tried by rt itself, one at a time and over the work of these
-checks, if the crate is also proved over it as it stands; what is said of them ends with `[tried alone]`. Each takes as
-long as a proof of the crate, so a wrong body that a goal of its own function refuses is better. So are all of a check that finds an error in a definition or a
-lemma, which functions share.
+All others are tried by rt itself, one at a time and over the work of these checks, if the crate is also proved over it as
+it stands: those that break a goal of a caller, and all those of a check that finds an error in a definition or a lemma,
+which functions share. What is said of them ends with `[tried alone]`. Each takes as long as a proof of the crate, so
+prefer a wrong body that a goal of its own function refuses.
 
 A check of a crate that few others stand on begins with what its proof left (checked.py), and checks the functions that
 are changed alone. Of other crates nothing is left: the first check begins with nothing, and checks the functions that
@@ -89,12 +89,16 @@ class Function:
         That of a cycle has those of several functions, by the word that a goal begins with."""
         *around, name = folder.split("/")
         name = begins if name.startswith(CYCLE) else name
-        is_owner = bool(around) and around[-1].startswith(self.owner)
+        # `Sections+LaneRows` is `Sections<LaneRows>`.
+        owner = around[-1].partition("+")[0] if around else ""
+        is_owner = owner in (self.owner, f"{self.owner}{self.trait}")
         return name == self.name and (is_owner if self.owner else around == self.module)
 
     def may_share_answers(self, other):
-        """Whether the folder of its answers may be that of another function: both may be a type's `fmt`, of two traits."""
-        return (self.path, self.owner, self.name) == (other.path, other.owner, other.name)
+        """Whether the folder of its answers may be that of another function, so that a goal may be of either: both may be a
+        type's `fmt`, of two traits, or methods of two types of one name."""
+        same = (self.owner, self.name) == (other.owner, other.name)
+        return same and (bool(self.owner) or self.path == other.path)
 
 
 def functions_of(path, text):
@@ -288,11 +292,11 @@ class Trying:
             left = {it: functions for it, functions in left.items() if not these.takes(it, functions)}
             yield these
 
-    def together(self, edits):
+    def together(self, edits, known):
         """Tries wrong bodies. Returns those that were refused, each with the goal. The goals of a function may wait for
         the proof of one that it calls, which another wrong body in the same check changes: so those that a check doesn't
-        refuse are tried once more without the others. A check over the work of another one counts only if the same
-        functions, as they stand, are proved over that work."""
+        refuse are tried once more without the others, unless they are known to be let through. A check over the work of
+        another one counts only if the same functions, as they stand, are proved over that work."""
         found, waiting = {}, list(self.groups(edits))
         while waiting:
             these = waiting.pop(0)
@@ -300,7 +304,7 @@ class Trying:
             refused = self.refused(these)
             if not is_over_others or self.are_proved(these):
                 found.update(refused)
-            left = [it for it in these.edits if it not in refused]
+            left = [it for it in these.edits if it not in refused and it.file not in known]
             waiting += self.groups(left) if refused else []
         return found
 
@@ -338,7 +342,7 @@ class Trying:
         at a time; what that says counts only if the crate, as it stands, is proved over the same work. Otherwise, and for
         those that weren't refused, unless they are known to be let through, rt begins with nothing."""
         edits = [Edit(it) for it in files]
-        found = self.together(edits)
+        found = self.together(edits, known)
         alone = {it: self.alone(it) for it in edits if it not in found}
         is_sound = not alone or self.is_proved()
         return [self.result(it, found.get(it), alone.get(it), is_sound, it.file in known) for it in edits]
@@ -359,8 +363,10 @@ class Trying:
         if goal:
             return refused, said_of(self.crate, edit, goal)
         if alone and is_sound and (alone[0] == refused or is_known):
-            return alone[0], f"{alone[1]} [tried alone]"
-        return self.rt.must_fail(self.crate, edit.file, self.flags)
+            kind, said = alone
+        else:
+            kind, said = self.rt.must_fail(self.crate, edit.file, self.flags)
+        return kind, f"{said} [tried alone]"
 
 
 def said_of(crate, edit, goal):

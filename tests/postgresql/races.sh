@@ -1,7 +1,8 @@
 # Leases that 16 connections insert at the same time. All of them try the same made-up descriptions of a few
 # townships, each in an order of its own. In the end no two leases overlap, and each that was refused overlaps
 # one that was not. Of transactions that wait for each other, PostgreSQL ends some; which says nothing of the land, and
-# all of those that insert a lease may end so. As an application would, a connection then tries the lease again.
+# all of those that insert a lease may end so. As an application would, a connection then tries the lease again, up to 1,000
+# times in all.
 new_database races
 sql -d races -f "$tests/made_up.sql" > "$work/lost"
 sql -d races << 'END' > "$work/lost" 2>&1
@@ -32,7 +33,7 @@ BEGIN
             EXIT WHEN answered;
         END LOOP;
         IF NOT answered THEN
-            RAISE 'lease % was ended in all 1000 attempts', next.id;
+            RAISE 'lease %: all 1000 attempts ended in a deadlock', next.id;
         END IF;
     END LOOP;
 END $$;

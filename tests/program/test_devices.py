@@ -1,4 +1,4 @@
-"""Runs whose devices fail in midstream, give or take a few bytes a call, or never end. For each, `twp_trials devices`
+"""Runs whose devices fail in midstream, move only a few bytes a call, or (readers) never end. For each, `twp_trials devices`
 reads a line of words, which its src/devices.rt describes."""
 from __future__ import annotations
 

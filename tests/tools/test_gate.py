@@ -45,13 +45,14 @@ class Shown(unittest.TestCase):
 
     def test_wrong_bodies_that_are_not_refused_by_a_goal_are_shown(self):
         refused = "rt: must-fail twp_grid/one.edit: refused, as it must be: note: src/line.rt:12:9: it is not proved that ..\n"
+        alone = "rt: must-fail twp_grid/five.edit: refused, as it must be [tried alone]\n"
         took = "rt: twp_grid: its must-fail edits took 41 s\n"
         lines = [
             "rt: must-fail twp_grid/two.edit: refused, as it must be (only by a limit of the prover): src/line.rt\n",
             "rt: must-fail twp_grid/three.edit: NOT REFUSED: the crate is still proved with this edit\n",
             "rt: must-fail twp_grid/four.edit: BAD EDIT: src/line.rt has 2 times: self\n",
         ]
-        self.assertEqual(self.of(took, refused, *lines), [it.rstrip() for it in lines])
+        self.assertEqual(self.of(took, refused, alone, *lines), [it.rstrip() for it in lines])
 
     def test_tests_that_fail_are_shown(self):
         shown = self.of("test tests::limits ... ok\ntest tests::pieces ... FAILED\n")

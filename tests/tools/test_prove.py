@@ -33,6 +33,18 @@ def build(it):
     made.write_text("")
 
 
+class Built:
+    """rt's class of crates, which leaves a stamp of a library with all that was proved of it, and returns whether it did not."""
+
+    cuts_libraries = True
+
+    def build_rlib(self, flags, anew):
+        if not self.cuts_libraries:
+            pathlib.Path(self.folder, "out/rlib").mkdir()
+            pathlib.Path(self.folder, "out/rlib/stamp").touch()
+        return self.cuts_libraries
+
+
 class Proving(unittest.TestCase):
     def setUp(self):
         room = tempfile.TemporaryDirectory()
@@ -131,14 +143,15 @@ class Proving(unittest.TestCase):
 
     def test_proofs_are_left_of_libraries_that_few_crates_stand_on(self):
         upper = [f"crate_{at}" for at in range(5)]
-        lines = ["# Lowest first.", "low: csv", "high staticlib: low", *(f"{it}: high low std" for it in upper)]
+        lines = ["# Lowest first.", "", "low: csv", "high staticlib: low", *(f"{it}: high low std" for it in upper)]
         with tempfile.TemporaryDirectory() as room:
             pathlib.Path(room, "crates.txt").write_text("\n".join(lines))
             self.assertEqual(below_each(room)["crate_0"], {"high", "low"})
-            rt = types.SimpleNamespace(Crate=types.SimpleNamespace(build_rlib=lambda crate, flags, anew: crate.cuts_libraries))
+            rt = types.SimpleNamespace(Crate=Built)
             keep_proofs(rt, room)
-        cuts = [rt.Crate.build_rlib(types.SimpleNamespace(name=it), [], True) for it in ("low", "high", "crate_0")]
-        self.assertEqual(cuts, [True, False, False])
+            crates = [crate(room, it) for it in ("low", "high", "crate_0")]
+            self.assertEqual([rt.Crate.build_rlib(it, [], True) for it in crates], [True, False, False])
+            self.assertFalse(any(pathlib.Path(it.folder, "out/rlib/stamp").exists() for it in crates))
 
     def test_a_crate_waits_for_memory(self):
         tasks = {(name, "proof"): ([], 9_000, 10, lambda given, count: count) for name in ("one", "other")}

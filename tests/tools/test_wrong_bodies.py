@@ -12,7 +12,7 @@ sys.dont_write_bytecode = True
 sys.path.insert(0, str(pathlib.Path(__file__).resolve().parent.parent.parent / "tools"))
 
 from checked import Proof  # noqa: E402
-from wrong_bodies import Edit, Together, functions_of, in_one_task, must_fail_all, names_goal  # noqa: E402
+from wrong_bodies import Edit, Function, Together, functions_of, in_one_task, must_fail_all, names_goal  # noqa: E402
 
 SOURCE = """//! Lines.
 
@@ -128,6 +128,9 @@ class Goals(unittest.TestCase):
         self.assertTrue(names_goal(said.format("sides"), SIDES))
         # A method in a file of its own has its answers beside those of its type's other methods.
         self.assertTrue(names_goal("./proofs/lines/Line/index/Answers.antt:9:3: error: `returns`", INDEX))
+        # A type with arguments, and one whose name only begins as another's does.
+        self.assertTrue(names_goal(said.format("Sections+LaneRows/rows"), Function("src/land_rows.rt", 1, 9, "Sections", "rows")))
+        self.assertFalse(names_goal(said.format("LaneRowsPlot/full"), Function("src/place_set.rt", 1, 9, "L", "full", "PlaceSet")))
         self.assertFalse(names_goal(said.format("Line/number"), INDEX))
         self.assertFalse(names_goal(said.format("index"), INDEX))
         self.assertFalse(names_goal(said.format("Line/sides"), SIDES))
@@ -146,6 +149,14 @@ class Goals(unittest.TestCase):
     def test_other_lines_are_no_goals(self):
         self.assertFalse(names_goal("fn twp_grid::line::sides: no proof: it calls `row`, which is not proved", SIDES))
         self.assertFalse(names_goal("./proofs/line/sides/Answers.antt:9:3: note: the two sides may differ", SIDES))
+
+
+class Sharing(unittest.TestCase):
+    def test_methods_of_two_types_of_one_name_may_share_answers_and_functions_of_two_modules_do_not(self):
+        one, other = (Function(f"src/{it}.rt", 1, 9, "Found", "new") for it in ("after", "before"))
+        self.assertTrue(one.may_share_answers(other))
+        one, other = (Function(f"src/{it}.rt", 1, 9, "", "new") for it in ("after", "before"))
+        self.assertFalse(one.may_share_answers(other))
 
 
 class Checks(unittest.TestCase):
@@ -331,7 +342,7 @@ class OneTask(unittest.TestCase):
 
     def test_a_check_that_fails_for_another_reason_is_not_repeated(self):
         self.unnamed = ["line::sides", "line"]
-        self.assertEqual([it[1] for it in self.tried("sides")[0]], ["from nothing"])
+        self.assertEqual([it[1] for it in self.tried("sides")[0]], ["from nothing [tried alone]"])
         self.assertEqual([it[1][2:] for it in self.checks], [["--only", "line::sides"], ["--only", "line"], []])
 
     def test_over_the_work_of_one_check_another_needs_its_functions_proved_as_they_stand(self):
@@ -342,7 +353,7 @@ class OneTask(unittest.TestCase):
 
     def test_a_second_check_says_nothing_if_they_are_not(self):
         self.is_proved = False
-        self.assertEqual([it[1] for it in self.tried("one", "two")[0]][1], "from nothing")
+        self.assertEqual([it[1] for it in self.tried("one", "two")[0]][1], "from nothing [tried alone]")
         self.assertEqual(self.alone, [("two", True), ("two", False)])
 
     def test_each_check_is_over_what_the_proof_left(self):
@@ -360,7 +371,7 @@ class OneTask(unittest.TestCase):
 
     def test_what_is_said_of_one_alone_counts_only_if_the_crate_is_proved(self):
         self.is_proved = False
-        self.assertEqual([it[1] for it in self.all("lines", known=["lines"])], ["from nothing"])
+        self.assertEqual([it[1] for it in self.all("lines", known=["lines"])], ["from nothing [tried alone]"])
 
     def test_what_an_earlier_run_tried_is_not_tried_again(self):
         self.assertEqual(self.tried("one")[1], 0)
