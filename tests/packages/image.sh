@@ -54,8 +54,9 @@ install() {
     unshare --mount --pid --fork sh -eu -c '
         mount -t proc proc "$1/proc"
         chroot "$1" env DEBIAN_FRONTEND=noninteractive LC_ALL=C.UTF-8 sh -euc "
-            apt-get -q update
-            apt-get -q -y -o Dpkg::Options::=--force-unsafe-io --no-install-recommends install $2
+            apt-get -q -o Acquire::http::Timeout=60 update
+            apt-get -q -y -o Acquire::http::Timeout=60 -o Dpkg::Options::=--force-unsafe-io --no-install-recommends \
+                install $2
             apt-get clean"
     ' sh "$2" "$3"
 }
@@ -72,7 +73,7 @@ for name in "$@"; do
     (
         flock 9
         if [ ! -d "$image" ]; then
-            make_folder "$minimal" debootstrap --variant=minbase "$suite" "$minimal.part" "$mirror"
+            make_folder "$minimal" timeout 1200 debootstrap --variant=minbase "$suite" "$minimal.part" "$mirror"
             make_folder "$image" install "$minimal" "$image.part" "$packages"
         fi
     ) 9> "$images/lock"
