@@ -61,6 +61,10 @@ OTHERS = (
         ),
     ),
     Subject(
+        "The readings of what people write",
+        ("twp_suggest::reading::readings_of",),
+    ),
+    Subject(
         "The calls of the library",
         (
             "twp_calls::answering::township_read",

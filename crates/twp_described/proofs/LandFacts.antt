@@ -3,7 +3,7 @@ use Rattle.std.proofs.Common.{◌≡◌, ◌++◌, ℕ, Bool, List, refl, sym, a
 use Rattle.std.proofs.Common.{◌∙◌}
 use Rattle.twp_grid.specs.Places.{PLACE_DIGITS}
 use Rattle.twp_grid.specs.Townships.{Designation}
-use Rattle.twp_grid.specs.Lands.{difference}
+use Rattle.twp_grid.specs.Lands.{ContainsAll, SamePlaces, difference}
 use Rattle.twp_grammar.specs.declared.item.Item.{Item}
 use Rattle.twp_grammar.specs.ItemPlaces.{parts_of, land_of}
 use Rattle.twp_grammar.specs.OnPlat.{IsLandOfItems}
@@ -28,9 +28,12 @@ is_only_land township text items places only land = λ other others is.
 pub is_remainder : (whole excepted text full : List ℕ) (items : List Item) (township : Designation)
     (places less : ℕ → ℕ → ℕ → Bool) → ((others : List Item) → IsReadAs whole others → items ≡ others)
     → IsLandOfText township whole places → IsLandOfText township excepted less
+    → ContainsAll places less → ¬ SamePlaces places less
     → IsCanonicalText PLACE_DIGITS township (difference places less) full → text ≡ as_written items full
     → IsRemainder (whole ++ except ++ excepted) text
-is_remainder whole excepted text full items township places less only of_whole of_excepted spelled written =
+is_remainder whole excepted text full items township places less only of_whole of_excepted inside some_left
+    spelled
+    written =
     record {
       whole = whole;
       excepted = excepted;
@@ -40,6 +43,8 @@ is_remainder whole excepted text full items township places less only of_whole o
       less = less;
       of_whole = of_whole;
       of_excepted = of_excepted;
+      inside = inside;
+      some_left = some_left;
       full = full;
       spelled = spelled;
       text_is = written ∙ ap (λ (its : List Item). as_written its full) (only of_whole.items of_whole.read);

@@ -3,7 +3,7 @@
 use Rattle.std.specs.Prelude.{◌≡◌, ◌==◌, ℕ, Bool, List, [], ◌∷◌, ◌++◌, codes, if◌then◌else◌}
 use Rattle.twp_grid.specs.Places.{PLACE_DIGITS}
 use Rattle.twp_grid.specs.Townships.{Designation, designation, line_feed}
-use Rattle.twp_grid.specs.Lands.{HasWholeLots, difference}
+use Rattle.twp_grid.specs.Lands.{ContainsAll, HasWholeLots, SamePlaces, difference}
 use Rattle.twp_grammar.specs.declared.item.Item.{Item}
 use Rattle.twp_grammar.specs.declared.item.Item.TheVariants.{Heading}
 use Rattle.twp_grammar.specs.ItemPlaces.{land_of, parts_of}
@@ -51,7 +51,7 @@ abbrev pub except : List ℕ
 except = codes " except "
 
 -- THE REMAINDER: the canonical text of the land of the text before `except` without the land of the text
--- after it
+-- after it, which lies in it, and isn't all of it
 pub record IsRemainder (made text : List ℕ) : Type 0 where
   pub whole : List ℕ
   pub excepted : List ℕ
@@ -61,6 +61,8 @@ pub record IsRemainder (made text : List ℕ) : Type 0 where
   pub less : ℕ → ℕ → ℕ → Bool
   pub of_whole : IsLandOfText township whole places
   pub of_excepted : IsLandOfText township excepted less
+  pub inside : ContainsAll places less
+  pub some_left : ¬ SamePlaces places less
   pub full : List ℕ
   pub spelled : IsCanonicalText PLACE_DIGITS township (difference places less) full
   pub text_is : text ≡ as_written of_whole.items full

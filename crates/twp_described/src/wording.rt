@@ -1,6 +1,7 @@
 //! The description that comes of a changed text: the text, or the canonical description of what is left
 //! without the land that it excepts.
-ghost use Rattle.std.specs.Prelude.{◌≡◌, ◌≤◌, ◌++◌, IfOk, IfSome, OnOk, drop, length};
+ghost use Rattle.std.specs.Prelude.{◌≡◌, ◌≤◌, ◌++◌, IfOk, IfSome, IsTrue, OnOk, drop, length};
+ghost use Rattle.twp_grid.specs.Lands.{ContainsAll, SamePlaces};
 ghost use Rattle.twp_described.specs.Descriptions.{AreLotsNamed, IsAccepted, IsDescribed, IsRemainder};
 ghost use Rattle.twp_described.specs.Descriptions.{as_written, except};
 ghost use Rattle.twp_described.specs.Descriptions.{without_first_line};
@@ -167,13 +168,21 @@ fn remainder(alloc: Global, whole: &[u8], excepted: &[u8]) -> Result<Vec<u8>, Un
     if !has_less {
         return Err(why_text_is_unread(alloc, excepted)?);
     }
-    if !land.holds_land(&less) || land.same(&less) {
+    if !is_proper_part(&less, &land) {
         return Err(Unread::Unfit);
     }
     land.take_away(&less);
     let full = spell(alloc, &land, township)?;
     let text = as_written(alloc, &description, full.as_slice())?;
     Ok(text)
+}
+
+/// Whether land lies in other land, and isn't all of it.
+fn is_proper_part(part: &Lanes, land: &Lanes) -> bool
+    ensures inside { IsTrue result → ContainsAll (⟦<Lanes as Land>⟧.places land.now) (⟦<Lanes as Land>⟧.places part.now) }
+    ensures some_left { IsTrue result → ¬ SamePlaces (⟦<Lanes as Land>⟧.places land.now) (⟦<Lanes as Land>⟧.places part.now) }
+{
+    land.holds_land(part) && !land.same(part)
 }
 
 /// Why the land of a text isn't on the plat.

@@ -1,6 +1,14 @@
 -- Changes one after another, over plain values.
-use Rattle.std.proofs.Common.{◌≤◌, ◌<◌, ℕ, zero, suc, List, [], ◌∷◌, length, drop, map, arith}
-use Rattle.std.proofs.Common.{slice_index_or}
+use Rattle.std.proofs.Common.{◌≡◌, ◌&&◌, ◌+◌, ◌≤◌, ◌<◌, ℕ, zero, suc, true, List, [], ◌∷◌, length, drop, map}
+use Rattle.std.proofs.Common.{add-one, arith, refl, slice_index_or, slice_range}
+use Rattle.std.proofs.Math.Seq.{drop-cons}
+use Rattle.twp_rules.proofs.SameTexts.{both}
+use Rattle.twp_rules.specs.declared.role.Role.{Role}
+use Rattle.twp_rules.specs.declared.seam.Seam.{Seam}
+use Rattle.twp_rules.specs.declared.named.Named.{Named}
+use Rattle.twp_rules.specs.Moves.{is_written_by, keep_moved, named_after}
+use Rattle.twp_rules.specs.Keeping.{copied_by, fits_by, is_apart_at, keep_apart, keep_numbers, role_after}
+use Rattle.twp_rules.specs.Keeping.{seam_after, seam_with}
 use Rattle.twp_rules.specs.declared.change.Change.{Change as Piece}
 use Rattle.twp_rules.specs.Changes.{Change, seen, AreChangesFrom}
 
@@ -23,3 +31,54 @@ start_within text at (piece ∷ pieces) zero default h (first, order, allowed, r
     omega arith
 start_within text at (piece ∷ pieces) (suc i) default h all =
     start_within text at pieces i default (omega arith) all
+
+-- a change fits, and the rest decides of numbers
+pub next_numbers : (text : List ℕ) (role : Role) (place copied : ℕ) (changes : List Piece) (index : ℕ)
+    (default : Piece)
+    → index < length changes
+    → fits_by text role place copied (seen (slice_index_or changes index default))
+    (map seen (drop (index + 1) changes)) (slice_index_or changes index default).rule ≡ true
+    → keep_numbers text role place copied (map seen (drop index changes))
+    ≡ keep_numbers text (role_after role (seen (slice_index_or changes index default)))
+    (slice_index_or changes index default).end
+    (copied_by copied (slice_index_or changes index default).rule) (map seen (drop (index + 1) changes))
+next_numbers text role place copied changes index default within fits =
+    let e = drop-cons changes index default within in
+    let f = add-one index in
+    rw (f, e, rw f at fits) refl
+
+-- parts are apart, and the rest decides of them
+pub next_apart : (text : List ℕ) (at : ℕ) (seam : Seam) (changes : List Piece) (index : ℕ) (default : Piece)
+    → index < length changes
+    → (is_apart_at seam (slice_range text at (slice_index_or changes index default).start)
+    && is_apart_at (seam_after seam (slice_range text at (slice_index_or changes index default).start))
+    (slice_index_or changes index default).written.now) ≡ true
+    → keep_apart text at seam (map seen (drop index changes))
+    ≡ keep_apart text (slice_index_or changes index default).end
+    (seam_with text (seam_after seam (slice_range text at (slice_index_or changes index default).start))
+    (seen (slice_index_or changes index default))) (map seen (drop (index + 1) changes))
+next_apart text at seam changes index default within apart =
+    let e = drop-cons changes index default within in
+    let f = add-one index in
+    let both_of = both (is_apart_at seam (slice_range text at (slice_index_or changes index default).start))
+    (is_apart_at (seam_after seam (slice_range text at (slice_index_or changes index default).start))
+    (slice_index_or changes index default).written.now) apart in
+    rw (f, e, both_of.0, both_of.1) refl
+
+-- what is moved is written, and the rest decides of it
+pub next_moved : (text : List ℕ) (all : List Change) (at : ℕ) (it : Named) (changes : List Piece) (index : ℕ)
+    (default : Piece)
+    → index < length changes
+    → is_written_by text all
+    (named_after it (slice_range text at (slice_index_or changes index default).start))
+    (slice_index_or changes index default).start
+    (slice_range text (slice_index_or changes index default).start (slice_index_or changes index default).end)
+    (slice_index_or changes index default).rule ≡ true
+    → keep_moved text all at it (map seen (drop index changes))
+    ≡ keep_moved text all (slice_index_or changes index default).end
+    (named_after (named_after it (slice_range text at (slice_index_or changes index default).start))
+    (slice_index_or changes index default).written.now) (map seen (drop (index + 1) changes))
+next_moved text all at it changes index default within written =
+    let e = drop-cons changes index default within in
+    let f = add-one index in
+    rw (f, e, written) refl

@@ -8,7 +8,7 @@ use Rattle.std.proofs.Math.ListN.{get_or-map}
 use Rattle.std.proofs.lemmas.Bool.{leb-true}
 use Rattle.std.specs.Char.{to_ascii_lowercase}
 use Rattle.std.specs.Str.{str_to_ascii_lowercase}
-use Rattle.twp_rules.specs.Rules.{begins_with, ends_with}
+use Rattle.twp_rules.specs.Edges.{begins_with, ends_with}
 use Rattle.twp_grammar.specs.Tokens.{same_bytes}
 use Rattle.twp_rules.specs.steps.Rows.{without, before}
 use Rattle.twp_rules.proofs.SameTexts.{both, same_tells}

@@ -2,4 +2,6 @@ pub mod SameTexts
 pub mod RowFacts
 pub mod EdgeFacts
 pub mod ChangeFacts
-pub mod RemarkFacts
+pub mod NamingFacts
+pub mod RoleFacts
+pub mod MoveFacts

@@ -1,5 +1,6 @@
 -- What is before the marks of a row, and after them.
-use Rattle.std.proofs.Common.{◌≡◌, ◌==◌, ◌<◌, ◌≤◌, ◌+◌, Bool, true, false, List, [], ◌∷◌, ℕ, zero, suc, refl}
+use Rattle.std.proofs.Common.{◌≡◌, ◌==◌, ◌&&◌, ◌<◌, ◌≤◌, ◌+◌, sym, Bool, true, false, List, [], ◌∷◌, ℕ, zero}
+use Rattle.std.proofs.Common.{suc, refl}
 use Rattle.std.proofs.Common.{subst, add-one, arith, length, drop, slice_index_or}
 use Rattle.std.proofs.Math.Seq.{drop-cons}
 use Rattle.std.proofs.lemmas.Bool.{eqb-true, eq-eqb, false≢true}
@@ -120,3 +121,26 @@ is_entry_by_parts answer seen written row h is =
     subst (λ (n : ℕ). drop (suc n) row ≡ after 61 row) size
     (after_is 61 (str_to_ascii_lowercase seen) row h) in
     rw h (rw (add-one, here) at is)
+
+-- a word with another first byte is not what is before a row's filling
+pub other_head : (word row : List ℕ)
+    → (slice_index_or row 0 95 ≡ to_ascii_lowercase (slice_index_or word 0 95) → ⊥)
+    → same_bytes (str_to_ascii_lowercase word) (before 95 row) ≡ false
+other_head [] [] other = absurd (other refl)
+other_head [] (byte ∷ bytes) other = by_test (byte == 95) refl
+  where
+    by_test : (t : Bool) → (byte == 95) ≡ t → same_bytes [] (before 95 (byte ∷ bytes)) ≡ false
+    by_test true e = absurd (other (eqb-true byte 95 e))
+    by_test false e = rw e refl
+other_head (x ∷ xs) [] other = refl
+other_head (x ∷ xs) (byte ∷ bytes) other = by_test (byte == 95) refl
+  where
+    by_same : (t : Bool) → (to_ascii_lowercase x == byte) ≡ t
+        → (t && same_bytes (str_to_ascii_lowercase xs) (before 95 bytes)) ≡ false
+    by_same true e = absurd (other (sym (eqb-true (to_ascii_lowercase x) byte e)))
+    by_same false e = refl
+
+    by_test : (t : Bool) → (byte == 95) ≡ t
+        → same_bytes (str_to_ascii_lowercase (x ∷ xs)) (before 95 (byte ∷ bytes)) ≡ false
+    by_test true e = rw e refl
+    by_test false e = rw e (by_same (to_ascii_lowercase x == byte) refl)

@@ -1,6 +1,6 @@
 -- What the texts that the rules look at, or leave out, begin and end with, in lowercase.
 use Rattle.std.specs.Prelude.{ℕ, List, [], ◌∷◌, codes}
-use Rattle.twp_rules.specs.Tables.{half_sign, quarter_sign}
+use Rattle.twp_rules.specs.Tables.{em_dash, en_dash, half_sign, quarter_sign}
 
 -- what the land is before of which HALF is written
 abbrev pub sides : List (List ℕ)
@@ -92,13 +92,19 @@ acreage_fronts = codes "acres" ∷ codes "acreage" ∷ codes "ac" ∷ codes "gro
 
 -- what is said of land begins with, if it isn't a remark: rights,
 abbrev pub rights : List (List ℕ)
-rights = codes "subj" ∷ codes "according" ∷ codes "together with" ∷ codes "reserving"
-    ∷ codes "excepting and" ∷ codes "grantor" ∷ []
+rights = codes "subj" ∷ codes "together with" ∷ []
+
+-- records,
+abbrev pub records : List (List ℕ)
+records = codes "according" ∷ codes "attached to" ∷ codes "as shown" ∷ codes "in the district" ∷ []
+
+-- minerals that are kept back,
+abbrev pub reservations : List (List ℕ)
+reservations = codes "reserving" ∷ codes "excepting and" ∷ codes "grantor" ∷ []
 
 -- terms,
 abbrev pub terms : List (List ℕ)
-terms = codes "insofar" ∷ codes "limited" ∷ codes "as to" ∷ codes "as shown" ∷ codes "attached to"
-    ∷ codes "in the district" ∷ []
+terms = codes "insofar" ∷ codes "limited" ∷ codes "as to" ∷ []
 
 -- depths,
 abbrev pub depths : List (List ℕ)
@@ -122,10 +128,9 @@ abbrev pub property_fronts : List (List ℕ)
 property_fronts = codes "all that" ∷ codes "that certain" ∷ codes "all those" ∷ codes "the lands"
     ∷ codes "lands remaining" ∷ []
 
--- the names of columns
-abbrev pub column_names : List (List ℕ)
-column_names = codes "sec" ∷ codes "section" ∷ codes "twp" ∷ codes "township" ∷ codes "t" ∷ codes "tract"
-    ∷ codes "legal" ∷ codes "mer" ∷ codes "st" ∷ codes "county" ∷ codes "school section" ∷ []
+-- and acreage that is more or less ends with
+abbrev pub less_ends : List (List ℕ)
+less_ends = codes "or less" ∷ codes "or less)" ∷ codes "or less]" ∷ codes "or less." ∷ []
 
 -- what is in parentheses ends with
 abbrev pub parenthesis_ends : List (List ℕ)
@@ -134,3 +139,32 @@ parenthesis_ends = codes ")" ∷ codes "]" ∷ []
 -- land that was named before, without parentheses, begins with, after white space
 abbrev pub being_fronts : List (List ℕ)
 being_fronts = codes "being" ∷ codes "aka" ∷ codes "a/" ∷ []
+
+-- what a word for tens ends with, before that for a number from one to nine
+abbrev pub tens_ends : List (List ℕ)
+tens_ends = codes "-" ∷ codes " " ∷ []
+
+-- meridians of which only letters are written
+abbrev pub meridian_letters : List (List ℕ)
+meridian_letters = codes "w. m." ∷ codes "w.m." ∷ codes "w m" ∷ []
+
+-- what is after `but` where it begins an exception,
+abbrev pub but_what : List (List ℕ)
+but_what = codes "not" ∷ codes "excluding" ∷ codes "except" ∷ codes "exclusive" ∷ []
+
+-- or before it
+abbrev pub all_but : List (List ℕ)
+all_but = codes "all " ∷ codes "everything " ∷ []
+
+-- what is before a further word of an exception
+abbrev pub first_exceptions : List (List ℕ)
+first_exceptions = codes "less and " ∷ codes "save and " ∷ codes "less & " ∷ codes "save & "
+    ∷ codes "with the " ∷ codes "but " ∷ codes "less " ∷ codes "save " ∷ codes "save, " ∷ []
+
+-- hyphens and dashes
+abbrev pub dash_marks : List (List ℕ)
+dash_marks = codes "-" ∷ en_dash ∷ em_dash ∷ []
+
+-- what is before a number that is apart from the land before it
+abbrev pub words_apart : List (List ℕ)
+words_apart = codes "and " ∷ codes "of " ∷ []

@@ -1,6 +1,13 @@
 pub mod Tables
 pub mod Endings
-pub mod Remarks
+pub mod Edges
+pub mod Words
+pub mod Naming
+pub mod Sayings
+pub mod Moving
 pub mod Rules
+pub mod Roles
 pub mod Changes
+pub mod Keeping
+pub mod Moves
 pub mod steps

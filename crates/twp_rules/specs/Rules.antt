@@ -1,9 +1,9 @@
 -- The rules by which a text that people write is changed into a description: what each looks at, what it
 -- writes instead, and what is before and after it. Letters of either case are the same.
-use Rattle.std.specs.Prelude.{◌==◌, ◌||◌, ◌&&◌, ℕ, ◌-◌, Bool, true, false, List, [], ◌∷◌, length}
+use Rattle.std.specs.Prelude.{◌==◌, ◌||◌, ◌&&◌, ℕ, zero, suc, ◌-◌, Bool, true, false, List, [], ◌∷◌, length}
 use Rattle.std.specs.Prelude.{drop, take}
 use Rattle.std.specs.Prelude.{if◌then◌else◌, codes, nat_le, slice_index, slice_range, not}
-use Rattle.std.specs.Char.{is_ascii_alphabetic, is_ascii_digit}
+use Rattle.std.specs.Char.{is_ascii_alphabetic, is_ascii_alphanumeric, is_ascii_digit}
 use Rattle.std.specs.Str.{str_to_ascii_lowercase}
 use Rattle.twp_grammar.specs.Tokens.{same_bytes, is_white}
 use Rattle.twp_rules.specs.declared.rule.Rule.{Rule}
@@ -21,13 +21,23 @@ use Rattle.twp_rules.specs.Tables.{ampersands, commas, semicolons, marks, more_m
 use Rattle.twp_rules.specs.Tables.{more_little_words, joining_words, zeros}
 use Rattle.twp_rules.specs.Tables.{fraction_digits, joints}
 use Rattle.twp_rules.specs.Tables.{quarter_abbreviations, worn_directions, worn_section_words}
-use Rattle.twp_rules.specs.Endings.{acreage_ends, acreage_fronts, being_fronts, column_names}
-use Rattle.twp_rules.specs.Endings.{corners, depths, digits, estates, half_texts, heading_ends}
-use Rattle.twp_rules.specs.Endings.{interest_fronts, meridian_ends, meridian_fronts, meridian_labels}
-use Rattle.twp_rules.specs.Endings.{more_states, number_fronts, parenthesis_ends, property_fronts}
-use Rattle.twp_rules.specs.Endings.{quarter_texts, rights, section_again, section_ends, sides}
-use Rattle.twp_rules.specs.Endings.{state_letters, states, terms, worn_section_ends}
-use Rattle.twp_rules.specs.Remarks.{has_no_land, is_remark}
+use Rattle.twp_rules.specs.Endings.{acreage_ends, acreage_fronts, being_fronts, corners, digits}
+use Rattle.twp_rules.specs.Endings.{half_texts, heading_ends, meridian_ends, meridian_fronts, meridian_labels}
+use Rattle.twp_rules.specs.Endings.{more_states, parenthesis_ends, quarter_texts, section_again, section_ends}
+use Rattle.twp_rules.specs.Endings.{sides, state_letters, states, worn_section_ends}
+use Rattle.twp_rules.specs.Endings.{all_but, but_what, dash_marks, first_exceptions, meridian_letters}
+use Rattle.twp_rules.specs.Endings.{tens_ends}
+use Rattle.twp_rules.specs.Edges.{begins_with, begins_with_one, byte_before, ends_with, ends_with_one}
+use Rattle.twp_rules.specs.Edges.{is_one_of, without_white}
+use Rattle.twp_rules.specs.Moving.{is_only_of}
+use Rattle.twp_rules.specs.Naming.{are_corners_from, digits_of, has_no_bare_number, has_no_land, is_side}
+use Rattle.twp_rules.specs.Naming.{mark_after_digits}
+use Rattle.twp_rules.specs.Naming.{names_no_land, word_of}
+use Rattle.twp_rules.specs.Sayings.{has_no_limit, has_only_columns_from, is_more_or_less, is_remark}
+use Rattle.twp_rules.specs.Sayings.{is_said_of_land}
+use Rattle.twp_rules.specs.Words.{cell_marks, first_words, further_exceptions, north_south, one_to_nine}
+use Rattle.twp_rules.specs.declared.moved.Moved.TheVariants.{Section, Heading as Township}
+use Rattle.twp_rules.specs.declared.saying.Saying.TheVariants.{Remark}
 
 -- this is written for that, in letters of either case
 abbrev pub is_entry : List ℕ → List ℕ → Entry → Bool
@@ -37,38 +47,6 @@ is_entry seen written it = same_bytes (str_to_ascii_lowercase seen) it.seen && s
 abbrev pub is_among : List ℕ → List ℕ → List Entry → Bool
 is_among seen written [] = false
 is_among seen written (it ∷ more) = is_entry seen written it || is_among seen written more
-
--- a text ends with another, in letters of either case
-abbrev pub ends_with : List ℕ → List ℕ → Bool
-ends_with seen end =
-    nat_le (length end) (length seen)
-    && same_bytes (str_to_ascii_lowercase (drop (length seen - length end) seen)) end
-
--- it ends with one of these
-abbrev pub ends_with_one : List ℕ → List (List ℕ) → Bool
-ends_with_one seen [] = false
-ends_with_one seen (end ∷ ends) = ends_with seen end || ends_with_one seen ends
-
--- a text begins with another, in letters of either case
-abbrev pub begins_with : List ℕ → List ℕ → Bool
-begins_with seen front =
-    nat_le (length front) (length seen)
-    && same_bytes (str_to_ascii_lowercase (take (length front) seen)) front
-
--- it begins with one of these
-abbrev pub begins_with_one : List ℕ → List (List ℕ) → Bool
-begins_with_one seen [] = false
-begins_with_one seen (front ∷ fronts) = begins_with seen front || begins_with_one seen fronts
-
--- it is one of these
-abbrev pub is_one_of : List ℕ → List (List ℕ) → Bool
-is_one_of seen [] = false
-is_one_of seen (text ∷ texts) = same_bytes (str_to_ascii_lowercase seen) text || is_one_of seen texts
-
--- a text without the white space before it
-abbrev pub without_white : List ℕ → List ℕ
-without_white [] = []
-without_white (byte ∷ bytes) = if is_white byte then without_white bytes else byte ∷ bytes
 
 -- it is one of these, and one of those
 abbrev pub is_spelled : List ℕ → List (List ℕ) → List (List ℕ) → Bool
@@ -130,10 +108,6 @@ abbrev pub has_no_digit : List ℕ → Bool
 has_no_digit [] = true
 has_no_digit (byte ∷ bytes) = not (is_ascii_digit byte) && has_no_digit bytes
 
--- the byte before a place, or 0 at the beginning
-abbrev pub byte_before : List ℕ → ℕ → ℕ
-byte_before text at = if at == 0 then 0 else slice_index text (at - 1)
-
 -- neither before a text nor after it is a letter
 abbrev pub is_whole_word : List ℕ → ℕ → ℕ → Bool
 is_whole_word text start end =
@@ -154,10 +128,16 @@ abbrev pub is_number : List ℕ → List ℕ → Bool
 is_number seen written =
     are_digits seen && same_bytes written seen || is_numeral seen written || is_among seen written damages
 
+-- a word for tens has that of a number from one to nine after it, if it ends with a hyphen or a space
+abbrev pub is_whole_numeral : List ℕ → List ℕ → Bool
+is_whole_numeral seen after =
+    not (ends_with_one seen tens_ends) || is_one_of (word_of after) one_to_nine
+
 -- the number that a text has from one place up to another
 abbrev pub is_copied : List ℕ → ℕ → ℕ → List ℕ → Bool
 is_copied text from to written =
     nat_le from to && nat_le to (length text) && is_number (slice_range text from to) written
+    && is_whole_numeral (slice_range text from to) (drop to text)
 
 -- the name of a state, the letters for it, or a digit
 abbrev pub is_place_name : List ℕ → Bool
@@ -165,36 +145,120 @@ is_place_name seen =
     ends_with_one seen states || ends_with_one seen more_states || ends_with_one seen state_letters
     || ends_with_one seen digits
 
--- the names of the columns of a table
-abbrev pub are_columns : List ℕ → Bool
-are_columns seen = begins_with_one seen column_names && has_no_digit seen
+-- a township follows, after white space: up to four digits, and N or S
+abbrev pub is_township : List ℕ → Bool
+is_township rest =
+    nat_le 1 (length (digits_of rest)) && nat_le (length (digits_of rest)) 4
+    && is_one_of (mark_after_digits rest ∷ []) north_south
 
--- what is said of land, without naming any: terms, records, depths, rights, numbers of leases and parcels,
--- interests, and properties
-abbrev pub is_said_of_land : List ℕ → Bool
-is_said_of_land seen =
-    (begins_with_one seen rights || begins_with_one seen terms || begins_with_one seen depths
-    || begins_with_one seen estates || begins_with_one seen number_fronts
-    || begins_with_one seen interest_fronts || begins_with_one seen property_fronts)
-    && has_no_land false seen
-
--- WHAT A RULE ALLOWS to leave out
-abbrev pub may_be_left_out : Rule → List ℕ → Bool
-may_be_left_out Repeated seen =
-    ends_with_one seen parenthesis_ends || begins_with_one (without_white seen) being_fronts
-may_be_left_out MovedSection seen =
-    ends_with_one seen digits || ends_with_one seen section_ends || ends_with_one seen worn_section_ends
-    || ends_with_one seen section_again
-may_be_left_out MovedHeading seen = ends_with_one seen heading_ends
-may_be_left_out Meridian seen =
-    ends_with_one seen meridian_ends || is_place_name seen
+-- a meridian, a state, or a county: its name, or the code of a register before a township
+abbrev pub is_meridian : List ℕ → List ℕ → Bool
+is_meridian seen after =
+    (ends_with_one seen meridian_ends || is_place_name seen
     || begins_with_one (without_white seen) meridian_fronts
-    || begins_with_one (without_white seen) meridian_labels
-may_be_left_out Acreage seen =
-    ends_with_one seen acreage_ends || is_figure_of_acres seen || is_figure seen
-    || begins_with_one (without_white seen) acreage_fronts
-may_be_left_out Label seen = is_remark seen || is_said_of_land seen || are_columns seen
-may_be_left_out _ seen = false
+    || begins_with_one (without_white seen) meridian_labels)
+    && has_no_land seen
+    && (has_no_limit Remark seen || is_one_of (without_white seen) meridian_letters)
+    && (has_no_bare_number seen || ends_with_one seen digits && is_township (without_white after))
+
+-- stated acreage
+abbrev pub is_acreage : List ℕ → Bool
+is_acreage seen =
+    (ends_with_one seen acreage_ends || is_figure_of_acres seen || is_figure seen
+    || begins_with_one (without_white seen) acreage_fronts)
+    && names_no_land seen && is_more_or_less seen
+
+-- a section that is written elsewhere, or that was named before
+abbrev pub is_moved_section : List ℕ → Bool
+is_moved_section seen =
+    (ends_with_one seen digits || ends_with_one seen section_ends || ends_with_one seen worn_section_ends
+    || ends_with_one seen section_again)
+    && is_only_of Section seen
+
+-- a township and range that is: no word goes on after it, but for the section of a register
+abbrev pub is_moved_heading : List ℕ → List ℕ → Bool
+is_moved_heading seen after =
+    ends_with_one seen heading_ends && is_only_of Township seen
+    && (not (is_ascii_alphanumeric (slice_index after 0)) || ends_with seen (codes ".")
+    || begins_with after (codes "0sn"))
+
+-- a text without the spaces before it
+abbrev pub without_spaces : List ℕ → List ℕ
+without_spaces [] = []
+without_spaces (byte ∷ bytes) = if byte == 32 then without_spaces bytes else byte ∷ bytes
+
+-- a word with which a text begins, and land doesn't
+abbrev pub is_no_land_word : List ℕ → Bool
+is_no_land_word word =
+    not (same_bytes word []) && not (is_one_of word first_words) && not (are_corners_from true word)
+
+-- the number of a row: in a cell of its own, before one that doesn't begin with land
+abbrev pub is_row_number : List ℕ → List ℕ → Bool
+is_row_number seen after =
+    same_bytes (digits_of (without_white seen)) (without_white seen)
+    && is_one_of (slice_index (without_spaces after) 0 ∷ []) cell_marks
+    && is_no_land_word (word_of (without_white (drop 1 (without_spaces after))))
+
+-- WHAT A RULE ALLOWS to leave out, with what is after it
+abbrev pub may_be_left_out : Rule → List ℕ → List ℕ → Bool
+may_be_left_out Repeated seen after =
+    ends_with_one seen parenthesis_ends || begins_with_one (without_white seen) being_fronts
+may_be_left_out MovedSection seen after = is_moved_section seen
+may_be_left_out MovedHeading seen after = is_moved_heading seen after
+may_be_left_out Meridian seen after = is_meridian seen after
+may_be_left_out Acreage seen after = is_acreage seen
+may_be_left_out Label seen after =
+    is_remark seen || is_said_of_land seen || has_no_digit seen && has_only_columns_from seen 0 seen
+    || is_row_number seen after
+may_be_left_out _ seen after = false
+
+-- zeros before a number: no digit is before them, or the code of a register, and then four digits
+abbrev pub are_leading : List ℕ → ℕ → Bool
+are_leading text start =
+    not (is_ascii_digit (byte_before text start))
+    || is_ascii_digit (byte_before text (start - 1)) && not (is_ascii_digit (byte_before text (start - 2)))
+    && (length (digits_of (drop start text)) == 4)
+
+-- three digits are before a place, and no more, but for the code of a register
+abbrev pub is_after_three_digits : List ℕ → ℕ → Bool
+is_after_three_digits text start =
+    is_ascii_digit (byte_before text start) && is_ascii_digit (byte_before text (start - 1))
+    && is_ascii_digit (byte_before text (start - 2))
+    && (not (is_ascii_digit (byte_before text (start - 3)))
+    || is_ascii_digit (byte_before text (start - 4)) && not (is_ascii_digit (byte_before text (start - 5))))
+
+-- the fraction digit of a township or a range, before its side, or of a register's section
+abbrev pub is_fraction_digit : List ℕ → ℕ → ℕ → Bool
+is_fraction_digit text start end =
+    is_after_three_digits text start && is_side (slice_index text end)
+    || is_ascii_digit (byte_before text start) && is_ascii_digit (byte_before text (start - 1))
+    && ends_with (take (start - 2) text) (codes "sn")
+
+-- a word begins an exception: with the exception of, but not; and not more or less
+abbrev pub begins_exception : List ℕ → List ℕ → List ℕ → Bool
+begins_exception before seen after =
+    if is_one_of seen (codes "with" ∷ []) then begins_with (without_white after) (codes "the exception")
+    else (if is_one_of seen (codes "but" ∷ [])
+    then (begins_with_one (without_white after) but_what || ends_with_one before all_but)
+    else not (ends_with before (codes "or ")))
+
+-- a word that is left out is no further word of an exception, unless its first one is before it
+abbrev pub is_no_exception : List ℕ → List ℕ → Bool
+is_no_exception before seen =
+    not (is_one_of seen further_exceptions) || ends_with_one before first_exceptions
+
+-- the last byte before a place that isn't white space, or 0
+abbrev pub solid_before : List ℕ → ℕ → ℕ
+solid_before text zero = 0
+solid_before text (suc at) =
+    if is_white (slice_index text at) then solid_before text at else slice_index text at
+
+-- a hyphen or a dash is between numbers, of which the second is no township
+abbrev pub is_between_numbers : List ℕ → ℕ → ℕ → List ℕ → Bool
+is_between_numbers text start end seen =
+    is_one_of seen dash_marks && is_ascii_digit (solid_before text start)
+    && is_ascii_digit (slice_index (without_white (drop end text)) 0)
+    && not (is_township (without_white (drop end text)))
 
 -- WHAT A RULE ALLOWS: to write this instead of the text from one place up to another
 abbrev pub allows : Rule → List ℕ → ℕ → ℕ → List ℕ → List ℕ → Bool
@@ -209,7 +273,8 @@ allows Quarter text start end seen written =
 allows Direction text start end seen written =
     (is_among seen written directions || is_among seen written worn_directions)
     && is_whole_word text start end
-allows Numeral text start end seen written = is_numeral seen written
+allows Numeral text start end seen written =
+    is_numeral seen written && is_whole_numeral seen (drop end text)
 allows (Copied from to) text start end seen written =
     same_bytes seen [] && is_copied text from to written
 allows (CopiedStep from to) text start end seen written =
@@ -219,10 +284,11 @@ allows Damage text start end seen written =
     || is_among seen written damaged_corners && is_ascii_alphabetic (slice_index text end)
 allows Exception text start end seen written =
     is_among seen written exceptions && is_whole_word text start end
+    && begins_exception (take start text) seen (drop end text)
 allows Zeros text start end seen written =
-    is_among seen written zeros && is_ascii_digit (slice_index text end)
+    is_among seen written zeros && is_ascii_digit (slice_index text end) && are_leading text start
 allows FractionDigit text start end seen written =
-    is_among seen written fraction_digits && is_ascii_digit (byte_before text start)
+    is_among seen written fraction_digits && is_fraction_digit text start end
 allows Heading text start end seen written =
     is_among seen written headings || is_among seen written heading_words
     || is_among seen written heading_marks
@@ -233,12 +299,15 @@ allows LotWord text start end seen written =
     is_among seen written lot_words && is_whole_word text start end || is_among seen written lot_marks
 allows Through text start end seen written = is_among seen written dashes
 allows And text start end seen written = is_among seen written ampersands
-allows Comma text start end seen written = is_among seen written commas
-allows Semicolon text start end seen written = is_among seen written semicolons
+allows Comma text start end seen written =
+    is_among seen written commas && not (is_between_numbers text start end seen)
+allows Semicolon text start end seen written =
+    is_among seen written semicolons && not (is_between_numbers text start end seen)
 allows OnePart text start end seen written = is_among seen written joints
 allows Mark text start end seen written = is_among seen written marks || is_among seen written more_marks
 allows Word text start end seen written =
     (is_among seen written little_words || is_among seen written more_little_words
     || is_among seen written joining_words)
-    && is_whole_word text start end
-allows rule text start end seen written = same_bytes written [] && may_be_left_out rule seen
+    && is_whole_word text start end && is_no_exception (take start text) seen
+allows rule text start end seen written =
+    same_bytes written [] && may_be_left_out rule seen (drop end text)

@@ -1,26 +1,28 @@
 //! Whether a rule allows a change.
-ghost use Rattle.std.specs.Prelude.{◌≡◌, ◌≤◌, ◌||◌, length, slice_index, slice_range, take};
-ghost use Rattle.twp_rules.specs.Rules.{allows, byte_before, is_whole_word, may_be_left_out};
-ghost use Rattle.twp_rules.specs.Rules.{is_copied, is_number, is_numeral, are_digits};
-ghost use Rattle.twp_rules.specs.Rules.{is_among, is_said_of_land, without_white};
+ghost use Rattle.std.specs.Prelude.{◌≡◌, ◌≤◌, ◌||◌, length, slice_range};
+ghost use Rattle.twp_rules.specs.Edges.{without_white};
+ghost use Rattle.twp_rules.specs.Rules.{allows, are_digits, begins_exception, is_among, is_copied, is_no_exception};
+ghost use Rattle.twp_rules.specs.Rules.{is_number, is_numeral};
 ghost use Rattle.twp_rules.specs.Tables.{halves, worn_halves, quarters, quarter_abbreviations, worn_quarters};
 ghost use Rattle.twp_rules.specs.Tables.{little_words};
 ghost use Rattle.twp_rules.specs.Tables.{marks, more_marks, more_little_words, joining_words};
 ghost use Rattle.twp_rules.specs.Tables.{directions, worn_directions, section_words, worn_section_words};
 
 use crate::change::Change;
-use crate::endings::labels::*;
-use crate::endings::meridians::*;
+use crate::context::*;
+use crate::endings::beside::*;
 use crate::endings::parts::*;
-use crate::figures::{has_no_digit, is_figure, is_figure_of_acres, without_white};
-use crate::remarks::{has_no_land, is_remark};
+use crate::figures::without_white;
+use crate::left_out::may_be_left_out;
+use crate::naming::{byte_at, byte_before};
 use crate::rule::Rule;
-use crate::same::are_same;
+use crate::same::{are_same, begins_with, ends_with, is_text};
 use crate::steps::is_copied_step;
 use crate::tables::headings::*;
 use crate::tables::marks::*;
 use crate::tables::parts::*;
 use crate::tables::words::*;
+use crate::words::*;
 
 /// Whether the rule of a change allows it.
 pub(crate) fn is_allowed(text: &[u8], change: &Change<'_>) -> bool
@@ -50,7 +52,7 @@ fn allows(rule: Rule, text: &[u8], start: usize, end: usize, seen: &[u8], writte
         Rule::Half => is_half_mark(seen, written) && has_sides(before(text, start)),
         Rule::Quarter => is_quarter_mark(seen, written) && has_corners(before(text, start)),
         Rule::Direction => is_direction(seen, written) && is_whole_word(text, start, end),
-        Rule::Numeral => is_numeral(seen, written),
+        Rule::Numeral => is_numeral(seen, written) && is_whole_numeral(seen, after(text, end)),
         Rule::Copied(from, to) => are_same(seen, b"") && is_copied(text, from, to, written),
         Rule::CopiedStep(from, to) => {
             are_same(seen, b"") && is_copied_step(text, from, to, written)
@@ -60,10 +62,19 @@ fn allows(rule: Rule, text: &[u8], start: usize, end: usize, seen: &[u8], writte
                 || (is_in_damaged_corners(seen, written)
                     && byte_at(text, end).is_ascii_alphabetic())
         }
-        Rule::Exception => is_in_exceptions(seen, written) && is_whole_word(text, start, end),
-        Rule::Zeros => is_in_zeros(seen, written) && byte_at(text, end).is_ascii_digit(),
-        Rule::FractionDigit => is_in_fraction_digits(seen, written)
-            && byte_before(text, start).is_ascii_digit(),
+        Rule::Exception => {
+            is_in_exceptions(seen, written)
+                && is_whole_word(text, start, end)
+                && begins_exception(before(text, start), seen, after(text, end))
+        }
+        Rule::Zeros => {
+            is_in_zeros(seen, written)
+                && byte_at(text, end).is_ascii_digit()
+                && are_leading(text, start)
+        }
+        Rule::FractionDigit => {
+            is_in_fraction_digits(seen, written) && is_fraction_digit(text, start, end)
+        }
         Rule::Heading => is_in_headings(seen, written)
             || is_in_heading_words(seen, written)
             || is_in_heading_marks(seen, written),
@@ -77,64 +88,41 @@ fn allows(rule: Rule, text: &[u8], start: usize, end: usize, seen: &[u8], writte
         }
         Rule::Through => is_in_dashes(seen, written),
         Rule::And => is_in_ampersands(seen, written),
-        Rule::Comma => is_in_commas(seen, written),
-        Rule::Semicolon => is_in_semicolons(seen, written),
+        Rule::Comma => {
+            is_in_commas(seen, written) && !is_between_numbers(text, start, end, seen)
+        }
+        Rule::Semicolon => {
+            is_in_semicolons(seen, written) && !is_between_numbers(text, start, end, seen)
+        }
         Rule::OnePart => is_in_joints(seen, written),
         Rule::Mark => is_mark(seen, written),
-        Rule::Word => is_little_word(seen, written) && is_whole_word(text, start, end),
-        _ => are_same(written, b"") && may_be_left_out(rule, seen),
+        Rule::Word => {
+            is_little_word(seen, written)
+                && is_whole_word(text, start, end)
+                && is_no_exception(before(text, start), seen)
+        }
+        _ => are_same(written, b"") && may_be_left_out(rule, seen, after(text, end)),
     }
 }
 
-/// Whether a rule allows to leave out a text.
-fn may_be_left_out(rule: Rule, seen: &[u8]) -> bool
-    ensures { result ≡ may_be_left_out rule seen.now }
+/// Whether a word begins an exception.
+fn begins_exception(before: &[u8], seen: &[u8], after: &[u8]) -> bool
+    ensures { result ≡ begins_exception before.now seen.now after.now }
 {
-    match rule {
-        Rule::Repeated => has_parenthesis_ends(seen) || has_being_fronts(without_white(seen)),
-        Rule::MovedSection => {
-            has_digits(seen)
-                || has_section_ends(seen)
-                || has_worn_section_ends(seen)
-                || has_section_again(seen)
-        }
-        Rule::MovedHeading => has_heading_ends(seen),
-        Rule::Meridian => {
-            has_meridian_ends(seen)
-                || has_states(seen)
-                || has_more_states(seen)
-                || has_state_letters(seen)
-                || has_digits(seen)
-                || has_meridian_fronts(without_white(seen))
-                || has_meridian_labels(without_white(seen))
-        }
-        Rule::Acreage => {
-            has_acreage_ends(seen)
-                || is_figure_of_acres(seen)
-                || is_figure(seen)
-                || has_acreage_fronts(without_white(seen))
-        }
-        Rule::Label => {
-            is_remark(seen)
-                || is_said_of_land(seen)
-                || (has_column_names(seen) && has_no_digit(seen))
-        }
-        _ => false,
+    if is_text(seen, b"with") {
+        return begins_with(without_white(after), b"the exception");
     }
+    if is_text(seen, b"but") {
+        return has_but_what(without_white(after)) || has_all_but(before);
+    }
+    !ends_with(before, b"or ")
 }
 
-/// Whether a text says something of land, without naming any.
-fn is_said_of_land(seen: &[u8]) -> bool
-    ensures { result ≡ is_said_of_land seen.now }
+/// Whether a word that is left out is no further word of an exception, or its first one is before it.
+fn is_no_exception(before: &[u8], seen: &[u8]) -> bool
+    ensures { result ≡ is_no_exception before.now seen.now }
 {
-    (has_rights(seen)
-        || has_terms(seen)
-        || has_depths(seen)
-        || has_estates(seen)
-        || has_number_fronts(seen)
-        || has_interest_fronts(seen)
-        || has_property_fronts(seen))
-        && has_no_land(seen)
+    !is_in_further_exceptions(seen) || has_first_exceptions(before)
 }
 
 /// Whether a text is a half without a description's fraction, or what scanning leaves of it.
@@ -191,41 +179,14 @@ fn is_little_word(seen: &[u8], written: &[u8]) -> bool
         || is_in_joining_words(seen, written)
 }
 
-/// The text before a place.
-fn before(text: &[u8], at: usize) -> &[u8]
-    requires { at ≤ length text.now }
-    ensures { result.now ≡ take at text.now }
-{
-    let (front, _) = text.split_at(at);
-    front
-}
-
-/// The byte at a place, or 0 at the end and after it.
-fn byte_at(text: &[u8], at: usize) -> u8
-    ensures { result ≡ slice_index text.now at }
-{
-    if at < text.len() { text[at] } else { 0 }
-}
-
-/// The byte before a place, or 0 at the beginning.
-fn byte_before(text: &[u8], at: usize) -> u8
-    ensures { result ≡ byte_before text.now at }
-{
-    if at == 0 { 0 } else { byte_at(text, at - 1) }
-}
-
-/// Whether neither before a text nor after it is a letter.
-fn is_whole_word(text: &[u8], start: usize, end: usize) -> bool
-    ensures { result ≡ is_whole_word text.now start end }
-{
-    !byte_before(text, start).is_ascii_alphabetic() && !byte_at(text, end).is_ascii_alphabetic()
-}
-
 /// Whether what is written is the number that a text has from one place up to another.
 fn is_copied(text: &[u8], from: usize, to: usize, written: &[u8]) -> bool
     ensures { result ≡ is_copied text.now from to written.now }
 {
-    from <= to && to <= text.len() && is_number(&text[from..to], written)
+    from <= to
+        && to <= text.len()
+        && is_number(&text[from..to], written)
+        && is_whole_numeral(&text[from..to], after(text, to))
 }
 
 /// Whether what is written is the number that is seen, in digits.

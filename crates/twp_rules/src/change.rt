@@ -1,9 +1,15 @@
 //! Changes of a text, and the text that they make.
 ghost use Rattle.std.specs.Prelude.{◌≡◌, ◌≤◌, true, IfOk, length, drop, map, slice_range};
 ghost use Rattle.twp_rules.specs.Changes.{AreChangesFrom, changed_from, seen};
+ghost use Rattle.twp_rules.specs.Moves.{MayBeMade};
 
 use crate::allowed::is_allowed;
+use crate::keeping::{copied_by, fits, is_apart, is_apart_at, role_after, seam_after, seam_with};
+use crate::moves::{is_written_by, named_after};
+use crate::named::Named;
+use crate::role::Role;
 use crate::rule::Rule;
+use crate::seam::Seam;
 use std::alloc::{AllocError, Global};
 
 /// A change of a text: bytes are left out, and others are written instead.
@@ -53,19 +59,63 @@ fn after(text: &[u8], from: usize) -> &[u8]
     rest
 }
 
-/// Whether changes are from left to right, don't overlap, and are allowed by their rules.
+/// Whether changes are from left to right, don't overlap, are allowed by their rules, keep numbers, keep parts apart,
+/// and write what they move.
+#[tactic(auto, using(crate::proofs::ChangeFacts::next_numbers, crate::proofs::ChangeFacts::next_apart, crate::proofs::ChangeFacts::next_moved))]
 pub fn are_changes(text: &[u8], changes: &[Change<'_>]) -> bool
-    ensures { result ≡ true → AreChangesFrom 0 text.now (map seen changes.now) }
+    ensures { result ≡ true → MayBeMade text.now (map seen changes.now) }
 {
     let mut at = 0;
+    let mut role = Role::Nothing;
+    let mut copied = 0;
+    let mut seam = Seam {
+        ends_step: false,
+        lost: false,
+    };
+    let mut named = Named {
+        next: Role::Nothing,
+        section: 0,
+        tier: 0,
+        tier_side: 0,
+        range: 0,
+        range_side: 0,
+        before: 0,
+    };
+    let mut more = changes;
     for change in changes {
+        more = rest_of(more);
         if change.start < at || change.end < change.start || text.len() < change.end {
             return false;
         }
         if !is_allowed(text, change) {
             return false;
         }
+        if !fits(text, role, at, copied, change, more) {
+            return false;
+        }
+        let gap = between(text, at, change.start);
+        if !is_apart(seam, gap, change) {
+            return false;
+        }
+        let before = named_after(named, gap);
+        if !is_written_by(text, changes, before, change.start, change.end, change.rule) {
+            return false;
+        }
+        named = named_after(before, change.written);
+        seam = seam_with(text, seam_after(seam, gap), change);
+        role = role_after(role, change);
+        copied = copied_by(copied, change.rule);
         at = change.end;
     }
-    true
+    is_apart_at(seam, after(text, at))
+}
+
+/// Changes without the first one.
+fn rest_of<'a, 'b>(changes: &'b [Change<'a>]) -> &'b [Change<'a>]
+    ensures { result.now ≡ drop 1 changes.now }
+{
+    match changes {
+        [_, rest @ ..] => rest,
+        [] => changes,
+    }
 }

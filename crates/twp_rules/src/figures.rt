@@ -2,7 +2,7 @@
 ghost use Rattle.std.specs.Prelude.{◌≡◌, ◌≤◌, drop, length};
 ghost use Rattle.twp_grammar.specs.Tokens.{is_white};
 ghost use Rattle.twp_rules.specs.Rules.{has_no_digit, is_figure, is_figure_of_acres, is_of_figure};
-ghost use Rattle.twp_rules.specs.Rules.{without_white};
+ghost use Rattle.twp_rules.specs.Edges.{without_white};
 
 use crate::same::ends_with;
 
@@ -65,7 +65,7 @@ pub(crate) fn without_white(seen: &[u8]) -> &[u8]
 }
 
 /// Whether a byte is white space.
-fn is_white(byte: u8) -> bool
+pub(crate) fn is_white(byte: u8) -> bool
     ensures { result ≡ is_white byte }
 {
     byte == b' ' || byte == b'\t' || byte == b'\n' || byte == b'\r'

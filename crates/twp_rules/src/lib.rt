@@ -4,15 +4,27 @@
 
 mod allowed;
 mod change;
+mod context;
 mod endings;
 mod figures;
-mod remarks;
+mod keeping;
+mod left_out;
+mod moved;
+mod moves;
+mod moving;
+mod named;
+mod naming;
+mod role;
+mod roles;
 mod rows;
 mod rule;
 mod same;
+mod saying;
+mod sayings;
+mod seam;
 mod steps;
 mod tables;
+mod words;
 
 pub use change::{Change, are_changes, changed};
-pub use remarks::is_remark;
 pub use rule::Rule;

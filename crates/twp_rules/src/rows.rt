@@ -7,10 +7,11 @@ ghost use Rattle.std.specs.List.{list_any};
 ghost use Rattle.std.specs.Char.{to_ascii_lowercase};
 ghost use Rattle.std.specs.Str.{str_to_ascii_lowercase};
 ghost use Rattle.twp_grammar.specs.Tokens.{same_bytes};
-ghost use Rattle.twp_rules.specs.Rules.{begins_with, ends_with, is_entry};
+ghost use Rattle.twp_rules.specs.Edges.{begins_with, ends_with};
+ghost use Rattle.twp_rules.specs.Rules.{is_entry};
 ghost use Rattle.twp_rules.specs.steps.Rows.{before, end_of, entry_of, front_of};
 
-use crate::same::{begins_with, ends_with};
+use crate::same::{begins_with, ends_with, is_text};
 
 /// Whether a rule that looks at one of the rows' texts writes this for it. A row is what the rule looks at, in
 /// lowercase, `=`, and what it writes instead, as in `*b"minus= except ____"`.
@@ -23,6 +24,30 @@ pub(crate) fn is_among<const N: usize>(seen: &[u8], written: &[u8], rows: &[[u8;
         }
     }
     false
+}
+
+/// Whether a word is one of the rows, which are in lowercase, as in `*b"lots____"`. Most are ruled out by their first
+/// byte.
+pub(crate) fn is_one_of<const N: usize>(word: &[u8], rows: &[[u8; N]]) -> bool
+    ensures { result ≡ list_any (λ row. same_bytes (str_to_ascii_lowercase word.now) (front_of row)) rows.now }
+{
+    for row in rows {
+        if is_front(word, row) {
+            return true;
+        }
+    }
+    false
+}
+
+/// Whether a word is what is before a row's filling.
+#[tactic(auto, using(crate::proofs::RowFacts::other_head))]
+fn is_front(word: &[u8], row: &[u8]) -> bool
+    ensures { result ≡ same_bytes (str_to_ascii_lowercase word.now) (front_of row.now) }
+{
+    if byte_or(row, 0, b'_') != byte_or(word, 0, b'_').to_ascii_lowercase() {
+        return false;
+    }
+    is_text(word, front_of(row))
 }
 
 /// Whether a text begins with one of the rows, which are in lowercase, as in `*b"acres__"`.

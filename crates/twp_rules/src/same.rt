@@ -2,7 +2,7 @@
 ghost use Rattle.std.specs.Prelude.{◌≡◌};
 ghost use Rattle.std.specs.Str.{str_to_ascii_lowercase};
 ghost use Rattle.twp_grammar.specs.Tokens.{same_bytes};
-ghost use Rattle.twp_rules.specs.Rules.{begins_with, ends_with};
+ghost use Rattle.twp_rules.specs.Edges.{begins_with, ends_with};
 
 /// Whether two texts are the same.
 #[tactic(auto, using(crate::proofs::SameTexts::is_same))]

@@ -2,8 +2,10 @@
 ghost use Rattle.std.specs.Prelude.{◌≡◌, ◌≤◌, ◌&&◌, [], ◌∷◌, codes, drop, length};
 ghost use Rattle.twp_grammar.specs.Tokens.{same_bytes};
 ghost use Rattle.twp_rules.specs.Endings.{half_texts, quarter_texts};
-ghost use Rattle.twp_rules.specs.Rules.{is_one_of, is_step, is_copied_step, without_white};
-ghost use Rattle.twp_rules.specs.Rules.{begins_with, is_half, is_quarter, is_some_half, is_some_quarter};
+ghost use Rattle.twp_rules.specs.Edges.{is_one_of, without_white};
+ghost use Rattle.twp_rules.specs.Rules.{is_step, is_copied_step};
+ghost use Rattle.twp_rules.specs.Edges.{begins_with};
+ghost use Rattle.twp_rules.specs.Rules.{is_half, is_quarter, is_some_half, is_some_quarter};
 
 use crate::figures::without_white;
 use crate::same::{are_same, begins_with, is_text};

@@ -47,7 +47,7 @@ pub only_itself : (text : List ℕ) (readings : List Reading) (reading : Reading
     → readings ≡ reading ∷ [] → AreReadings text readings
 only_itself text readings reading clear unchanged same manner one =
     let is : IsReading text reading = record {
-      allowed = rw unchanged (omega arith);
+      made = rw unchanged (record { allowed = omega arith; numbers = refl; apart = refl; moved = refl });
       described = rw (unchanged, manner) same;
       accepted = rw same clear.accepted;
     } in

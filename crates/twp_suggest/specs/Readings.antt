@@ -5,12 +5,13 @@ use Rattle.std.specs.Prelude.{All, AllPairs}
 use Rattle.twp_grid.specs.Townships.{Designation}
 use Rattle.twp_grid.specs.Lands.{SamePlaces}
 use Rattle.twp_described.specs.Descriptions.{IsAccepted, IsClear, IsDescribed, IsLandOfText}
-use Rattle.twp_rules.specs.Changes.{AreChangesFrom, changed_from, seen}
+use Rattle.twp_rules.specs.Changes.{changed_from, seen}
+use Rattle.twp_rules.specs.Moves.{MayBeMade}
 use Rattle.twp_suggest.specs.declared.reading.Reading.{Reading}
 
 -- A READING of a text: what comes of its changes, which the reader accepts
 pub record IsReading (text : List ℕ) (reading : Reading) : Type 0 where
-  pub allowed : AreChangesFrom 0 text (map seen reading.changes.items)
+  pub made : MayBeMade text (map seen reading.changes.items)
   pub described : IsDescribed reading.manner (changed_from 0 text (map seen reading.changes.items))
       reading.text.items
   pub accepted : IsAccepted reading.text.items

@@ -29,7 +29,9 @@ impl<'a> Writer<'a> {
         other: &Phrase,
         out: &mut Outline<'a>,
     ) {
-        if self.is_unsure_joint(gap, *one, *other) {
+        // An `of` after the second part may be for those before the first, too.
+        let is_shared = out.parts > 1 && other.form == Form::WithOf;
+        if is_shared || self.is_unsure_joint(gap, *one, *other) {
             self.plan.draft.doubt();
         }
         let start = self.plan.draft.pieces.end_before(gap.first);

@@ -1,7 +1,7 @@
 //! What acreage, labels, and what is said twice end with, and what they begin with.
 ghost use Rattle.std.specs.Prelude.{◌≡◌};
-ghost use Rattle.twp_rules.specs.Rules.{begins_with_one, ends_with_one};
-ghost use Rattle.twp_rules.specs.Endings.{acreage_ends, acreage_fronts, being_fronts, column_names, depths};
+ghost use Rattle.twp_rules.specs.Edges.{begins_with_one, ends_with_one};
+ghost use Rattle.twp_rules.specs.Endings.{acreage_ends, acreage_fronts, being_fronts, depths, less_ends, records, reservations};
 ghost use Rattle.twp_rules.specs.Endings.{estates, interest_fronts, number_fronts, parenthesis_ends};
 ghost use Rattle.twp_rules.specs.Endings.{property_fronts, rights, terms};
 
@@ -59,37 +59,18 @@ pub(crate) fn has_being_fronts(seen: &[u8]) -> bool
     begins_with_one(seen, &BEING_FRONTS)
 }
 
-/// The texts `column_names` of the specification.
-static COLUMN_NAMES: [[u8; 14]; 11] = [
-    *b"sec___________",
-    *b"section_______",
-    *b"twp___________",
-    *b"township______",
-    *b"t_____________",
-    *b"tract_________",
-    *b"legal_________",
-    *b"mer___________",
-    *b"st____________",
-    *b"county________",
-    *b"school section",
-];
+/// The texts `less_ends` of the specification.
+static LESS_ENDS: [[u8; 8]; 4] = [*b"_or less", *b"or less)", *b"or less]", *b"or less."];
 
-/// Whether a text begins with one of them.
-pub(crate) fn has_column_names(seen: &[u8]) -> bool
-    ensures { result ≡ begins_with_one seen.now column_names }
+/// Whether a text ends with one of them.
+pub(crate) fn has_less_ends(seen: &[u8]) -> bool
+    ensures { result ≡ ends_with_one seen.now less_ends }
 {
-    begins_with_one(seen, &COLUMN_NAMES)
+    ends_with_one(seen, &LESS_ENDS)
 }
 
 /// The texts `rights` of the specification.
-static RIGHTS: [[u8; 13]; 6] = [
-    *b"subj_________",
-    *b"according____",
-    *b"together with",
-    *b"reserving____",
-    *b"excepting and",
-    *b"grantor______",
-];
+static RIGHTS: [[u8; 13]; 2] = [*b"subj_________", *b"together with"];
 
 /// Whether a text begins with one of them.
 pub(crate) fn has_rights(seen: &[u8]) -> bool
@@ -98,15 +79,33 @@ pub(crate) fn has_rights(seen: &[u8]) -> bool
     begins_with_one(seen, &RIGHTS)
 }
 
-/// The texts `terms` of the specification.
-static TERMS: [[u8; 15]; 6] = [
-    *b"insofar________",
-    *b"limited________",
-    *b"as to__________",
-    *b"as shown_______",
+/// The texts `records` of the specification.
+static RECORDS: [[u8; 15]; 4] = [
+    *b"according______",
     *b"attached to____",
+    *b"as shown_______",
     *b"in the district",
 ];
+
+/// Whether a text begins with one of them.
+pub(crate) fn has_records(seen: &[u8]) -> bool
+    ensures { result ≡ begins_with_one seen.now records }
+{
+    begins_with_one(seen, &RECORDS)
+}
+
+/// The texts `reservations` of the specification.
+static RESERVATIONS: [[u8; 13]; 3] = [*b"reserving____", *b"excepting and", *b"grantor______"];
+
+/// Whether a text begins with one of them.
+pub(crate) fn has_reservations(seen: &[u8]) -> bool
+    ensures { result ≡ begins_with_one seen.now reservations }
+{
+    begins_with_one(seen, &RESERVATIONS)
+}
+
+/// The texts `terms` of the specification.
+static TERMS: [[u8; 7]; 3] = [*b"insofar", *b"limited", *b"as to__"];
 
 /// Whether a text begins with one of them.
 pub(crate) fn has_terms(seen: &[u8]) -> bool

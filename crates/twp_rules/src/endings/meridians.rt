@@ -1,6 +1,6 @@
 //! What meridians, counties, and states end with, and what they begin with.
 ghost use Rattle.std.specs.Prelude.{◌≡◌};
-ghost use Rattle.twp_rules.specs.Rules.{begins_with_one, ends_with_one};
+ghost use Rattle.twp_rules.specs.Edges.{begins_with_one, ends_with_one};
 ghost use Rattle.twp_rules.specs.Endings.{meridian_ends, meridian_fronts, meridian_labels, more_states};
 ghost use Rattle.twp_rules.specs.Endings.{state_letters, states};
 

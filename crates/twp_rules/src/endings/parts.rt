@@ -1,6 +1,6 @@
 //! What land before a half or a quarter ends with, and what sections and townships end with.
 ghost use Rattle.std.specs.Prelude.{◌≡◌};
-ghost use Rattle.twp_rules.specs.Rules.{ends_with_one};
+ghost use Rattle.twp_rules.specs.Edges.{ends_with_one};
 ghost use Rattle.twp_rules.specs.Endings.{corners, digits, heading_ends, section_again, section_ends, sides};
 ghost use Rattle.twp_rules.specs.Endings.{worn_section_ends};
 

@@ -9,5 +9,7 @@ returns c =
     is_land c.in-Some-first_township.township c.args.whole.now _ _ read (c.in-Ok.ensures.land) in
     let less = c.in_ok-has_less.ensures.land c.if-not-has_less.false in
     is_remainder c.args.whole.now c.args.excepted.now c.in_ok-text.text.items c.in_ok-full.full.items _ _ _ _
-    only land less (rw c.take_away.ensures at c.in_ok-full.ensures.text)
+    only land less (c.is_proper_part.ensures.inside c.if-not-is_proper_part.false)
+    (c.is_proper_part.ensures.some_left c.if-not-is_proper_part.false)
+    (rw c.take_away.ensures at c.in_ok-full.ensures.text)
     (rw c.as_slice.ensures.value at c.in_ok-text.ensures)

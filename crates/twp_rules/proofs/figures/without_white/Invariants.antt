@@ -1,5 +1,5 @@
 use Rattle.std.proofs.Common.{◌≡◌, drop}
-use Rattle.twp_rules.specs.Rules.{without_white}
+use Rattle.twp_rules.specs.Edges.{without_white}
 use Rattle.twp_rules.proofs.figures.without_white.Given as goal
 
 -- only white space is before the rest

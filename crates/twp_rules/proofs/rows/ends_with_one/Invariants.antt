@@ -1,6 +1,6 @@
 use Rattle.std.proofs.Common.{◌≡◌, drop}
 use Rattle.std.specs.List.{list_any}
-use Rattle.twp_rules.specs.Rules.{ends_with}
+use Rattle.twp_rules.specs.Edges.{ends_with}
 use Rattle.twp_rules.specs.steps.Rows.{end_of}
 use Rattle.twp_rules.proofs.rows.ends_with_one.Given as goal
 

@@ -1,0 +1,12 @@
+use Rattle.std.proofs.Common.{◌≡◌, ◌+◌, drop, map, slice_range}
+use Rattle.twp_rules.specs.Changes.{seen}
+use Rattle.twp_rules.specs.Moves.{are_written_from}
+use Rattle.twp_rules.proofs.moves.are_written.Given as goal
+
+-- the rest decides
+abbrev pub invariant-loop-index : goal.invariant-loop-index
+invariant-loop-index l =
+    are_written_from l.text (map seen l.changes) l.role l.it l.start l.start
+    (slice_range l.text l.start l.end)
+    ≡ are_written_from l.text (map seen l.changes) l.role l.it l.start (l.start + l.index)
+    (drop l.index (slice_range l.text l.start l.end))

@@ -1,0 +1,227 @@
+-- What changes keep, one after another: a number that is copied is whole, and is that of a section only if
+-- the text says so; a township and range are copied with their sides; and what is between two parts in the
+-- text is between them in what is made of it.
+use Rattle.std.specs.Prelude.{◌==◌, ◌||◌, ◌&&◌, ℕ, suc, ◌+◌, ◌-◌, Bool, true, false, List, [], ◌∷◌}
+use Rattle.std.specs.Prelude.{if◌then◌else◌, codes, drop, length, nat_le, nat_lt, not, slice_index}
+use Rattle.std.specs.Prelude.{slice_range}
+use Rattle.std.specs.Char.{is_ascii_alphabetic, is_ascii_digit}
+use Rattle.twp_grammar.specs.Tokens.{same_bytes, is_white}
+use Rattle.twp_rules.specs.declared.role.Role.{Role}
+use Rattle.twp_rules.specs.declared.role.Role.TheVariants.{Nothing, Section, Tier, Range}
+use Rattle.twp_rules.specs.declared.rule.Rule.{Rule}
+use Rattle.twp_rules.specs.declared.rule.Rule.TheVariants.{Copied, SectionWord, Heading, Comma, OnePart}
+use Rattle.twp_rules.specs.declared.rule.Rule.TheVariants.{Zeros, FractionDigit}
+use Rattle.twp_rules.specs.declared.seam.Seam.{Seam}
+use Rattle.twp_rules.specs.Changes.{Change}
+use Rattle.twp_rules.specs.Edges.{begins_with, byte_before, is_one_of, without_white}
+use Rattle.twp_rules.specs.Naming.{digits_of, word_of}
+use Rattle.twp_rules.specs.Roles.{begins_whole, ends_whole, is_apart, is_said_section, without_location_marks}
+use Rattle.twp_rules.specs.Rules.{is_fraction_digit}
+use Rattle.twp_rules.specs.Words.{damaged_digits, east_words, north_words, south_words, west_words}
+use Rattle.twp_rules.specs.Words.{words_in_parts}
+
+-- nothing is left out
+abbrev pub leaves_nothing_out : Change → Bool
+leaves_nothing_out change = change.start == change.end
+
+-- what a number is that is copied after a change
+abbrev pub role_by : Role → Rule → Bool → List ℕ → Role
+role_by role SectionWord inserts written = if inserts then Section else Nothing
+role_by role Heading inserts written =
+    if same_bytes written (codes "T. ") then Tier
+    else (if same_bytes written (codes " N., R. ") || same_bytes written (codes " S., R. ") then Range
+    else Nothing)
+role_by role (Copied from to) inserts written = role
+role_by role Comma inserts written = if inserts then role else Nothing
+role_by role rule inserts written = Nothing
+
+abbrev pub role_after : Role → Change → Role
+role_after role change = role_by role change.rule (leaves_nothing_out change) change.written
+
+-- where the last number that was copied ends in the text
+abbrev pub copied_by : ℕ → Rule → ℕ
+copied_by copied (Copied from to) = to
+copied_by copied rule = copied
+
+-- a change copies what begins at a place
+abbrev pub copies_from : ℕ → Rule → Bool
+copies_from place (Copied from to) = from == place
+copies_from place rule = false
+
+abbrev pub next_copies_from : ℕ → List Change → Bool
+next_copies_from place [] = false
+next_copies_from place (change ∷ changes) = copies_from place change.rule
+
+-- a change copies a number at a place
+abbrev pub copies_at : ℕ → ℕ → Rule → Bool
+copies_at place start (Copied from to) = start == place
+copies_at place start rule = false
+
+abbrev pub next_copies_at : ℕ → List Change → Bool
+next_copies_at place [] = false
+next_copies_at place (change ∷ changes) = copies_at place change.start change.rule
+
+-- a letter that scanning made of a digit is after another digit
+abbrev pub is_damaged_digit : List ℕ → ℕ → Bool
+is_damaged_digit text at =
+    is_one_of (slice_index text at ∷ []) damaged_digits && is_ascii_digit (byte_before text at)
+    && not (is_ascii_alphabetic (slice_index text (at + 1)))
+
+-- a text without parentheses with which it begins
+abbrev pub after_parenthesis : List ℕ → List ℕ
+after_parenthesis [] = []
+after_parenthesis (byte ∷ bytes) = if byte == 41 then bytes else after_parenthesis bytes
+
+abbrev pub without_parentheses : List ℕ → List ℕ
+without_parentheses rest =
+    if slice_index rest 0 == 40 then without_location_marks (after_parenthesis rest) else rest
+
+-- the text after a place, without a fraction digit there
+abbrev pub after_fraction_digit : List ℕ → ℕ → List ℕ
+after_fraction_digit text at =
+    if nat_lt at (length text) && is_fraction_digit text at (at + 1) then drop (at + 1) text else drop at text
+
+-- the side of a township or a range, after its number
+abbrev pub side_after : List ℕ → ℕ → List ℕ
+side_after text at =
+    word_of (without_parentheses (without_location_marks (after_fraction_digit text at)))
+
+-- a township and range are written with their sides
+abbrev pub has_its_side : List ℕ → Role → ℕ → List ℕ → Bool
+has_its_side text Tier copied written =
+    same_bytes written (codes " N., R. ") && is_one_of (side_after text copied) north_words
+    || same_bytes written (codes " S., R. ") && is_one_of (side_after text copied) south_words
+has_its_side text Range copied written =
+    same_bytes written (codes " E., ") && is_one_of (side_after text copied) east_words
+    || same_bytes written (codes " W., ") && is_one_of (side_after text copied) west_words
+has_its_side text role copied written = true
+
+-- a text without the zeros before it
+abbrev pub without_zeros : List ℕ → List ℕ
+without_zeros [] = []
+without_zeros (byte ∷ bytes) = if byte == 48 then without_zeros bytes else byte ∷ bytes
+
+-- the text says that the number at a place, after white space and zeros, is that of a section
+abbrev pub is_said_here : List ℕ → List ℕ → Bool
+is_said_here text rest =
+    is_said_section text (length text - length rest) (length text - length rest + length (digits_of rest))
+
+abbrev pub is_said_at : List ℕ → ℕ → Bool
+is_said_at text at = is_said_here text (without_zeros (without_white (drop at text)))
+
+-- a number that is copied is not that of a section, or the text says that it is
+abbrev pub is_said_if_section : List ℕ → Role → ℕ → ℕ → Bool
+is_said_if_section text Section from to = is_said_section text from to
+is_said_if_section text Nothing from to = false
+is_said_if_section text role from to = true
+
+-- a number that is copied begins where no other digit is before it but zeros, or where the one copied before
+-- it ends
+abbrev pub begins_whole_copy : List ℕ → ℕ → ℕ → Bool
+begins_whole_copy text copied from = (from == copied) || begins_whole text from
+
+-- it ends where no other digit is after it but a fraction digit, or the digit that is copied next
+abbrev pub ends_whole_copy : List ℕ → ℕ → List Change → Bool
+ends_whole_copy text to changes =
+    next_copies_from to changes || ends_whole text to && not (is_damaged_digit text to)
+
+-- it is whole, and the text says that it is that of a section, if it is copied as one
+abbrev pub fits_copy : List ℕ → Role → ℕ → ℕ → ℕ → List Change → Bool
+fits_copy text role copied from to changes =
+    begins_whole_copy text copied from && ends_whole_copy text to changes
+    && is_said_if_section text role from to
+
+-- a number is copied after what was written before it, from bytes of the text
+abbrev pub is_copy : List ℕ → ℕ → ℕ → ℕ → ℕ → Bool
+is_copy text place start from to = (start == place) && nat_le from to && nat_le to (length text)
+
+-- what a change writes of numbers fits what was written before it
+abbrev pub fits_by : List ℕ → Role → ℕ → ℕ → Change → List Change → Rule → Bool
+fits_by text role place copied change changes (Copied from to) =
+    is_copy text place change.start from to && fits_copy text role copied from to changes
+fits_by text role place copied change changes Heading =
+    not (leaves_nothing_out change) || not (change.start == place)
+    || has_its_side text role copied change.written
+fits_by text role place copied change changes SectionWord =
+    not (leaves_nothing_out change) || next_copies_at change.start changes || is_said_at text change.start
+fits_by text role place copied change changes rule = true
+
+-- NUMBERS ARE KEPT, from a change on: each that is copied is whole, and is what the text says that it is
+abbrev pub keep_numbers : List ℕ → Role → ℕ → ℕ → List Change → Bool
+keep_numbers text role place copied [] = true
+keep_numbers text role place copied (change ∷ changes) =
+    fits_by text role place copied change changes change.rule
+    && keep_numbers text (role_after role change) change.end (copied_by copied change.rule) changes
+
+-- only white space
+abbrev pub is_blank : List ℕ → Bool
+is_blank bytes = same_bytes (without_white bytes) []
+
+-- a step of a part begins a text: N, S, E, or W, and no word for a section or an exception
+abbrev pub begins_with_step : List ℕ → Bool
+begins_with_step bytes =
+    (begins_with bytes (codes "n") || begins_with bytes (codes "s") || begins_with bytes (codes "e")
+    || begins_with bytes (codes "w"))
+    && not (begins_with bytes (codes "sec")) && not (begins_with bytes (codes "ex"))
+
+-- a step ends with the digit of a fraction, or with the sign for one
+abbrev pub ends_step : List ℕ → ℕ → Bool
+ends_step bytes at =
+    is_one_of (slice_index bytes at ∷ []) (codes "2" ∷ codes "4" ∷ []) && (byte_before bytes at == 47)
+    || is_one_of (slice_index bytes at ∷ []) ((189 ∷ []) ∷ (188 ∷ []) ∷ []) && (byte_before bytes at == 194)
+
+-- a text is written at a seam: it doesn't begin with a step, if the text before it ends with one, and
+-- something between them was left out
+abbrev pub is_apart_at : Seam → List ℕ → Bool
+is_apart_at seam bytes = not (seam.ends_step && seam.lost && begins_with_step (without_white bytes))
+
+-- whether more bytes end with a step, if what is before them did, or didn't
+abbrev pub ends_after : Bool → List ℕ → ℕ → List ℕ → Bool
+ends_after ends bytes at [] = ends
+ends_after ends bytes at (byte ∷ rest) =
+    ends_after (if is_white byte then ends else ends_step bytes at) bytes (suc at) rest
+
+-- the seam after more bytes
+abbrev pub seam_after : Seam → List ℕ → Seam
+seam_after seam bytes = record {
+  ends_step = ends_after seam.ends_step bytes 0 bytes;
+  lost = seam.lost && is_blank bytes;
+}
+
+-- a rule leaves out what may be between two parts
+abbrev pub loses_by : Rule → List ℕ → Bool
+loses_by OnePart seen = false
+loses_by Zeros seen = false
+loses_by FractionDigit seen = false
+loses_by rule seen = not (is_blank seen) && not (is_one_of seen words_in_parts)
+
+-- `the` before a part, unless it is between two steps
+abbrev pub is_article : List ℕ → ℕ → List ℕ → Bool
+is_article text start seen = is_one_of seen (codes "the" ∷ []) && is_apart text start
+
+-- a change does
+abbrev pub loses : List ℕ → Change → Bool
+loses text change =
+    is_blank change.written && loses_by change.rule (slice_range text change.start change.end)
+    && not (is_article text change.start (slice_range text change.start change.end))
+
+-- the seam after a change
+abbrev pub seam_with : List ℕ → Seam → Change → Seam
+seam_with text seam change = record {
+  ends_step = (seam_after seam change.written).ends_step;
+  lost = (seam_after seam change.written).lost || loses text change;
+}
+
+-- PARTS ARE KEPT APART, from a place on: two steps that are written beside each other have nothing between
+-- them in the text that was left out, but words and marks within a part
+abbrev pub keep_apart : List ℕ → ℕ → Seam → List Change → Bool
+keep_apart text at seam [] = is_apart_at seam (drop at text)
+keep_apart text at seam (change ∷ changes) =
+    is_apart_at seam (slice_range text at change.start)
+    && is_apart_at (seam_after seam (slice_range text at change.start)) change.written
+    && keep_apart text change.end
+    (seam_with text (seam_after seam (slice_range text at change.start)) change) changes
+
+-- the seam at the beginning of a text
+abbrev pub first_seam : Seam
+first_seam = record { ends_step = false; lost = false }

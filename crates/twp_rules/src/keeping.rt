@@ -1,0 +1,390 @@
+//! What changes keep, one after another: numbers with their roles, and parts that are apart.
+ghost use Rattle.std.specs.Prelude.{◌≡◌, ◌≤◌, ◌&&◌, IsTrue, true, drop, length, map};
+ghost use Rattle.twp_rules.specs.Changes.{seen};
+ghost use Rattle.twp_rules.specs.declared.role.Role.TheVariants.{Nothing};
+ghost use Rattle.twp_rules.specs.declared.rule.Rule.TheVariants.{Heading};
+ghost use Rattle.twp_rules.specs.Keeping.{after_fraction_digit, after_parenthesis, begins_whole_copy, begins_with_step, copied_by, ends_after, ends_step, ends_whole_copy};
+ghost use Rattle.twp_rules.specs.Keeping.{fits_by, fits_copy};
+ghost use Rattle.twp_rules.specs.Keeping.{has_its_side, is_article, is_apart_at, is_blank, is_copy, is_damaged_digit, is_said_at};
+ghost use Rattle.twp_rules.specs.Keeping.{is_said_if_section, loses, loses_by, next_copies_at, next_copies_from};
+ghost use Rattle.twp_rules.specs.Keeping.{role_after, role_by};
+ghost use Rattle.twp_rules.specs.Keeping.{seam_after, seam_with, side_after, without_parentheses, without_zeros};
+
+use crate::change::Change;
+use crate::context::is_fraction_digit;
+use crate::figures::{is_white, without_white};
+use crate::naming::{byte_at, byte_before, digits_of, word_of};
+use crate::role::Role;
+use crate::roles::{
+    begins_whole, ends_whole, is_apart as is_apart_from_land, is_said_section,
+    without_location_marks,
+};
+use crate::rule::Rule;
+use crate::same::{are_same, begins_with, is_text};
+use crate::seam::Seam;
+use crate::words::*;
+
+/// What a number is that is copied after a change.
+pub(crate) fn role_after(role: Role, change: &Change<'_>) -> Role
+    ensures { result ≡ role_after role (seen change.now) }
+{
+    let inserts = change.start == change.end;
+    match change.rule {
+        Rule::SectionWord => {
+            if inserts {
+                Role::Section
+            } else {
+                Role::Nothing
+            }
+        }
+        Rule::Heading => role_of_heading(change.written),
+        Rule::Copied(_, _) => role,
+        Rule::Comma => { if inserts { role } else { Role::Nothing } }
+        _ => Role::Nothing,
+    }
+}
+
+/// What a number is that is copied after a piece of a heading.
+fn role_of_heading(written: &[u8]) -> Role
+    ensures { result ≡ role_by Nothing Heading true written.now }
+{
+    if are_same(written, b"T. ") {
+        return Role::Tier;
+    }
+    if are_same(written, b" N., R. ") || are_same(written, b" S., R. ") {
+        return Role::Range;
+    }
+    Role::Nothing
+}
+
+/// Where the last number that was copied ends in the text.
+pub(crate) fn copied_by(copied: usize, rule: Rule) -> usize
+    ensures { result ≡ copied_by copied rule }
+{
+    match rule {
+        Rule::Copied(_, to) => to,
+        _ => copied,
+    }
+}
+
+/// Whether what a change writes of numbers fits what was written before it.
+pub(crate) fn fits(
+    text: &[u8],
+    role: Role,
+    place: usize,
+    copied: usize,
+    change: &Change<'_>,
+    more: &[Change<'_>],
+) -> bool
+    requires { change.now.start ≤ length text.now }
+    ensures { result ≡ fits_by text.now role place copied (seen change.now) (map seen more.now) change.now.rule }
+{
+    match change.rule {
+        Rule::Copied(from, to) => {
+            is_copy(text, place, change.start, from, to)
+                && fits_copy(text, role, copied, from, to, more)
+        }
+        Rule::Heading => {
+            change.start != change.end
+                || change.start != place
+                || has_its_side(text, role, copied, change.written)
+        }
+        Rule::SectionWord => {
+            change.start != change.end
+                || next_copies_at(change.start, more)
+                || is_said_at(text, change.start)
+        }
+        _ => true,
+    }
+}
+
+/// Whether a number is copied after what was written before it, from bytes of the text.
+fn is_copy(text: &[u8], place: usize, start: usize, from: usize, to: usize) -> bool
+    ensures is { result ≡ is_copy text.now place start from to }
+    ensures within { IsTrue result → (from ≤ to) × (to ≤ length text.now) }
+{
+    start == place && from <= to && to <= text.len()
+}
+
+/// Whether a number that is copied is whole, and that of a section only if the text says so.
+fn fits_copy(
+    text: &[u8],
+    role: Role,
+    copied: usize,
+    from: usize,
+    to: usize,
+    more: &[Change<'_>],
+) -> bool
+    requires order { from ≤ to }
+    requires within { to ≤ length text.now }
+    ensures { result ≡ fits_copy text.now role copied from to (map seen more.now) }
+{
+    begins_whole_copy(text, copied, from)
+        && ends_whole_copy(text, to, more)
+        && is_said_if_section(text, role, from, to)
+}
+
+/// Whether no digit is before a number that is copied, but zeros, or what was copied before it.
+fn begins_whole_copy(text: &[u8], copied: usize, from: usize) -> bool
+    requires { from ≤ length text.now }
+    ensures { result ≡ begins_whole_copy text.now copied from }
+{
+    from == copied || begins_whole(text, from)
+}
+
+/// Whether no digit is after a number that is copied, but a fraction digit, or the one that is copied next.
+fn ends_whole_copy(text: &[u8], to: usize, more: &[Change<'_>]) -> bool
+    requires { to ≤ length text.now }
+    ensures { result ≡ ends_whole_copy text.now to (map seen more.now) }
+{
+    next_copies_from(to, more) || (ends_whole(text, to) && !is_damaged_digit(text, to))
+}
+
+/// Whether a number that is copied is not that of a section, or the text says that it is.
+fn is_said_if_section(text: &[u8], role: Role, from: usize, to: usize) -> bool
+    requires { from ≤ length text.now }
+    ensures { result ≡ is_said_if_section text.now role from to }
+{
+    match role {
+        Role::Section => is_said_section(text, from, to),
+        Role::Nothing => false,
+        _ => true,
+    }
+}
+
+/// Whether the next change copies what begins at a place.
+fn next_copies_from(place: usize, more: &[Change<'_>]) -> bool
+    ensures { result ≡ next_copies_from place (map seen more.now) }
+{
+    match more {
+        [change, ..] => match change.rule {
+            Rule::Copied(from, _) => from == place,
+            _ => false,
+        },
+        [] => false,
+    }
+}
+
+/// Whether the next change copies a number at a place.
+fn next_copies_at(place: usize, more: &[Change<'_>]) -> bool
+    ensures { result ≡ next_copies_at place (map seen more.now) }
+{
+    match more {
+        [change, ..] => match change.rule {
+            Rule::Copied(_, _) => change.start == place,
+            _ => false,
+        },
+        [] => false,
+    }
+}
+
+/// Whether a letter that scanning made of a digit is at a place, after another digit.
+fn is_damaged_digit(text: &[u8], at: usize) -> bool
+    requires { at ≤ length text.now }
+    ensures { result ≡ is_damaged_digit text.now at }
+{
+    is_in_damaged_digits(&[byte_at(text, at)])
+        && byte_before(text, at).is_ascii_digit()
+        && !byte_at(text, at + 1).is_ascii_alphabetic()
+}
+
+/// Whether a township and range are written with their sides.
+fn has_its_side(text: &[u8], role: Role, copied: usize, written: &[u8]) -> bool
+    ensures { result ≡ has_its_side text.now role copied written.now }
+{
+    match role {
+        Role::Tier => {
+            let side = side_after(text, copied);
+            (are_same(written, b" N., R. ") && is_in_north_words(side))
+                || (are_same(written, b" S., R. ") && is_in_south_words(side))
+        }
+        Role::Range => {
+            let side = side_after(text, copied);
+            (are_same(written, b" E., ") && is_in_east_words(side))
+                || (are_same(written, b" W., ") && is_in_west_words(side))
+        }
+        _ => true,
+    }
+}
+
+/// The side of a township or a range, after its number.
+pub(crate) fn side_after(text: &[u8], at: usize) -> &[u8]
+    ensures { result.now ≡ side_after text.now at }
+{
+    word_of(without_parentheses(without_location_marks(after_fraction_digit(text, at))))
+}
+
+/// The text after a place, without a fraction digit there.
+fn after_fraction_digit(text: &[u8], at: usize) -> &[u8]
+    ensures { result.now ≡ after_fraction_digit text.now at }
+{
+    if at < text.len() && is_fraction_digit(text, at, at + 1) {
+        return rest_of(text, at + 1);
+    }
+    rest_of(text, at)
+}
+
+/// A text without parentheses with which it begins.
+fn without_parentheses(rest: &[u8]) -> &[u8]
+    ensures { result.now ≡ without_parentheses rest.now }
+{
+    if byte_at(rest, 0) == b'(' {
+        return without_location_marks(after_parenthesis(rest));
+    }
+    rest
+}
+
+/// A text after its first closing parenthesis.
+fn after_parenthesis(rest: &[u8]) -> &[u8]
+    ensures { result.now ≡ after_parenthesis rest.now }
+{
+    for index in 0..rest.len() {
+        if rest[index] == b')' {
+            return rest_of(rest, index + 1);
+        }
+    }
+    rest_of(rest, rest.len())
+}
+
+/// Whether the text says that the number at a place, after white space and zeros, is that of a section.
+fn is_said_at(text: &[u8], at: usize) -> bool
+    requires { at ≤ length text.now }
+    ensures { result ≡ is_said_at text.now at }
+{
+    let rest = without_zeros(without_white(rest_of(text, at)));
+    let start = text.len().saturating_sub(rest.len());
+    is_said_section(text, start, start + digits_of(rest).len())
+}
+
+/// A text without the zeros before it.
+pub(crate) fn without_zeros(text: &[u8]) -> &[u8]
+    ensures { result.now ≡ without_zeros text.now }
+{
+    for index in 0..text.len() {
+        if text[index] != b'0' {
+            return rest_of(text, index);
+        }
+    }
+    rest_of(text, text.len())
+}
+
+/// The bytes of a text from a place on, if there are any.
+pub(crate) fn rest_of(text: &[u8], at: usize) -> &[u8]
+    ensures { result.now ≡ drop at text.now }
+{
+    if at > text.len() {
+        return b"";
+    }
+    let (_, rest) = text.split_at(at);
+    rest
+}
+
+/// Whether the text before a change, and what it writes, are apart from what was written before them.
+pub(crate) fn is_apart(seam: Seam, gap: &[u8], change: &Change<'_>) -> bool
+    ensures { result ≡ (is_apart_at seam gap.now
+        && is_apart_at (seam_after seam gap.now) change.now.written.now) }
+{
+    is_apart_at(seam, gap) && is_apart_at(seam_after(seam, gap), change.written)
+}
+
+/// Whether no step is joined at a seam to one that something was between.
+pub(crate) fn is_apart_at(seam: Seam, bytes: &[u8]) -> bool
+    ensures { result ≡ is_apart_at seam bytes.now }
+{
+    !(seam.ends_step && seam.lost && begins_with_step(without_white(bytes)))
+}
+
+/// The seam after more bytes.
+pub(crate) fn seam_after(seam: Seam, bytes: &[u8]) -> Seam
+    ensures { result ≡ seam_after seam bytes.now }
+{
+    Seam {
+        ends_step: ends_after(seam.ends_step, bytes),
+        lost: seam.lost && is_blank(bytes),
+    }
+}
+
+/// The seam after a change.
+pub(crate) fn seam_with(text: &[u8], seam: Seam, change: &Change<'_>) -> Seam
+    requires order { change.now.start ≤ change.now.end }
+    requires within { change.now.end ≤ length text.now }
+    ensures { result ≡ seam_with text.now seam (seen change.now) }
+{
+    let after = seam_after(seam, change.written);
+    Seam {
+        ends_step: after.ends_step,
+        lost: after.lost || loses(text, change),
+    }
+}
+
+/// Whether a change leaves out what may be between two parts.
+fn loses(text: &[u8], change: &Change<'_>) -> bool
+    requires order { change.now.start ≤ change.now.end }
+    requires within { change.now.end ≤ length text.now }
+    ensures { result ≡ loses text.now (seen change.now) }
+{
+    let left_out = &text[change.start..change.end];
+    is_blank(change.written)
+        && loses_by(change.rule, left_out)
+        && !is_article(text, change.start, left_out)
+}
+
+/// Whether `the` is before a part, and not between two steps.
+fn is_article(text: &[u8], start: usize, seen: &[u8]) -> bool
+    requires { start ≤ length text.now }
+    ensures { result ≡ is_article text.now start seen.now }
+{
+    is_text(seen, b"the") && is_apart_from_land(text, start)
+}
+
+/// Whether a rule leaves out what may be between two parts.
+fn loses_by(rule: Rule, seen: &[u8]) -> bool
+    ensures { result ≡ loses_by rule seen.now }
+{
+    match rule {
+        Rule::OnePart | Rule::Zeros | Rule::FractionDigit => false,
+        _ => !is_blank(seen) && !is_in_words_in_parts(seen),
+    }
+}
+
+/// Whether bytes are white space alone.
+fn is_blank(bytes: &[u8]) -> bool
+    ensures { result ≡ is_blank bytes.now }
+{
+    are_same(without_white(bytes), b"")
+}
+
+/// Whether bytes begin with a step of a part.
+fn begins_with_step(bytes: &[u8]) -> bool
+    ensures { result ≡ begins_with_step bytes.now }
+{
+    (begins_with(bytes, b"n")
+        || begins_with(bytes, b"s")
+        || begins_with(bytes, b"e")
+        || begins_with(bytes, b"w"))
+        && !begins_with(bytes, b"sec")
+        && !begins_with(bytes, b"ex")
+}
+
+/// Whether bytes end with a step, if what is before them did.
+fn ends_after(ends: bool, bytes: &[u8]) -> bool
+    ensures { result ≡ ends_after ends bytes.now 0 bytes.now }
+{
+    let mut is_end = ends;
+    for at in 0..bytes.len() {
+        if !is_white(bytes[at]) {
+            is_end = ends_step(bytes, at);
+        }
+    }
+    is_end
+}
+
+/// Whether a byte ends a step: the digit of a fraction, or the sign for one.
+fn ends_step(bytes: &[u8], at: usize) -> bool
+    requires { at ≤ length bytes.now }
+    ensures { result ≡ ends_step bytes.now at }
+{
+    let byte = byte_at(bytes, at);
+    let before = byte_before(bytes, at);
+    (matches!(byte, b'2' | b'4') && before == b'/') || (matches!(byte, 189 | 188) && before == 194)
+}
