@@ -1,5 +1,5 @@
-//! Acreage that a text states. It may differ from that of the land, which counts; but with a quarter of it,
-//! or less, the text may mean a part of this land, or other land.
+//! Acreage that a text states. It may differ from that of the land, which counts; but with a quarter of it, or less, or
+//! nine tenths where a figure in acres follows an aliquot part, the text may mean a part of this land, or other land.
 
 use crate::placed::{Placed, Role};
 use crate::plan::Plan;
@@ -14,11 +14,20 @@ const SECTION: u64 = 64_000;
 /// A quarter of the nominal area of a lot, in hundredths of an acre.
 const LOT: u64 = 1_000;
 
+/// The land beside an acreage.
+#[derive(Clone, Copy)]
+struct Beside {
+    /// Its nominal area, in hundredths of an acre: of lots, a quarter of it.
+    area: u64,
+    /// Whether it is lots, whose areas differ.
+    is_lots: bool,
+}
+
 /// The most phrases among which the land is looked for that an acreage is said of.
 const PHRASES_MOST: usize = 8;
 
 impl<'a> Plan<'a> {
-    /// Whether each acreage that the text states is more than a quarter of that of the land beside it.
+    /// Whether each acreage that the text states may be that of the land beside it.
     pub fn acreage_fits(&mut self, list: &[Placed]) -> bool {
         for index in 0..list.len() {
             let Some(placed) = list.get(index) else {
@@ -27,15 +36,18 @@ impl<'a> Plan<'a> {
             if placed.phrase.names != Names::Nothing(Rule::Acreage) {
                 continue;
             }
-            if let (Some(acreage), Some(land)) = (
+            if let (Some(acreage), Some(beside)) = (
                 self.stated(placed.phrase),
                 self.land_beside(list, index),
             ) {
                 // A whole section, or what is after a dash or before its land, may be meant to be less.
                 let is_minus = self.draft.pieces.is_dash(placed.phrase.first);
                 let is_first = !self.is_after_land(list, index);
+                let land = beside.area;
                 let least = if is_minus || is_first || land >= SECTION {
                     land / 4 * 3
+                } else if !beside.is_lots && self.is_of_part(placed.phrase) {
+                    land / 10 * 9
                 } else {
                     land / 4
                 };
@@ -47,6 +59,18 @@ impl<'a> Plan<'a> {
             }
         }
         true
+    }
+
+    /// Whether an acreage is that of the part before it: a figure, and a word for acres.
+    fn is_of_part(&self, acreage: Phrase) -> bool {
+        let pieces = &self.draft.pieces;
+        let last = acreage.end.saturating_sub(1);
+        let is_figure = matches!(pieces.kind(acreage.first), Kind::Number(_));
+        is_figure
+            && (pieces.is(last, b"acres")
+                || pieces.is(last, b"acre")
+                || pieces.is(last, b"ac")
+                || pieces.is(last, b"acs"))
     }
 
     /// Whether a section or land is before a phrase.
@@ -109,7 +133,7 @@ impl<'a> Plan<'a> {
 
     /// The nominal area of the land before an acreage, or after it, in hundredths of an acre. That of lots,
     /// whose areas differ, is a quarter of it.
-    fn land_beside(&self, list: &[Placed], index: usize) -> Option<u64> {
+    fn land_beside(&self, list: &[Placed], index: usize) -> Option<Beside> {
         let mut area: Option<u64> = None;
         let mut first: usize = 0;
         let mut has_section = false;
@@ -120,7 +144,7 @@ impl<'a> Plan<'a> {
             };
             let phrase = placed.phrase;
             match (phrase.names, area) {
-                (Names::Lots, None) => return Some(self.least_of_lots(phrase)),
+                (Names::Lots, None) => return Some(self.lots_beside(phrase)),
                 // White space may separate the steps of one part.
                 (Names::Part, Some(part)) if phrase.end == first => {
                     area = Some(self.share_of(phrase, part));
@@ -138,21 +162,31 @@ impl<'a> Plan<'a> {
             }
             first = phrase.first;
         }
-        if area.is_some() {
-            return area;
+        if let Some(area) = area {
+            return Some(land_of(area));
         }
         for place in plus(index, 1)..plus(index, PHRASES_MOST) {
             let Some(placed) = list.get(place) else {
                 break;
             };
             match placed.phrase.names {
-                Names::Lots => return Some(self.least_of_lots(placed.phrase)),
-                Names::Part | Names::All => return Some(self.share_of(placed.phrase, SECTION)),
+                Names::Lots => return Some(self.lots_beside(placed.phrase)),
+                Names::Part | Names::All => {
+                    return Some(land_of(self.share_of(placed.phrase, SECTION)));
+                }
                 Names::Sections if has_section => break,
                 _ => {}
             }
         }
-        Some(SECTION.saturating_mul(sections))
+        Some(land_of(SECTION.saturating_mul(sections)))
+    }
+
+    /// Lots beside an acreage.
+    fn lots_beside(&self, lots: Phrase) -> Beside {
+        Beside {
+            area: self.least_of_lots(lots),
+            is_lots: true,
+        }
     }
 
     /// The area of a phrase in land of an area: that of its steps, if it is an aliquot part.
@@ -252,5 +286,13 @@ fn digit_at(digits: &[u8], index: usize) -> u64 {
     match digits.get(index) {
         Some(digit @ b'0'..=b'9') => u64::from(*digit - b'0'),
         _ => 0,
+    }
+}
+
+/// Land beside an acreage, other than lots, with an area.
+fn land_of(area: u64) -> Beside {
+    Beside {
+        area,
+        is_lots: false,
     }
 }

@@ -2,7 +2,7 @@
 
 use crate::placed::{Placed, Role};
 use crate::plan::Plan;
-use twp_draft::{Form, Names, Phrase};
+use twp_draft::{Form, Names, Phrase, PlacedStep};
 use twp_grammar::Kind;
 use twp_pieces::plus;
 use twp_rules::Rule;
@@ -80,6 +80,9 @@ impl<'a> Plan<'a> {
             return false;
         }
         let are_parts = before.names == Names::Part && after.names == Names::Part;
+        if are_parts && is_list(joining) && self.may_share_last(before, after) {
+            return true;
+        }
         match joining {
             Joining::Nothing if are_parts && left_out.is_empty() => self.are_bare_cells(
                 before, after,
@@ -140,6 +143,18 @@ impl<'a> Plan<'a> {
             } else {
                 !has_the
             })
+    }
+
+    /// Whether the last steps of a part may be for the one before it too, as in
+    /// `E½ of NW¼ and W½ of NE¼ of SE¼`: it has more steps, an `of` before the last one, and the first ones of both
+    /// parts are apart.
+    fn may_share_last(&self, before: &Phrase, after: &Phrase) -> bool {
+        let (first, second) = (self.draft.steps_of(*before), self.draft.steps_of(*after));
+        after.form == Form::WithOf
+            && first.len() >= 2
+            && first.len() < second.len()
+            && are_apart(first, second)
+            && !self.has_exact_acreage
     }
 
     /// Whether `and`, or an ampersand, is among some pieces, but for what is left out.
@@ -235,6 +250,24 @@ impl<'a> Plan<'a> {
         }
         before.names == Names::Part && after.names == Names::Part && before.form != after.form
     }
+}
+
+/// Whether what joins two parts is a comma, `and`, or a mark for it.
+fn is_list(joining: Joining) -> bool {
+    matches!(
+        joining,
+        Joining::And | Joining::CommaAnd | Joining::Comma | Joining::Other
+    )
+}
+
+/// Whether a step of a part has no land in common with that at its place in another.
+fn are_apart(first: &[PlacedStep], second: &[PlacedStep]) -> bool {
+    for (one, other) in first.iter().zip(second) {
+        if !do_meet(one.written, other.written) {
+            return true;
+        }
+    }
+    false
 }
 
 /// Whether two steps have land in common.

@@ -6,6 +6,9 @@ use twp_grammar::Kind;
 use twp_pieces::plus;
 use twp_rules::Rule;
 
+/// The most phrases among which the label of a tract is looked for.
+const PHRASES_MOST: usize = 8;
+
 impl<'a> Finder<'a> {
     /// The section of a location, as in `S14 T2N R3W`.
     pub(crate) fn section_of_letter(&mut self, index: usize) -> Option<Phrase> {
@@ -96,6 +99,9 @@ impl<'a> Finder<'a> {
         if !is_list && !self.is_bare_section(index) {
             return None;
         }
+        if self.draft.pieces.is(plus(index, 1), b":") && self.is_among_tracts() {
+            self.draft.doubt();
+        }
         let place = self.draft.pieces.start(index);
         if self.draft.pieces.is_joined(index) {
             self.draft.write(place, place, b" ", Rule::Heading);
@@ -110,6 +116,18 @@ impl<'a> Finder<'a> {
         let phrase = self.draft.phrase(Names::Sections, index, end, from);
         let form = if is_list { Form::Plural } else { Form::Plain };
         Some(Phrase { form, ..phrase })
+    }
+
+    /// Whether one of the last phrases is the label of a tract, so that a number may be one, too.
+    fn is_among_tracts(&self) -> bool {
+        for phrase in self.draft.phrases.iter().rev().take(PHRASES_MOST) {
+            if phrase.names == Names::Nothing(Rule::Label)
+                && self.draft.pieces.is_label_of_tract(phrase.first)
+            {
+                return true;
+            }
+        }
+        false
     }
 
     /// Whether the number at an index is after a township, or after a section with its land in parentheses.

@@ -4,7 +4,7 @@ use crate::joints::Shared;
 use crate::outline::Outline;
 use crate::writer::Writer;
 use twp_arrange::{Between, Gap, Joining, Placed, is_joint, is_written, mark_between};
-use twp_draft::Names;
+use twp_draft::{Form, Names};
 use twp_grammar::Kind;
 use twp_pieces::plus;
 use twp_rules::{Change, Rule};
@@ -29,6 +29,9 @@ impl<'a> Writer<'a> {
                 return self.write_pieces(gap, left_out, Some(gap.end), false, out);
             }
             let shared = self.shared_of(one, other, joining, out);
+            if self.is_unsure_of_three(one, other, shared, out) {
+                self.plan.draft.doubt();
+            }
             match shared {
                 Shared::Nothing if self.plan.is_unsure_gap(one, other, joining, left_out) => {
                     self.plan.draft.doubt();
@@ -46,6 +49,23 @@ impl<'a> Writer<'a> {
             }
         }
         self.write_between(before, after, gap, left_out, joining, out)
+    }
+
+    /// Whether an `of` of the last of three parts may be for the first one too, or one of the first for the last:
+    /// `NE¼, NW¼ & SE¼ of SW¼`. Notes what the next part has to know.
+    fn is_unsure_of_three(
+        &mut self,
+        one: &Placed,
+        other: &Placed,
+        shared: Shared,
+        out: &mut Outline<'a>,
+    ) -> bool {
+        let are_parts = is_joint(one, other);
+        let is_after_head = out.has_head && are_parts && other.phrase.form != Form::WithOf;
+        out.parts = if are_parts { plus(out.parts, 1) } else { 0 };
+        let is_after_part = out.parts > 1 && shared == Shared::Tail;
+        out.has_head = shared == Shared::Head;
+        is_after_head || is_after_part
     }
 
     /// Writes what has to be between two phrases, if it isn't written so.

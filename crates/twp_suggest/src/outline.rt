@@ -31,6 +31,10 @@ pub(crate) struct Outline<'a> {
     pub(crate) options: Vec<Change<'a>>,
     /// Whether there is an exception.
     pub(crate) has_except: bool,
+    /// How many parts of a list are before the last phrase.
+    pub(crate) parts: usize,
+    /// Whether the steps before the last `of` of a part may be for the one after it.
+    pub(crate) has_head: bool,
     /// Whether memory was refused for something, which is then missing.
     lacks_memory: bool,
 }
@@ -95,6 +99,8 @@ impl<'a> Writer<'a> {
             joints: Vec::new(alloc),
             options: Vec::new(alloc),
             has_except: has_except(list),
+            parts: 0,
+            has_head: false,
             lacks_memory: false,
         };
         let written = self.write_kept(alloc, list, &mut out)?;
@@ -181,7 +187,12 @@ impl<'a> Writer<'a> {
     fn leads_nowhere(&self, last: usize) -> bool {
         let pieces = &self.plan.draft.pieces;
         let word = last.saturating_sub(1);
-        if pieces.is(word, b"in") || pieces.is(word, b"of") || pieces.is(word, b"under") {
+        if pieces.is(word, b"in")
+            || pieces.is(word, b"of")
+            || pieces.is(word, b"under")
+            || pieces.is(word, b"aliq")
+            || pieces.is(word, b"aliquot")
+        {
             return true;
         }
         for index in last..pieces.len() {
