@@ -47,13 +47,15 @@ e2e: township
 	@sh tests/e2e.sh
 
 ## descriptions   build the programs, and measure which descriptions, as people write them, have the right reading
+# Last, that none of them is read as other land if it is damaged.
 descriptions: township
 	@cd crates/twp_readings && rt run > /dev/null
 	@python3 tests/descriptions/suggested.py
-	@for author in practice landman recorder clerk paralegal analyst examiner abstractor counsel advisor traps; do \
+	@for author in practice landman recorder clerk paralegal analyst examiner abstractor counsel advisor broker traps; do \
 		python3 tests/descriptions/suggested.py ./township crates/twp_readings/out/twp_readings \
 			tests/descriptions/$$author.tsv || exit 1; \
 	done
+	@python3 tests/descriptions/mutated.py
 
 ## check          prove all crates, and nothing else
 check:

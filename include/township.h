@@ -572,7 +572,7 @@ typedef struct township_explanation {
     uint64_t excerpt_length;
     uint64_t hints;           /* the lines that say how to correct it, or give related facts */
     uint64_t hints_length;
-    uint64_t repair;          /* a description that can be read, with which the hints end; none if it was escaped there */
+    uint64_t repair;          /* the only reading of the text, with which the hints end; none if it was escaped there */
     uint64_t repair_length;
 } township_explanation;
 

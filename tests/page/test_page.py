@@ -140,6 +140,14 @@ def test_readings_are_picked(page: Page) -> None:
     assert page.focused() == "description" and page.all("#readings button") == []
 
 
+def test_the_readings_of_a_text_that_is_one_itself(page: Page) -> None:
+    page.tab("land")
+    page.type("#description", "sec. 14, E1/2 of NE1/4 and SE1/4")
+    page.wait_for_text("#readings", "Which was meant?")
+    # The east half of a quarter and a quarter, or the east halves of two quarters.
+    assert [each.text for each in page.all("#readings strong")] == ["240.00 acres", "160.00 acres"]
+
+
 def test_a_reading_is_picked_by_keyboard(page: Page) -> None:
     page.tab("land")
     page.type("#description", "NENE, S2NE4 Sec 14-2N-3W")
@@ -161,6 +169,15 @@ def test_comparison(page: Page) -> None:
     assert len(page.all("#drawing .land")) == 3
     page.type("#second", "sec. 5, N1/2.")
     page.wait_for_text("#compare-answer", "The second description: Refused 66")
+
+
+def test_comparison_of_land_that_contains_other_land(page: Page) -> None:
+    page.tab("compare")
+    page.type("#first", "sec. 14, N1/2.")
+    page.type("#second", "sec. 14, NE1/4.")
+    page.wait_for_text("#compare-answer", "The first contains the second, and more.")
+    page.type("#first", "sec. 14, NW1/4NE1/4.")
+    page.wait_for_text("#compare-answer", "The second contains the first, and more.")
 
 
 def test_tracts(page: Page) -> None:

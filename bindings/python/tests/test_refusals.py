@@ -193,7 +193,7 @@ class Sentences(RefusalCase):
 
     def test_hints_on_lines_that_continue(self):
         # The hint is longer than two lines, and two hints take two lines.
-        for text, count in (("secs. 1 to 36; secs. 1 to 36.", 1), ("sec. 14, NE/4, NE/4, NE/4.", 2)):
+        for text, count in (("secs. 1 to 36; secs. 1 to 36.", 1), ("sec. 14, NE/4, SE/4.", 2)):
             with self.subTest(text=text):
                 refused = self.refused(even().acres, text)
                 shown = refused.explanation.splitlines()[3:]
@@ -203,11 +203,21 @@ class Sentences(RefusalCase):
     def test_repair_can_be_read(self):
         refused = self.refused(even().acres, "sec. 14, NE/4, SW/4.")
         self.assertEqual(refused.repair, "sec. 14, NE1/4, SW1/4.")
-        self.assertEqual(refused.hints[-1], "corrected: sec. 14, NE1/4, SW1/4.")
+        self.assertEqual(refused.hints[-1], "perhaps: sec. 14, NE1/4, SW1/4.")
         self.assertEqual(str(even().acres(refused.repair)), "320.00")
-        # White space is a space in the corrected text, which is on one line.
+        # White space is a space in the reading, which is on one line.
         self.assertEqual(self.refused(even().acres, "sec. 14,\n\tNE/4, SW/4.").repair, refused.repair)
         self.assertIsNone(self.refused(even().acres, "sec. 37.").repair)
+
+    def test_repair_of_a_tract(self):
+        refused = self.refused(even().report_csv, 'name,description\nA,"sec. 14, NE/4"\n')
+        self.assertEqual(refused.repair, "sec. 14, NE1/4")
+
+    def test_underlined_letter_of_a_name(self):
+        # `ñ` has two bytes, both of which are underlined.
+        text = 'name,description\nPeña,"sec. 7, lot 4."\n'
+        refused = self.refused(even().report_csv, text)
+        self.assertEqual(text.encode()[refused.start : refused.end].decode(), "ñ")
 
     def test_underlined_bytes(self):
         # `¼` has two bytes, so N½NE¼ has 8.

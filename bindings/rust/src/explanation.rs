@@ -40,7 +40,7 @@ pub(crate) struct Explained {
     pub(crate) sentence: String,
     /// The hints, one each.
     pub(crate) hints: Vec<String>,
-    /// The corrected description.
+    /// The only reading of a description.
     pub(crate) repair: Option<String>,
     /// The bytes of the input that are underlined.
     pub(crate) span: Option<Range<usize>>,

@@ -122,7 +122,7 @@ impl Refused {
         &self.parts.hints
     }
 
-    /// Returns the corrected description, if all faults can be repaired. It can be read.
+    /// Returns the only reading of a description, if it names land on the plat. It can be read.
     ///
     /// ```
     /// # let notes = include_bytes!(concat!(env!("CARGO_MANIFEST_DIR"), "/samples/b1.csv"));

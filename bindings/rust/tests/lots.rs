@@ -44,6 +44,26 @@ fn read() {
 }
 
 #[test]
+fn each_lot_has_its_own_figure() {
+    // 10.01 acres for the first lot, 10.47 for the last.
+    let mut text = HEADING.to_owned();
+    let lots: Vec<(u8, u8)> = table()
+        .figures()
+        .map(|(section, lot, _)| (section, lot))
+        .collect();
+    assert_eq!(lots.len(), 47);
+    for ((section, lot), hundredths) in lots.iter().zip(1_001..) {
+        text += &format!("{section},{lot},{}\n", acres(hundredths));
+    }
+    let made: Lots = text.parse().unwrap();
+    for ((section, lot), hundredths) in lots.iter().zip(1_001..) {
+        assert_eq!(made.figure(*section, *lot), Some(acres(hundredths)));
+        let description = format!("sec. {section}, lot {lot}.");
+        assert_eq!(made.acres(description), Ok(acres(hundredths)));
+    }
+}
+
+#[test]
 fn written() {
     let sorted = format!("{HEADING}5,1,40.45\n5,2,40.50\n6,7,36.86\n");
     assert_eq!(table().to_string(), sorted);

@@ -1,6 +1,6 @@
 -- The parts of an explanation, or of a note, as numbers: where in the input its place is, and the other place
--- that it names; and where in the text its sentence, its excerpt, its hints, and the corrected description
--- are.
+-- that it names; and where in the text its sentence, its excerpt, its hints, and the only reading of a
+-- refused description are.
 use Rattle.std.specs.Prelude.{◌≡◌, ℕ, ◌-◌, List, Option, Some, None, slice_range}
 use Rattle.twp_excerpt.specs.declared.message.Parts.{Parts}
 use Rattle.twp_excerpt.specs.declared.spot.Span.{Span}
@@ -84,7 +84,7 @@ pub record CanBeRead (text : List ℕ) : Type 0 where
   pub items : List Item
   pub read : IsReadAs text items
 
--- there is no corrected description; or these bytes of the text are one, which the reader accepts
+-- there is no reading; or these bytes of the text are one, which the reader accepts
 pub data IsRepair (text : List ℕ) (repair : Span) : Type 0 where
   no_repair : repair ≡ no_bytes → IsRepair text repair
   can_be_read : CanBeRead (slice_range text repair.start repair.end) → IsRepair text repair

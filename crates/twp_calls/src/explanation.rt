@@ -49,7 +49,7 @@ pub struct TownshipExplanation {
     pub hints: u64,
     /// How long they are.
     pub hints_length: u64,
-    /// The corrected description, at the end of the hints.
+    /// The only reading of a refused description, at the end of the hints.
     pub repair: u64,
     /// How long it is.
     pub repair_length: u64,
@@ -86,7 +86,7 @@ pub(crate) fn parts_of(
 ) -> Result<TownshipExplanation, AllocError>
     ensures { IfOk result (ArePartsOf explained.now) }
 {
-    let repair = repair_in(alloc, explained.text.as_bytes(), &explained.corrected)?;
+    let repair = repair_in(alloc, explained.text.as_bytes(), &explained.reading)?;
     let Parts { sentence, .. } = explained.parts;
     Ok(numbers(
         explained.place,
@@ -205,18 +205,18 @@ fn length_of(span: Span) -> u64
     span.end.saturating_sub(span.start) as u64
 }
 
-/// The corrected description at the end of a text, before its last line feed. None of the bytes if it was
-/// escaped there, or if there is none.
-fn repair_in(alloc: Global, text: &[u8], corrected: &Option<Vec<u8>>) -> Result<Span, AllocError>
+/// The reading at the end of a text, before its last line feed. None of the bytes if it was escaped there, or if
+/// there is none.
+fn repair_in(alloc: Global, text: &[u8], reading: &Option<Vec<u8>>) -> Result<Span, AllocError>
     ensures { IfOk result (IsRepair text.now) }
 {
-    let Some(corrected) = corrected else {
+    let Some(reading) = reading else {
         return Ok(NO_BYTES);
     };
     let end = text.len().saturating_sub(1);
-    let start = end.saturating_sub(corrected.len());
+    let start = end.saturating_sub(reading.len());
     let shown = &text[start..end];
-    if shown != corrected.as_slice() || !is_read(alloc, shown)? {
+    if shown != reading.as_slice() || !is_read(alloc, shown)? {
         return Ok(NO_BYTES);
     }
     Ok(Span { start, end })

@@ -26,6 +26,6 @@ pub struct Explanation {
     pub parts: Parts,
     /// The other place that it names, if it names one.
     pub other: Option<OtherPlace>,
-    /// The corrected text with which it ends, if it ends with one.
-    pub corrected: Option<Vec<u8>>,
+    /// The reading of the text with which it ends, if it ends with one.
+    pub reading: Option<Vec<u8>>,
 }

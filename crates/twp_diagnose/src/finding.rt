@@ -24,8 +24,8 @@ pub struct Finding {
     pub help: String,
     /// The other place that is named there, if one is.
     pub other: Option<OtherPlace>,
-    /// The corrected text that ends the help, if one does.
-    pub corrected: Option<Vec<u8>>,
+    /// The reading of the text that ends the help, if one does.
+    pub reading: Option<Vec<u8>>,
 }
 
 /// Why the explanation of a fault ends.
@@ -58,7 +58,7 @@ impl Failure {
 }
 
 impl Finding {
-    /// What was found, without another place or a corrected text.
+    /// What was found, without another place or a reading.
     pub fn new(refusal: Refusal, place: Location, sentence: String, help: String) -> Finding
         ensures refusal { result.refusal ≡ refusal }
         ensures place { result.place ≡ place }
@@ -70,7 +70,7 @@ impl Finding {
             sentence,
             help,
             other: None,
-            corrected: None,
+            reading: None,
         }
     }
 
@@ -97,7 +97,7 @@ impl Finding {
             text,
             parts,
             other: self.other,
-            corrected: self.corrected,
+            reading: self.reading,
         })
     }
 }

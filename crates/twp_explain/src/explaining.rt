@@ -128,7 +128,7 @@ pub(crate) fn describe<S: Suggests>(
 {
     let description = match Description::read(alloc, bytes) {
         Ok(description) => description,
-        Err(fault) => return Err(stop_of_text::<S>(alloc, origin, bytes, fault)),
+        Err(fault) => return Err(stop_of_text::<S>(alloc, origin, bytes, township, fault)),
     };
     match resolve::<Lanes>(&description, township) {
         Ok(_) => Ok(()),

@@ -52,7 +52,7 @@ pub(crate) fn find<S: Suggests>(
         sentence: String::new(alloc),
         help: String::new(alloc),
         other: None,
-        corrected: None,
+        reading: None,
     };
     explain::<S>(alloc, &listed, township, fault, &mut finding)?;
     Ok(finding)
@@ -212,7 +212,7 @@ fn explain_tract<S: Suggests>(
             "delete the quotation marks: the spreadsheet adds those that it needs",
         );
     }
-    finding.corrected = inner.corrected;
+    finding.reading = inner.reading;
     finding.help.push_str(inner.help.as_str())
 }
 

@@ -50,7 +50,7 @@ pub(crate) fn find(
         sentence,
         help,
         other: other_of(earlier),
-        corrected: None,
+        reading: None,
     })
 }
 

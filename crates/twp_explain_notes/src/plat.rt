@@ -51,7 +51,7 @@ pub(crate) fn find(
             advice_of(&record, refusal, fault),
         )?,
         other: None,
-        corrected: None,
+        reading: None,
     })
 }
 

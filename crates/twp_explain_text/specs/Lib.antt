@@ -1,3 +1,4 @@
 pub mod ShownPlaces
 pub mod Underlined
 pub mod OtherPlaces
+pub mod Suggestions

@@ -1,7 +1,10 @@
 //! Explanations of faults in descriptions: in a text that cannot be read, the sign at fault; in one that
-//! names no land on the plat, the item at fault; a sentence for each fault, and advice on how to correct it.
+//! names no land on the plat, the item at fault; a sentence for each fault, a
+//! hint, and the only reading of the text.
 #![tactic(auto)]
 
+mod help;
+mod hints;
 mod places;
 mod stops;
 mod suggests;
@@ -9,4 +12,4 @@ mod text;
 
 pub use places::write_land;
 pub use stops::{stop_of_places, stop_of_text};
-pub use suggests::Suggests;
+pub use suggests::{Suggested, Suggestion, Suggests};

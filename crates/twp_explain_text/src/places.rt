@@ -86,7 +86,7 @@ pub(crate) fn find(
         sentence: explained.sentence,
         help: explained.help,
         other: explained.other,
-        corrected: None,
+        reading: None,
     })
 }
 

@@ -1,11 +1,12 @@
 //! What stops a run on a description.
-ghost use Rattle.std.specs.Prelude.{◌≡◌, ◌≢◌, Some, None};
+ghost use Rattle.std.specs.Prelude.{◌≡◌, ◌≢◌, Some, None, IfSome};
 ghost use Rattle.twp_read.specs.TextFaults.{refusal_of as refusal_of_text};
 ghost use Rattle.twp_resolve.specs.PlaceFaults.{refusal_of as refusal_of_places};
 ghost use Rattle.twp_read.specs.declared.fault.TextFault.TheVariants.{TooLarge};
 ghost use Rattle.twp_diagnose.specs.Findings.{IfFinds, IfFound};
 ghost use Rattle.twp_explain_text.specs.OtherPlaces.{IsOtherPlace};
 ghost use Rattle.twp_explain_text.specs.ShownPlaces.{IfShown};
+ghost use Rattle.twp_explain_text.specs.Suggestions.{NamesLandOf};
 ghost use Rattle.twp_explain_text.specs.Underlined.{EndsWithFault, EndsWithSign};
 
 use crate::suggests::Suggests;
@@ -16,13 +17,15 @@ use twp_grid::Township;
 use twp_read::{Description, TextFault};
 use twp_resolve::PlaceFault;
 
-/// What is wrong with a text that isn't read.
+/// What is wrong with a text that isn't read. A reading that the explanation ends with names land on the plat of the
+/// township.
 #[tactic(auto, using(twp_diagnose::proofs::FindingFacts::of_fault, twp_diagnose::proofs::FindingFacts::of_found, crate::proofs::ShownFacts::text_shown))]
 #[inline(never)]
 pub fn stop_of_text<S: Suggests>(
     alloc: Global,
     origin: &Origin<'_>,
     bytes: &[u8],
+    township: Township,
     fault: TextFault,
 ) -> Failure
     ensures refusal { IfFound result (λ refusal. refusal_of_text fault ≡ Some refusal) }
@@ -30,13 +33,15 @@ pub fn stop_of_text<S: Suggests>(
     ensures ends { fault ≢ TooLarge → IfFinds result (λ finding.
         EndsWithSign origin.now bytes.now finding.refusal.at finding.place) }
     ensures other { IfFinds result (λ finding. finding.other ≡ None) }
+    ensures reading { IfFinds result (λ finding.
+        IfSome finding.reading (λ text. NamesLandOf township text.items)) }
 {
     let Some(refusal) = fault.refusal() else {
         return Failure::Memory;
     };
     Failure::of(
         refusal,
-        text::find::<S>(alloc, origin, bytes, fault, refusal),
+        text::find::<S>(alloc, origin, bytes, township, fault, refusal),
     )
 }
 

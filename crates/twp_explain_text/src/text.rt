@@ -1,21 +1,22 @@
 //! Why a text isn't read as a description.
-ghost use Rattle.std.specs.Prelude.{◌≡◌, ◌≢◌, ◌+◌, None, length, min, IfOk};
+ghost use Rattle.std.specs.Prelude.{◌≡◌, ◌≢◌, ◌+◌, None, length, min, IfOk, IfSome};
 ghost use Rattle.twp_diagnose.specs.Sights.{shown_place};
 ghost use Rattle.twp_read.specs.declared.fault.TextFault.TheVariants.{TooLarge};
 ghost use Rattle.twp_explain_text.specs.ShownPlaces.{ShowsAt};
+ghost use Rattle.twp_explain_text.specs.Suggestions.{NamesLandOf};
 ghost use Rattle.twp_explain_text.specs.Underlined.{EndsAt, EndsWithSign};
 
 mod character;
 
+use crate::help::{Help, help_with};
 use crate::suggests::Suggests;
 use crate::text::character::write_not_allowed;
 use std::alloc::{AllocError, Global};
 use twp_diagnose::{Finding, Location, Origin, Surroundings};
 use twp_excerpt::{Span, write_escaped};
 use twp_grammar::Expected;
-use twp_grid::Refusal;
+use twp_grid::{Refusal, Township};
 use twp_read::TextFault;
-use twp_repairs::advice_on;
 
 /// The most bytes of a token that a sentence quotes.
 const QUOTED_LIMIT: usize = 20;
@@ -25,6 +26,7 @@ pub(crate) fn find<S: Suggests>(
     alloc: Global,
     origin: &Origin<'_>,
     text: &[u8],
+    township: Township,
     fault: TextFault,
     refusal: Refusal,
 ) -> Result<Finding, AllocError>
@@ -34,23 +36,24 @@ pub(crate) fn find<S: Suggests>(
     ensures end { fault ≢ TooLarge → IfOk result (λ finding.
         EndsWithSign origin.now text.now refusal.at finding.place) }
     ensures other { IfOk result (λ finding. finding.other ≡ None) }
+    ensures reading { IfOk result (λ finding.
+        IfSome finding.reading (λ text. NamesLandOf township text.items)) }
 {
     let expected = expected(fault);
     let sight = Surroundings::of(text, refusal, expected);
     let mut sentence = String::new(alloc);
     write_sentence(&sight, fault, &mut sentence)?;
-    let advice = advice_on(alloc, text, refusal, expected)?;
-    let mut help = advice.text;
-    if advice.corrected.is_none() {
-        S::suggest(alloc, text, &mut help)?;
-    }
+    let Help {
+        text: help,
+        reading,
+    } = help_with::<S>(alloc, &sight, township)?;
     Ok(Finding {
         refusal,
         place: place(origin, text, &sight, fault),
         sentence,
         help,
         other: None,
-        corrected: advice.corrected,
+        reading,
     })
 }
 

@@ -154,7 +154,7 @@ void gives_parts(const township_plat *plat) {
     explains(LAND, plat, "sec. 14, NE/4.",
              (said){"/", NULL, 0, "`/` is allowed only in 1/2 and 1/4",
                     "  1 | sec. 14, NE/4.\n    |            ^\n",
-                    "  write NE1/4\n  corrected: sec. 14, NE1/4.\n", "sec. 14, NE1/4."});
+                    "  write NE1/4\n  perhaps: sec. 14, NE1/4.\n", "sec. 14, NE1/4."});
     explains(LAND, plat, "sec. 14, NE1/4 SE1/4.",
              (said){"SE1/4", NULL, 0,
                     "NE1/4 SE1/4 is read as one part of 40.00 acres, the NE1/4 of the SE1/4; if\n"

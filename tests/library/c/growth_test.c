@@ -198,7 +198,7 @@ static township_answer call_explain_notes_parts(void) {
                                         &explanation);
 }
 
-/* The corrected description is read again, which takes memory too. */
+/* The reading of the description is read again, which takes memory too. */
 static township_answer call_explain_description_parts(void) {
     return township_explain_description_parts(&plat, BYTES("sec. 14, NE/4 and SE/4."), BYTES("land.txt"),
                                               room_text(texts), MOST_TEXT, &explanation);

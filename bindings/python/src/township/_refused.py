@@ -60,7 +60,7 @@ class Refused(ValueError):
     >>> refused.hints
     ('`NE1/4` at 1:10 overlaps it; both include sec. 14, NE1/4.',)
 
-    If all of a description can be repaired with certainty, `repair` is the corrected description.
+    If a refused description can be read in only one way, `repair` is that reading.
 
     >>> try:
     ...     plat.acres("sec. 14, NE/4.")
@@ -138,7 +138,7 @@ class Refused(ValueError):
 
     @property
     def repair(self) -> Optional[str]:
-        """The corrected description, if all faults can be repaired. It can be read."""
+        """The only reading of a description, if it names land on the plat. It can be read."""
         return self._explained.repair
 
     def __eq__(self, other: object) -> bool:
