@@ -5,8 +5,8 @@
 
 PROGRAM is the path of `township`, by default ./township. ROWS is a file in the form of written.tsv, which is the
 default. Each description is given to the program with the field notes of samples/b1.csv. Where it is refused, its
-first message is followed: the corrected text, or the only reading, is taken if there is one; otherwise, what the
-message says to write or to delete is written or deleted. This is repeated for the message of the text that comes of it, some rounds long.
+first message is followed: the only reading is taken if there is one; otherwise, what the message says to write or to
+delete is written or deleted. This is repeated for the message of the text that comes of it, some rounds long.
 Advice that names several readings, or only says what is wrong, is not followed, since it doesn't decide.
 
 A row passes if the land that this ends in is the land understood, or if it ends in no land. A row that is
@@ -28,7 +28,7 @@ from check import NOTES, ROWS, Program, Row  # noqa: E402
 ROUNDS = 12
 
 # What the last line of a message begins with, before a description that can be taken as it is.
-ENDINGS = ("corrected: ", "perhaps: ")
+ENDING = "perhaps: "
 
 
 class Message:
@@ -44,7 +44,7 @@ class Message:
         self.help = ""
         for line in after:
             line = line.strip()
-            if line.startswith(ENDINGS):
+            if line.startswith(ENDING):
                 self.description = line.partition(": ")[2]
             elif line:
                 self.help += (" " if self.help else "") + line
@@ -82,12 +82,12 @@ def followed(text, message):
     """The text with what the message says to write or to delete. None if it says neither."""
     if message.description is not None:
         return message.description
-    advice = re.split(r"; and \d+ more of the same", message.help)[0]
+    advice = message.help
     start, end = sign_at(text, message)
     delete = re.fullmatch(r"delete `([^`]*)`", advice)
     if delete:
         return text[:start] + text[start:].replace(delete[1], "", 1)
-    if re.search(r" for two parts| or .* if that is meant|^either", advice):
+    if "this can be read in several ways" in advice:
         return None
     write = re.search(r"\bwrite ([TS]?[^;:]*?)(?: instead of .*| without .*| before .*|)$", advice)
     if not write or write[1].startswith(("a comma", "it as", "decimal", "; ")):

@@ -1,7 +1,7 @@
 #!/usr/bin/env python3
 """Measures how many descriptions have the right reading, by form and by source.
 
-    python3 tests/descriptions/suggested.py [PROGRAM [READER [ROWS]]]
+    python3 tests/descriptions/suggested.py [--record] [PROGRAM [READER [ROWS]]]
 
 PROGRAM is the path of `township`, by default ./township. READER is the program of crates/twp_readings, which prints
 the readings of descriptions. ROWS is a file in the form of written.tsv, which is the default. The land of each reading
@@ -12,10 +12,17 @@ A row fails, as wrong,
 - if it is ambiguous, and has one reading, or lacks a reading that an examiner would ask about;
 - if it is not expressible, and has a reading that the program accepts as land.
 
-A row without a reading doesn't fail. The last line is `N passed, M failed`, and the status is 0 where nothing failed.
+A row without a reading doesn't fail, nor one all of whose readings the program refuses, which is counted as refused.
+But outcomes.tsv has, for each file in this folder, how many rows of each kind have which outcome, and how many readings
+those with several have. If that has changed, the file fails, so that neither a lost nor a new reading goes unnoticed.
+`--record` writes what it is now; look at the difference before it is committed. A file in which fewer than FLOOR
+percent of the expressible rows have the right reading fails, too, and isn't recorded.
+
+The last line is `N passed, M failed`, and the status is 0 where nothing failed.
 """
 
 import collections
+import pathlib
 import re
 import subprocess
 import sys
@@ -27,24 +34,35 @@ from check import FOLDER, ROWS, Program  # noqa: E402
 from follow import rows_in  # noqa: E402
 
 READER = FOLDER.parent.parent / "crates" / "twp_readings" / "out" / "twp_readings"
-OUTCOMES = ["as written", "one", "several", "none", "wrong"]
+RECORD = FOLDER / "outcomes.tsv"
+OUTCOMES = ["as written", "one", "several", "refused", "none", "wrong"]
+KINDS = ["expressible", "ambiguous", "not expressible"]
+COLUMNS = ["file", "kind", "rows"] + OUTCOMES + ["readings of several"]
+# The percentage of the expressible rows of a file that have to have the right reading, alone or among several.
+FLOOR = 40
+# traps.tsv asks for wrong readings. Most of its expressible rows have slips.
+FLOORS = {"traps": 10}
 
 
 def readings_of(rows, reader):
     """The texts of the readings of each row, by the program that prints them."""
     texts = "".join(row.description.replace("\n", r"\n").replace("\t", r"\t") + "\n" for row in rows)
     run = subprocess.run([reader], input=texts.encode(), capture_output=True, check=True)
-    lines = run.stdout.decode().split("\n")
-    texts = [line for line in lines if line and not line.startswith("  ")]
-    for _ in rows:
-        count = int(texts.pop(0))
-        yield [text.replace(r"\n", "\n").replace(r"\t", "\t") for text in texts[:count]]
-        del texts[:count]
+    lines = [line for line in run.stdout.decode().split("\n") if line and not line.startswith("  ")]
+    found = []
+    at = 0
+    while at < len(lines):
+        last = at + 1 + int(lines[at])
+        found.append([line.replace(r"\n", "\n").replace(r"\t", "\t") for line in lines[at + 1:last]])
+        at = last
+    if len(found) != len(rows) or at > len(lines):
+        raise SystemExit(f"{reader}: {len(found)} answers to {len(rows)} descriptions")
+    return found
 
 
 def with_usual_heading(text):
     """The text with its township and range, if it begins with them, as a canonical description writes them."""
-    heading = re.match(r"\s*T\.? ?(\d+) ?([NS])\.?,? *R\.? ?(\d+) ?([EW])\.?", text, re.IGNORECASE)
+    heading = re.match(r"\s*T\.?\s*(\d+)\s*([NS])\.?\s*,?\s*R\.?\s*(\d+)\s*([EW])\.?", text, re.IGNORECASE)
     if not heading:
         return text
     tier, side, range_, other = heading.groups()
@@ -56,7 +74,7 @@ def outcome(row, readings, program):
     understood = [program.land(reading)[0] for reading in row.readings()]
     lands = [land for land, _ in map(program.land, map(with_usual_heading, readings)) if land is not None]
     if not lands:
-        return "none"
+        return "refused" if readings else "none"
     if row.kind() == "not expressible":
         return "wrong"
     if row.kind() == "ambiguous":
@@ -82,20 +100,71 @@ def table(title, counts):
         print(f"{name:<18}{whole:12.1f}{shares}")
 
 
+def recorded():
+    """The lines of outcomes.tsv by file and kind."""
+    if not RECORD.exists():
+        return {}
+    lines = RECORD.read_text(encoding="utf-8").split("\n")
+    if lines[0].split("\t") != COLUMNS:
+        raise SystemExit(f"{RECORD}: the heading is not {' '.join(COLUMNS)}")
+    rows = [line.split("\t") for line in lines[1:] if line]
+    return {(row[0], row[1]): [int(count) for count in row[2:]] for row in rows}
+
+
+def record(name, lines):
+    """Writes the lines of a file to outcomes.tsv, in the place of what it had."""
+    kept = {key: counts for key, counts in recorded().items() if key[0] != name}
+    kept.update(lines)
+    order = sorted(kept, key=lambda key: (key[0], KINDS.index(key[1])))
+    rows = [COLUMNS] + [[*key, *map(str, kept[key])] for key in order]
+    RECORD.write_text("".join("\t".join(row) + "\n" for row in rows), encoding="utf-8")
+
+
+def record_faults(name, lines, command):
+    """What is different from outcomes.tsv, with the command that writes what it is now."""
+    before = {key: counts for key, counts in recorded().items() if key[0] == name}
+    for key in sorted({**before, **lines}):
+        if before.get(key) != lines.get(key):
+            names = COLUMNS[2:]
+            old, new = before.get(key, [0] * len(names)), lines.get(key, [0] * len(names))
+            changes = [f"{what} {a} -> {b}" for what, a, b in zip(names, old, new) if a != b]
+            yield f"{name}.tsv, {key[1]}: {', '.join(changes)}; to record it: {command}"
+
+
+def floor_faults(name, counts):
+    """What is wrong if too few expressible rows are read."""
+    right = counts["as written"] + counts["one"] + counts["several"]
+    floor = FLOORS.get(name, FLOOR)
+    if sum(counts.values()) and 100 * right < floor * sum(counts.values()):
+        yield (f"{name}.tsv: only {right} of {sum(counts.values())} expressible rows have the right reading, fewer "
+               f"than {floor} percent")
+
+
 def main():
-    if len(sys.argv) > 4:
-        raise SystemExit("usage: suggested.py [PROGRAM [READER [ROWS]]]")
-    words = sys.argv[1:] + ["./township", str(READER), str(ROWS)][len(sys.argv) - 1:]
+    words = sys.argv[1:]
+    is_recording = words[:1] == ["--record"]
+    words = words[is_recording:]
+    if len(words) > 3 or any(word.startswith("--") for word in words):
+        raise SystemExit("usage: suggested.py [--record] [PROGRAM [READER [ROWS]]]")
+    words += ["./township", str(READER), str(ROWS)][len(words):]
     rows = rows_in(words[2])
+    path = pathlib.Path(words[2]).resolve()
     by_form = collections.defaultdict(collections.Counter)
     by_source = collections.defaultdict(collections.Counter)
     by_kind = collections.defaultdict(collections.Counter)
+    number_of = collections.defaultdict(collections.Counter)
+    several = collections.defaultdict(collections.Counter)
     failures = []
     with tempfile.TemporaryDirectory() as folder:
         program = Program(words[0], folder)
         for row, readings in zip(rows, readings_of(rows, words[1])):
             result = outcome(row, readings, program)
             by_kind[row.kind()][result] += float(row.weight)
+            number_of[row.kind()][result] += 1
+            if result == "several":
+                several[row.kind()][len(readings)] += 1
+            if result == "refused":
+                print(f"refused: {row.id}: {row.description!r} is read as {readings}")
             if result == "wrong":
                 failures.append(f"{row.id}: {row.description!r} is read as {readings}, not as {row.land!r}")
             if row.kind() == "expressible":
@@ -105,13 +174,27 @@ def main():
     table("by form", by_form)
     table("by source", by_source)
     table("by kind", by_kind)
+    for kind in KINDS:
+        for count, number in sorted(several[kind].items()):
+            print(f"{kind}, with {count} readings: {number} rows")
     expressible = by_kind["expressible"]
     whole = sum(expressible.values())
     print(f"the right reading alone: {share(expressible, ['as written', 'one'], whole):.1f} percent of the expressible "
           f"weight; alone or among several: {share(expressible, ['as written', 'one', 'several'], whole):.1f}")
+    passed = len(rows) - len(failures)
+    if path.parent == FOLDER:
+        lines = {(path.stem, kind): [sum(number_of[kind].values()), *(number_of[kind][name] for name in OUTCOMES),
+                                     sum(count * number for count, number in several[kind].items())] for kind in KINDS}
+        faults = list(floor_faults(path.stem, number_of["expressible"]))
+        if is_recording and not faults:
+            record(path.stem, lines)
+        command = " ".join(["python3 tests/descriptions/suggested.py --record", *words])
+        faults += record_faults(path.stem, lines, command)
+        failures += faults
+        passed += not faults
     for failure in failures:
         print(failure)
-    print(f"{len(rows) - len(failures)} passed, {len(failures)} failed")
+    print(f"{passed} passed, {len(failures)} failed")
     return 1 if failures else 0
 
 
