@@ -10,4 +10,6 @@ pub mod Roles
 pub mod Changes
 pub mod Keeping
 pub mod Moves
+pub mod Origins
+pub mod Arrangement
 pub mod steps

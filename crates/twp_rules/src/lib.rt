@@ -3,17 +3,22 @@
 #![tactic(auto)]
 
 mod allowed;
+mod arrangement;
 mod change;
 mod context;
+mod cursor;
 mod endings;
 mod figures;
 mod keeping;
 mod left_out;
+mod lying;
+mod mark;
 mod moved;
 mod moves;
 mod moving;
 mod named;
 mod naming;
+mod origins;
 mod role;
 mod roles;
 mod rows;
@@ -26,5 +31,6 @@ mod steps;
 mod tables;
 mod words;
 
+pub use arrangement::lie_with_sections;
 pub use change::{Change, are_changes, changed};
 pub use rule::Rule;

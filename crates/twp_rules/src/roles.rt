@@ -88,7 +88,13 @@ fn goes_on_at(text: &[u8], at: usize) -> bool
     requires { at ≤ length text.now }
     ensures { result ≡ goes_on_with_list (word_of (drop at text.now)) }
 {
-    let word = word_of(from(text, at));
+    goes_on_with_list(word_of(from(text, at)))
+}
+
+/// Whether a word goes on with a list of sections.
+pub(crate) fn goes_on_with_list(word: &[u8]) -> bool
+    ensures { result ≡ goes_on_with_list word.now }
+{
     is_in_list_words(word) || is_in_number_words(word)
 }
 

@@ -1,0 +1,197 @@
+//! Whether land lies with the section that the text gives it to.
+ghost use Rattle.std.specs.Prelude.{◌≡◌, true, IfOk, None, drop, map, slice_range};
+ghost use Rattle.twp_rules.specs.Arrangement.{has_break, has_no_other, is_after, is_list_from, is_listed_at};
+ghost use Rattle.twp_rules.specs.Arrangement.{is_no_other, is_one_list, lie_from, lie_with_sections, lies};
+ghost use Rattle.twp_rules.specs.Arrangement.{lies_after, lies_before};
+ghost use Rattle.twp_rules.specs.Changes.{seen};
+
+use crate::change::Change;
+use crate::keeping::rest_of;
+use crate::lying::Lying;
+use crate::mark::Mark;
+use crate::naming::{begins_word, word_of};
+use crate::origins::marks_of;
+use crate::roles::goes_on_with_list;
+use crate::words::*;
+use std::alloc::{AllocError, Global};
+use twp_grammar::Item;
+
+/// Whether all land of a changed text lies with the section that the text gives it to. The items are those of the changed
+/// text from an offset on.
+pub fn lie_with_sections(
+    alloc: Global,
+    text: &[u8],
+    changes: &[Change<'_>],
+    base: usize,
+    items: &[Item],
+) -> Result<bool, AllocError>
+    ensures { IfOk result (λ it. it ≡ true →
+        lie_with_sections text.now (map seen changes.now) base items.now ≡ true) }
+{
+    match marks_of(alloc, changes, base, items)? {
+        Some(marks) => Ok(lie(text, marks.as_slice())),
+        None => Ok(false),
+    }
+}
+
+/// Whether all land lies with its section.
+fn lie(text: &[u8], marks: &[Mark]) -> bool
+    ensures { result ≡ lie_from text.now marks.now 0 0 None marks.now }
+{
+    let mut number = 0;
+    let mut section = 0;
+    let mut last: Option<Lying> = None;
+    for mark in marks {
+        match *mark {
+            Mark::Section(next, place) => {
+                number = next;
+                section = place;
+            }
+            Mark::Land(place) => {
+                let it = Lying {
+                    number,
+                    section,
+                    land: place,
+                };
+                if !lies(text, marks, last, it) {
+                    return false;
+                }
+                last = Some(it);
+            }
+        }
+    }
+    true
+}
+
+/// Whether land lies with its section, after other land.
+fn lies(text: &[u8], marks: &[Mark], last: Option<Lying>, it: Lying) -> bool
+    ensures { result ≡ lies text.now marks.now last it }
+{
+    if is_after(it) {
+        return has_no_other(text, it, it.section, it.land, marks)
+            && lies_after(text, marks, last, it);
+    }
+    has_no_other(text, it, it.land, it.section, marks) && lies_before(text, marks, last, it)
+}
+
+/// Whether land is after its section.
+fn is_after(it: Lying) -> bool
+    ensures { result ≡ is_after it }
+{
+    it.section <= it.land
+}
+
+/// Whether land that is after its section lies with it.
+fn lies_after(text: &[u8], marks: &[Mark], last: Option<Lying>, it: Lying) -> bool
+    ensures { result ≡ lies_after text.now marks.now last it }
+{
+    let Some(last) = last else {
+        return true;
+    };
+    if is_after(last) {
+        return true;
+    }
+    if last.section == it.section {
+        return has_break(part(text, it.section, it.land))
+            || has_no_other(text, it, 0, text.len(), marks);
+    }
+    has_break(part(text, last.section, it.section))
+}
+
+/// Whether land that is before its section lies with it.
+fn lies_before(text: &[u8], marks: &[Mark], last: Option<Lying>, it: Lying) -> bool
+    ensures { result ≡ lies_before text.now marks.now last it }
+{
+    let Some(last) = last else {
+        return has_no_other(text, it, 0, it.land, marks) || has_break(part(text, 0, it.land));
+    };
+    !is_after(last)
+        || (has_break(part(text, last.land, it.land))
+            && !has_break(part(text, last.section, last.land))
+            && !has_break(part(text, it.land, it.section)))
+}
+
+/// Whether no other section is from one place up to another, but those of the same list.
+fn has_no_other(text: &[u8], it: Lying, from: usize, to: usize, marks: &[Mark]) -> bool
+    ensures { result ≡ has_no_other text.now it from to marks.now }
+{
+    for mark in marks {
+        if !is_no_other(text, it, from, to, *mark) {
+            return false;
+        }
+    }
+    true
+}
+
+/// Whether a mark is no other section from one place up to another, or one in the same list.
+fn is_no_other(text: &[u8], it: Lying, from: usize, to: usize, mark: Mark) -> bool
+    ensures { result ≡ is_no_other text.now it from to mark }
+{
+    match mark {
+        Mark::Land(_) => true,
+        Mark::Section(number, place) => {
+            number == it.number
+                || place < from
+                || to <= place
+                || is_one_list(text, it.section, place)
+        }
+    }
+}
+
+/// Whether only words of a list of sections are between two places.
+fn is_one_list(text: &[u8], one: usize, other: usize) -> bool
+    ensures { result ≡ is_one_list text.now one other }
+{
+    if one <= other {
+        return is_list(part(text, one, other));
+    }
+    is_list(part(text, other, one))
+}
+
+/// Whether each word of a text is of a list of sections.
+fn is_list(seen: &[u8]) -> bool
+    ensures { result ≡ is_list_from seen.now 0 seen.now }
+{
+    for at in 0..seen.len() {
+        if !is_listed_at(seen, at) {
+            return false;
+        }
+    }
+    true
+}
+
+/// Whether the word at a place, if one begins there, is of a list of sections.
+fn is_listed_at(seen: &[u8], at: usize) -> bool
+    ensures { result ≡ is_listed_at seen.now at (drop at seen.now) }
+{
+    if !begins_word(seen, at) {
+        return true;
+    }
+    let word = word_of(rest_of(seen, at));
+    goes_on_with_list(word) || is_in_section_names(word)
+}
+
+/// Whether a semicolon or a line end is in a text.
+fn has_break(seen: &[u8]) -> bool
+    ensures { result ≡ has_break seen.now }
+{
+    for byte in seen {
+        if *byte == b';' || *byte == b'\n' {
+            return true;
+        }
+    }
+    false
+}
+
+/// The bytes of a text from one place up to another, as far as there are any.
+fn part(text: &[u8], from: usize, to: usize) -> &[u8]
+    ensures { result.now ≡ slice_range text.now from to }
+{
+    let rest = rest_of(text, from);
+    let count = to.saturating_sub(from);
+    if count >= rest.len() {
+        return rest;
+    }
+    let (front, _) = rest.split_at(count);
+    front
+}
