@@ -1,5 +1,5 @@
 -- The land of a text: it is read as one list of items, which names one set of places.
-use Rattle.std.proofs.Common.{◌≡◌, ◌++◌, ℕ, Bool, List, refl, sym, ap}
+use Rattle.std.proofs.Common.{◌≡◌, ◌++◌, ℕ, Bool, List, length, refl, sym, ap}
 use Rattle.std.proofs.Common.{◌∙◌}
 use Rattle.twp_grid.specs.Places.{PLACE_DIGITS}
 use Rattle.twp_grid.specs.Townships.{Designation}
@@ -9,7 +9,9 @@ use Rattle.twp_grammar.specs.ItemPlaces.{parts_of, land_of}
 use Rattle.twp_grammar.specs.OnPlat.{IsLandOfItems}
 use Rattle.twp_grammar.specs.Sentences.{IsReadAs}
 use Rattle.twp_spell.specs.CanonicalText.{IsCanonicalText}
-use Rattle.twp_described.specs.Descriptions.{IsLandOfText, IsOnlyLandOfText, IsRemainder, as_written, except}
+use Rattle.twp_described.specs.Descriptions.{AreExcepted, IsLandOfText, IsOnlyLandOfText, IsRemainder}
+use Rattle.twp_described.specs.Descriptions.{as_written, except}
+use Rattle.twp_described.specs.declared.wording.Excepted.{Excepted}
 
 pub is_land : (township : Designation) (text : List ℕ) (items : List Item) (places : ℕ → ℕ → ℕ → Bool)
     → IsReadAs text items → IsLandOfItems PLACE_DIGITS township items places
@@ -49,3 +51,16 @@ is_remainder whole excepted text full items township places less only of_whole o
       spelled = spelled;
       text_is = written ∙ ap (λ (its : List Item). as_written its full) (only of_whole.items of_whole.read);
     }
+
+-- the items of both parts of a text with an exception
+pub are_excepted : (whole excepted : List ℕ) (items : List Item) (part : Excepted) → IsReadAs whole items
+    → IsReadAs excepted part.items → part.at ≡ length (whole ++ except)
+    → AreExcepted (whole ++ except ++ excepted) items part
+are_excepted whole excepted items part read read_excepted at = record {
+  whole = whole;
+  excepted = excepted;
+  made_is = refl;
+  at_is = at;
+  read = read;
+  read_excepted = read_excepted;
+}

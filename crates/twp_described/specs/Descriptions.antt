@@ -1,6 +1,7 @@
 -- What a text describes: whether the reader accepts it, the land that it names, and the description that a
 -- changed text leads to.
-use Rattle.std.specs.Prelude.{◌≡◌, ◌==◌, ℕ, Bool, List, [], ◌∷◌, ◌++◌, codes, if◌then◌else◌}
+use Rattle.std.specs.Prelude.{◌≡◌, ◌==◌, ℕ, Bool, List, [], ◌∷◌, ◌++◌, Option, Some, None, codes, length}
+use Rattle.std.specs.Prelude.{if◌then◌else◌}
 use Rattle.twp_grid.specs.Places.{PLACE_DIGITS}
 use Rattle.twp_grid.specs.Townships.{Designation, designation, line_feed}
 use Rattle.twp_grid.specs.Lands.{ContainsAll, HasWholeLots, SamePlaces, difference}
@@ -11,6 +12,7 @@ use Rattle.twp_grammar.specs.OnPlat.{IsLandOfItems}
 use Rattle.twp_grammar.specs.Sentences.{IsReadAs}
 use Rattle.twp_read.specs.Doubts.{HasNoDoubtfulPlace}
 use Rattle.twp_spell.specs.CanonicalText.{IsCanonicalText}
+use Rattle.twp_described.specs.declared.wording.Excepted.{Excepted}
 use Rattle.twp_described.specs.declared.manner.Manner.{Manner}
 use Rattle.twp_described.specs.declared.manner.Manner.TheVariants.{Changed, LotsNamed, Remainder}
 
@@ -66,6 +68,20 @@ pub record IsRemainder (made text : List ℕ) : Type 0 where
   pub full : List ℕ
   pub spelled : IsCanonicalText PLACE_DIGITS township (difference places less) full
   pub text_is : text ≡ as_written of_whole.items full
+
+-- what is excepted is read as items, and its text begins at an offset of the changed text
+pub record AreExcepted (made : List ℕ) (items : List Item) (part : Excepted) : Type 0 where
+  pub whole : List ℕ
+  pub excepted : List ℕ
+  pub made_is : made ≡ whole ++ except ++ excepted
+  pub at_is : part.at ≡ length (whole ++ except)
+  pub read : IsReadAs whole items
+  pub read_excepted : IsReadAs excepted part.items
+
+-- THE ITEMS of a changed text, or of it before `except`; and those after that
+abbrev pub AreItemsOf : List ℕ → List Item → Option Excepted → Type 0
+AreItemsOf made items None = IsReadAs made items
+AreItemsOf made items (Some part) = AreExcepted made items part
 
 -- the text is read as items, which name these places; an aliquot part may include lots
 pub record AreNamed (text : List ℕ) (places : ℕ → ℕ → ℕ → Bool) : Type 0 where

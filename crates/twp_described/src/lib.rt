@@ -14,4 +14,4 @@ pub use manner::Manner;
 pub use named::land_in;
 pub use on_plat::{find_land, first_township, township_of};
 pub use unread::Unread;
-pub use wording::{Wording, described};
+pub use wording::{Excepted, Wording, described};

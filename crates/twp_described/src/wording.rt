@@ -2,7 +2,7 @@
 //! without the land that it excepts.
 ghost use Rattle.std.specs.Prelude.{◌≡◌, ◌≤◌, ◌++◌, IfOk, IfSome, IsTrue, OnOk, drop, length};
 ghost use Rattle.twp_grid.specs.Lands.{ContainsAll, SamePlaces};
-ghost use Rattle.twp_described.specs.Descriptions.{AreLotsNamed, IsAccepted, IsDescribed, IsRemainder};
+ghost use Rattle.twp_described.specs.Descriptions.{AreItemsOf, AreLotsNamed, IsAccepted, IsDescribed, IsRemainder};
 ghost use Rattle.twp_described.specs.Descriptions.{as_written, except};
 ghost use Rattle.twp_described.specs.Descriptions.{without_first_line};
 
@@ -27,11 +27,20 @@ pub(crate) struct Excepting<'a> {
     pub(crate) excepted: &'a [u8],
 }
 
-/// A description that comes of a changed text, and how it does.
+/// The items of what is excepted, and the offset of its text in the changed text.
+#[derive(Drop)]
+pub struct Excepted {
+    pub items: Description,
+    pub at: usize,
+}
+
+/// A description that comes of a changed text, and how it does; and the items of the changed text.
 #[derive(Drop)]
 pub struct Wording {
     pub text: Vec<u8>,
     pub manner: Manner,
+    pub items: Description,
+    pub excepted: Option<Excepted>,
 }
 
 /// The description that comes of a changed text in its township, or in any if it names none. None if it names
@@ -45,14 +54,13 @@ pub fn described(
     ensures described { IfOk result (λ it. IfSome it (λ found.
         IsDescribed found.manner made.items found.text.items)) }
     ensures accepted { IfOk result (λ it. IfSome it (λ found. IsAccepted found.text.items)) }
+    ensures items { IfOk result (λ it. IfSome it (λ found.
+        AreItemsOf made.items found.items found.excepted)) }
 {
     if has_except {
-        let text = without_excepted(alloc, made.as_slice())?;
-        accept(alloc, text.as_slice())?;
-        return Ok(Some(Wording {
-            text,
-            manner: Manner::Remainder,
-        }));
+        let wording = without_excepted(alloc, made.as_slice())?;
+        accept(alloc, wording.text.as_slice())?;
+        return Ok(Some(wording));
     }
     let Some(description) = read(alloc, made.as_slice())? else {
         return Err(Unread::Refused);
@@ -64,6 +72,8 @@ pub fn described(
         Ok(()) => Ok(Some(Wording {
             text: made,
             manner: Manner::Changed,
+            items: description,
+            excepted: None,
         })),
         Err(PlaceFault::Overlap { .. } | PlaceFault::TooFine { .. }) => Ok(None),
         Err(PlaceFault::OnLot { .. }) => {
@@ -72,6 +82,8 @@ pub fn described(
             Ok(Some(Wording {
                 text,
                 manner: Manner::LotsNamed,
+                items: description,
+                excepted: None,
             }))
         }
         Err(_) => Err(Unread::Refused),
@@ -109,8 +121,9 @@ fn with_lots_named(alloc: Global, made: &[u8]) -> Result<Vec<u8>, Unread>
 }
 
 /// The canonical description of the land of a text that it doesn't except.
-fn without_excepted(alloc: Global, made: &[u8]) -> Result<Vec<u8>, Unread>
-    ensures { IfOk result (λ text. IsRemainder made.now text.items) }
+fn without_excepted(alloc: Global, made: &[u8]) -> Result<Wording, Unread>
+    ensures described { IfOk result (λ found. IsDescribed found.manner made.now found.text.items) }
+    ensures items { IfOk result (λ found. AreItemsOf made.now found.items found.excepted) }
 {
     match around_except(made) {
         Some(parts) => remainder(alloc, parts.whole, parts.excepted),
@@ -149,9 +162,13 @@ fn split_at_except(text: &[u8], at: usize) -> Option<Excepting<'_>>
 /// The canonical description of the land of a text without the land of another, which has to be on the plat
 /// of the same township, in the land of the first, and not all of it. Not inlined, since its sets of land
 /// would be cleared for each text.
+#[tactic(auto, using(crate::proofs::LandFacts::are_excepted))]
 #[inline(never)]
-fn remainder(alloc: Global, whole: &[u8], excepted: &[u8]) -> Result<Vec<u8>, Unread>
-    ensures { IfOk result (λ text. IsRemainder (whole.now ++ except ++ excepted.now) text.items) }
+fn remainder(alloc: Global, whole: &[u8], excepted: &[u8]) -> Result<Wording, Unread>
+    ensures described { IfOk result (λ found.
+        IsDescribed found.manner (whole.now ++ except ++ excepted.now) found.text.items) }
+    ensures items { IfOk result (λ found.
+        AreItemsOf (whole.now ++ except ++ excepted.now) found.items found.excepted) }
 {
     let Some(description) = read(alloc, whole)? else {
         return Err(Unread::Refused);
@@ -174,7 +191,18 @@ fn remainder(alloc: Global, whole: &[u8], excepted: &[u8]) -> Result<Vec<u8>, Un
     land.take_away(&less);
     let full = spell(alloc, &land, township)?;
     let text = as_written(alloc, &description, full.as_slice())?;
-    Ok(text)
+    let Some(items) = read(alloc, excepted)? else {
+        return Err(Unread::Refused);
+    };
+    Ok(Wording {
+        text,
+        manner: Manner::Remainder,
+        items: description,
+        excepted: Some(Excepted {
+            items,
+            at: whole.len() + EXCEPT.len(),
+        }),
+    })
 }
 
 /// Whether land lies in other land, and isn't all of it.

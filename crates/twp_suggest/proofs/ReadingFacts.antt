@@ -50,6 +50,7 @@ only_itself text readings reading clear unchanged same manner one =
       made = rw unchanged (record { allowed = omega arith; numbers = refl; apart = refl; moved = refl });
       described = rw (unchanged, manner) same;
       accepted = rw same clear.accepted;
+      lies = λ changed. absurd (changed unchanged);
     } in
     subst (AreReadings text) (sym one) (record {
       some = record {

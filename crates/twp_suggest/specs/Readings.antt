@@ -1,13 +1,29 @@
 -- What the readings of a text are: changes of the text, each by a rule, and the descriptions that come of
 -- them.
-use Rattle.std.specs.Prelude.{◌≡◌, ◌≤◌, ℕ, Bool, List, [], ◌∷◌, length, map}
+use Rattle.std.specs.Prelude.{◌≡◌, ◌≤◌, ℕ, Bool, true, List, [], ◌∷◌, Option, Some, None, length, map}
 use Rattle.std.specs.Prelude.{All, AllPairs}
 use Rattle.twp_grid.specs.Townships.{Designation}
 use Rattle.twp_grid.specs.Lands.{SamePlaces}
-use Rattle.twp_described.specs.Descriptions.{IsAccepted, IsClear, IsDescribed, IsLandOfText}
-use Rattle.twp_rules.specs.Changes.{changed_from, seen}
+use Rattle.twp_described.specs.Descriptions.{AreItemsOf, IsAccepted, IsClear, IsDescribed, IsLandOfText}
+use Rattle.twp_described.specs.declared.wording.Excepted.{Excepted}
+use Rattle.twp_grammar.specs.declared.item.Item.{Item}
+use Rattle.twp_rules.specs.Arrangement.{lie_with_sections}
+use Rattle.twp_rules.specs.Changes.{Change, changed_from, seen}
 use Rattle.twp_rules.specs.Moves.{MayBeMade}
 use Rattle.twp_suggest.specs.declared.reading.Reading.{Reading}
+
+-- the land of the changed text lies with the sections that the text gives it to: that of its items, and that of what
+-- is excepted
+abbrev pub LiesExcepted : List ℕ → List Change → Option Excepted → Type 0
+LiesExcepted text changes None = Unit {0}
+LiesExcepted text changes (Some part) = lie_with_sections text changes part.at part.items ≡ true
+
+pub record LiesWithSections (text : List ℕ) (changes : List Change) : Type 0 where
+  pub items : List Item
+  pub excepted : Option Excepted
+  pub are_items : AreItemsOf (changed_from 0 text changes) items excepted
+  pub land : lie_with_sections text changes 0 items ≡ true
+  pub other : LiesExcepted text changes excepted
 
 -- A READING of a text: what comes of its changes, which the reader accepts
 pub record IsReading (text : List ℕ) (reading : Reading) : Type 0 where
@@ -15,6 +31,7 @@ pub record IsReading (text : List ℕ) (reading : Reading) : Type 0 where
   pub described : IsDescribed reading.manner (changed_from 0 text (map seen reading.changes.items))
       reading.text.items
   pub accepted : IsAccepted reading.text.items
+  pub lies : (reading.changes.items ≡ [] → ⊥) → LiesWithSections text (map seen reading.changes.items)
 
 -- the most readings
 abbrev pub READINGS_MOST : ℕ

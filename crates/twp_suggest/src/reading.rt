@@ -1,8 +1,10 @@
 //! The readings of a text.
-ghost use Rattle.std.specs.Prelude.{◌≡◌, ◌↔◌, true, IsTrue, IfOk, IfSome, All};
+ghost use Rattle.std.specs.Prelude.{◌≡◌, ◌↔◌, true, IsTrue, IfOk, IfSome, All, map};
+ghost use Rattle.twp_rules.specs.Arrangement.{lie_with_sections};
+ghost use Rattle.twp_rules.specs.Changes.{seen};
 ghost use Rattle.twp_described.specs.Descriptions.{IsClear};
 ghost use Rattle.twp_suggest.specs.Readings.{AreReadings, IsReading, AreOther};
-ghost use Rattle.twp_suggest.specs.Readings.{AreSomeReadings, MayBeAdded};
+ghost use Rattle.twp_suggest.specs.Readings.{AreSomeReadings, LiesExcepted, MayBeAdded};
 
 use crate::candidates::{made_by, outline_of};
 use crate::outline::Outline;
@@ -10,7 +12,7 @@ use std::alloc::{AllocError, Global};
 use twp_described::{Manner, Unread, Wording, described, find_land, is_clear, township_of};
 use twp_draft::FindsPhrases;
 use twp_land::{Land, Lanes};
-use twp_rules::{Change, are_changes, changed};
+use twp_rules::{Change, are_changes, changed, lie_with_sections};
 
 /// A reading of a text: the changes, from left to right, and the description that comes of them.
 #[derive(Drop)]
@@ -128,14 +130,38 @@ fn reading_with<'a>(
         };
     }
     let made = changed(alloc, text, changes.as_slice())?;
-    let Some(Wording { text, manner }) = described(alloc, made, has_except, land)? else {
+    let Some(wording) = described(alloc, made, has_except, land)? else {
         return Ok(None);
     };
+    if !lies_with_sections(alloc, text, changes.as_slice(), &wording)? {
+        return Ok(None);
+    }
     Ok(Some(Reading {
         changes,
-        text,
-        manner,
+        text: wording.text,
+        manner: wording.manner,
     }))
+}
+
+/// Whether the land of a changed text lies with the sections that the text gives it to.
+fn lies_with_sections(
+    alloc: Global,
+    text: &[u8],
+    changes: &[Change<'_>],
+    wording: &Wording,
+) -> Result<bool, AllocError>
+    ensures items { IfOk result (λ it. it ≡ true →
+        lie_with_sections text.now (map seen changes.now) 0 wording.now.items ≡ true) }
+    ensures excepted { IfOk result (λ it. it ≡ true →
+        LiesExcepted text.now (map seen changes.now) wording.now.excepted) }
+{
+    if !lie_with_sections(alloc, text, changes, 0, wording.items.items())? {
+        return Ok(false);
+    }
+    match &wording.excepted {
+        Some(part) => lie_with_sections(alloc, text, changes, part.at, part.items.items()),
+        None => Ok(true),
+    }
 }
 
 /// Whether the text of a reading is none of these readings' texts, and names other land.

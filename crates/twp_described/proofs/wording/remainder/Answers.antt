@@ -1,8 +1,8 @@
 use Rattle.twp_described.proofs.LandFacts.{is_land, is_remainder}
 use Rattle.twp_described.proofs.wording.remainder.Goals as goal
 
-pub returns : goal.returns
-returns c =
+pub returns-clause-described : goal.returns-clause-described
+returns-clause-described c =
     let read = rw c.in-Some.is at c.in_ok-description.ensures.read in
     let only = rw c.in-Some.is at c.in_ok-description.ensures.only in
     let land =
