@@ -84,6 +84,16 @@ def test_a_lot_is_clicked(page: Page) -> None:
     assert page.value("#description") == "sec. 5, lot 1."
 
 
+def test_a_clicked_lot_is_added_to_a_description(page: Page) -> None:
+    for before in ("sec. 14", "sec. 14.", "sec. 14;"):
+        page.tab("land")
+        page.type("#description", before)
+        page.click_target("lot", "5.1")
+        page.press(page.ENTER)
+        page.wait_for_text("#land-answer", "680.00 acres")
+        assert page.value("#description") == "sec. 14; sec. 5, lot 1."
+
+
 def test_refused_notes_mark_their_line(page: Page) -> None:
     page.type("#corner-53", "99.6")
     page.wait_for_text("#plat-answer", "Refused 23")
@@ -194,6 +204,13 @@ def test_tracts(page: Page) -> None:
     rows = list(csv.DictReader(io.StringIO(page.saved("tracts.csv"))))
     assert [row["acres"] for row in rows] == ["320.00", "320.00", ""]
     assert rows[2]["refusal"] == "66" and rows[2]["name"] == 'C "x"'
+
+
+def test_semicolons_in_a_list_with_commas(page: Page) -> None:
+    page.tab("tracts")
+    page.put("#tracts", 'A,"sec. 14, N1/2; sec. 15, N1/2."\nB,sec. 16.\n')
+    page.wait_for_text("#tracts-answer", "1,280.00 acres in all")
+    assert [each.text for each in page.all("#tracts-table tbody th")] == ["A", "B"]
 
 
 def test_a_list_from_a_file(page: Page) -> None:
