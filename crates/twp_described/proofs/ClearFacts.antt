@@ -49,7 +49,14 @@ if_refused text fault refusal taken refused = (
       (ap refusal_of (taken clear.accepted.items clear.accepted.read)) refused),
 )
 
--- nor is one that isn't accepted
+-- nor accepted
+pub never_accepted : (text : List ℕ) (fault : TextFault) (refusal : Refusal)
+    → ((items : List Item) → IsReadAs text items → fault ≡ Memory) → refusal_of fault ≡ Some refusal
+    → ¬ IsAccepted text
+never_accepted text fault refusal taken refused accepted =
+    none_is_some refusal (refusal_of fault) (ap refusal_of (taken accepted.items accepted.read)) refused
+
+-- nor is one clear that isn't accepted
 pub if_wrong : (text : List ℕ) → ¬ IsAccepted text → IsTrue false ↔ IsClear text
 if_wrong text wrong = (λ no. cc no, λ clear. absurd (wrong clear.accepted))
 

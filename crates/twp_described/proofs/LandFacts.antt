@@ -1,16 +1,17 @@
 -- The land of a text: it is read as one list of items, which names one set of places.
-use Rattle.std.proofs.Common.{◌≡◌, ◌++◌, ℕ, Bool, List, length, refl, sym, ap}
+use Rattle.std.proofs.Common.{◌≡◌, ◌++◌, ◌↔◌, ℕ, Bool, List, IsTrue, false, length, refl, subst, sym, ap}
+use Rattle.std.proofs.lemmas.Bool.{false≢true}
 use Rattle.std.proofs.Common.{◌∙◌}
 use Rattle.twp_grid.specs.Places.{PLACE_DIGITS}
 use Rattle.twp_grid.specs.Townships.{Designation}
 use Rattle.twp_grid.specs.Lands.{ContainsAll, SamePlaces, difference}
 use Rattle.twp_grammar.specs.declared.item.Item.{Item}
 use Rattle.twp_grammar.specs.ItemPlaces.{parts_of, land_of}
-use Rattle.twp_grammar.specs.OnPlat.{IsLandOfItems}
+use Rattle.twp_grammar.specs.OnPlat.{AreOnPlat, IsLandOfItems}
 use Rattle.twp_grammar.specs.Sentences.{IsReadAs}
 use Rattle.twp_spell.specs.CanonicalText.{IsCanonicalText}
 use Rattle.twp_described.specs.Descriptions.{AreExcepted, IsLandOfText, IsOnlyLandOfText, IsRemainder}
-use Rattle.twp_described.specs.Descriptions.{as_written, except}
+use Rattle.twp_described.specs.Descriptions.{NamesNoLand, as_written, except}
 use Rattle.twp_described.specs.declared.wording.Excepted.{Excepted}
 
 pub is_land : (township : Designation) (text : List ℕ) (items : List Item) (places : ℕ → ℕ → ℕ → Bool)
@@ -25,6 +26,16 @@ is_only_land township text items places only land = λ other others is.
     is.land.land_is
     ∙ ap (λ (named : List Item). land_of PLACE_DIGITS (parts_of named)) (sym (only is.items is.read))
     ∙ sym land.land_is
+
+-- a text whose items don't lie on the plat names no land
+pub no_land : (township : Designation) (text : List ℕ) (items : List Item)
+    → ((others : List Item) → IsReadAs text others → items ≡ others)
+    → IsTrue false ↔ AreOnPlat PLACE_DIGITS township items → NamesNoLand township text
+no_land township text items only on_plat places is =
+    false≢true
+    (on_plat.1
+    (subst (λ (its : List Item). AreOnPlat PLACE_DIGITS township its) (sym (only is.items is.read))
+    is.land.on_plat))
 
 -- what is left of a text without its exception
 pub is_remainder : (whole excepted text full : List ℕ) (items : List Item) (township : Designation)

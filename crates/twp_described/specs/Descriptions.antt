@@ -37,6 +37,10 @@ abbrev pub IsOnlyLandOfText : List ℕ → (ℕ → ℕ → ℕ → Bool) → Ty
 IsOnlyLandOfText text places = (township : Designation) (others : ℕ → ℕ → ℕ → Bool)
     → IsLandOfText township text others → others ≡ places
 
+-- a text names no land in a township
+abbrev pub NamesNoLand : Designation → List ℕ → Type 0
+NamesNoLand township text = (places : ℕ → ℕ → ℕ → Bool) → ¬ IsLandOfText township text places
+
 -- a text without its first line
 abbrev pub without_first_line : List ℕ → List ℕ
 without_first_line [] = []

@@ -1,14 +1,14 @@
 //! The land that a text names on the plat of a township.
-ghost use Rattle.std.specs.Prelude.{◌≡◌, true, IfOk, IfSome, List};
+ghost use Rattle.std.specs.Prelude.{◌≡◌, true, false, IfOk, IfSome, List, None};
 ghost use Rattle.twp_grammar.specs.declared.item.Item.{Item as Named};
 ghost use Rattle.twp_grammar.specs.Sentences.{IsReadAs};
-ghost use Rattle.twp_described.specs.Descriptions.{IsLandOfText, IsOnlyLandOfText, NamesTownship};
+ghost use Rattle.twp_described.specs.Descriptions.{IsAccepted, IsLandOfText, IsOnlyLandOfText, NamesNoLand, NamesTownship};
 
 use std::alloc::{AllocError, Global};
 use twp_grammar::Item;
 use twp_grid::{EastWest, NorthSouth, Township};
 use twp_land::{Land, Lanes};
-use twp_read::{Description, TextFault};
+use twp_read::Description;
 use twp_resolve::resolve_into;
 
 /// The description that a text is read as. None if the reader refuses it.
@@ -16,11 +16,14 @@ pub(crate) fn read(alloc: Global, text: &[u8]) -> Result<Option<Description>, Al
     ensures read { IfOk result (λ it. IfSome it (IsReadAs text.now)) }
     ensures only { IfOk result (λ it. IfSome it (λ found. (items : List Named)
         → IsReadAs text.now items → found ≡ items)) }
+    ensures refused { IfOk result (λ it. it ≡ None → ¬ IsAccepted text.now) }
 {
     match Description::read(alloc, text) {
         Ok(description) => Ok(Some(description)),
-        Err(TextFault::Memory) => Err(AllocError),
-        Err(_) => Ok(None),
+        Err(fault) => match fault.refusal() {
+            Some(_) => Ok(None),
+            None => Err(AllocError),
+        },
     }
 }
 
@@ -37,6 +40,7 @@ pub fn find_land(
         IsLandOfText township text.now (⟦<Lanes as Land>⟧.places land.new)) }
     ensures only { IfOk result (λ it. it ≡ true →
         IsOnlyLandOfText text.now (⟦<Lanes as Land>⟧.places land.new)) }
+    ensures none { IfOk result (λ it. it ≡ false → NamesNoLand township text.now) }
 {
     let Some(description) = read(alloc, text)? else {
         return Ok(false);

@@ -1,2 +1,4 @@
 pub mod LandFacts
 pub mod ReadingFacts
+pub mod CutFacts
+pub mod ClosedFacts

@@ -8,6 +8,7 @@ use Rattle.std.proofs.lemmas.List.Quantifiers.{all_pairs_push}
 use Rattle.twp_described.specs.Descriptions.{IsClear}
 use Rattle.twp_described.specs.declared.manner.Manner.TheVariants.{Changed}
 use Rattle.twp_suggest.specs.declared.reading.Reading.{Reading}
+use Rattle.twp_suggest.specs.Closed.{AreClosed, IsClosed}
 use Rattle.twp_suggest.specs.Readings.{AreSomeReadings, AreReadings, IsReading, AreOther}
 use Rattle.twp_suggest.specs.Readings.{READINGS_MOST}
 
@@ -21,14 +22,17 @@ no_readings text = record {
 
 -- none, of a text that isn't clear
 pub none_of : (text : List ℕ) → (IsTrue false ↔ IsClear text) → AreReadings text []
-none_of text clear =
-    record { some = no_readings text; itself = λ is. absurd (false≢true (clear.1 is)) }
+none_of text clear = record {
+  some = no_readings text;
+  closed = λ _. All-nil (IsClosed text []);
+  itself = λ is. absurd (false≢true (clear.1 is));
+}
 
 -- some, of a text that isn't clear
 pub some_of : (text : List ℕ) (readings : List Reading) → (IsTrue false ↔ IsClear text)
-    → AreSomeReadings text readings → AreReadings text readings
-some_of text readings clear some =
-    record { some = some; itself = λ is. absurd (false≢true (clear.1 is)) }
+    → AreSomeReadings text readings → AreClosed text readings → AreReadings text readings
+some_of text readings clear some closed =
+    record { some = some; closed = λ _. closed; itself = λ is. absurd (false≢true (clear.1 is)) }
 
 -- one more
 pub one_more : (text : List ℕ) (before after : List Reading) (new : Reading)
@@ -58,5 +62,6 @@ only_itself text readings reading clear unchanged same manner one =
         apart = λ i j d before within. absurd (omega arith);
         few = omega arith;
       };
+      closed = λ no. absurd (no clear);
       itself = λ _. record { reading = reading; one = refl; unchanged = unchanged; same = same };
     })

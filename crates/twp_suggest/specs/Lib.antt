@@ -1,1 +1,4 @@
 pub mod Readings
+pub mod Ways
+pub mod Sharing
+pub mod Closed

@@ -10,6 +10,7 @@ use Rattle.twp_grammar.specs.declared.item.Item.{Item}
 use Rattle.twp_rules.specs.Arrangement.{lie_with_sections}
 use Rattle.twp_rules.specs.Changes.{Change, changed_from, seen}
 use Rattle.twp_rules.specs.Moves.{MayBeMade}
+use Rattle.twp_suggest.specs.Closed.{AreClosed}
 use Rattle.twp_suggest.specs.declared.reading.Reading.{Reading}
 
 -- the land of the changed text lies with the sections that the text gives it to: that of its items, and that of what
@@ -60,9 +61,10 @@ pub record AreSomeReadings (text : List ℕ) (readings : List Reading) : Type 0 
   pub apart : AllPairs AreOther readings
   pub few : length readings ≤ READINGS_MOST
 
--- THE READINGS of a text: of one that is clear, the text itself
+-- THE READINGS of a text: of one that is clear, the text itself; and of another, nothing ambiguous is decided
 pub record AreReadings (text : List ℕ) (readings : List Reading) : Type 0 where
   pub some : AreSomeReadings text readings
+  pub closed : ¬ IsClear text → AreClosed text readings
   pub itself : IsClear text → IsItself text readings
 
 -- a reading is added to some readings of whatever text it is a reading of, or not

@@ -4,11 +4,15 @@
 
 mod candidates;
 mod claims;
+mod closed;
 mod gaps;
 mod joints;
 mod moved;
 mod outline;
 mod reading;
+mod sharing;
+mod turned;
+mod way;
 mod writer;
 
 pub use reading::{Reading, readings_of};

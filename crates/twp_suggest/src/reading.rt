@@ -7,6 +7,7 @@ ghost use Rattle.twp_suggest.specs.Readings.{AreReadings, IsReading, AreOther};
 ghost use Rattle.twp_suggest.specs.Readings.{AreSomeReadings, LiesExcepted, MayBeAdded};
 
 use crate::candidates::{made_by, outline_of};
+use crate::closed::are_closed;
 use crate::outline::Outline;
 use std::alloc::{AllocError, Global};
 use twp_described::{Manner, Unread, Wording, described, find_land, is_clear, township_of};
@@ -42,6 +43,10 @@ pub fn readings_of<'a, F: FindsPhrases>(
         return Ok(Vec::new(alloc));
     };
     let readings = readings_by(alloc, text, outline)?;
+    let is_closed = are_closed(alloc, text, readings.as_slice())?;
+    if !is_closed {
+        return Ok(Vec::new(alloc));
+    }
     Ok(readings)
 }
 

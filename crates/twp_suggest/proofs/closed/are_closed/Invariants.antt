@@ -1,0 +1,7 @@
+use Rattle.std.proofs.Common.{All, take}
+use Rattle.twp_suggest.specs.Closed.{IsClosed}
+use Rattle.twp_suggest.proofs.closed.are_closed.Given as goal
+
+-- so far nothing was decided
+abbrev pub invariant-loop-reading : goal.invariant-loop-reading
+invariant-loop-reading l = All (IsClosed l.text l.readings) (take l.reading-index l.readings)

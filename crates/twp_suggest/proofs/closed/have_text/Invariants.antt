@@ -1,0 +1,4 @@
+use Rattle.twp_suggest.proofs.closed.have_text.Given as goal
+
+abbrev pub invariant-loop-reading : goal.invariant-loop-reading
+invariant-loop-reading l = Unit {0}

@@ -1,0 +1,7 @@
+use Rattle.twp_suggest.proofs.ClosedFacts.{land_of_one}
+use Rattle.twp_suggest.proofs.closed.is_land_given.Goals as goal
+
+pub returns : goal.returns
+returns c = λ given.
+    land_of_one c.args.readings.now c.args.text.now c.args.township _
+    (c.in_ok-has_land.ensures.only c.if-not-has_land.false) (c.in_ok-is_given.ensures given)

@@ -1,0 +1,419 @@
+//! The other ways to read two parts with `and` between them, of which one has an `of` that the other hasn't.
+ghost use Rattle.std.specs.Prelude.{◌≡◌, ◌+◌, ◌-◌, IfOk, IfSome, map};
+ghost use Rattle.twp_grammar.specs.Tokens.{seen as token};
+ghost use Rattle.twp_read.specs.Doubts.{after_part, is_and, is_of, is_of_part, is_of_step};
+ghost use Rattle.twp_rules.specs.Changes.{seen};
+ghost use Rattle.twp_suggest.specs.Sharing.{HasJoinedTokens, after_of, are_as_written, as_and, begins_part};
+ghost use Rattle.twp_suggest.specs.Sharing.{first_at, has_of, head_after, head_of, is_comma, is_comma_by};
+ghost use Rattle.twp_suggest.specs.Sharing.{is_for_and, is_listed, is_nothing, is_part_of, is_sought, is_the, is_within};
+ghost use Rattle.twp_suggest.specs.Sharing.{last_part, leads_part, of_count, part_after_and, tail_after, tail_of};
+ghost use Rattle.twp_suggest.specs.Sharing.{without_the};
+
+use crate::turned::{byte_at, way_if};
+use crate::way::Way;
+use std::alloc::{AllocError, Global};
+use twp_grammar::{Kind, Token, Tokens};
+use twp_read::begins_step;
+use twp_rules::{Change, Rule};
+
+/// There is room from the start for one token for each of this many bytes: most texts have fewer.
+const BYTES_TO_TOKEN: usize = 2;
+
+/// Changes that are looked for.
+#[derive(Clone, Copy, PartialEq, Eq)]
+pub(crate) enum Sought {
+    /// Steps that are written again.
+    Copies,
+    /// Phrases that are left out.
+    Phrases,
+}
+
+/// The tokens of what changes make of a text, with `and` for `&`. None if they can't be told.
+pub(crate) fn joined_tokens<'b>(
+    alloc: Global,
+    text: &[u8],
+    made: &'b [u8],
+    changes: &[Change<'_>],
+) -> Result<Option<Vec<Token<'b>>>, AllocError>
+    ensures { IfOk result (λ it. IfSome it (λ tokens.
+        HasJoinedTokens text.now made.now (map seen changes.now) (map token tokens.items))) }
+{
+    let mut tokens = Vec::with_capacity(alloc, made.len() / BYTES_TO_TOKEN)?;
+    let mut left = Tokens::new(made);
+    while let Some(token) = left.next() {
+        let Some(joined) = as_and(text, changes, token) else {
+            return Ok(None);
+        };
+        tokens.push(joined)?;
+    }
+    Ok(Some(tokens))
+}
+
+fn as_and<'b>(text: &[u8], changes: &[Change<'_>], found: Token<'b>) -> Option<Token<'b>>
+    ensures { IfSome result (λ it. token it ≡ as_and text.now (map seen changes.now) (token found.entry)) }
+{
+    if !is_comma(found.kind) {
+        return Some(found);
+    }
+    let is_for = is_for_and(text, found.at, changes)?;
+    if !is_for {
+        return Some(found);
+    }
+    Some(Token {
+        kind: Kind::And,
+        text: found.text,
+        at: found.at,
+    })
+}
+
+/// Whether a comma at a place of the text that changes make is written for `&`.
+fn is_for_and(text: &[u8], seat: usize, changes: &[Change<'_>]) -> Option<bool>
+    ensures { IfSome result (λ it. it ≡ is_for_and text.now seat 0 0 (map seen changes.now)) }
+{
+    let mut at = 0;
+    let mut place = 0;
+    let mut left = changes;
+    while let [change, more @ ..] = left {
+        let here = here(place, at, change.start)?;
+        if is_comma_by(change.rule, text, change.start, change.end) && here == seat {
+            return Some(true);
+        }
+        place = here.checked_add(change.written.len())?;
+        at = change.end;
+        left = more;
+    }
+    Some(false)
+}
+
+/// Whether a comma is written for `&`.
+fn is_comma_by(rule: Rule, text: &[u8], start: usize, end: usize) -> bool
+    ensures { result ≡ is_comma_by rule text.now start end }
+{
+    match rule {
+        Rule::Comma => start < end && end - start == 1 && byte_at(text, start) == 38,
+        _ => false,
+    }
+}
+
+/// The place of a change in the text that changes make, after one that ends at a place of the text and at a place of
+/// that text.
+pub(crate) fn here(place: usize, at: usize, start: usize) -> Option<usize>
+    ensures { IfSome result (λ it. it ≡ place + (start - at)) }
+{
+    place.checked_add(start.saturating_sub(at))
+}
+
+/// Whether `of` is written in a text: no other word of a description has an F.
+pub(crate) fn has_of(made: &[u8]) -> bool
+    ensures { result ≡ has_of made.now }
+{
+    for byte in made {
+        if *byte == 102 || *byte == 70 {
+            return true;
+        }
+    }
+    false
+}
+
+/// The other way to read a part that may be of the land of a later one, if it follows a token.
+pub(crate) fn tail_after(
+    changes: &[Change<'_>],
+    end: usize,
+    kind: Kind,
+    more: &[Token<'_>],
+) -> Option<Option<Way>>
+    ensures { IfSome result (λ way. way ≡ tail_after (map seen changes.now) end kind (map token more.now)) }
+{
+    if !(leads_part(kind) && begins_part(more)) {
+        return Some(None);
+    }
+    tail_of(changes, end, more)
+}
+
+/// The other way to read a part that may be partly of the next one, if it follows a token.
+pub(crate) fn head_after(
+    changes: &[Change<'_>],
+    end: usize,
+    kind: Kind,
+    more: &[Token<'_>],
+) -> Option<Option<Way>>
+    ensures { IfSome result (λ way. way ≡ head_after (map seen changes.now) end kind (map token more.now)) }
+{
+    if !(leads_part(kind) && begins_part(more)) {
+        return Some(None);
+    }
+    head_of(changes, end, more)
+}
+
+/// The land after `of` is of an earlier part too.
+fn tail_of(changes: &[Change<'_>], end: usize, part: &[Token<'_>]) -> Option<Option<Way>>
+    ensures { IfSome result (λ way. way ≡ tail_of (map seen changes.now) end (map token part.now)) }
+{
+    let count = of_count(part);
+    let others = after_part(part);
+    let last = last_part(count, others);
+    let [token, ..] = last else {
+        return Some(None);
+    };
+    let first = first_at(end, part);
+    let next = first_at(end, others);
+    let is_way = are_as_written(changes, first, token.at, first, next)?;
+    let way = Way::Again(
+        next,
+        first_at(end, after_of(count, last)),
+        first_at(end, after_part(last)),
+    );
+    Some(way_if(is_way, way))
+}
+
+/// What is before `of` is part of the next part too.
+fn head_of(changes: &[Change<'_>], end: usize, part: &[Token<'_>]) -> Option<Option<Way>>
+    ensures { IfSome result (λ way. way ≡ head_of (map seen changes.now) end (map token part.now)) }
+{
+    let other = part_after_and(after_part(part));
+    let [token, ..] = other else {
+        return Some(None);
+    };
+    let count = of_count(part);
+    let fewer = of_count(other);
+    if fewer >= count {
+        return Some(None);
+    }
+    let first = first_at(end, part);
+    let next = first_at(end, after_part(other));
+    let is_way = are_as_written(changes, first, token.at, token.at, next)?;
+    let head = after_of(count - fewer - 1, part);
+    let way = Way::Again(token.at, first, first_at(end, head));
+    Some(way_if(is_way, way))
+}
+
+/// Whether no phrase is left out between two places of the text that changes make, and no steps are written again
+/// between two others.
+fn are_as_written(
+    changes: &[Change<'_>],
+    from: usize,
+    to: usize,
+    first: usize,
+    end: usize,
+) -> Option<bool>
+    ensures { IfSome result (λ it. it ≡ are_as_written (map seen changes.now) from to first end) }
+{
+    let has_phrase = is_within(Sought::Phrases, from, to, changes)?;
+    let has_copy = is_within(Sought::Copies, first, end, changes)?;
+    Some(!has_phrase && !has_copy)
+}
+
+/// Whether such a change is between two places of the text that changes make.
+fn is_within(sought: Sought, from: usize, to: usize, changes: &[Change<'_>]) -> Option<bool>
+    ensures { IfSome result (λ it. it ≡ is_within sought from to 0 0 (map seen changes.now)) }
+{
+    let mut at = 0;
+    let mut place = 0;
+    let mut left = changes;
+    while let [change, more @ ..] = left {
+        let here = here(place, at, change.start)?;
+        if is_sought(sought, change.rule) && from <= here && here < to {
+            return Some(true);
+        }
+        place = here.checked_add(change.written.len())?;
+        at = change.end;
+        left = more;
+    }
+    Some(false)
+}
+
+/// Whether a rule writes steps again, or leaves out a phrase.
+fn is_sought(sought: Sought, rule: Rule) -> bool
+    ensures { result ≡ is_sought sought rule }
+{
+    match (sought, rule) {
+        (Sought::Copies, Rule::CopiedStep(_, _)) => true,
+        (Sought::Phrases, Rule::Repeated)
+        | (Sought::Phrases, Rule::MovedSection)
+        | (Sought::Phrases, Rule::MovedHeading)
+        | (Sought::Phrases, Rule::Meridian)
+        | (Sought::Phrases, Rule::Acreage)
+        | (Sought::Phrases, Rule::Label) => true,
+        _ => false,
+    }
+}
+
+/// How many `of` a part has, at most three.
+fn of_count(part: &[Token<'_>]) -> usize
+    ensures { result ≡ of_count (map token part.now) }
+{
+    if is_nothing(after_of(0, part)) {
+        return 0;
+    }
+    if is_nothing(after_of(1, part)) {
+        return 1;
+    }
+    if is_nothing(after_of(2, part)) { 2 } else { 3 }
+}
+
+/// The tokens after the `of` of a part that so many others are before, or nothing.
+fn after_of<'a, 'b>(count: usize, part: &'b [Token<'a>]) -> &'b [Token<'a>]
+    ensures { map token result.now ≡ after_of count (map token part.now) }
+{
+    let mut left = part;
+    let mut others = count;
+    while let [first, more @ ..] = left {
+        if is_of(first.kind) {
+            if others == 0 {
+                return without_the(more);
+            }
+            others -= 1;
+        } else if !is_of_part(first.kind) {
+            return &[];
+        }
+        left = more;
+    }
+    left
+}
+
+/// Whether a token is `of`.
+fn is_of(kind: Kind) -> bool
+    ensures { result ≡ is_of kind }
+{
+    matches!(kind, Kind::Of)
+}
+
+/// Whether a token is `and`.
+fn is_and(kind: Kind) -> bool
+    ensures { result ≡ is_and kind }
+{
+    matches!(kind, Kind::And)
+}
+
+/// Whether a token is `the`.
+fn is_the(kind: Kind) -> bool
+    ensures { result ≡ is_the kind }
+{
+    matches!(kind, Kind::The)
+}
+
+/// Tokens without `the` before them.
+fn without_the<'a, 'b>(tokens: &'b [Token<'a>]) -> &'b [Token<'a>]
+    ensures { map token result.now ≡ without_the (map token tokens.now) }
+{
+    let [first, more @ ..] = tokens else {
+        return tokens;
+    };
+    if is_the(first.kind) { more } else { tokens }
+}
+
+/// The part with more than so many `of` that is after `and` at the end of a list of parts.
+fn last_part<'a, 'b>(count: usize, tokens: &'b [Token<'a>]) -> &'b [Token<'a>]
+    ensures { map token result.now ≡ last_part count (map token tokens.now) }
+{
+    let mut left = tokens;
+    while let [first, more @ ..] = left {
+        if is_and(first.kind) && is_part_of(count, more) {
+            return more;
+        }
+        if !is_listed(first.kind) {
+            return &[];
+        }
+        left = more;
+    }
+    left
+}
+
+/// Whether a part with more than so many `of` is first.
+fn is_part_of(count: usize, part: &[Token<'_>]) -> bool
+    ensures { result ≡ is_part_of count (map token part.now) }
+{
+    begins_part(part) && !is_nothing(after_of(count, part))
+}
+
+/// The part after `and`, or nothing.
+fn part_after_and<'a, 'b>(tokens: &'b [Token<'a>]) -> &'b [Token<'a>]
+    ensures { map token result.now ≡ part_after_and (map token tokens.now) }
+{
+    let [first, more @ ..] = tokens else {
+        return tokens;
+    };
+    if is_and(first.kind) && begins_part(more) {
+        return more;
+    }
+    &[]
+}
+
+/// The tokens after the part that they begin with.
+fn after_part<'a, 'b>(tokens: &'b [Token<'a>]) -> &'b [Token<'a>]
+    ensures { map token result.now ≡ after_part (map token tokens.now) }
+{
+    let mut left = tokens;
+    while let [first, rest @ ..] = left {
+        if !is_of_part(first.kind) {
+            break;
+        }
+        left = rest;
+    }
+    left
+}
+
+/// Whether there are no tokens.
+fn is_nothing(tokens: &[Token<'_>]) -> bool
+    ensures { result ≡ is_nothing (map token tokens.now) }
+{
+    matches!(tokens, [])
+}
+
+/// Whether tokens begin with a part.
+fn begins_part(tokens: &[Token<'_>]) -> bool
+    ensures { result ≡ begins_part (map token tokens.now) }
+{
+    let [first, ..] = tokens else {
+        return false;
+    };
+    begins_step(first.kind)
+}
+
+/// The place of the first token, or of the end.
+fn first_at(end: usize, tokens: &[Token<'_>]) -> usize
+    ensures { result ≡ first_at end (map token tokens.now) }
+{
+    let [first, ..] = tokens else {
+        return end;
+    };
+    first.at
+}
+
+/// Whether a token is a comma.
+fn is_comma(kind: Kind) -> bool
+    ensures { result ≡ is_comma kind }
+{
+    matches!(kind, Kind::Comma)
+}
+
+/// Whether a token may be before a part.
+fn leads_part(kind: Kind) -> bool
+    ensures { result ≡ leads_part kind }
+{
+    matches!(
+        kind,
+        Kind::Comma | Kind::Colon | Kind::And | Kind::Number(_)
+    )
+}
+
+/// Whether a token is of a list of parts without `of`.
+fn is_listed(kind: Kind) -> bool
+    ensures { result ≡ is_listed kind }
+{
+    is_of_step(kind) || is_and(kind) || is_comma(kind)
+}
+
+/// Whether a token is letters or a fraction of a step, `of`, or `the`.
+fn is_of_part(kind: Kind) -> bool
+    ensures { result ≡ is_of_part kind }
+{
+    is_of_step(kind) || matches!(kind, Kind::Of | Kind::The)
+}
+
+/// Whether a token is letters or a fraction of a step.
+fn is_of_step(kind: Kind) -> bool
+    ensures { result ≡ is_of_step kind }
+{
+    begins_step(kind) || matches!(kind, Kind::Half | Kind::Quarter)
+}
