@@ -8,7 +8,7 @@ use std::alloc::{AllocError, Global};
 use std::io::{self, Read};
 use twp_excerpt::write_escaped;
 use twp_phrases::Phrases;
-use twp_suggest::{Change, Reading, Rule, readings_of};
+use twp_suggest::{Assumption, Change, Reading, assumption_of, phrase_of, readings_of};
 
 fn main(rt: HostRuntime) -> io::Result<()> {
     let input = read_input(&rt)?;
@@ -73,25 +73,45 @@ fn print_readings(rt: &HostRuntime, text: &[u8]) -> io::Result<()> {
     rt.println(readings.len())?;
     for reading in readings.as_slice() {
         print_escaped(rt, reading.text.as_slice().trim_ascii())?;
-        for change in reading.changes.as_slice() {
-            print_assumption(rt, text, change)?;
+        print_assumptions(rt, text, reading.changes.as_slice())?;
+    }
+    Ok(())
+}
+
+/// Prints what changes assume, each phrase once where it is.
+fn print_assumptions(rt: &HostRuntime, text: &[u8], changes: &[Change<'_>]) -> io::Result<()> {
+    for (index, change) in changes.iter().enumerate() {
+        if let Some(assumption) = assumption_of(text, change) {
+            let phrase = phrase_of(text, change);
+            let earlier = changes.get(..index).unwrap_or(&[]);
+            if assumption.is_of_left_out() || !is_said(text, earlier, assumption, phrase) {
+                print_assumption(rt, assumption, phrase)?;
+            }
         }
     }
     Ok(())
 }
 
-/// Prints what a change leaves out, if that is an assumption.
-fn print_assumption(rt: &HostRuntime, text: &[u8], change: &Change<'_>) -> io::Result<()> {
-    let what = match change.rule {
-        Rule::Meridian => "of another meridian, this would be other land",
-        Rule::Acreage => "acreage isn't compared",
-        Rule::Label => "this isn't land",
-        _ => return Ok(()),
-    };
+/// Whether some changes assume this of the same phrase.
+fn is_said(text: &[u8], changes: &[Change<'_>], assumption: Assumption, phrase: &[u8]) -> bool {
+    for change in changes {
+        if assumption_of(text, change) == Some(assumption) && phrase_of(text, change) == phrase {
+            return true;
+        }
+    }
+    false
+}
+
+/// Prints an assumption, and the phrase that it is about.
+fn print_assumption(rt: &HostRuntime, assumption: Assumption, phrase: &[u8]) -> io::Result<()> {
     let mut shown = String::new(rt.alloc());
-    let left_out = text.get(change.start..change.end).unwrap_or(b"");
-    write_escaped(left_out.trim_ascii(), &mut shown)?;
-    println!(rt; "  without `{shown}`: {what}")
+    write_escaped(phrase.trim_ascii(), &mut shown)?;
+    let (words, shown) = (assumption.words(), shown.as_str());
+    if assumption.is_of_left_out() {
+        println!(rt; "  without `{shown}`: {words}")
+    } else {
+        println!(rt; "  `{shown}`: {words}")
+    }
 }
 
 /// Prints a text on a line. Most are printed as they are.

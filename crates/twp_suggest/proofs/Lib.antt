@@ -1,4 +1,5 @@
 pub mod LandFacts
+mod PlaceFacts
 pub mod ReadingFacts
 pub mod CutFacts
 pub mod ClosedFacts

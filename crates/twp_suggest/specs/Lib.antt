@@ -1,3 +1,4 @@
+pub mod Assumptions
 pub mod Readings
 pub mod Ways
 pub mod Sharing

@@ -2,6 +2,8 @@
 //! written instead, by which rule, and the description that comes of this.
 #![tactic(auto)]
 
+mod assumptions;
+mod bytes;
 mod candidates;
 mod claims;
 mod closed;
@@ -9,12 +11,15 @@ mod gaps;
 mod joints;
 mod moved;
 mod outline;
+mod phrases;
 mod reading;
 mod sharing;
 mod turned;
 mod way;
 mod writer;
 
+pub use assumptions::{Assumption, assumption_of};
+pub use phrases::phrase_of;
 pub use reading::{Reading, readings_of};
 pub use twp_described::Manner;
 pub use twp_pieces::{Beyond, beyond_of};
