@@ -66,9 +66,9 @@ zip_push R [] (z ∷ ys) x y all last = absurd all
 zip_push R (w ∷ xs) [] x y all last = absurd all
 zip_push R (w ∷ xs) (z ∷ ys) x y (first, rest) last = (first, zip_push R xs ys x y rest last)
 
-change_grown : (bytes more : List ℕ) (change : Change) (made : TownshipChange)
-    → IsChangeData bytes change made → IsChangeData (bytes ++ more) change made
-change_grown bytes more change made is = record {
+change_grown : (text bytes more : List ℕ) (change : Change) (made : TownshipChange)
+    → IsChangeData text bytes change made → IsChangeData text (bytes ++ more) change made
+change_grown text bytes more change made is = record {
   start_is = is.start_is;
   end_is = is.end_is;
   written_is =
@@ -79,27 +79,28 @@ change_grown bytes more change made is = record {
   assumes_is = is.assumes_is;
 }
 
-changes_grown : (bytes more : List ℕ) (list : List Change) (made : List TownshipChange)
-    → AllZip (IsChangeData bytes) list made → AllZip (IsChangeData (bytes ++ more)) list made
-changes_grown bytes more =
-    zip_mapped (IsChangeData bytes) (IsChangeData (bytes ++ more)) (change_grown bytes more)
+changes_grown : (text bytes more : List ℕ) (list : List Change) (made : List TownshipChange)
+    → AllZip (IsChangeData text bytes) list made → AllZip (IsChangeData text (bytes ++ more)) list made
+changes_grown text bytes more =
+    zip_mapped (IsChangeData text bytes) (IsChangeData text (bytes ++ more)) (change_grown text bytes more)
 
-reading_grown : (changes more : List TownshipChange) (bytes others : List ℕ) (reading : Reading)
-    (made : TownshipReading) → IsReadingData changes bytes reading made
-    → IsReadingData (changes ++ more) (bytes ++ others) reading made
-reading_grown changes more bytes others reading made is = record {
+reading_grown : (text : List ℕ) (changes more : List TownshipChange) (bytes others : List ℕ)
+    (reading : Reading)
+    (made : TownshipReading) → IsReadingData text changes bytes reading made
+    → IsReadingData text (changes ++ more) (bytes ++ others) reading made
+reading_grown text changes more bytes others reading made is = record {
   text_is = piece_grown bytes others made.text made.text_length reading.text.items is.text_is;
   list = is.list;
   changes_are = piece_grown changes more made.changes made.changes_length is.list is.changes_are;
-  each = changes_grown bytes others reading.changes.items is.list is.each;
+  each = changes_grown text bytes others reading.changes.items is.list is.each;
   manner_is = is.manner_is;
   reserved_is = is.reserved_is;
 }
 
 -- no change yet
-pub no_changes : (changes : List TownshipChange) (bytes : List ℕ)
-    → AreChangesAdded [] changes changes bytes bytes
-no_changes changes bytes = record {
+pub no_changes : (text : List ℕ) (changes : List TownshipChange) (bytes : List ℕ)
+    → AreChangesAdded text [] changes changes bytes bytes
+no_changes text changes bytes = record {
   made = [];
   new_is = sym (append-nil changes);
   more = [];
@@ -108,17 +109,18 @@ no_changes changes bytes = record {
 }
 
 -- one more change
-one_more_change : (list : List Change) (change : Change) (old before after : List TownshipChange)
-    (bytes bytes_before bytes_after : List ℕ) → AreChangesAdded list old before bytes bytes_before
+one_more_change : (text : List ℕ) (list : List Change) (change : Change)
+    (old before after : List TownshipChange)
+    (bytes bytes_before bytes_after : List ℕ) → AreChangesAdded text list old before bytes bytes_before
     → bytes_after ≡ bytes_before ++ change.written.now
-    → after ≡ before ++ (change_data change (length bytes_before) ∷ [])
-    → AreChangesAdded (list ++ change ∷ []) old after bytes bytes_after
-one_more_change list change old before after bytes bytes_before bytes_after added bytes_are is = record {
-  made = added.made ++ (change_data change (length bytes_before) ∷ []);
+    → after ≡ before ++ (change_data text change (length bytes_before) ∷ [])
+    → AreChangesAdded text (list ++ change ∷ []) old after bytes bytes_after
+one_more_change text list change old before after bytes bytes_before bytes_after added bytes_are is = record {
+  made = added.made ++ (change_data text change (length bytes_before) ∷ []);
   new_is =
       is
-      ∙ ap (λ l. l ++ (change_data change (length bytes_before) ∷ [])) added.new_is
-      ∙ append_assoc old added.made (change_data change (length bytes_before) ∷ []);
+      ∙ ap (λ l. l ++ (change_data text change (length bytes_before) ∷ [])) added.new_is
+      ∙ append_assoc old added.made (change_data text change (length bytes_before) ∷ []);
   more = added.more ++ change.written.now;
   bytes_are =
       bytes_are
@@ -126,12 +128,12 @@ one_more_change list change old before after bytes bytes_before bytes_after adde
       ∙ append_assoc bytes added.more change.written.now;
   each =
       subst
-      (λ b. AllZip (IsChangeData b) (list ++ change ∷ [])
-      (added.made ++ (change_data change (length bytes_before) ∷ [])))
+      (λ b. AllZip (IsChangeData text b) (list ++ change ∷ [])
+      (added.made ++ (change_data text change (length bytes_before) ∷ [])))
       (sym bytes_are)
-      (zip_push (IsChangeData (bytes_before ++ change.written.now)) list added.made change
-      (change_data change (length bytes_before))
-      (changes_grown bytes_before change.written.now list added.made added.each) (record {
+      (zip_push (IsChangeData text (bytes_before ++ change.written.now)) list added.made change
+      (change_data text change (length bytes_before))
+      (changes_grown text bytes_before change.written.now list added.made added.each) (record {
         start_is = refl;
         end_is = refl;
         written_is = piece_added bytes_before change.written.now;
@@ -143,14 +145,14 @@ one_more_change list change old before after bytes bytes_before bytes_after adde
 }
 
 -- a reading whose text and changes were added
-pub reading_added : (reading : Reading) (old new : Rooms) (made : TownshipReading)
+pub reading_added : (text : List ℕ) (reading : Reading) (old new : Rooms) (made : TownshipReading)
     (bytes_between : List ℕ) → bytes_between ≡ old.bytes ++ reading.text.items
-    → AreChangesAdded reading.changes.items old.changes new.changes bytes_between new.bytes
+    → AreChangesAdded text reading.changes.items old.changes new.changes bytes_between new.bytes
     → new.readings ≡ old.readings ++ (made ∷ []) → made.text ≡ length old.bytes
     → made.text_length ≡ length reading.text.items → made.changes ≡ length old.changes
     → made.changes_length ≡ length reading.changes.items → made.manner ≡ manner_of reading.manner
-    → made.reserved ≡ 0 → IsReadingAdded reading old new
-reading_added reading old new made bytes_between text_is added readings_are text_at long changes_at count
+    → made.reserved ≡ 0 → IsReadingAdded text reading old new
+reading_added text reading old new made bytes_between text_is added readings_are text_at long changes_at count
     manner
     reserved =
     record {
@@ -178,7 +180,8 @@ reading_added reading old new made bytes_between text_is added readings_are text
           after = [];
           all_is = added.new_is ∙ ap (λ l. old.changes ++ l) (sym (append-nil added.made));
           start_is = changes_at;
-          count_is = count ∙ zip_long (IsChangeData new.bytes) reading.changes.items added.made added.each;
+          count_is =
+              count ∙ zip_long (IsChangeData text new.bytes) reading.changes.items added.made added.each;
         };
         each = added.each;
         manner_is = manner;
@@ -187,41 +190,45 @@ reading_added reading old new made bytes_between text_is added readings_are text
     }
 
 -- one more reading
-one_more_reading : (list : List Reading) (reading : Reading) (old new : Rooms) → AreDataOf list old
-    → IsReadingAdded reading old new → AreDataOf (list ++ reading ∷ []) new
-one_more_reading list reading old new all added =
-    subst (λ d. AllZip (IsReadingData new.changes new.bytes) (list ++ reading ∷ []) d) (sym added.new_is)
-    (zip_push (IsReadingData new.changes new.bytes) list old.readings reading added.made
-    (subst (λ c. AllZip (IsReadingData c new.bytes) list old.readings) (sym added.changes_are)
-    (subst (λ b. AllZip (IsReadingData (old.changes ++ added.changes) b) list old.readings)
+one_more_reading : (text : List ℕ) (list : List Reading) (reading : Reading) (old new : Rooms)
+    → AreDataOf text list old → IsReadingAdded text reading old new
+    → AreDataOf text (list ++ reading ∷ []) new
+one_more_reading text list reading old new all added =
+    subst (λ d. AllZip (IsReadingData text new.changes new.bytes) (list ++ reading ∷ []) d) (sym added.new_is)
+    (zip_push (IsReadingData text new.changes new.bytes) list old.readings reading added.made
+    (subst (λ c. AllZip (IsReadingData text c new.bytes) list old.readings) (sym added.changes_are)
+    (subst (λ b. AllZip (IsReadingData text (old.changes ++ added.changes) b) list old.readings)
     (sym added.bytes_are)
-    (zip_mapped (IsReadingData old.changes old.bytes)
-    (IsReadingData (old.changes ++ added.changes) (old.bytes ++ added.bytes))
-    (reading_grown old.changes added.changes old.bytes added.bytes) list old.readings all)))
+    (zip_mapped (IsReadingData text old.changes old.bytes)
+    (IsReadingData text (old.changes ++ added.changes) (old.bytes ++ added.bytes))
+    (reading_grown text old.changes added.changes old.bytes added.bytes) list old.readings all)))
     added.is)
 
 -- the next change of a list
-pub next_change : (list : List Change) (i at : ℕ) (d : Change) (made : TownshipChange)
+pub next_change : (text : List ℕ) (list : List Change) (i at : ℕ) (d : Change) (made : TownshipChange)
     (old before after : List TownshipChange) (bytes bytes_before bytes_after : List ℕ)
-    → made ≡ change_data (get_or list i d) at → at ≡ length bytes_before → i < length list
-    → AreChangesAdded (take i list) old before bytes bytes_before
+    → made ≡ change_data text (get_or list i d) at → at ≡ length bytes_before → i < length list
+    → AreChangesAdded text (take i list) old before bytes bytes_before
     → bytes_after ≡ bytes_before ++ (get_or list i d).written.now → after ≡ before ++ (made ∷ [])
-    → AreChangesAdded (take (i + 1) list) old after bytes bytes_after
-next_change list i at d made old before after bytes bytes_before bytes_after is at_end within added bytes_are
+    → AreChangesAdded text (take (i + 1) list) old after bytes bytes_after
+next_change text list i at d made old before after bytes bytes_before bytes_after is at_end within added
+    bytes_are
     after_is =
-    subst (λ l. AreChangesAdded l old after bytes bytes_after) (sym (take_more list i d within))
-    (one_more_change (take i list) (get_or list i d) old before after bytes bytes_before bytes_after added
+    subst (λ l. AreChangesAdded text l old after bytes bytes_after) (sym (take_more list i d within))
+    (one_more_change text (take i list) (get_or list i d) old before after bytes bytes_before bytes_after
+    added
     bytes_are
     (after_is
-    ∙ ap (λ m. before ++ (m ∷ [])) (is ∙ ap (λ n. change_data (get_or list i d) n) at_end)))
+    ∙ ap (λ m. before ++ (m ∷ [])) (is ∙ ap (λ n. change_data text (get_or list i d) n) at_end)))
 
 -- the next reading of a list
-pub next_reading : (list : List Reading) (i : ℕ) (d : Reading) (old new : Rooms) → i < length list
-    → AreDataOf (take i list) old → IsReadingAdded (get_or list i d) old new
-    → AreDataOf (take (i + 1) list) new
-next_reading list i d old new within all added =
-    subst (λ l. AreDataOf l new) (sym (take_more list i d within))
-    (one_more_reading (take i list) (get_or list i d) old new all added)
+pub next_reading : (text : List ℕ) (list : List Reading) (i : ℕ) (d : Reading) (old new : Rooms)
+    → i < length list
+    → AreDataOf text (take i list) old → IsReadingAdded text (get_or list i d) old new
+    → AreDataOf text (take (i + 1) list) new
+next_reading text list i d old new within all added =
+    subst (λ l. AreDataOf text l new) (sym (take_more list i d within))
+    (one_more_reading text (take i list) (get_or list i d) old new all added)
 
 -- there is nothing
 pub nothing_found : (found : Found) → found.readings.items ≡ [] → found.reason ≡ no_reason
@@ -255,7 +262,8 @@ none_found text readings found are empty without = record {
     readings = [];
     are = subst (AreReadings text) empty are;
     each =
-        subst (λ l. AllZip (IsReadingData found.changes.items found.bytes.items) [] l) (sym without.empty) tt;
+        subst (λ l. AllZip (IsReadingData text found.changes.items found.bytes.items) [] l)
+        (sym without.empty) tt;
   };
   reason = without.reason;
 }

@@ -1,7 +1,13 @@
 -- The readings of a text as plain data: where the text of each is, its changes, and what each change writes.
-use Rattle.std.specs.Prelude.{◌≡◌, ℕ, ◌<◌, ◌≤◌, ◌++◌, ◌⊎◌, List, [], length, drop}
+use Rattle.std.specs.Prelude.{◌≡◌, ℕ, ◌<◌, ◌≤◌, ◌++◌, ◌⊎◌, List, [], length, drop, Option, Some, None}
 use Rattle.std.specs.List.{AllZip}
+use Rattle.twp_suggest.specs.Assumptions.{assumed}
 use Rattle.twp_suggest.specs.Readings.{AreReadings}
+use Rattle.twp_suggest.specs.declared.assumptions.Assumption.{Assumption}
+use Rattle.twp_suggest.specs.declared.assumptions.Assumption.TheVariants.{SameMeridian, SameAcreage, NotLand}
+use Rattle.twp_suggest.specs.declared.assumptions.Assumption.TheVariants.{SaidBefore, WrongLetter}
+use Rattle.twp_suggest.specs.declared.assumptions.Assumption.TheVariants.{NoMissingComma}
+use Rattle.twp_rules.specs.Changes.{seen}
 use Rattle.twp_rules.specs.declared.change.Change.{Change}
 use Rattle.twp_described.specs.declared.manner.Manner.{Manner}
 use Rattle.twp_described.specs.declared.manner.Manner.TheVariants.{Changed, LotsNamed, Remainder}
@@ -59,13 +65,19 @@ copied_to (Copied from to) = to
 copied_to (CopiedStep from to) = to
 copied_to _ = 0
 
--- 1 for a rule that assumes something: of the meridian, that it is that of the field notes; of acreage, that
--- it is right; and of a label, that it isn't land
-abbrev pub assumes_of : Rule → ℕ
-assumes_of Meridian = 1
-assumes_of Acreage = 1
-assumes_of Label = 1
-assumes_of _ = 0
+-- the number of an assumption, or 0 for none
+abbrev pub number_of_assumption : Option Assumption → ℕ
+number_of_assumption None = 0
+number_of_assumption (Some SameMeridian) = 1
+number_of_assumption (Some SameAcreage) = 2
+number_of_assumption (Some NotLand) = 3
+number_of_assumption (Some SaidBefore) = 4
+number_of_assumption (Some WrongLetter) = 5
+number_of_assumption (Some NoMissingComma) = 6
+
+-- the number of what a change of a text assumes that the text doesn't say
+abbrev pub assumes_of : List ℕ → Change → ℕ
+assumes_of text change = number_of_assumption (assumed text (seen change))
 
 -- the number of a manner
 abbrev pub manner_of : Manner → ℕ
@@ -81,23 +93,25 @@ pub record IsPiece {T : Type 0} (all : List T) (start count : ℕ) (piece : List
   pub start_is : start ≡ length before
   pub count_is : count ≡ length piece
 
--- THE DATA OF A CHANGE: what it leaves out, where what it writes is in the bytes, and its rule
-pub record IsChangeData (bytes : List ℕ) (change : Change) (made : TownshipChange) : Type 0 where
+-- THE DATA OF A CHANGE of a text: what it leaves out, where what it writes is in the bytes, its rule, and
+-- what it assumes
+pub record IsChangeData (text bytes : List ℕ) (change : Change) (made : TownshipChange) : Type 0 where
   pub start_is : made.start ≡ change.start
   pub end_is : made.end ≡ change.end
   pub written_is : IsPiece bytes made.written made.written_length change.written.now
   pub copied_is : made.copied ≡ copied_from change.rule
   pub copied_end_is : made.copied_end ≡ copied_to change.rule
   pub rule_is : made.rule ≡ number_of change.rule
-  pub assumes_is : made.assumes ≡ assumes_of change.rule
+  pub assumes_is : made.assumes ≡ assumes_of text change
 
--- THE DATA OF A READING: where its text is in the bytes, and where its changes are, in their order
-pub record IsReadingData (changes : List TownshipChange) (bytes : List ℕ) (reading : Reading)
-    (made : TownshipReading) : Type 0 where
+-- THE DATA OF A READING of a text: where the reading's text is in the bytes, and where its changes are, in
+-- their order
+pub record IsReadingData (given : List ℕ) (changes : List TownshipChange) (bytes : List ℕ)
+    (reading : Reading) (made : TownshipReading) : Type 0 where
   pub text_is : IsPiece bytes made.text made.text_length reading.text.items
   pub list : List TownshipChange
   pub changes_are : IsPiece changes made.changes made.changes_length list
-  pub each : AllZip (IsChangeData bytes) reading.changes.items list
+  pub each : AllZip (IsChangeData given bytes) reading.changes.items list
   pub manner_is : made.manner ≡ manner_of reading.manner
   pub reserved_is : made.reserved ≡ 0
 
@@ -114,7 +128,7 @@ rooms readings changes bytes = record { readings = readings; changes = changes; 
 pub record AreSuggested (text : List ℕ) (made : Rooms) : Type 0 where
   pub readings : List Reading
   pub are : AreReadings text readings
-  pub each : AllZip (IsReadingData made.changes made.bytes) readings made.readings
+  pub each : AllZip (IsReadingData text made.changes made.bytes) readings made.readings
 
 -- a list was put at the front of the room for it, of which the rest is as it was
 pub record IsPutAtFront {T : Type 0} (list old new : List T) : Type 0 where

@@ -3,6 +3,7 @@ ghost use Rattle.std.specs.Prelude.{◌≡◌, ◌≢◌, ◌≤◌, IfOk, lengt
 ghost use Rattle.twp_calls.specs.Answers.{ACCEPTED, NO_MEMORY};
 ghost use Rattle.twp_calls.specs.Suggestions.{ArePut, IsPutAtFront, IsSuggestCall, rooms};
 ghost use Rattle.twp_calls.specs.Suggestions.{assumes_of, copied_from, copied_to, manner_of, number_of};
+ghost use Rattle.twp_calls.specs.Suggestions.{number_of_assumption};
 ghost use Rattle.twp_calls.specs.steps.Suggesting.{AreChangesAdded, AreFoundFor, HasNoReadings, IsFound};
 ghost use Rattle.twp_calls.specs.steps.Suggesting.{IsReadingAdded, change_data, shown, suggestion_of};
 
@@ -11,7 +12,9 @@ use crate::suggestion::{TownshipChange, TownshipReading, TownshipSuggestion};
 use crate::verdict::{ACCEPTED, NO_MEMORY, NO_ROOM};
 use std::alloc::{AllocError, Global};
 use twp_phrases::Phrases;
-use twp_suggest::{Beyond, Change, Manner, Reading, Rule, beyond_of, readings_of};
+use twp_suggest::{
+    Assumption, Beyond, Change, Manner, Reading, Rule, assumption_of, beyond_of, readings_of,
+};
 
 /// What is to be written for the caller.
 #[derive(Drop)]
@@ -98,7 +101,7 @@ fn found_in(alloc: Global, description: &[u8]) -> Result<Found, AllocError>
     if readings.is_empty() {
         return no_readings(alloc, description);
     }
-    data_of(alloc, readings.as_slice())
+    data_of(alloc, description, readings.as_slice())
 }
 
 /// No readings, and the reason, if there is one.
@@ -145,15 +148,15 @@ fn nothing(alloc: Global) -> Found
     }
 }
 
-/// Readings, as data.
-fn data_of(alloc: Global, readings: &[Reading<'_>]) -> Result<Found, AllocError>
-    ensures { IfOk result (AreFoundFor readings.now) }
+/// Readings of a text, as data.
+fn data_of(alloc: Global, text: &[u8], readings: &[Reading<'_>]) -> Result<Found, AllocError>
+    ensures { IfOk result (AreFoundFor text.now readings.now) }
 {
     let mut made = Vec::new(alloc);
     let mut changes = Vec::new(alloc);
     let mut bytes = Vec::new(alloc);
     for reading in readings {
-        add_reading(reading, &mut made, &mut changes, &mut bytes)?;
+        add_reading(text, reading, &mut made, &mut changes, &mut bytes)?;
     }
     Ok(Found {
         readings: made,
@@ -163,23 +166,24 @@ fn data_of(alloc: Global, readings: &[Reading<'_>]) -> Result<Found, AllocError>
     })
 }
 
-/// Adds the data of a reading.
+/// Adds the data of a reading of a text.
 fn add_reading(
+    text: &[u8],
     reading: &Reading<'_>,
     readings: &mut Vec<TownshipReading>,
     changes: &mut Vec<TownshipChange>,
     bytes: &mut Vec<u8>,
 ) -> Result<(), AllocError>
-    ensures { IfOk result (λ _. IsReadingAdded reading.now
+    ensures { IfOk result (λ _. IsReadingAdded text.now reading.now
         (rooms readings.old.items changes.old.items bytes.old.items)
         (rooms readings.new.items changes.new.items bytes.new.items)) }
 {
-    let text = bytes.len();
+    let start = bytes.len();
     bytes.extend_from_slice(reading.text.as_slice())?;
     let first = changes.len();
-    add_changes(reading.changes.as_slice(), changes, bytes)?;
+    add_changes(text, reading.changes.as_slice(), changes, bytes)?;
     readings.push(TownshipReading {
-        text: text as u64,
+        text: start as u64,
         text_length: reading.text.len() as u64,
         changes: first as u64,
         changes_length: reading.changes.len() as u64,
@@ -189,26 +193,27 @@ fn add_reading(
     Ok(())
 }
 
-/// Adds the data of the changes of a reading.
+/// Adds the data of the changes of a reading of a text.
 fn add_changes(
+    text: &[u8],
     list: &[Change<'_>],
     changes: &mut Vec<TownshipChange>,
     bytes: &mut Vec<u8>,
 ) -> Result<(), AllocError>
-    ensures { IfOk result (λ _. AreChangesAdded list.now changes.old.items changes.new.items
+    ensures { IfOk result (λ _. AreChangesAdded text.now list.now changes.old.items changes.new.items
         bytes.old.items bytes.new.items) }
 {
     for change in list {
         let written = bytes.len();
         bytes.extend_from_slice(change.written)?;
-        changes.push(of_change(change, written))?;
+        changes.push(of_change(text, change, written))?;
     }
     Ok(())
 }
 
-/// The data of a change, of which the bytes that are written begin at a place.
-fn of_change(change: &Change<'_>, written: usize) -> TownshipChange
-    ensures { result ≡ change_data change.now written }
+/// The data of a change of a text, of which the bytes that are written begin at a place.
+fn of_change(text: &[u8], change: &Change<'_>, written: usize) -> TownshipChange
+    ensures { result ≡ change_data text.now change.now written }
 {
     let (copied, copied_end) = copied_by(change.rule);
     TownshipChange {
@@ -219,7 +224,7 @@ fn of_change(change: &Change<'_>, written: usize) -> TownshipChange
         copied: copied as u64,
         copied_end: copied_end as u64,
         rule: rule_number(change.rule),
-        assumes: assumption_of(change.rule),
+        assumes: assumption_number(assumption_of(text, change)),
     }
 }
 
@@ -267,13 +272,18 @@ fn rule_number(rule: Rule) -> u32
     }
 }
 
-/// 1 for a rule that assumes something that the text doesn't say.
-fn assumption_of(rule: Rule) -> u32
-    ensures { result ≡ assumes_of rule }
+/// The number of an assumption, or 0 for none.
+fn assumption_number(assumption: Option<Assumption>) -> u32
+    ensures { result ≡ number_of_assumption assumption }
 {
-    match rule {
-        Rule::Meridian | Rule::Acreage | Rule::Label => 1,
-        _ => 0,
+    match assumption {
+        None => 0,
+        Some(Assumption::SameMeridian) => 1,
+        Some(Assumption::SameAcreage) => 2,
+        Some(Assumption::NotLand) => 3,
+        Some(Assumption::SaidBefore) => 4,
+        Some(Assumption::WrongLetter) => 5,
+        Some(Assumption::NoMissingComma) => 6,
     }
 }
 

@@ -37,7 +37,7 @@ pub struct TownshipChange {
     pub copied_end: u64,
     /// The number of the rule by which this is done.
     pub rule: u32,
-    /// 1 if this assumes something that the text doesn't say, or 0.
+    /// The number of what this assumes that the text doesn't say, or 0.
     pub assumes: u32,
 }
 

@@ -2,18 +2,20 @@
 //! why lots and aliquot parts can't describe the land.
 #![tactic(auto)]
 
+mod assumptions;
+
 ghost use Rattle.std.specs.Prelude.{IfOk, IfSome};
 ghost use Rattle.twp_explain_text.specs.Suggestions.{IsOfTownship, NamesLandOf};
 ghost use Rattle.twp_grid.specs.Townships.{Designation};
 
+use crate::assumptions::write_assumptions;
 use std::alloc::{AllocError, Global};
 use twp_described::find_land;
-use twp_excerpt::write_escaped;
 use twp_explain_text::{Suggested, Suggestion, Suggests};
 use twp_grid::Township;
 use twp_land::{Land, Lanes};
 use twp_phrases::Phrases;
-use twp_suggest::{Change, Reading, Rule, beyond_of, readings_of};
+use twp_suggest::{Reading, beyond_of, readings_of};
 
 /// The most bytes of a text whose readings are looked for.
 const SHORT: usize = 4_000;
@@ -59,7 +61,7 @@ fn only(
         return Ok(Suggestion::Nothing);
     };
     let mut assumptions = String::new(alloc);
-    write_assumptions(text, reading, &mut assumptions)?;
+    write_assumptions(text, reading.changes.as_slice(), &mut assumptions)?;
     Ok(Suggestion::Only(Suggested {
         text: shown,
         assumptions,
@@ -98,85 +100,4 @@ fn on_one_line(alloc: Global, text: &[u8]) -> Result<Vec<u8>, AllocError> {
         line.push(*byte)?;
     }
     Ok(line)
-}
-
-/// What a reading assumes that the text doesn't say: that a township is on the meridian of the field notes, that acreage
-/// is right, and that a label isn't land.
-const ASSUMPTIONS: [&str; 3] = [MERIDIAN, ACREAGE, LABEL];
-
-const MERIDIAN: &str = "the meridian, state, or county is that of the field notes";
-
-const ACREAGE: &str = "the acreage is not compared";
-
-const LABEL: &str = "this is not land";
-
-/// Appends what a reading assumes that the text doesn't say: for each assumption, what is left out.
-fn write_assumptions(
-    text: &[u8],
-    reading: &Reading<'_>,
-    out: &mut String,
-) -> Result<(), AllocError> {
-    for assumption in ASSUMPTIONS {
-        write_left_out(text, reading, assumption, out)?;
-    }
-    Ok(())
-}
-
-/// Appends what a reading leaves out of a text by an assumption, and the assumption. Appends nothing if it doesn't make it.
-fn write_left_out(
-    text: &[u8],
-    reading: &Reading<'_>,
-    assumption: &str,
-    out: &mut String,
-) -> Result<(), AllocError> {
-    let changes = reading.changes.as_slice();
-    let mut is_made = false;
-    for (index, change) in changes.iter().enumerate() {
-        let earlier = changes.get(..index).unwrap_or(&[]);
-        if assumption_of(change.rule) != assumption
-            || is_left_out(text, earlier, left_out(text, change))
-        {
-            continue;
-        }
-        out.push_str(match (is_made, out.is_empty()) {
-            (true, _) => ", `",
-            (false, true) => "without `",
-            (false, false) => "; without `",
-        })?;
-        write_escaped(left_out(text, change), out)?;
-        out.push_str("`")?;
-        is_made = true;
-    }
-    if is_made {
-        out.push_str(": ")?;
-        out.push_str(assumption)?;
-    }
-    Ok(())
-}
-
-/// Whether some changes leave out these bytes by an assumption.
-fn is_left_out(text: &[u8], changes: &[Change<'_>], bytes: &[u8]) -> bool {
-    for change in changes {
-        if !assumption_of(change.rule).is_empty() && left_out(text, change) == bytes {
-            return true;
-        }
-    }
-    false
-}
-
-/// The bytes of a text that a change leaves out.
-fn left_out<'a>(text: &'a [u8], change: &Change<'_>) -> &'a [u8] {
-    text.get(change.start..change.end)
-        .unwrap_or(b"")
-        .trim_ascii()
-}
-
-/// What a rule assumes that the text doesn't say; empty if it assumes nothing.
-fn assumption_of(rule: Rule) -> &'static str {
-    match rule {
-        Rule::Meridian => MERIDIAN,
-        Rule::Acreage => ACREAGE,
-        Rule::Label => LABEL,
-        _ => "",
-    }
 }

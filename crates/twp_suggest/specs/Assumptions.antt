@@ -1,15 +1,18 @@
--- What a change of a reading assumes that its text doesn't say, and the phrase of the text that this is about.
+-- What a change of a reading assumes that its text doesn't say, and the phrase of the text that this is
+-- about.
 -- Letters of either case are the same.
-use Rattle.std.specs.Prelude.{◌==◌, ◌||◌, ◌&&◌, ◌+◌, ℕ, zero, suc, Bool, true, false, List, [], ◌∷◌}
+use Rattle.std.specs.Prelude.{◌==◌, ◌||◌, ◌&&◌, ◌+◌, ◌-◌, ℕ, zero, suc, Bool, true, false, List, [], ◌∷◌}
 use Rattle.std.specs.Prelude.{Option, Some, None}
-use Rattle.std.specs.Prelude.{drop, if◌then◌else◌, codes, slice_index, slice_range, not}
+use Rattle.std.specs.Prelude.{drop, if◌then◌else◌, codes, length, slice_index, slice_range, take, not}
 use Rattle.twp_grammar.specs.Tokens.{is_white}
 use Rattle.twp_rules.specs.Changes.{Change}
 use Rattle.twp_rules.specs.Edges.{is_one_of, without_white}
 use Rattle.twp_rules.specs.Naming.{is_side, word_of}
 use Rattle.twp_rules.specs.declared.rule.Rule.{Rule}
-use Rattle.twp_rules.specs.declared.rule.Rule.TheVariants.{Half, Quarter, Direction, Copied, Damage, SectionWord}
-use Rattle.twp_rules.specs.declared.rule.Rule.TheVariants.{LotWord, OnePart, Repeated, Meridian, Acreage, Label}
+use Rattle.twp_rules.specs.declared.rule.Rule.TheVariants.{Half, Quarter, Direction, Copied, Damage}
+use Rattle.twp_rules.specs.declared.rule.Rule.TheVariants.{SectionWord}
+use Rattle.twp_rules.specs.declared.rule.Rule.TheVariants.{LotWord, OnePart, Repeated, Meridian, Acreage}
+use Rattle.twp_rules.specs.declared.rule.Rule.TheVariants.{Label}
 use Rattle.twp_suggest.specs.declared.assumptions.Assumption.{Assumption}
 use Rattle.twp_suggest.specs.declared.assumptions.Assumption.TheVariants.{SameMeridian, SameAcreage, NotLand}
 use Rattle.twp_suggest.specs.declared.assumptions.Assumption.TheVariants.{SaidBefore, WrongLetter}
@@ -142,12 +145,18 @@ white_end text at = at + white_length (drop at text)
 abbrev pub word_end : List ℕ → ℕ → ℕ
 word_end text at = at + word_length (drop at text)
 
--- the words that a text has from one place up to another, whole
-abbrev pub words_around : List ℕ → ℕ → ℕ → List ℕ
-words_around text start end = slice_range text (word_start text start) (word_end text end)
+-- a text without the period at its end
+abbrev pub without_period : List ℕ → List ℕ
+without_period bytes =
+    if slice_index bytes (length bytes - 1) == 46 then take (length bytes - 1) bytes else bytes
 
--- the phrase that a change by a rule is about: what is left out; and where a letter is wrong, or a comma may be
--- missing, the words around it
+-- the words that a text has from one place up to another, whole, without the period at their end
+abbrev pub words_around : List ℕ → ℕ → ℕ → List ℕ
+words_around text start end =
+    without_period (slice_range text (word_start text start) (word_end text end))
+
+-- the phrase that a change by a rule is about: what is left out; and where a letter is wrong, or a comma may
+-- be missing, the words around it
 abbrev pub phrase_by : Rule → List ℕ → ℕ → ℕ → List ℕ
 phrase_by Meridian text start end = slice_range text start end
 phrase_by Acreage text start end = slice_range text start end

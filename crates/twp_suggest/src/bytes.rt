@@ -23,7 +23,7 @@ pub(crate) fn from(text: &[u8], at: usize) -> &[u8]
 }
 
 /// The bytes of a text before a place, or all of them.
-fn before(text: &[u8], at: usize) -> &[u8]
+pub(crate) fn before(text: &[u8], at: usize) -> &[u8]
     ensures { result.now ≡ take at text.now }
 {
     if at > text.len() {

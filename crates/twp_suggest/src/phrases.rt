@@ -2,9 +2,9 @@
 ghost use Rattle.std.specs.Prelude.{◌≡◌, ◌≤◌, ◌+◌, drop, length, slice_range};
 ghost use Rattle.twp_rules.specs.Changes.{seen};
 ghost use Rattle.twp_suggest.specs.Assumptions.{is_between_words, phrase, phrase_by, white_end, white_length};
-ghost use Rattle.twp_suggest.specs.Assumptions.{white_start, word_end, word_length, word_start, words_around};
+ghost use Rattle.twp_suggest.specs.Assumptions.{white_start, without_period, word_end, word_length, word_start, words_around};
 
-use crate::bytes::{between, byte_at, from, is_white};
+use crate::bytes::{before, between, byte_at, from, is_white};
 use twp_rules::{Change, Rule};
 
 /// The phrase of a text that a change is about: what it leaves out; and where it assumes that a letter is wrong, or that
@@ -27,11 +27,22 @@ fn phrase_by(rule: Rule, text: &[u8], start: usize, end: usize) -> &[u8]
     }
 }
 
-/// The words that a text has from one place up to another, whole.
+/// The words that a text has from one place up to another, whole, without the period at their end.
 fn words_around(text: &[u8], start: usize, end: usize) -> &[u8]
     ensures { result.now ≡ words_around text.now start end }
 {
-    between(text, word_start(text, start), word_end(text, end))
+    without_period(between(text, word_start(text, start), word_end(text, end)))
+}
+
+/// A text without the period at its end.
+fn without_period(bytes: &[u8]) -> &[u8]
+    ensures { result.now ≡ without_period bytes.now }
+{
+    let last = bytes.len().saturating_sub(1);
+    if byte_at(bytes, last) == b'.' {
+        return before(bytes, last);
+    }
+    bytes
 }
 
 /// Where the word before a place begins.

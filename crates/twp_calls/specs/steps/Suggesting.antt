@@ -32,9 +32,9 @@ suggestion_of found =
       beyond_end = found.reason.end;
     }
 
--- the data of a change, of which the bytes that are written begin at a place
-abbrev pub change_data : Change → ℕ → TownshipChange
-change_data change written =
+-- the data of a change of a text, of which the bytes that are written begin at a place
+abbrev pub change_data : List ℕ → Change → ℕ → TownshipChange
+change_data text change written =
     record {
       start = change.start;
       end = change.end;
@@ -43,35 +43,35 @@ change_data change written =
       copied = copied_from change.rule;
       copied_end = copied_to change.rule;
       rule = number_of change.rule;
-      assumes = assumes_of change.rule;
+      assumes = assumes_of text change;
     }
 
--- the data of changes were added at the end
-pub record AreChangesAdded (list : List Change) (old new : List TownshipChange)
+-- the data of changes of a text were added at the end
+pub record AreChangesAdded (text : List ℕ) (list : List Change) (old new : List TownshipChange)
     (bytes new_bytes : List ℕ) : Type 0 where
   pub made : List TownshipChange
   pub new_is : new ≡ old ++ made
   pub more : List ℕ
   pub bytes_are : new_bytes ≡ bytes ++ more
-  pub each : AllZip (IsChangeData new_bytes) list made
+  pub each : AllZip (IsChangeData text new_bytes) list made
 
--- the data of a reading were added at the end
-pub record IsReadingAdded (reading : Reading) (old new : Rooms) : Type 0 where
+-- the data of a reading of a text were added at the end
+pub record IsReadingAdded (text : List ℕ) (reading : Reading) (old new : Rooms) : Type 0 where
   pub made : TownshipReading
   pub new_is : new.readings ≡ old.readings ++ (made ∷ [])
   pub changes : List TownshipChange
   pub changes_are : new.changes ≡ old.changes ++ changes
   pub bytes : List ℕ
   pub bytes_are : new.bytes ≡ old.bytes ++ bytes
-  pub is : IsReadingData new.changes new.bytes reading made
+  pub is : IsReadingData text new.changes new.bytes reading made
 
--- these are the data of readings
-abbrev pub AreDataOf : List Reading → Rooms → Type 0
-AreDataOf readings made = AllZip (IsReadingData made.changes made.bytes) readings made.readings
+-- these are the data of readings of a text
+abbrev pub AreDataOf : List ℕ → List Reading → Rooms → Type 0
+AreDataOf text readings made = AllZip (IsReadingData text made.changes made.bytes) readings made.readings
 
 -- the same, and there is no reason
-pub record AreFoundFor (readings : List Reading) (found : Found) : Type 0 where
-  pub made : AreDataOf readings (shown found)
+pub record AreFoundFor (text : List ℕ) (readings : List Reading) (found : Found) : Type 0 where
+  pub made : AreDataOf text readings (shown found)
   pub none : found.reason ≡ no_reason
 
 -- there are no readings, perhaps for a reason

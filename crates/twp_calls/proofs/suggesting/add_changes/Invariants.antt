@@ -5,5 +5,5 @@ use Rattle.twp_calls.proofs.suggesting.add_changes.Given as goal
 -- the data of the changes so far were added
 abbrev pub invariant-loop-change : goal.invariant-loop-change
 invariant-loop-change l =
-    AreChangesAdded (take l.change-index l.list) l.fn.changes.items l.changes.items l.fn.bytes.items
+    AreChangesAdded l.text (take l.change-index l.list) l.fn.changes.items l.changes.items l.fn.bytes.items
     l.bytes.items

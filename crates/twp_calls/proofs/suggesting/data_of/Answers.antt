@@ -9,6 +9,8 @@ loop-reading-preserved c =
     let old = rooms c.loop-reading.made.items c.loop-reading.changes.items c.loop-reading.bytes.items in
     let new =
     rooms c.add_reading.new.readings.items c.add_reading.new.changes.items c.add_reading.new.bytes.items in
-    next_reading c.args.readings.now c.loop-reading.reading-index c.reading-item.result old new
+    next_reading c.args.text.now c.args.readings.now c.loop-reading.reading-index c.reading-item.result old
+    new
     c.loop-reading-test.true c.loop-reading.invariant
-    (subst (λ reading. IsReadingAdded reading old new) c.reading-item.is c.in_ok-add_reading.ensures)
+    (subst (λ reading. IsReadingAdded c.args.text.now reading old new) c.reading-item.is
+    c.in_ok-add_reading.ensures)

@@ -6,4 +6,4 @@ use Rattle.twp_calls.proofs.suggesting.data_of.Given as goal
 -- the data of the readings so far
 abbrev pub invariant-loop-reading : goal.invariant-loop-reading
 invariant-loop-reading l =
-    AreDataOf (take l.reading-index l.readings) (rooms l.made.items l.changes.items l.bytes.items)
+    AreDataOf l.text (take l.reading-index l.readings) (rooms l.made.items l.changes.items l.bytes.items)
