@@ -312,9 +312,20 @@ typedef struct township_part {
 #define TOWNSHIP_RULE_REPEATED 21u       /* parentheses that repeat what is before them are left out */
 #define TOWNSHIP_RULE_MOVED_SECTION 22u  /* a section is left out where it follows its land, and written before it */
 #define TOWNSHIP_RULE_MOVED_HEADING 23u  /* a township and range are left out, and written at the beginning */
-#define TOWNSHIP_RULE_MERIDIAN 24u       /* assumed: the meridian, state, or county is that of the field notes */
-#define TOWNSHIP_RULE_ACREAGE 25u        /* assumed: the acreage, which is not compared, is right */
-#define TOWNSHIP_RULE_LABEL 26u          /* assumed: a label is not land */
+#define TOWNSHIP_RULE_MERIDIAN 24u       /* the meridian, the state, or the county is left out */
+#define TOWNSHIP_RULE_ACREAGE 25u        /* stated acreage is left out */
+#define TOWNSHIP_RULE_LABEL 26u          /* a label, which is not land, is left out */
+
+/* Assumptions: what a change assumes that the text does not say. The words around a change are those up to white space,
+   a comma, a semicolon, a colon, or a bar. */
+#define TOWNSHIP_ASSUMES_SAME_MERIDIAN 1u    /* what is left out is the meridian, state, or county of the field notes */
+#define TOWNSHIP_ASSUMES_SAME_ACREAGE 2u     /* the acreage that is left out is right: it is not compared */
+#define TOWNSHIP_ASSUMES_NOT_LAND 3u         /* what is left out is not land */
+#define TOWNSHIP_ASSUMES_SAID_BEFORE 4u      /* what is left out repeats what is before it */
+#define TOWNSHIP_ASSUMES_WRONG_LETTER 5u     /* a letter or a digit in the words around the change, or around what it
+                                                copies, is wrong: it was misread, or there is a slip of the pen */
+#define TOWNSHIP_ASSUMES_NO_MISSING_COMMA 6u /* no comma is missing in the words around the change, and around the white
+                                                space that it leaves out: they are one part */
 
 /* Manners: how the text of a reading comes of the changed text. */
 #define TOWNSHIP_CHANGED 0u    /* it is the changed text */
@@ -335,7 +346,7 @@ typedef struct township_change {
     uint64_t copied;     /* what rule 5 or 6 copies is in the text from here to before `copied_end` */
     uint64_t copied_end; /* with other rules, both are 0 */
     uint32_t rule;       /* such as TOWNSHIP_RULE_QUARTER */
-    uint32_t assumes;    /* 1 if the rule assumes something that the text does not say; otherwise 0 */
+    uint32_t assumes;    /* what the change assumes, such as TOWNSHIP_ASSUMES_NOT_LAND; otherwise 0 */
 } township_change;
 
 /*

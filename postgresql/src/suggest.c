@@ -34,15 +34,24 @@ typedef struct twpg_row {
     int count;
 } twpg_row;
 
-/* What the rules assume that the text does not say. The words are those of the package for Python. */
+/* What changes assume that the text does not say. The words are those of the package for Python. */
 static const struct {
-    uint32_t rule;
+    uint32_t assumes;
     const char *words;
 } assumptions[] = {
-    {TOWNSHIP_RULE_MERIDIAN, "the meridian, state, or county is that of the field notes"},
-    {TOWNSHIP_RULE_ACREAGE, "the acreage is not compared"},
-    {TOWNSHIP_RULE_LABEL, "this is not land"},
+    {TOWNSHIP_ASSUMES_SAME_MERIDIAN, "the meridian, state, or county is that of the field notes"},
+    {TOWNSHIP_ASSUMES_SAME_ACREAGE, "the acreage is not compared"},
+    {TOWNSHIP_ASSUMES_NOT_LAND, "this is not land"},
+    {TOWNSHIP_ASSUMES_SAID_BEFORE, "this repeats what is before it"},
+    {TOWNSHIP_ASSUMES_WRONG_LETTER, "a letter or digit is wrong"},
+    {TOWNSHIP_ASSUMES_NO_MISSING_COMMA, "no comma is missing"},
 };
+
+/* A phrase of a text: the bytes from `start` to before `end`. */
+typedef struct twpg_phrase {
+    const uint8_t *start;
+    const uint8_t *end;
+} twpg_phrase;
 
 static township_answer suggest_in(twpg_suggested *suggested, size_t changes, size_t bytes) {
     suggested->changes = palloc(changes * sizeof *suggested->changes);
@@ -84,34 +93,97 @@ static void append_line(StringInfo line, const uint8_t *at, const uint8_t *end) 
     }
 }
 
-/* What a change assumes, with the phrase that it leaves out. */
-static Datum assumption_by(const township_change *change, twpg_bytes text) {
+/* Whether a byte is one of some characters. */
+static bool is_among(uint8_t byte, const char *characters) {
+    return byte != 0 && strchr(characters, byte) != NULL;
+}
+
+/* A phrase that goes on on both sides for as long as its bytes are, or aren't, among some characters. */
+static twpg_phrase wider(twpg_phrase phrase, twpg_bytes text, const char *characters, bool are_among) {
+    const uint8_t *end = text.start + text.length;
+
+    while (phrase.start > text.start && is_among(phrase.start[-1], characters) == are_among) {
+        phrase.start--;
+    }
+    while (phrase.end < end && is_among(*phrase.end, characters) == are_among) {
+        phrase.end++;
+    }
+    return phrase;
+}
+
+/* Whether an assumption is about what is left out. The others are about the words around the change. */
+static bool is_of_left_out(uint32_t assumes) {
+    return assumes != TOWNSHIP_ASSUMES_WRONG_LETTER && assumes != TOWNSHIP_ASSUMES_NO_MISSING_COMMA;
+}
+
+/* The phrase that an assumption of a change is about. */
+static twpg_phrase phrase_of(const township_change *change, twpg_bytes text) {
+    twpg_phrase phrase = {text.start + change->start, text.start + change->end};
+
+    if (is_of_left_out(change->assumes)) {
+        return phrase;
+    }
+    if (change->copied_end != 0) {
+        phrase.start = text.start + change->copied;
+        phrase.end = text.start + change->copied_end;
+    }
+    if (change->rule == TOWNSHIP_RULE_ONE_PART) {
+        phrase = wider(phrase, text, " \t\n\r", true);
+    }
+    phrase = wider(phrase, text, " \t\n\r,;:|", false);
+    if (phrase.end > phrase.start && phrase.end[-1] == '.') {
+        phrase.end--;
+    }
+    return phrase;
+}
+
+/* What a change assumes, with the phrase that this is about. */
+static char *assumption_by(const township_change *change, twpg_bytes text) {
     const char *words = "this means nothing here";
+    twpg_phrase phrase = phrase_of(change, text);
     StringInfoData assumption;
     size_t index;
 
     for (index = 0; index < lengthof(assumptions); index++) {
-        if (assumptions[index].rule == change->rule) {
+        if (assumptions[index].assumes == change->assumes) {
             words = assumptions[index].words;
         }
     }
     initStringInfo(&assumption);
-    appendStringInfoString(&assumption, "without `");
-    append_line(&assumption, text.start + change->start, text.start + change->end);
+    appendStringInfoString(&assumption, is_of_left_out(change->assumes) ? "without `" : "`");
+    append_line(&assumption, phrase.start, phrase.end);
     appendStringInfo(&assumption, "`: %s", words);
-    return CStringGetTextDatum(twpg_from_utf8(assumption.data));
+    return assumption.data;
 }
 
-/* What a reading assumes, as an array. */
+/* Whether a text is one of some. */
+static bool is_said(const char *text, char **said, int count) {
+    int index;
+
+    for (index = 0; index < count; index++) {
+        if (strcmp(text, said[index]) == 0) {
+            return true;
+        }
+    }
+    return false;
+}
+
+/* What a reading assumes, as an array: each assumption once. */
 static Datum assumed_by(const twpg_suggested *suggested, const township_reading *reading) {
     const township_change *changes = suggested->changes + reading->changes;
+    char **said = palloc((size_t)(reading->changes_length + 1) * sizeof *said);
     Datum *assumed = palloc((size_t)(reading->changes_length + 1) * sizeof *assumed);
     int count = 0;
     uint64_t index;
 
     for (index = 0; index < reading->changes_length; index++) {
         if (changes[index].assumes != 0) {
-            assumed[count++] = assumption_by(&changes[index], suggested->text);
+            char *text = assumption_by(&changes[index], suggested->text);
+
+            if (!is_said(text, said, count)) {
+                said[count] = text;
+                assumed[count++] = CStringGetTextDatum(twpg_from_utf8(text));
+            }
         }
     }
     return PointerGetDatum(construct_array(assumed, count, TEXTOID, -1, false, TYPALIGN_INT));

@@ -28,14 +28,19 @@ What a mutant means is known, since it is known what was damaged:
 | a doubled word that is land | `NE/4 NE/4` | land of the row's sections that touches the row's land |
 | a changed digit | `14` to `19` | that, or the same with the number that is there now |
 | two digits exchanged | `14` to `41` | that, or the same with the number that is there now |
+| a digit as a letter | `14` to `l4`, `10` to `1O` | the row's land |
 | `of` put in | `NE/4, SW/4` to `NE/4 of SW/4` | that, or the same with parts that are now parts of others |
 | `of` taken out | `N/2 of NE/4` to `N/2 NE/4` | the row's land |
 
 - The first five kinds, and those of words that aren't land, keep the land: any other land is known to be wrong.
 - A comma or an `and` that is lost between two parts with white space keeps it, too. `NE/4 SW/4` may be one part for
   whoever sees only the mutant; so it needs both readings, or none, but not that one alone.
-- In a run without white space, one part is meant to be the reading (docs/DESCRIPTIONS.md). Such a reading is counted
-  by itself: as told, if a line of its assumptions names the run in backquotes, and otherwise as untold. It isn't wrong.
+- In a run without white space, one part is meant to be the reading (docs/DESCRIPTIONS.md). Such a reading isn't wrong,
+  but is told: a line of its assumptions has to name the run in backquotes, or the mutant fails. It may be untold only in a
+  run with all fractions as a description has them, such as `NE1/4SW1/4`, which is a part of the formal language as it
+  is; these are counted by themselves, and there are at most FORMAL_MOST of them.
+- A digit that became a letter is read as the digit only if that is told: a line of the assumptions has to name the
+  number with the letter, or the mutant fails.
 - The number of a section, a lot, a township, or a range that was changed is plainly the new one for whoever sees only
   the mutant. Its single reading isn't wrong if it is the row's, or has the new number in one place or in each, and
   everything else as it was. It may be the row's if the number also stands elsewhere, or isn't one of land.
@@ -48,7 +53,8 @@ What a mutant means is known, since it is known what was damaged:
 - With `of`, `A, B` becomes a part of a part. Whether `A and B of C` divides one or both isn't asked here.
 
 Of several readings, it is counted whether one of them is right; a reading that the program refuses is no reading, and
-a mutant whose readings are all refused is counted as refused. A mutant fails if it has one reading, and that is wrong.
+a mutant whose readings are all refused is counted as refused. A mutant fails if it has one reading, and that is wrong,
+or doesn't tell what it has to tell.
 Lands are compared by lands.py, which is first checked against the program on some hundreds of readings. It is a fault,
 too, if there are fewer mutants than FEWEST, since then the reader reads too few of the rows. The last line is
 `N passed, M failed`, and the status is 0 where nothing failed.
@@ -78,8 +84,11 @@ PIECE = 4_000_000
 FEWEST = 20_000
 # Readings on which lands.py is compared with the program.
 COMPARED = 400
+# More runs than these that have all their fractions, and are read as one part, are a fault.
+FORMAL_MOST = 1
 
 SAME, NUMBER, JOINED, RUN, TOUCHES, SECTIONS = "same", "number", "joined", "run", "touches", "sections"
+LETTER = "letter"
 KINDS = {
     "a slash to a space": SAME,
     "a fraction to a space and its digit": SAME,
@@ -97,11 +106,12 @@ KINDS = {
     "a doubled word that is land": TOUCHES,
     "a changed digit": NUMBER,
     "two digits exchanged": NUMBER,
+    "a digit as a letter": LETTER,
     "`of` put in": JOINED,
     "`of` taken out": SAME,
 }
-OUTCOMES = ["right", "as it says", "run, told", "run, untold", "WRONG", "several with", "several without", "refused",
-            "none"]
+OUTCOMES = ["right", "as it says", "run, told", "run, formal", "UNTOLD", "WRONG", "several with", "several without",
+            "refused", "none"]
 
 FRACTION = re.compile(r"(?<=[NSEWnsew])(\.?) ?(1 ?/ ?([24])|[½¼])(?![0-9])")
 STEP = r"(?:(?:[NS][EW]|[NSEW])\.?\s?(?:1/[24]|/[24]|[½¼])|(?:[NS][EW]|[NSEW])[24](?![0-9])|[NS][EW])"
@@ -109,6 +119,7 @@ PART_BEFORE = re.compile(rf"(?<![A-Za-z0-9])(?:{STEP}(?:\s?of (?:the )?)?)*{STEP
 PART_AFTER = re.compile(rf"(?:the )?{STEP}(?:(?:\s?of (?:the )?)?{STEP})*", re.IGNORECASE)
 RUN_BEFORE = re.compile(r"[^\s,;:]*(?:[NSEW]|[NSEW][24]|[24½¼])$", re.IGNORECASE)
 RUN_AFTER = re.compile(rf"{STEP}[^\s,;:]*", re.IGNORECASE)
+FORMAL_RUN = re.compile(r"(?:[NS][EW](?:1/4|¼)|[NSEW](?:1/2|½))+", re.IGNORECASE)
 AND_WORDS = {"and", "AND", "&", "+"}
 NUMBER_WORDS = set("""one two three four five six seven eight nine ten eleven twelve thirteen fourteen fifteen sixteen
     seventeen eighteen nineteen twenty thirty forty first second third fourth fifth sixth seventh eighth ninth tenth
@@ -231,7 +242,15 @@ def digits(text, numbers):
                 yield "two digits exchanged", replaced(text, *match.span(), changed), old, changed
 
 
-DAMAGES = [slashes, fractions, line_ends, commas, words, ofs, digits]
+def letters(text, numbers):
+    for match in number_places(text, numbers):
+        for at, digit in enumerate(match[0]):
+            for letter in {"1": "lI", "0": "O"}.get(digit, ""):
+                changed = replaced(match[0], at, at + 1, letter)
+                yield "a digit as a letter", replaced(text, *match.span(), changed), match[0], changed
+
+
+DAMAGES = [slashes, fractions, line_ends, commas, words, ofs, digits, letters]
 
 
 class Mutant:
@@ -370,9 +389,14 @@ def says(mutant, text, land, row_land):
 
 
 def is_told(mutant, assumptions):
-    """Whether an assumption names a run of the mutant that isn't in the row."""
+    """Whether an assumption names what was damaged: words of the mutant that aren't in the row."""
     named = [name for line in assumptions for name in re.findall("`([^`]+)`", line)]
     return any(name in mutant.text and name not in mutant.row.description for name in named)
+
+
+def is_formal(mutant):
+    """Whether a run that lost its comma is written as in the formal language."""
+    return FORMAL_RUN.fullmatch("".join(mutant.change))
 
 
 def outcome(mutant, readings):
@@ -387,13 +411,17 @@ def outcome(mutant, readings):
     right = [land for land, (text, _) in lands.items() if land == row_land or says(mutant, text, land, row_land)]
     if len(lands) > 1:
         return "several with" if right else "several without"
-    if row_land in lands:
-        return "right"
     if not right:
         return "WRONG"
-    if KINDS[mutant.kind] == RUN:
-        return "run, told" if is_told(mutant, lands[right[0]][1]) else "run, untold"
-    return "as it says"
+    if KINDS[mutant.kind] == LETTER and not is_told(mutant, lands[right[0]][1]):
+        return "UNTOLD"
+    if row_land in lands:
+        return "right"
+    if KINDS[mutant.kind] != RUN:
+        return "as it says"
+    if is_told(mutant, lands[right[0]][1]):
+        return "run, told"
+    return "run, formal" if is_formal(mutant) else "UNTOLD"
 
 
 def escaped(text):
@@ -476,12 +504,14 @@ def main():
     for mutant, readings in zip(mutants, found):
         result = outcome(mutant, readings)
         counts[mutant.kind][result] += 1
-        if result == "WRONG":
+        if result in ("WRONG", "UNTOLD"):
             texts = " || ".join(text for text, _ in readings)
-            failures.append(f"{mutant.name}, {mutant.kind}: {mutant.text!r} is read as {texts!r}, not as "
-                            f"{mutant.row.land!r}")
+            what = f", not as {mutant.row.land!r}" if result == "WRONG" else ", and doesn't tell that it assumes this"
+            failures.append(f"{mutant.name}, {mutant.kind}: {mutant.text!r} is read as {texts!r}{what}")
     print(f"{'of ' + str(len(rows)) + ' rows':<36}{'mutants':>8}" + "".join(f"{name:>16}" for name in OUTCOMES))
     counts["all"] = sum(counts.values(), collections.Counter())
+    if counts["all"]["run, formal"] > FORMAL_MOST:
+        failures.append(f"{counts['all']['run, formal']} formal runs that may lack a comma, more than {FORMAL_MOST}")
     for kind in [*KINDS, "all"]:
         print(f"{kind:<36}{sum(counts[kind].values()):8}" + "".join(f"{counts[kind][name]:16}" for name in OUTCOMES))
     for failure in failures:

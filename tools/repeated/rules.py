@@ -1,6 +1,6 @@
-"""The numbers of the rules of readings, and of their manners: the definitions say them, and the header and the bindings
-repeat them. The words for what rules assume are those of the package for Python, which the extension for PostgreSQL
-repeats."""
+"""The numbers of the rules of readings, of their manners, and of what they assume: the definitions say them, and the header
+and the bindings repeat them. The words for what is assumed are those of the crate twp_suggest, which the bindings and the
+extension for PostgreSQL repeat."""
 
 import re
 from typing import Dict, List
@@ -13,12 +13,14 @@ SQL = "postgresql/src/suggest.c"
 
 DEFINITIONS = "crates/twp_calls/specs/Suggestions.antt"
 
+ASSUMPTIONS = "crates/twp_suggest/src/assumptions.rt"
+
 
 def compare() -> Compared:
     text = text_of(DEFINITIONS)
     numbers = {plain(name): int(number) for name, number in re.findall(r"^number_of \(?(\w+).* = (\d+)$", text, re.M)}
     manners = {plain(name): int(number) for name, number in re.findall(r"^manner_of (\w+) = (\d+)$", text, re.M)}
-    assumes = {plain(name) for name in re.findall(r"^assumes_of (\w+) = 1$", text, re.M)}
+    assumes = numbers_in(r"^number_of_assumption \(Some (\w+)\) = (\d+)$", text)
     header = text_of(HEADER)
     wanted = {**numbers, **{f"manner {name}": number for name, number in manners.items()}}
     differences: List[str] = []
@@ -29,17 +31,25 @@ def compare() -> Compared:
     ):
         if found != wanted:
             differences.append(f"{place}: the rules are {found}, and those of {DEFINITIONS} are {wanted}")
+    words = words_in(r'Assumption::(\w+) => (?:\{\s*)?"(.*)"', text_of(ASSUMPTIONS))
+    in_python = words_in(r'^    "([a-z ]+)": "(.*)",$', text_of(f"{PYTHON}/_readings.py"))
     for place, found in (
-        (HEADER, {plain(name) for name in re.findall(r"^#define TOWNSHIP_RULE_(\w+) +\d+u +/\* assumed", header, re.M)}),
-        (f"{PYTHON}/_readings.py", set(re.findall(r'^    "([a-z ]+)": "', text_of(f"{PYTHON}/_readings.py"), re.M))),
+        (HEADER, numbers_in(r"^#define TOWNSHIP_ASSUMES_(\w+) (\d+)u", header)),
+        (f"{PYTHON}/_readings.py", {name: number for number, name in enumerate(in_python, 1)}),
+        (f"{RUST}/readings/assumption.rs", rust_assumptions()),
+        (ASSUMPTIONS, {name: assumes.get(name) for name in words}),
     ):
         if found != assumes:
-            differences.append(f"{place}: the rules that assume something are {found}, and not {assumes}")
-    words = words_in(r'^    "([a-z ]+)": "(.*)",$', text_of(f"{PYTHON}/_readings.py"))
-    repeated = words_in(r'^    \{TOWNSHIP_RULE_(\w+), "(.*)"\},$', text_of(SQL))
-    if repeated != words:
-        differences.append(f"{SQL}: the words for what is assumed are {repeated}, and not {words}")
-    return 3 * len(wanted) + 3, differences
+            differences.append(f"{place}: the assumptions are {found}, and not {assumes}")
+    for place, found in (
+        (f"{PYTHON}/_readings.py", in_python),
+        (f"{RUST}/readings/assumption.rs",
+         words_in(r'Assumption::(\w+) => (?:\{\s*)?"(.*)"', text_of(f"{RUST}/readings/assumption.rs"))),
+        (SQL, words_in(r'^    \{TOWNSHIP_ASSUMES_(\w+), "(.*)"\},$', text_of(SQL))),
+    ):
+        if found != words:
+            differences.append(f"{place}: the words for what is assumed are {found}, and not {words}")
+    return 3 * len(wanted) + 7, differences
 
 
 def plain(name: str) -> str:
@@ -73,6 +83,12 @@ def in_order(constant: str, first: int, folder: str) -> Dict[str, int]:
 
 def manners_in_order(folder: str) -> Dict[str, int]:
     return {f"manner {name}": index for name, index in in_order("MANNERS", 0, folder).items()}
+
+
+def rust_assumptions() -> Dict[str, int]:
+    text = text_of(f"{RUST}/readings/assumption.rs")
+    [inside] = re.findall(r"^const ASSUMPTIONS: \[Assumption; \d+\] = \[(.*?)\];", text, re.M | re.S)
+    return {plain(name): 1 + index for index, name in enumerate(re.findall(r"Assumption::(\w+)", inside))}
 
 
 def rust_rules() -> Dict[str, int]:

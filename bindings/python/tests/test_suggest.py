@@ -23,8 +23,8 @@ class Suggested(unittest.TestCase):
         self.assertEqual(first.text, "sec. 14: NE¼NE¼, SW¼SW¼")
         self.assertEqual(second.text, "sec. 14: NE¼NE¼SW¼SW¼")
         # The space is the byte 17: each `¼` before it has two bytes.
-        self.assertEqual(first.changes, ((17, 17, "", ",", "comma"),))
-        self.assertEqual(second.changes, ((17, 18, " ", "", "one part"),))
+        self.assertEqual(first.changes, ((17, 17, "", ",", "comma", None, None),))
+        self.assertEqual(second.changes, ((17, 18, " ", "", "one part", "no missing comma", "NE¼NE¼ SW¼SW¼"),))
 
     def test_changes_make_the_text(self):
         for text in (TWO, MANY, "08 0020N 0030W 014 ALIQ NENE;", "the South Half of the Northeast Quarter of Section Fourteen (14)"):
@@ -71,6 +71,38 @@ class Suggested(unittest.TestCase):
             "without `containing 160.00 acres`: the acreage is not compared",
         ))
 
+    def test_assumptions_of_each_kind(self):
+        for text, assumes, phrase, said in (
+            ("Sec. 14: NE/4, Boise Meridian", "same meridian", " Boise Meridian",
+             "without `Boise Meridian`: the meridian, state, or county is that of the field notes"),
+            ("Sec. 5: Lot 1 (40.21)", "same acreage", "(40.21)", "without `(40.21)`: the acreage is not compared"),
+            ("TRACT 1: sec. 14, NE1/4.", "not land", "TRACT 1:", "without `TRACT 1:`: this is not land"),
+            ("Section Fourteen (14): NE/4", "said before", "(14)", "without `(14)`: this repeats what is before it"),
+            # The words around the letter, and around one that is copied to the beginning. The period isn't part of them.
+            ("Sec. 14, NEI/4.", "wrong letter", "NEI/4", "`NEI/4`: a letter or digit is wrong"),
+            ("NE/4 Sec. 1O", "wrong letter", "1O", "`1O`: a letter or digit is wrong"),
+            ("Sec. 14: Nothwest quarter", "wrong letter", "Nothwest", "`Nothwest`: a letter or digit is wrong"),
+            # What may have lost a comma, without and with white space between the steps.
+            ("Sec. 14: N2SW;", "no missing comma", "N2SW", "`N2SW`: no comma is missing"),
+            ("Sec. 28: E/2 SE/4", "no missing comma", "E/2 SE/4", "`E/2 SE/4`: no comma is missing"),
+        ):
+            reading, = township.suggest(text)
+            assumed = [change for change in reading.changes if change.assumes is not None]
+            self.assertEqual([(each.assumes, each.phrase.strip()) for each in assumed], [(assumes, phrase.strip())], text)
+            self.assertEqual(reading.assumptions, (said,), text)
+
+    def test_nothing_is_assumed(self):
+        # White space within a corner or before a fraction, `of`, the word for a section, and a section that moved.
+        for text in ("Sec. 22, S.W.¼ of N.W.¼", "Sec. 14: NE ¼", "N2 of the NE4 of Sec 14", "NE4Sec 14", "Sec 14: N 1/2"):
+            reading, = township.suggest(text)
+            self.assertEqual(reading.assumptions, (), text)
+
+    def test_an_assumption_is_said_once(self):
+        # Three changes within one run.
+        reading, = township.suggest("Sec. 14: N2SESWSE")
+        self.assertEqual([change.assumes for change in reading.changes].count("no missing comma"), 3)
+        self.assertEqual(reading.assumptions, ("`N2SESWSE`: no comma is missing",))
+
     def test_none(self):
         for text in ("", "the old mill", b"sec. 14\xff", "sec. 5, N½ of lot 2 and the old mill"):
             readings = township.suggest(text)
@@ -116,6 +148,10 @@ class Suggested(unittest.TestCase):
             name = rule.upper().replace(" ", "_")
             self.assertRegex(header, rf"(?m)^#define TOWNSHIP_RULE_{name} {number}u ")
         self.assertEqual(header.count("#define TOWNSHIP_RULE_"), len(_readings.RULES))
+        for number, assumption in enumerate(_readings.ASSUMED, 1):
+            name = assumption.upper().replace(" ", "_")
+            self.assertRegex(header, rf"(?m)^#define TOWNSHIP_ASSUMES_{name} {number}u ")
+        self.assertEqual(header.count("#define TOWNSHIP_ASSUMES_"), len(_readings.ASSUMED))
         for number, manner in enumerate(_readings.MANNERS):
             self.assertIn(f"#define TOWNSHIP_{manner.upper().replace(' ', '_')} {number}u", header)
         self.assertIn(f"#define TOWNSHIP_READINGS_MOST {_library.READINGS_MOST}\n", header)
@@ -137,9 +173,11 @@ class Command(BatchCase):
         self.assertShows(
             MANY + "\n", 0,
             "1. T. 2 N., R. 3 W., sec. 14, NE1/4NE1/4, S1/2NE1/4.    120.00 acres",
-            "     NENE      is NE1/4NE1/4: a run of quarters without a space is one part",
+            "     NENE      is NE1/4NE1/4",
             "     S2NE4     is S1/2NE1/4",
             "     Sec 14-2N-3W is section, township, and range",
+            "     `NENE`: no comma is missing",
+            "     `S2NE4`: no comma is missing",
         )
 
     def test_several_readings(self):

@@ -68,7 +68,7 @@ pub use self::note::Note;
 pub use self::parse::ParseError;
 pub use self::part::Part;
 pub use self::plat::{NoPlat, Plat, LINES};
-pub use self::readings::{suggest, Beyond, Change, Manner, Reading, Rule, Suggestion};
+pub use self::readings::{suggest, Assumption, Beyond, Change, Manner, Reading, Rule, Suggestion};
 pub use self::refused::{Refusal, Refused};
 pub use self::report::{LotsReport, Overlap, Report, Tract, TractAnswer, TractRefusal};
 pub use self::township::{EastWest, NorthSouth, Township};

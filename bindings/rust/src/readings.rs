@@ -1,7 +1,9 @@
 //! Readings: what a text that is not written as descriptions are may mean, as descriptions.
 
+mod assumption;
 mod rule;
 
+pub use self::assumption::Assumption;
 pub use self::rule::Rule;
 
 use crate::answer::{out_of_memory, Verdict};
@@ -79,6 +81,8 @@ pub struct Change {
     pub written: String,
     /// The rule by which this is done.
     pub rule: Rule,
+    /// What it assumes that the text does not say.
+    pub assumes: Option<Assumption>,
 }
 
 /// Suggests how a text would be written as a description, without a plat.
@@ -112,11 +116,13 @@ impl Reading {
     ///
     /// ```
     /// let found = township::suggest("Sec. 14: NE¼, Boise Meridian");
-    /// let assumed: Vec<_> = found.readings[0].assumptions().map(|change| change.rule).collect();
-    /// assert_eq!(assumed, [township::Rule::Meridian]);
+    /// let assumed: Vec<_> = found.readings[0].assumptions().map(|change| change.assumes).collect();
+    /// assert_eq!(assumed, [Some(township::Assumption::SameMeridian)]);
     /// ```
     pub fn assumptions(&self) -> impl Iterator<Item = &Change> {
-        self.changes.iter().filter(|change| change.rule.assumes())
+        self.changes
+            .iter()
+            .filter(|change| change.assumes.is_some())
     }
 }
 
@@ -182,6 +188,7 @@ impl Data {
             end: size(data.end),
             written: self.text(data.written, data.written_length),
             rule: Rule::of(data.rule),
+            assumes: Assumption::of(data.assumes),
         }
     }
 

@@ -3,7 +3,7 @@
 mod samples;
 
 use samples::uneven;
-use township::{suggest, Manner, Rule};
+use township::{suggest, Assumption, Manner, Rule};
 
 /// White space between two parts: two parts, or one.
 const TWO: &str = "sec. 14: NE¼NE¼ SW¼SW¼";
@@ -75,11 +75,46 @@ fn readings_are_descriptions() {
 fn assumptions() {
     let text = "TRACT 1: NE/4 Sec 14, T2N R3W, Boise Meridian, containing 160.00 acres";
     let found = suggest(text);
-    let rules: Vec<Rule> = found.readings[0]
+    let assumed: Vec<_> = found.readings[0]
         .assumptions()
-        .map(|change| change.rule)
+        .filter_map(|change| change.assumes)
         .collect();
-    assert_eq!(rules, [Rule::Label, Rule::Meridian, Rule::Acreage]);
+    let wanted = [
+        Assumption::NotLand,
+        Assumption::SameMeridian,
+        Assumption::SameAcreage,
+    ];
+    assert_eq!(assumed, wanted);
+}
+
+#[test]
+fn assumptions_about_what_is_not_left_out() {
+    for (text, assumption, words) in [
+        (
+            "Section Fourteen (14): NE/4",
+            Assumption::SaidBefore,
+            "this repeats what is before it",
+        ),
+        (
+            "Sec. 14, NEI/4",
+            Assumption::WrongLetter,
+            "a letter or digit is wrong",
+        ),
+        (
+            "Sec. 14: N2SW",
+            Assumption::NoMissingComma,
+            "no comma is missing",
+        ),
+    ] {
+        let found = suggest(text);
+        let assumed: Vec<_> = found.readings[0]
+            .assumptions()
+            .filter_map(|change| change.assumes)
+            .collect();
+        assert_eq!(assumed, [assumption], "{text}");
+        assert_eq!(assumption.to_string(), words);
+    }
+    assert_eq!(suggest("Sec. 14: N/2").readings[0].assumptions().count(), 0);
 }
 
 #[test]

@@ -78,13 +78,13 @@ fn print_readings(rt: &HostRuntime, text: &[u8]) -> io::Result<()> {
     Ok(())
 }
 
-/// Prints what changes assume, each phrase once where it is.
+/// Prints what changes assume, each phrase once for an assumption.
 fn print_assumptions(rt: &HostRuntime, text: &[u8], changes: &[Change<'_>]) -> io::Result<()> {
     for (index, change) in changes.iter().enumerate() {
         if let Some(assumption) = assumption_of(text, change) {
             let phrase = phrase_of(text, change);
             let earlier = changes.get(..index).unwrap_or(&[]);
-            if assumption.is_of_left_out() || !is_said(text, earlier, assumption, phrase) {
+            if !is_said(text, earlier, assumption, phrase) {
                 print_assumption(rt, assumption, phrase)?;
             }
         }

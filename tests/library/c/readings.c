@@ -79,14 +79,17 @@ static void has_readings(void) {
     reads("sec. 14: NE\302\274NE\302\274 SW\302\274SW\302\274", "sec. 14: NE\302\274NE\302\274, SW\302\274SW\302\274|0\n"
                                                                "17-17 16 0 0-0 [,]\n"
                                                                "sec. 14: NE\302\274NE\302\274SW\302\274SW\302\274|0\n"
-                                                               "17-18 18 0 0-0 []\n");
-    /* Without the space between them, they are one part. */
+                                                               "17-18 18 6 0-0 []\n");
+    /* Without the space between them, they are one part: no comma is missing at byte 11. */
     reads("sec. 14, NENE", "sec. 14, NE1/4NE1/4|0\n"
-                           "11-11 2 0 0-0 [1/4]\n"
+                           "11-11 2 6 0-0 [1/4]\n"
                            "13-13 2 0 0-0 [1/4]\n");
     /* The label is left out, and assumed not to be land. */
     reads("TRACT 1: sec. 14, NE1/4.", " sec. 14, NE1/4.|0\n"
-                                      "0-8 26 1 0-0 []\n");
+                                      "0-8 26 3 0-0 []\n");
+    /* A letter is wrong in the fraction at byte 11. */
+    reads("sec. 14, NEI/4", "sec. 14, NE1/4|0\n"
+                            "11-14 2 5 0-0 [1/4]\n");
     /* Nothing is certain. */
     reads("", "");
     reads("the old mill", "");

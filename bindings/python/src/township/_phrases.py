@@ -30,15 +30,12 @@ _WORD = re.compile(rb"[\s,;:]")
 #: What ends a phrase of the text, besides what is left out.
 _ENDS = re.compile(rb"[,;:\n]")
 
-#: Quarters that are run together.
-_RUN = re.compile(r"(?:[NS][EW]){2,}", re.IGNORECASE)
-
 
 class Phrase(NamedTuple):
     """A phrase of the text, and what it is in a reading."""
 
     text: str
-    #: What it is, and why, such as `is NE1/4NE1/4: a run of quarters without a space is one part`.
+    #: What it is, and why, such as `is a comma: a part of the same section follows`.
     meaning: str
 
 
@@ -79,11 +76,6 @@ def phrases_of(given: bytes, changes: Sequence[Change]) -> List[Phrase]:
             meaning = f"is {after}{_reason(before, piece.changes)}" if after else _NOTHING
             found.append((piece.start, Phrase(before, meaning)))
     return [phrase for _, phrase in sorted(found)]
-
-
-def assumptions_of(readings: Iterable[Reading]) -> List[str]:
-    """Return what readings assume, without repetitions."""
-    return list(dict.fromkeys(each for reading in readings for each in reading.assumptions))
 
 
 def condition_of(given: bytes, reading: Reading, others: Sequence[Reading]) -> Optional[str]:
@@ -140,9 +132,7 @@ def _left_out(given: bytes, row: Sequence[Change]) -> Iterator[Tuple[int, Phrase
         yield moved[0].start, Phrase(" ".join(text.split()).strip(",; "), meaning)
     for change in row:
         text = " ".join(_shown(given[change.start : change.end]).split())
-        if change.rule == "repeated":
-            yield change.start, Phrase(text, "is left out: it repeats what is before it")
-        elif all(each.rule == "mark" for each in row):
+        if all(each.rule == "mark" for each in row):
             yield change.start, Phrase(text, _NOTHING)
 
 
@@ -173,8 +163,6 @@ def _changed(given: bytes, piece: _Piece) -> str:
 
 def _reason(before: str, changes: Sequence[Change]) -> str:
     """Return why a piece is something else, if that does not show."""
-    if _RUN.fullmatch(before):
-        return ": a run of quarters without a space is one part"
     return _REASONS.get(changes[0].rule, "") if len(before) == 1 else ""
 
 

@@ -3,7 +3,7 @@ from __future__ import annotations
 
 from ctypes import byref, create_string_buffer
 from decimal import Decimal
-from typing import Any, List, NamedTuple, Optional, Sequence, Tuple, Union, overload
+from typing import Any, Callable, Iterable, List, NamedTuple, Optional, Sequence, Tuple, Union, overload
 
 from . import _library
 from ._refused import Refused, failure_of
@@ -17,12 +17,22 @@ RULES = (
     *("acreage", "label"),
 )
 
-#: What rules assume that the text does not say.
+#: What changes assume that the text does not say, by the names of the assumptions: in the order of their numbers, which
+#: begin with 1.
 ASSUMED = {
-    "meridian": "the meridian, state, or county is that of the field notes",
-    "acreage": "the acreage is not compared",
-    "label": "this is not land",
+    "same meridian": "the meridian, state, or county is that of the field notes",
+    "same acreage": "the acreage is not compared",
+    "not land": "this is not land",
+    "said before": "this repeats what is before it",
+    "wrong letter": "a letter or digit is wrong",
+    "no missing comma": "no comma is missing",
 }
+
+#: The assumptions about what is not left out: they are about the words around the change.
+_AROUND = ("wrong letter", "no missing comma")
+
+#: White space, and what is between words.
+_WHITE, _BETWEEN_WORDS = b" \t\n\r", b" \t\n\r,;:|"
 
 #: How the text of a reading comes of the changed text, by the numbers of manners.
 MANNERS = ("changed", "lots named", "remainder")
@@ -36,7 +46,7 @@ class Change(NamedTuple):
 
     >>> change, = township.suggest("sec. 14, NE.")[0].changes
     >>> change
-    Change(start=11, end=11, left_out='', written='1/4', rule='quarter')
+    Change(start=11, end=11, left_out='', written='1/4', rule='quarter', assumes=None, phrase=None)
     """
 
     #: The place: the bytes of the text in UTF-8 from `start` to before `end`, of which there may be none.
@@ -48,6 +58,11 @@ class Change(NamedTuple):
     written: str
     #: The name of the rule by which this is done, such as `quarter`. `docs/DESCRIPTIONS.md` shows what each does.
     rule: str
+    #: The name of what the change assumes that the text does not say, or `None`: `same meridian`, `same acreage`,
+    #: `not land`, `said before`, `wrong letter`, or `no missing comma`.
+    assumes: Optional[str] = None
+    #: The phrase of the text that this is about, or `None`: what is left out, or the words around the change.
+    phrase: Optional[str] = None
 
     @property
     def assumption(self) -> Optional[str]:
@@ -56,8 +71,15 @@ class Change(NamedTuple):
         >>> [change.assumption for change in township.suggest("TRACT 1: sec. 14, NE1/4.")[0].changes]
         ['without `TRACT 1:`: this is not land']
         """
-        assumed = ASSUMED.get(self.rule)
-        return None if assumed is None else f"without `{' '.join(self.left_out.split())}`: {assumed}"
+        if self.assumes is None or self.phrase is None:
+            return None
+        said = f"`{' '.join(self.phrase.split())}`: {ASSUMED[self.assumes]}"
+        return said if self.assumes in _AROUND else f"without {said}"
+
+
+def assumptions_of(changes: Iterable[Change]) -> Tuple[str, ...]:
+    """Return what changes assume, without repetitions."""
+    return tuple(dict.fromkeys(filter(None, (change.assumption for change in changes))))
 
 
 class Reading(NamedTuple):
@@ -67,7 +89,8 @@ class Reading(NamedTuple):
     >>> reading.acres
     Decimal('120.00')
     >>> reading.assumptions
-    ('without `Boise Meridian`: the meridian, state, or county is that of the field notes',)
+    ('`NENE`: no comma is missing', '`S2NE4`: no comma is missing',
+    'without `Boise Meridian`: the meridian, state, or county is that of the field notes')
     """
 
     #: The description.
@@ -87,8 +110,8 @@ class Reading(NamedTuple):
 
     @property
     def assumptions(self) -> Tuple[str, ...]:
-        """What the reading assumes that the text does not say."""
-        return tuple(filter(None, (change.assumption for change in self.changes)))
+        """What the reading assumes that the text does not say, each assumption once."""
+        return assumptions_of(self.changes)
 
 
 class Readings(Sequence[Reading]):
@@ -153,6 +176,20 @@ def suggest(text: Text) -> Readings:
     return _Suggested(given).readings()
 
 
+def _start_before(given: bytes, at: int, is_end: Callable[[int], bool]) -> int:
+    """Return the place before `at` that comes after the last byte that ends a word, or white space."""
+    while at and not is_end(given[at - 1]):
+        at -= 1
+    return at
+
+
+def _end_after(given: bytes, at: int, is_end: Callable[[int], bool]) -> int:
+    """Return the place after `at` of the first byte that ends a word, or white space."""
+    while at < len(given) and not is_end(given[at]):
+        at += 1
+    return at
+
+
 class _Suggested:
     """What the library writes for a text."""
 
@@ -192,7 +229,24 @@ class _Suggested:
     def _change(self, data: _library.Change) -> Change:
         left_out = self._given[data.start : data.end].decode("utf-8", "surrogateescape")
         written = self._text(data.written, data.written_length)
-        return Change(data.start, data.end, left_out, written, RULES[data.rule - 1])
+        rule = RULES[data.rule - 1]
+        if not data.assumes:
+            return Change(data.start, data.end, left_out, written, rule)
+        assumes = tuple(ASSUMED)[data.assumes - 1]
+        phrase = self._words_around(data, rule) if assumes in _AROUND else left_out
+        return Change(data.start, data.end, left_out, written, rule, assumes, phrase)
+
+    def _words_around(self, data: _library.Change, rule: str) -> str:
+        """Return the words around a change, or around what it copies, without the period at their end."""
+        given = self._given
+        start, end = (data.copied, data.copied_end) if data.copied_end else (data.start, data.end)
+        if rule == "one part":
+            start = _start_before(given, start, lambda byte: byte not in _WHITE)
+            end = _end_after(given, end, lambda byte: byte not in _WHITE)
+        start = _start_before(given, start, lambda byte: byte in _BETWEEN_WORDS)
+        end = _end_after(given, end, lambda byte: byte in _BETWEEN_WORDS)
+        words = given[start:end].decode("utf-8", "surrogateescape")
+        return words[:-1] if words.endswith(".") else words
 
     def _text(self, start: int, length: int) -> str:
         # A description is UTF-8. Only the bytes that a change leaves out may not be.

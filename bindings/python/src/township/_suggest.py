@@ -10,9 +10,9 @@ from ._account import ACCOUNTS
 from ._batch.options import STANDARD
 from ._batch.stopped import Status, Stopped
 from ._measuring import Command, _bytes_in, _source, _write
-from ._phrases import assumptions_of, condition_of, phrases_of, shared_of, tidy
+from ._phrases import condition_of, phrases_of, shared_of, tidy
 from ._plat import Plat
-from ._readings import Change, Reading, Readings
+from ._readings import Change, Reading, Readings, assumptions_of
 from ._refused import Refused
 
 _USAGE = "python -m township suggest [--account ACCOUNT] NOTES DESCRIPTION"
@@ -97,9 +97,11 @@ def lines_of(given: bytes, found: Readings) -> List[str]:
     >>> text = "NENE, S2NE4 Sec 14-2N-3W"
     >>> print(*lines_of(text.encode(), plat.suggest(text)), sep="\\n")
     1. T. 2 N., R. 3 W., sec. 14, NE1/4NE1/4, S1/2NE1/4.    120.00 acres
-         NENE      is NE1/4NE1/4: a run of quarters without a space is one part
+         NENE      is NE1/4NE1/4
          S2NE4     is S1/2NE1/4
          Sec 14-2N-3W is section, township, and range
+         `NENE`: no comma is missing
+         `S2NE4`: no comma is missing
     """
     if not found:
         return [f"not expressible by lots and aliquot parts: {found.reason}" if found.reason else _NOT_CERTAIN]
@@ -133,7 +135,7 @@ def _refusal_of(reading: Reading) -> str:
 
 
 def _explained(given: bytes, changes: Sequence[Change], readings: Sequence[Reading]) -> List[str]:
-    """Return a line for each phrase that changes make something else, and for each assumption of the readings."""
+    """Return a line for each phrase that changes make something else, and for each of their assumptions."""
     phrases = [f"     {phrase.text:<{_PHRASE}} {phrase.meaning}" for phrase in phrases_of(given, changes)]
     manners = dict.fromkeys(_MANNERS[each.manner] for each in readings if each.manner in _MANNERS)
-    return phrases + [f"     {said}" for said in (*manners, *assumptions_of(readings))]
+    return phrases + [f"     {said}" for said in (*manners, *assumptions_of(changes))]

@@ -51,11 +51,11 @@ pub enum Rule {
     MovedSection,
     /// A township and range are left out, and written at the beginning.
     MovedHeading,
-    /// Assumed: the meridian, state, or county is that of the field notes.
+    /// The meridian, the state, or the county is left out.
     Meridian,
-    /// Assumed: the acreage, which is not compared, is right.
+    /// Stated acreage is left out.
     Acreage,
-    /// Assumed: a label is not land.
+    /// A label, which is not land, is left out.
     Label,
 }
 
@@ -90,11 +90,6 @@ const RULES: [Rule; 26] = [
 ];
 
 impl Rule {
-    /// Returns whether the rule assumes something that the text does not say.
-    pub fn assumes(self) -> bool {
-        matches!(self, Rule::Meridian | Rule::Acreage | Rule::Label)
-    }
-
     /// Returns the rule with a number.
     pub(super) fn of(number: u32) -> Rule {
         let index = usize::try_from(number).unwrap_or(0).wrapping_sub(1);

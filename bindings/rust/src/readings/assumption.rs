@@ -1,0 +1,103 @@
+//! What readings assume that a text does not say.
+
+use std::fmt;
+
+/// What a change of a reading assumes that the text does not say.
+#[derive(Clone, Copy, Debug, PartialEq, Eq, Hash)]
+#[cfg_attr(feature = "serde", derive(serde::Serialize, serde::Deserialize))]
+#[non_exhaustive]
+pub enum Assumption {
+    /// The meridian, the state, or the county that is left out is that of the field notes.
+    SameMeridian,
+    /// The acreage that is left out is right: it is not compared.
+    SameAcreage,
+    /// What is left out is not land.
+    NotLand,
+    /// What is left out repeats what is before it.
+    SaidBefore,
+    /// A letter or a digit in the words around the change is wrong: it was misread, or there is a
+    /// slip of the pen.
+    WrongLetter,
+    /// No comma is missing in the words around the change: they are one part.
+    NoMissingComma,
+}
+
+/// The assumptions, in the order of their numbers, which begin with 1.
+const ASSUMPTIONS: [Assumption; 6] = [
+    Assumption::SameMeridian,
+    Assumption::SameAcreage,
+    Assumption::NotLand,
+    Assumption::SaidBefore,
+    Assumption::WrongLetter,
+    Assumption::NoMissingComma,
+];
+
+impl Assumption {
+    /// Returns what is assumed, in words.
+    pub fn words(self) -> &'static str {
+        match self {
+            Assumption::SameMeridian => {
+                "the meridian, state, or county is that of the field notes"
+            }
+            Assumption::SameAcreage => "the acreage is not compared",
+            Assumption::NotLand => "this is not land",
+            Assumption::SaidBefore => "this repeats what is before it",
+            Assumption::WrongLetter => "a letter or digit is wrong",
+            Assumption::NoMissingComma => "no comma is missing",
+        }
+    }
+
+    /// Returns the assumption with a number, or `None` for 0.
+    pub(super) fn of(number: u32) -> Option<Assumption> {
+        let index = usize::try_from(number).unwrap_or(usize::MAX).checked_sub(1)?;
+        match ASSUMPTIONS.get(index) {
+            Some(assumption) => Some(*assumption),
+            None => panic!("the library answered with assumption {number}, which is unknown here"),
+        }
+    }
+}
+
+impl fmt::Display for Assumption {
+    fn fmt(&self, to: &mut fmt::Formatter<'_>) -> fmt::Result {
+        to.write_str(self.words())
+    }
+}
+
+#[cfg(test)]
+mod tests {
+    use super::*;
+
+    const HEADER: &str = include_str!(concat!(env!("CARGO_MANIFEST_DIR"), "/include/township.h"));
+
+    /// `TOWNSHIP_ASSUMES_NOT_LAND` of `NotLand`.
+    fn name_in_header(assumption: Assumption) -> String {
+        let mut name = String::from("TOWNSHIP_ASSUMES");
+        for letter in format!("{assumption:?}").chars() {
+            if letter.is_uppercase() {
+                name.push('_');
+            }
+            name.push(letter.to_ascii_uppercase());
+        }
+        name
+    }
+
+    #[test]
+    fn numbers_are_those_of_the_header() {
+        assert_eq!(Assumption::of(0), None);
+        for (number, assumption) in (1..).zip(ASSUMPTIONS) {
+            assert_eq!(Assumption::of(number), Some(assumption));
+            let line = format!("#define {} {number}u ", name_in_header(assumption));
+            assert!(HEADER.contains(&line), "the header has no line {line}");
+        }
+        assert_eq!(
+            HEADER.matches("#define TOWNSHIP_ASSUMES_").count(),
+            ASSUMPTIONS.len()
+        );
+    }
+
+    #[test]
+    #[should_panic(expected = "assumption 7, which is unknown here")]
+    fn unknown_assumption() {
+        Assumption::of(7);
+    }
+}
