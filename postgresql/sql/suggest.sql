@@ -11,6 +11,8 @@ SELECT suggested.* FROM plats, suggest(plat, 'sec. 14: NE¼NE¼ SW¼SW¼') AS su
 -- What readings assume that the text does not say. Each white space is one space.
 SELECT reading, unnest(assumes) AS assumed
 FROM suggest(E'TRACT 1: NE/4 Sec 14, T2N R3W,\n Boise\t Meridian, containing 160.00 acres');
+-- What is not left out: a number that is said again, steps that may lack a comma, in two changes, and a wrong letter.
+SELECT unnest(assumes) AS assumed FROM suggest('Section Fourteen (14): N2SWSW, NEI/4.');
 SELECT reading, assumes = '{}' AS nothing FROM suggest('N2 Sec 14');
 
 -- A reading is on one line, with a single space for white space. Its acres are those of the description: here, the

@@ -4,9 +4,11 @@
 
 mod assumptions;
 
-ghost use Rattle.std.specs.Prelude.{IfOk, IfSome};
+ghost use Rattle.std.specs.Prelude.{[], ◌∷◌, IfOk, IfSome};
 ghost use Rattle.twp_explain_text.specs.Suggestions.{IsOfTownship, NamesLandOf};
 ghost use Rattle.twp_grid.specs.Townships.{Designation};
+ghost use Rattle.twp_perhaps.specs.Told.{IsToldIn};
+ghost use Rattle.twp_suggest.specs.Readings.{AreReadings};
 
 use crate::assumptions::write_assumptions;
 use std::alloc::{AllocError, Global};
@@ -24,7 +26,10 @@ const SHORT: usize = 4_000;
 pub struct OnlyReading;
 
 impl Suggests for OnlyReading {
-    fn suggest(alloc: Global, text: &[u8], township: Township) -> Result<Suggestion, AllocError> {
+    fn suggest(alloc: Global, text: &[u8], township: Township) -> Result<Suggestion, AllocError>
+        ensures on_plat { IfOk result (IsOfTownship township) }
+        ensures told { IfOk result (IsToldIn text.now) }
+    {
         if text.len() > SHORT {
             return Ok(Suggestion::Nothing);
         }
@@ -39,7 +44,8 @@ impl Suggests for OnlyReading {
 
 /// Why lots and aliquot parts can't describe the land of a text that has no reading.
 fn reason(alloc: Global, text: &[u8]) -> Result<Suggestion, AllocError>
-    ensures { IfOk result (λ it. (township : Designation) → IsOfTownship township it) }
+    ensures on_plat { IfOk result (λ it. (township : Designation) → IsOfTownship township it) }
+    ensures told { IfOk result (IsToldIn text.now) }
 {
     match beyond_of(alloc, text)? {
         Some(beyond) => Ok(Suggestion::Beyond(beyond.reason)),
@@ -54,7 +60,9 @@ fn only(
     reading: &Reading<'_>,
     township: Township,
 ) -> Result<Suggestion, AllocError>
-    ensures { IfOk result (IsOfTownship township) }
+    requires { AreReadings text.now (reading.now ∷ []) }
+    ensures on_plat { IfOk result (IsOfTownship township) }
+    ensures told { IfOk result (IsToldIn text.now) }
 {
     let shown = on_one_line(alloc, reading.text.as_slice().trim_ascii())?;
     let Some(shown) = if_on_plat(alloc, shown, township)? else {

@@ -1,7 +1,7 @@
 -- What a change of a reading assumes that its text doesn't say, and the phrase of the text that this is
 -- about.
 -- Letters of either case are the same.
-use Rattle.std.specs.Prelude.{◌==◌, ◌||◌, ◌&&◌, ◌+◌, ◌-◌, ℕ, zero, suc, Bool, true, false, List, [], ◌∷◌}
+use Rattle.std.specs.Prelude.{◌==◌, ◌||◌, ◌&&◌, ◌+◌, ◌-◌, ℕ, zero, suc, Bool, true, List, [], ◌∷◌}
 use Rattle.std.specs.Prelude.{Option, Some, None}
 use Rattle.std.specs.Prelude.{drop, if◌then◌else◌, codes, length, slice_index, slice_range, take, not}
 use Rattle.twp_grammar.specs.Tokens.{is_white}
@@ -113,6 +113,15 @@ assumed_by rule text start end = None
 -- WHAT A CHANGE ASSUMES that its text doesn't say, if it assumes anything
 abbrev pub assumed : List ℕ → Change → Option Assumption
 assumed text change = assumed_by change.rule text change.start change.end
+
+-- an assumption in words
+abbrev pub words_of : Assumption → List ℕ
+words_of SameMeridian = codes "the meridian, state, or county is that of the field notes"
+words_of SameAcreage = codes "the acreage is not compared"
+words_of NotLand = codes "this is not land"
+words_of SaidBefore = codes "this repeats what is before it"
+words_of WrongLetter = codes "a letter or digit is wrong"
+words_of NoMissingComma = codes "no comma is missing"
 
 -- a byte between words: white space, a comma, a semicolon, a colon, or a bar
 abbrev pub is_between_words : ℕ → Bool

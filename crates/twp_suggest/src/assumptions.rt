@@ -6,7 +6,7 @@ ghost use Rattle.twp_rules.specs.Naming.{is_side, word_of};
 ghost use Rattle.twp_suggest.specs.Assumptions.{are_sides, assumed, assumed_by, begins_step, half_corner_ends};
 ghost use Rattle.twp_suggest.specs.Assumptions.{if_joined, if_wrong, is_between_steps, last_before, side_words};
 ghost use Rattle.twp_suggest.specs.Assumptions.{wrong_corners, wrong_digits, wrong_halves, wrong_lots};
-ghost use Rattle.twp_suggest.specs.Assumptions.{wrong_quarters, wrong_sections};
+ghost use Rattle.twp_suggest.specs.Assumptions.{words_of, wrong_quarters, wrong_sections};
 
 use crate::bytes::{between, byte_at, from, is_text, is_white, without_white};
 use twp_rules::{Change, Rule};
@@ -35,7 +35,9 @@ impl Assumption {
     }
 
     /// What is assumed, in words.
-    pub fn words(self) -> &'static str {
+    pub fn words(self) -> &'static str
+        ensures { result.now ≡ words_of self }
+    {
         match self {
             Assumption::SameMeridian => "the meridian, state, or county is that of the field notes",
             Assumption::SameAcreage => "the acreage is not compared",
