@@ -1,5 +1,5 @@
 -- Changes one after another, over plain values.
-use Rattle.std.proofs.Common.{◌≡◌, ◌&&◌, ◌+◌, ◌≤◌, ◌<◌, ℕ, zero, suc, true, List, [], ◌∷◌, length, drop, map}
+use Rattle.std.proofs.Common.{◌≡◌, ◌&&◌, ◌+◌, ◌≤◌, ◌<◌, ℕ, zero, suc, true, false, List, [], ◌∷◌, length, drop, map}
 use Rattle.std.proofs.Common.{add-one, arith, refl, slice_index_or, slice_range}
 use Rattle.std.proofs.Math.Seq.{drop-cons}
 use Rattle.twp_rules.proofs.SameTexts.{both}
@@ -31,6 +31,17 @@ start_within text at (piece ∷ pieces) zero default h (first, order, allowed, r
     omega arith
 start_within text at (piece ∷ pieces) (suc i) default h all =
     start_within text at pieces i default (omega arith) all
+
+-- and ends in it
+pub end_within : (text : List ℕ) (at : ℕ) (pieces : List Piece) (i : ℕ) (default : Piece)
+    → i < length pieces
+    → AreChangesFrom at text (map seen (drop i pieces))
+    → (slice_index_or pieces i default).end ≤ length text
+end_within text at [] i default h all = absurd (omega arith)
+end_within text at (piece ∷ pieces) zero default h (first, order, allowed, rest) =
+    begin_within piece.end text (map seen pieces) rest
+end_within text at (piece ∷ pieces) (suc i) default h all =
+    end_within text at pieces i default (omega arith) all
 
 -- a change fits, and the rest decides of numbers
 pub next_numbers : (text : List ℕ) (role : Role) (place copied : ℕ) (changes : List Piece) (index : ℕ)
@@ -82,3 +93,17 @@ next_moved text all at it changes index default within written =
     let e = drop-cons changes index default within in
     let f = add-one index in
     rw (f, e, written) refl
+
+-- or it isn't
+pub not_written : (text : List ℕ) (all : List Change) (at : ℕ) (it : Named) (changes : List Piece) (index : ℕ)
+    (default : Piece)
+    → index < length changes
+    → is_written_by text all
+    (named_after it (slice_range text at (slice_index_or changes index default).start))
+    (slice_index_or changes index default).start
+    (slice_range text (slice_index_or changes index default).start (slice_index_or changes index default).end)
+    (slice_index_or changes index default).rule ≡ false
+    → keep_moved text all at it (map seen (drop index changes)) ≡ false
+not_written text all at it changes index default within other =
+    let e = drop-cons changes index default within in
+    rw (e, other) refl

@@ -5,3 +5,4 @@ pub mod ChangeFacts
 pub mod NamingFacts
 pub mod RoleFacts
 pub mod MoveFacts
+pub mod SeamFacts

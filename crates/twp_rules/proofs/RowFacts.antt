@@ -1,6 +1,6 @@
 -- What is before the marks of a row, and after them.
-use Rattle.std.proofs.Common.{◌≡◌, ◌==◌, ◌&&◌, ◌<◌, ◌≤◌, ◌+◌, sym, Bool, true, false, List, [], ◌∷◌, ℕ, zero}
-use Rattle.std.proofs.Common.{suc, refl}
+use Rattle.std.proofs.Common.{◌≡◌, ◌==◌, ◌&&◌, ◌<◌, ◌≤◌, ◌+◌, ◌∙◌, sym, Bool, true, false, List, [], ◌∷◌, ℕ}
+use Rattle.std.proofs.Common.{zero, suc, refl}
 use Rattle.std.proofs.Common.{subst, add-one, arith, length, drop, slice_index_or}
 use Rattle.std.proofs.Math.Seq.{drop-cons}
 use Rattle.std.proofs.lemmas.Bool.{eqb-true, eq-eqb, false≢true}
@@ -79,15 +79,15 @@ fits mark (x ∷ text) (byte ∷ bytes) h = by_test (fits mark text bytes) (byte
         let rest = more (both (x == byte) (same_bytes text (before mark bytes)) (rw e at h)).1 in
         omega arith
 
--- a text is ruled out by its length, if no `=` is there
-pub other_size : (seen row : List ℕ) → (slice_index_or row (length seen) 61 ≡ 61 → ⊥)
-    → same_bytes (str_to_ascii_lowercase seen) (before 61 row) ≡ false
-other_size seen row other = by_test (same_bytes (str_to_ascii_lowercase seen) (before 61 row)) refl
+-- a text is ruled out by its length, if no mark is there
+pub other_size : (mark : ℕ) (seen row : List ℕ) → (slice_index_or row (length seen) mark ≡ mark → ⊥)
+    → same_bytes (str_to_ascii_lowercase seen) (before mark row) ≡ false
+other_size mark seen row other = by_test (same_bytes (str_to_ascii_lowercase seen) (before mark row)) refl
   where
-    by_test : (t : Bool) → same_bytes (str_to_ascii_lowercase seen) (before 61 row) ≡ t → t ≡ false
+    by_test : (t : Bool) → same_bytes (str_to_ascii_lowercase seen) (before mark row) ≡ t → t ≡ false
     by_test true e =
-        absurd (other (subst (λ (n : ℕ). slice_index_or row n 61 ≡ 61) (length-map seen to_ascii_lowercase)
-        (mark_is 61 (str_to_ascii_lowercase seen) row e)))
+        absurd (other (subst (λ (n : ℕ). slice_index_or row n mark ≡ mark) (length-map seen to_ascii_lowercase)
+        (mark_is mark (str_to_ascii_lowercase seen) row e)))
     by_test false e = refl
 
 -- what is written is ruled out by its length, if no filling is there
@@ -122,25 +122,26 @@ is_entry_by_parts answer seen written row h is =
     (after_is 61 (str_to_ascii_lowercase seen) row h) in
     rw h (rw (add-one, here) at is)
 
--- a word with another first byte is not what is before a row's filling
-pub other_head : (word row : List ℕ)
-    → (slice_index_or row 0 95 ≡ to_ascii_lowercase (slice_index_or word 0 95) → ⊥)
-    → same_bytes (str_to_ascii_lowercase word) (before 95 row) ≡ false
-other_head [] [] other = absurd (other refl)
-other_head [] (byte ∷ bytes) other = by_test (byte == 95) refl
+-- a word with another first byte is not what is before a row's mark, which is no capital letter
+pub other_head : (mark : ℕ) (word row : List ℕ)
+    → to_ascii_lowercase mark ≡ mark
+    → (slice_index_or row 0 mark ≡ to_ascii_lowercase (slice_index_or word 0 mark) → ⊥)
+    → same_bytes (str_to_ascii_lowercase word) (before mark row) ≡ false
+other_head mark [] [] low other = absurd (other (sym low))
+other_head mark [] (byte ∷ bytes) low other = by_test (byte == mark) refl
   where
-    by_test : (t : Bool) → (byte == 95) ≡ t → same_bytes [] (before 95 (byte ∷ bytes)) ≡ false
-    by_test true e = absurd (other (eqb-true byte 95 e))
+    by_test : (t : Bool) → (byte == mark) ≡ t → same_bytes [] (before mark (byte ∷ bytes)) ≡ false
+    by_test true e = absurd (other (eqb-true byte mark e ∙ sym low))
     by_test false e = rw e refl
-other_head (x ∷ xs) [] other = refl
-other_head (x ∷ xs) (byte ∷ bytes) other = by_test (byte == 95) refl
+other_head mark (x ∷ xs) [] low other = refl
+other_head mark (x ∷ xs) (byte ∷ bytes) low other = by_test (byte == mark) refl
   where
     by_same : (t : Bool) → (to_ascii_lowercase x == byte) ≡ t
-        → (t && same_bytes (str_to_ascii_lowercase xs) (before 95 bytes)) ≡ false
+        → (t && same_bytes (str_to_ascii_lowercase xs) (before mark bytes)) ≡ false
     by_same true e = absurd (other (sym (eqb-true (to_ascii_lowercase x) byte e)))
     by_same false e = refl
 
-    by_test : (t : Bool) → (byte == 95) ≡ t
-        → same_bytes (str_to_ascii_lowercase (x ∷ xs)) (before 95 (byte ∷ bytes)) ≡ false
+    by_test : (t : Bool) → (byte == mark) ≡ t
+        → same_bytes (str_to_ascii_lowercase (x ∷ xs)) (before mark (byte ∷ bytes)) ≡ false
     by_test true e = rw e refl
     by_test false e = rw e (by_same (to_ascii_lowercase x == byte) refl)

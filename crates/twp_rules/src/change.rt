@@ -5,8 +5,7 @@ ghost use Rattle.twp_rules.specs.Moves.{MayBeMade};
 
 use crate::allowed::is_allowed;
 use crate::keeping::{copied_by, fits, is_apart, is_apart_at, role_after, seam_after, seam_with};
-use crate::moves::{is_written_by, named_after};
-use crate::named::Named;
+use crate::moves::is_moved_text_written;
 use crate::role::Role;
 use crate::rule::Rule;
 use crate::seam::Seam;
@@ -42,7 +41,7 @@ pub fn changed(alloc: Global, text: &[u8], changes: &[Change<'_>]) -> Result<Vec
 }
 
 /// The bytes of a text from one place up to another.
-fn between(text: &[u8], from: usize, to: usize) -> &[u8]
+pub(crate) fn between(text: &[u8], from: usize, to: usize) -> &[u8]
     requires order { from ≤ to }
     requires within { to ≤ length text.now }
     ensures { result.now ≡ slice_range text.now from to }
@@ -61,7 +60,7 @@ fn after(text: &[u8], from: usize) -> &[u8]
 
 /// Whether changes are from left to right, don't overlap, are allowed by their rules, keep numbers, keep parts apart,
 /// and write what they move.
-#[tactic(auto, using(crate::proofs::ChangeFacts::next_numbers, crate::proofs::ChangeFacts::next_apart, crate::proofs::ChangeFacts::next_moved))]
+#[tactic(auto, using(crate::proofs::ChangeFacts::next_numbers, crate::proofs::ChangeFacts::next_apart))]
 pub fn are_changes(text: &[u8], changes: &[Change<'_>]) -> bool
     ensures { result ≡ true → MayBeMade text.now (map seen changes.now) }
 {
@@ -71,15 +70,6 @@ pub fn are_changes(text: &[u8], changes: &[Change<'_>]) -> bool
     let mut seam = Seam {
         ends_step: false,
         lost: false,
-    };
-    let mut named = Named {
-        next: Role::Nothing,
-        section: 0,
-        tier: 0,
-        tier_side: 0,
-        range: 0,
-        range_side: 0,
-        before: 0,
     };
     let mut more = changes;
     for change in changes {
@@ -94,20 +84,16 @@ pub fn are_changes(text: &[u8], changes: &[Change<'_>]) -> bool
             return false;
         }
         let gap = between(text, at, change.start);
-        if !is_apart(seam, gap, change) {
+        let near = seam_after(seam, gap);
+        if !is_apart(seam, near, gap, change.written) {
             return false;
         }
-        let before = named_after(named, gap);
-        if !is_written_by(text, changes, before, change.start, change.end, change.rule) {
-            return false;
-        }
-        named = named_after(before, change.written);
-        seam = seam_with(text, seam_after(seam, gap), change);
+        seam = seam_with(text, near, change);
         role = role_after(role, change);
         copied = copied_by(copied, change.rule);
         at = change.end;
     }
-    is_apart_at(seam, after(text, at))
+    is_apart_at(seam, after(text, at)) && is_moved_text_written(text, changes)
 }
 
 /// Changes without the first one.

@@ -279,12 +279,11 @@ pub(crate) fn rest_of(text: &[u8], at: usize) -> &[u8]
     rest
 }
 
-/// Whether the text before a change, and what it writes, are apart from what was written before them.
-pub(crate) fn is_apart(seam: Seam, gap: &[u8], change: &Change<'_>) -> bool
-    ensures { result ≡ (is_apart_at seam gap.now
-        && is_apart_at (seam_after seam gap.now) change.now.written.now) }
+/// Whether the text before a change, and what it writes, are apart from what was written before each of them.
+pub(crate) fn is_apart(seam: Seam, near: Seam, gap: &[u8], written: &[u8]) -> bool
+    ensures { result ≡ (is_apart_at seam gap.now && is_apart_at near written.now) }
 {
-    is_apart_at(seam, gap) && is_apart_at(seam_after(seam, gap), change.written)
+    is_apart_at(seam, gap) && is_apart_at(near, written)
 }
 
 /// Whether no step is joined at a seam to one that something was between.
@@ -366,17 +365,18 @@ fn begins_with_step(bytes: &[u8]) -> bool
         && !begins_with(bytes, b"ex")
 }
 
-/// Whether bytes end with a step, if what is before them did.
+/// Whether bytes end with a step, if what is before them did: the last one that isn't white space decides.
+#[tactic(auto, using(crate::proofs::SeamFacts::white_is_passed, crate::proofs::SeamFacts::last_decides, crate::proofs::SeamFacts::none_decides))]
 fn ends_after(ends: bool, bytes: &[u8]) -> bool
     ensures { result ≡ ends_after ends bytes.now 0 bytes.now }
 {
-    let mut is_end = ends;
-    for at in 0..bytes.len() {
+    for count in 0..bytes.len() {
+        let at = bytes.len() - 1 - count;
         if !is_white(bytes[at]) {
-            is_end = ends_step(bytes, at);
+            return ends_step(bytes, at);
         }
     }
-    is_end
+    ends
 }
 
 /// Whether a byte ends a step: the digit of a fraction, or the sign for one.

@@ -1,12 +1,13 @@
 //! Whether what is left out where it is written elsewhere is written.
 ghost use Rattle.std.specs.Prelude.{◌≡◌, ◌≤◌, length, map};
-ghost use Rattle.twp_rules.specs.Changes.{seen};
+ghost use Rattle.twp_rules.specs.Changes.{AreChangesFrom, seen};
 ghost use Rattle.twp_rules.specs.Moves.{are_written_from, copies_place, digits_alone, end_of_number, first_place, grown, is_digit_at, is_copied_by};
-ghost use Rattle.twp_rules.specs.Moves.{is_named_last, is_number_at, is_same_number, is_written_at, is_written_by, named_after, named_by};
-ghost use Rattle.twp_rules.specs.Moves.{named_with, number_at, role_named_by, side_by, value_from};
+ghost use Rattle.twp_rules.specs.Moves.{is_named_last, is_number_at, is_same_number, is_written_at, is_written_by, keep_moved, named_after, named_by};
+ghost use Rattle.twp_rules.specs.Moves.{named_with, nothing_named, number_at, role_named_by, side_by, value_from};
 ghost use Rattle.std.specs.Prelude.{◌<◌, drop, slice_range};
+ghost use Rattle.twp_rules.specs.steps.Moved.{move_something, moves};
 
-use crate::change::Change;
+use crate::change::{Change, between};
 use crate::context::{before, is_fraction_digit, less};
 use crate::keeping::{rest_of, side_after, without_zeros};
 use crate::named::Named;
@@ -17,8 +18,58 @@ use crate::rule::Rule;
 use crate::same::begins_with;
 use crate::words::*;
 
+/// Whether what is left out where it is written elsewhere is written. In most texts nothing is moved, and then nothing
+/// else is looked at.
+#[tactic(auto, using(crate::proofs::ChangeFacts::next_moved, crate::proofs::ChangeFacts::not_written, crate::proofs::ChangeFacts::start_within, crate::proofs::ChangeFacts::end_within, crate::proofs::MoveFacts::nothing_moved))]
+pub(crate) fn is_moved_text_written(text: &[u8], changes: &[Change<'_>]) -> bool
+    requires { AreChangesFrom 0 text.now (map seen changes.now) }
+    ensures { result ≡ keep_moved text.now (map seen changes.now) 0 nothing_named (map seen changes.now) }
+{
+    if !move_something(changes) {
+        return true;
+    }
+    let mut at = 0;
+    let mut named = Named {
+        next: Role::Nothing,
+        section: 0,
+        tier: 0,
+        tier_side: 0,
+        range: 0,
+        range_side: 0,
+        before: 0,
+    };
+    for change in changes {
+        let before = named_after(named, between(text, at, change.start));
+        if !is_written_by(text, changes, before, change.start, change.end, change.rule) {
+            return false;
+        }
+        named = named_after(before, change.written);
+        at = change.end;
+    }
+    true
+}
+
+/// Whether some change moves something.
+fn move_something(changes: &[Change<'_>]) -> bool
+    ensures { result ≡ move_something (map seen changes.now) }
+{
+    for change in changes {
+        if moves(change.rule) {
+            return true;
+        }
+    }
+    false
+}
+
+/// Whether a rule leaves out what is written elsewhere.
+fn moves(rule: Rule) -> bool
+    ensures { result ≡ moves rule }
+{
+    matches!(rule, Rule::MovedSection | Rule::MovedHeading)
+}
+
 /// Whether what a change leaves out is written elsewhere, if its rule says so.
-pub(crate) fn is_written_by(
+fn is_written_by(
     text: &[u8],
     changes: &[Change<'_>],
     it: Named,
@@ -210,7 +261,7 @@ fn copies_place(at: usize, rule: Rule) -> bool
 }
 
 /// What is named after more bytes.
-pub(crate) fn named_after(it: Named, bytes: &[u8]) -> Named
+fn named_after(it: Named, bytes: &[u8]) -> Named
     ensures { result ≡ named_after it bytes.now }
 {
     let mut named = it;

@@ -11,43 +11,46 @@ ghost use Rattle.twp_rules.specs.Edges.{begins_with, ends_with};
 ghost use Rattle.twp_rules.specs.Rules.{is_entry};
 ghost use Rattle.twp_rules.specs.steps.Rows.{before, end_of, entry_of, front_of};
 
-use crate::same::{begins_with, ends_with, is_text};
+use crate::same::{begins_with, ends_with};
 
 /// Whether a rule that looks at one of the rows' texts writes this for it. A row is what the rule looks at, in
 /// lowercase, `=`, and what it writes instead, as in `*b"minus= except ____"`.
 pub(crate) fn is_among<const N: usize>(seen: &[u8], written: &[u8], rows: &[[u8; N]]) -> bool
     ensures { result ≡ list_any (λ row. is_entry seen.now written.now (entry_of row)) rows.now }
 {
+    let first = byte_or(seen, 0, b'=').to_ascii_lowercase();
     for row in rows {
-        if is_row(seen, written, row) {
+        if is_row(seen, first, written, row) {
             return true;
         }
     }
     false
 }
 
-/// Whether a word is one of the rows, which are in lowercase, as in `*b"lots____"`. Most are ruled out by their first
-/// byte.
+/// Whether a word is one of the rows, which are in lowercase, as in `*b"lots____"`.
 pub(crate) fn is_one_of<const N: usize>(word: &[u8], rows: &[[u8; N]]) -> bool
     ensures { result ≡ list_any (λ row. same_bytes (str_to_ascii_lowercase word.now) (front_of row)) rows.now }
 {
+    let first = byte_or(word, 0, b'_').to_ascii_lowercase();
     for row in rows {
-        if is_front(word, row) {
+        if is_front(word, first, row) {
             return true;
         }
     }
     false
 }
 
-/// Whether a word is what is before a row's filling.
+/// Whether a word is what is before a row's filling. Most rows are ruled out by their first byte.
+#[inline(always)]
 #[tactic(auto, using(crate::proofs::RowFacts::other_head))]
-fn is_front(word: &[u8], row: &[u8]) -> bool
+fn is_front(word: &[u8], first: u8, row: &[u8]) -> bool
+    requires { first ≡ to_ascii_lowercase (slice_index_or word.now 0 95) }
     ensures { result ≡ same_bytes (str_to_ascii_lowercase word.now) (front_of row.now) }
 {
-    if byte_or(row, 0, b'_') != byte_or(word, 0, b'_').to_ascii_lowercase() {
+    if byte_or(row, 0, b'_') != first {
         return false;
     }
-    is_text(word, front_of(row))
+    is_before(row, b'_', word)
 }
 
 /// Whether a text begins with one of the rows, which are in lowercase, as in `*b"acres__"`.
@@ -76,25 +79,38 @@ pub(crate) fn ends_with_one<const N: usize>(seen: &[u8], rows: &[[u8; N]]) -> bo
     false
 }
 
-/// Whether this is a row: what it looks at, and what it writes.
-#[tactic(auto, using(crate::proofs::RowFacts::is_entry_by_parts))]
-fn is_row(seen: &[u8], written: &[u8], row: &[u8]) -> bool
+/// Whether this is a row: what it looks at, and what it writes. Most rows are ruled out by their first byte.
+#[inline(always)]
+#[tactic(auto, using(crate::proofs::RowFacts::other_head))]
+fn is_row(seen: &[u8], first: u8, written: &[u8], row: &[u8]) -> bool
+    requires { first ≡ to_ascii_lowercase (slice_index_or seen.now 0 61) }
     ensures { result ≡ is_entry seen.now written.now (entry_of row.now) }
 {
-    looks_at(row, seen) && is_before_filling(written, from(row, seen.len() + 1))
+    if byte_or(row, 0, b'=') != first {
+        return false;
+    }
+    is_row_by_parts(seen, written, row)
 }
 
-/// Whether a text in lowercase is what is before a row's `=`. Most rows are ruled out by their length.
-#[tactic(auto, using(crate::proofs::RowFacts::other_size, crate::proofs::RowFacts::no_more_lower))]
-fn looks_at(row: &[u8], seen: &[u8]) -> bool
-    ensures { result ≡ same_bytes (str_to_ascii_lowercase seen.now) (before 61 row.now) }
+/// Whether this is a row, by each of its parts.
+#[tactic(auto, using(crate::proofs::RowFacts::is_entry_by_parts))]
+fn is_row_by_parts(seen: &[u8], written: &[u8], row: &[u8]) -> bool
+    ensures { result ≡ is_entry seen.now written.now (entry_of row.now) }
 {
-    if byte_or(row, seen.len(), b'=') != b'=' {
+    is_before(row, b'=', seen) && is_before_filling(written, from(row, seen.len() + 1))
+}
+
+/// Whether a text in lowercase is what is before a mark of a row, or all of it. Most rows are ruled out by their length.
+#[tactic(auto, using(crate::proofs::RowFacts::other_size, crate::proofs::RowFacts::no_more_lower))]
+fn is_before(row: &[u8], mark: u8, seen: &[u8]) -> bool
+    ensures { result ≡ same_bytes (str_to_ascii_lowercase seen.now) (before mark row.now) }
+{
+    if byte_or(row, seen.len(), mark) != mark {
         return false;
     }
     for index in 0..seen.len() {
-        let byte = byte_or(row, index, b'=');
-        if byte == b'=' {
+        let byte = byte_or(row, index, mark);
+        if byte == mark {
             return false;
         }
         if byte != seen[index].to_ascii_lowercase() {

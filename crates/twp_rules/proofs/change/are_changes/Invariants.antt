@@ -2,7 +2,6 @@ use Rattle.std.proofs.Common.{◌≡◌, ◌≤◌, drop, map, length}
 use Rattle.twp_rules.specs.declared.role.Role.TheVariants.{Nothing}
 use Rattle.twp_rules.specs.Changes.{AreChangesFrom, seen}
 use Rattle.twp_rules.specs.Keeping.{first_seam, keep_apart, keep_numbers}
-use Rattle.twp_rules.specs.Moves.{keep_moved, nothing_named}
 use Rattle.twp_rules.proofs.change.are_changes.Given as goal
 
 -- if the changes that are left are changes from here on, all are; and the rest decides of numbers and parts
@@ -15,5 +14,3 @@ invariant-loop-change l =
     ≡ keep_numbers l.text l.role l.at l.copied (map seen (drop l.change-index l.changes)))
     × (keep_apart l.text 0 first_seam (map seen l.changes)
     ≡ keep_apart l.text l.at l.seam (map seen (drop l.change-index l.changes)))
-    × (keep_moved l.text (map seen l.changes) 0 nothing_named (map seen l.changes)
-    ≡ keep_moved l.text (map seen l.changes) l.at l.named (map seen (drop l.change-index l.changes)))

@@ -1,8 +1,9 @@
-use Rattle.std.proofs.Common.{◌≡◌, drop}
+use Rattle.std.proofs.Common.{◌≡◌, ◌-◌, Bool, drop, length}
 use Rattle.twp_rules.specs.Keeping.{ends_after}
 use Rattle.twp_rules.proofs.keeping.ends_after.Given as goal
 
--- the rest decides
-abbrev pub invariant-loop-at : goal.invariant-loop-at
-invariant-loop-at l =
-    ends_after l.ends l.bytes 0 l.bytes ≡ ends_after l.is_end l.bytes l.at (drop l.at l.bytes)
+-- the rest decides nothing
+abbrev pub invariant-loop-count : goal.invariant-loop-count
+invariant-loop-count l =
+    (ends : Bool)
+    → ends_after ends l.bytes (length l.bytes - l.count) (drop (length l.bytes - l.count) l.bytes) ≡ ends

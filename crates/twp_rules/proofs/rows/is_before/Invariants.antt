@@ -2,10 +2,10 @@ use Rattle.std.proofs.Common.{◌≡◌, drop}
 use Rattle.std.specs.Str.{str_to_ascii_lowercase}
 use Rattle.twp_grammar.specs.Tokens.{same_bytes}
 use Rattle.twp_rules.specs.steps.Rows.{before}
-use Rattle.twp_rules.proofs.rows.looks_at.Given as goal
+use Rattle.twp_rules.proofs.rows.is_before.Given as goal
 
 -- the rest decides
 abbrev pub invariant-loop-index : goal.invariant-loop-index
 invariant-loop-index l =
-    same_bytes (str_to_ascii_lowercase l.seen) (before 61 l.row)
-    ≡ same_bytes (str_to_ascii_lowercase (drop l.index l.seen)) (before 61 (drop l.index l.row))
+    same_bytes (str_to_ascii_lowercase l.seen) (before l.mark l.row)
+    ≡ same_bytes (str_to_ascii_lowercase (drop l.index l.seen)) (before l.mark (drop l.index l.row))
