@@ -1,5 +1,6 @@
 pub mod SameTexts
 pub mod RowFacts
+pub mod HeadFacts
 pub mod EdgeFacts
 pub mod ChangeFacts
 pub mod NamingFacts

@@ -1,24 +1,43 @@
 //! Rows of the rules' tables, and what is in them. A table is an array of rows, and a row is an array of
 //! bytes, without a pointer, since each pointer of static data is set at every start of the program. All rows
 //! of a table have as many bytes, filled up with `_`. One function goes through the rows of all tables of a
-//! kind, so a row is data, and needs no proof of its own.
-ghost use Rattle.std.specs.Prelude.{◌≡◌, ◌-◌, drop, length, slice_index_or};
+//! kind, so a row is data, and needs no proof of its own. The number with a table has a bit for the first byte of each
+//! row: a wrong one is refused.
+ghost use Rattle.std.specs.Prelude.{◌≡◌, ◌-◌, true, drop, length, slice_index_or};
 ghost use Rattle.std.specs.List.{list_any};
 ghost use Rattle.std.specs.Char.{to_ascii_lowercase};
 ghost use Rattle.std.specs.Str.{str_to_ascii_lowercase};
 ghost use Rattle.twp_grammar.specs.Tokens.{same_bytes};
 ghost use Rattle.twp_rules.specs.Edges.{begins_with, ends_with};
 ghost use Rattle.twp_rules.specs.Rules.{is_entry};
-ghost use Rattle.twp_rules.specs.steps.Rows.{before, end_of, entry_of, front_of};
+ghost use Rattle.twp_rules.specs.steps.Rows.{before, end_of, entry_of, front_of, have_heads, is_head};
 
 use crate::same::{begins_with, ends_with};
 
 /// Whether a rule that looks at one of the rows' texts writes this for it. A row is what the rule looks at, in
 /// lowercase, `=`, and what it writes instead, as in `*b"minus= except ____"`.
-pub(crate) fn is_among<const N: usize>(seen: &[u8], written: &[u8], rows: &[[u8; N]]) -> bool
+#[inline(always)]
+pub(crate) fn is_among<const N: usize>(
+    seen: &[u8],
+    written: &[u8],
+    heads: u32,
+    rows: &[[u8; N]],
+) -> bool
+    requires { have_heads 61 heads rows.now ≡ true }
     ensures { result ≡ list_any (λ row. is_entry seen.now written.now (entry_of row)) rows.now }
 {
     let first = byte_or(seen, 0, b'=').to_ascii_lowercase();
+    if !is_head(heads, first) {
+        return false;
+    }
+    is_some_row(seen, first, written, rows)
+}
+
+/// The same, for any table.
+fn is_some_row<const N: usize>(seen: &[u8], first: u8, written: &[u8], rows: &[[u8; N]]) -> bool
+    requires { first ≡ to_ascii_lowercase (slice_index_or seen.now 0 61) }
+    ensures { result ≡ list_any (λ row. is_entry seen.now written.now (entry_of row)) rows.now }
+{
     for row in rows {
         if is_row(seen, first, written, row) {
             return true;
@@ -28,16 +47,38 @@ pub(crate) fn is_among<const N: usize>(seen: &[u8], written: &[u8], rows: &[[u8;
 }
 
 /// Whether a word is one of the rows, which are in lowercase, as in `*b"lots____"`.
-pub(crate) fn is_one_of<const N: usize>(word: &[u8], rows: &[[u8; N]]) -> bool
+#[inline(always)]
+pub(crate) fn is_one_of<const N: usize>(word: &[u8], heads: u32, rows: &[[u8; N]]) -> bool
+    requires { have_heads 95 heads rows.now ≡ true }
     ensures { result ≡ list_any (λ row. same_bytes (str_to_ascii_lowercase word.now) (front_of row)) rows.now }
 {
     let first = byte_or(word, 0, b'_').to_ascii_lowercase();
+    if !is_head(heads, first) {
+        return false;
+    }
+    is_some_word(word, first, rows)
+}
+
+/// The same, for any table.
+fn is_some_word<const N: usize>(word: &[u8], first: u8, rows: &[[u8; N]]) -> bool
+    requires { first ≡ to_ascii_lowercase (slice_index_or word.now 0 95) }
+    ensures { result ≡ list_any (λ row. same_bytes (str_to_ascii_lowercase word.now) (front_of row)) rows.now }
+{
     for row in rows {
         if is_front(word, first, row) {
             return true;
         }
     }
     false
+}
+
+/// Whether a row of a table may begin with a byte: `heads` has a bit for the first byte of each row, which is that of
+/// the last five bits of the byte. Most texts are ruled out by it before any row is looked at.
+#[inline(always)]
+fn is_head(heads: u32, byte: u8) -> bool
+    ensures { result ≡ is_head heads byte }
+{
+    (heads >> (byte % 32)) & 1 == 1
 }
 
 /// Whether a word is what is before a row's filling. Most rows are ruled out by their first byte.

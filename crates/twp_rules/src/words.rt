@@ -12,7 +12,7 @@ static NORTH_SOUTH: [[u8; 1]; 2] = [*b"n", *b"s"];
 pub(crate) fn is_in_north_south(word: &[u8]) -> bool
     ensures { result ≡ is_one_of word.now north_south }
 {
-    is_one_of(word, &NORTH_SOUTH)
+    is_one_of(word, 0x0008_4000, &NORTH_SOUTH)
 }
 
 /// The texts `east_west` of the specification.
@@ -22,7 +22,7 @@ static EAST_WEST: [[u8; 1]; 2] = [*b"e", *b"w"];
 pub(crate) fn is_in_east_west(word: &[u8]) -> bool
     ensures { result ≡ is_one_of word.now east_west }
 {
-    is_one_of(word, &EAST_WEST)
+    is_one_of(word, 0x0080_0020, &EAST_WEST)
 }
 
 /// The texts `side_names` of the specification.
@@ -34,7 +34,7 @@ static SIDE_NAMES: [[u8; 5]; 8] = [
 pub(crate) fn is_in_side_names(word: &[u8]) -> bool
     ensures { result ≡ is_one_of word.now side_names }
 {
-    is_one_of(word, &SIDE_NAMES)
+    is_one_of(word, 0x0088_4020, &SIDE_NAMES)
 }
 
 /// The texts `land_words` of the specification.
@@ -63,7 +63,7 @@ static LAND_WORDS: [[u8; 9]; 18] = [
 pub(crate) fn is_in_land_words(word: &[u8]) -> bool
     ensures { result ≡ is_one_of word.now land_words }
 {
-    is_one_of(word, &LAND_WORDS)
+    is_one_of(word, 0x0008_5000, &LAND_WORDS)
 }
 
 /// The texts `number_letters` of the specification.
@@ -73,7 +73,7 @@ static NUMBER_LETTERS: [[u8; 2]; 5] = [*b"l_", *b"gl", *b"t_", *b"r_", *b"s_"];
 pub(crate) fn is_in_number_letters(word: &[u8]) -> bool
     ensures { result ≡ is_one_of word.now number_letters }
 {
-    is_one_of(word, &NUMBER_LETTERS)
+    is_one_of(word, 0x001c_1080, &NUMBER_LETTERS)
 }
 
 /// The texts `numbered_words` of the specification.
@@ -144,7 +144,7 @@ static NUMBERED_WORDS: [[u8; 10]; 60] = [
 pub(crate) fn is_in_numbered_words(word: &[u8]) -> bool
     ensures { result ≡ is_one_of word.now numbered_words }
 {
-    is_one_of(word, &NUMBERED_WORDS)
+    is_one_of(word, 0x0079_f67e, &NUMBERED_WORDS)
 }
 
 /// The texts `units` of the specification.
@@ -158,7 +158,7 @@ static UNITS: [[u8; 6]; 18] = [
 pub(crate) fn is_in_units(word: &[u8]) -> bool
     ensures { result ≡ is_one_of word.now units }
 {
-    is_one_of(word, &UNITS)
+    is_one_of(word, 0x0209_60c2, &UNITS)
 }
 
 /// The texts `code_marks` of the specification.
@@ -168,7 +168,7 @@ static CODE_MARKS: [[u8; 1]; 3] = [*b"/", *b"%", *b"'"];
 pub(crate) fn is_in_code_marks(word: &[u8]) -> bool
     ensures { result ≡ is_one_of word.now code_marks }
 {
-    is_one_of(word, &CODE_MARKS)
+    is_one_of(word, 0x0000_80a0, &CODE_MARKS)
 }
 
 /// The texts `figure_marks` of the specification.
@@ -178,7 +178,7 @@ static FIGURE_MARKS: [[u8; 1]; 2] = [*b".", *b","];
 pub(crate) fn is_in_figure_marks(word: &[u8]) -> bool
     ensures { result ≡ is_one_of word.now figure_marks }
 {
-    is_one_of(word, &FIGURE_MARKS)
+    is_one_of(word, 0x0000_5000, &FIGURE_MARKS)
 }
 
 /// The texts `date_marks` of the specification.
@@ -188,7 +188,7 @@ static DATE_MARKS: [[u8; 1]; 1] = [*b"-"];
 pub(crate) fn is_in_date_marks(word: &[u8]) -> bool
     ensures { result ≡ is_one_of word.now date_marks }
 {
-    is_one_of(word, &DATE_MARKS)
+    is_one_of(word, 0x0000_2000, &DATE_MARKS)
 }
 
 /// The texts `marks_before_codes` of the specification.
@@ -198,7 +198,7 @@ static MARKS_BEFORE_CODES: [[u8; 1]; 5] = [*b"#", *b"$", *b"/", *b".", *b"-"];
 pub(crate) fn is_in_marks_before_codes(word: &[u8]) -> bool
     ensures { result ≡ is_one_of word.now marks_before_codes }
 {
-    is_one_of(word, &MARKS_BEFORE_CODES)
+    is_one_of(word, 0x0000_e018, &MARKS_BEFORE_CODES)
 }
 
 /// The texts `share_words` of the specification.
@@ -208,7 +208,7 @@ static SHARE_WORDS: [[u8; 8]; 4] = [*b"half____", *b"halves__", *b"quarter_", *b
 pub(crate) fn is_in_share_words(word: &[u8]) -> bool
     ensures { result ≡ is_one_of word.now share_words }
 {
-    is_one_of(word, &SHARE_WORDS)
+    is_one_of(word, 0x0002_0100, &SHARE_WORDS)
 }
 
 /// The texts `side_words` of the specification.
@@ -233,7 +233,7 @@ static SIDE_WORDS: [[u8; 9]; 14] = [
 pub(crate) fn is_in_side_words(word: &[u8]) -> bool
     ensures { result ≡ is_one_of word.now side_words }
 {
-    is_one_of(word, &SIDE_WORDS)
+    is_one_of(word, 0x0088_4028, &SIDE_WORDS)
 }
 
 /// The texts `taking_words` of the specification.
@@ -259,7 +259,7 @@ static TAKING_WORDS: [[u8; 10]; 15] = [
 pub(crate) fn is_in_taking_words(word: &[u8]) -> bool
     ensures { result ≡ is_one_of word.now taking_words }
 {
-    is_one_of(word, &TAKING_WORDS)
+    is_one_of(word, 0x0088_5024, &TAKING_WORDS)
 }
 
 /// The texts `more_taking_words` of the specification.
@@ -282,7 +282,7 @@ static MORE_TAKING_WORDS: [[u8; 12]; 12] = [
 pub(crate) fn is_in_more_taking_words(word: &[u8]) -> bool
     ensures { result ≡ is_one_of word.now more_taking_words }
 {
-    is_one_of(word, &MORE_TAKING_WORDS)
+    is_one_of(word, 0x00cc_a05c, &MORE_TAKING_WORDS)
 }
 
 /// The texts `portion_words` of the specification.
@@ -308,7 +308,7 @@ static PORTION_WORDS: [[u8; 8]; 15] = [
 pub(crate) fn is_in_portion_words(word: &[u8]) -> bool
     ensures { result ≡ is_one_of word.now portion_words }
 {
-    is_one_of(word, &PORTION_WORDS)
+    is_one_of(word, 0x0019_100c, &PORTION_WORDS)
 }
 
 /// The texts `bound_words` of the specification.
@@ -333,7 +333,7 @@ static BOUND_WORDS: [[u8; 9]; 14] = [
 pub(crate) fn is_in_bound_words(word: &[u8]) -> bool
     ensures { result ≡ is_one_of word.now bound_words }
 {
-    is_one_of(word, &BOUND_WORDS)
+    is_one_of(word, 0x0090_9206, &BOUND_WORDS)
 }
 
 /// The texts `measure_words` of the specification.
@@ -354,7 +354,7 @@ static MEASURE_WORDS: [[u8; 10]; 10] = [
 pub(crate) fn is_in_measure_words(word: &[u8]) -> bool
     ensures { result ≡ is_one_of word.now measure_words }
 {
-    is_one_of(word, &MEASURE_WORDS)
+    is_one_of(word, 0x0005_1048, &MEASURE_WORDS)
 }
 
 /// The texts `record_limits` of the specification.
@@ -364,7 +364,7 @@ static RECORD_LIMITS: [[u8; 6]; 2] = [*b"survey", *b"part__"];
 pub(crate) fn is_in_record_limits(word: &[u8]) -> bool
     ensures { result ≡ is_one_of word.now record_limits }
 {
-    is_one_of(word, &RECORD_LIMITS)
+    is_one_of(word, 0x0009_0000, &RECORD_LIMITS)
 }
 
 /// The texts `reserving_words` of the specification.
@@ -374,7 +374,7 @@ static RESERVING_WORDS: [[u8; 9]; 1] = [*b"excepting"];
 pub(crate) fn is_in_reserving_words(word: &[u8]) -> bool
     ensures { result ≡ is_one_of word.now reserving_words }
 {
-    is_one_of(word, &RESERVING_WORDS)
+    is_one_of(word, 0x0000_0020, &RESERVING_WORDS)
 }
 
 /// The texts `depth_limits` of the specification.
@@ -392,7 +392,7 @@ static DEPTH_LIMITS: [[u8; 7]; 7] = [
 pub(crate) fn is_in_depth_limits(word: &[u8]) -> bool
     ensures { result ≡ is_one_of word.now depth_limits }
 {
-    is_one_of(word, &DEPTH_LIMITS)
+    is_one_of(word, 0x0080_0046, &DEPTH_LIMITS)
 }
 
 /// The texts `lease_limits` of the specification.
@@ -402,7 +402,7 @@ static LEASE_LIMITS: [[u8; 9]; 1] = [*b"remaining"];
 pub(crate) fn is_in_lease_limits(word: &[u8]) -> bool
     ensures { result ≡ is_one_of word.now lease_limits }
 {
-    is_one_of(word, &LEASE_LIMITS)
+    is_one_of(word, 0x0004_0000, &LEASE_LIMITS)
 }
 
 /// The texts `acreage_limits` of the specification.
@@ -412,7 +412,7 @@ static ACREAGE_LIMITS: [[u8; 4]; 1] = [*b"less"];
 pub(crate) fn is_in_acreage_limits(word: &[u8]) -> bool
     ensures { result ≡ is_one_of word.now acreage_limits }
 {
-    is_one_of(word, &ACREAGE_LIMITS)
+    is_one_of(word, 0x0000_1000, &ACREAGE_LIMITS)
 }
 
 /// The texts `mineral_words` of the specification.
@@ -431,7 +431,7 @@ static MINERAL_WORDS: [[u8; 12]; 8] = [
 pub(crate) fn is_in_mineral_words(word: &[u8]) -> bool
     ensures { result ≡ is_one_of word.now mineral_words }
 {
-    is_one_of(word, &MINERAL_WORDS)
+    is_one_of(word, 0x0004_a188, &MINERAL_WORDS)
 }
 
 /// The texts `depth_words` of the specification.
@@ -453,7 +453,7 @@ static DEPTH_WORDS: [[u8; 13]; 11] = [
 pub(crate) fn is_in_depth_words(word: &[u8]) -> bool
     ensures { result ≡ is_one_of word.now depth_words }
 {
-    is_one_of(word, &DEPTH_WORDS)
+    is_one_of(word, 0x000c_0054, &DEPTH_WORDS)
 }
 
 /// The texts `column_words` of the specification.
@@ -501,7 +501,7 @@ static COLUMN_WORDS: [[u8; 11]; 37] = [
 pub(crate) fn is_in_column_words(word: &[u8]) -> bool
     ensures { result ≡ is_one_of word.now column_words }
 {
-    is_one_of(word, &COLUMN_WORDS)
+    is_one_of(word, 0x001c_f0da, &COLUMN_WORDS)
 }
 
 /// The texts `moved_section_words` of the specification.
@@ -548,7 +548,7 @@ static MOVED_SECTION_WORDS: [[u8; 10]; 36] = [
 pub(crate) fn is_in_moved_section_words(word: &[u8]) -> bool
     ensures { result ≡ is_one_of word.now moved_section_words }
 {
-    is_one_of(word, &MOVED_SECTION_WORDS)
+    is_one_of(word, 0x0018_c266, &MOVED_SECTION_WORDS)
 }
 
 /// The texts `moved_heading_words` of the specification.
@@ -587,7 +587,7 @@ static MOVED_HEADING_WORDS: [[u8; 8]; 28] = [
 pub(crate) fn is_in_moved_heading_words(word: &[u8]) -> bool
     ensures { result ≡ is_one_of word.now moved_heading_words }
 {
-    is_one_of(word, &MOVED_HEADING_WORDS)
+    is_one_of(word, 0x009c_c222, &MOVED_HEADING_WORDS)
 }
 
 /// The texts `number_words` of the specification.
@@ -622,7 +622,7 @@ static NUMBER_WORDS: [[u8; 9]; 24] = [
 pub(crate) fn is_in_number_words(word: &[u8]) -> bool
     ensures { result ≡ is_one_of word.now number_words }
 {
-    is_one_of(word, &NUMBER_WORDS)
+    is_one_of(word, 0x0018_d260, &NUMBER_WORDS)
 }
 
 /// The texts `one_to_nine` of the specification.
@@ -635,7 +635,7 @@ static ONE_TO_NINE: [[u8; 5]; 9] = [
 pub(crate) fn is_in_one_to_nine(word: &[u8]) -> bool
     ensures { result ≡ is_one_of word.now one_to_nine }
 {
-    is_one_of(word, &ONE_TO_NINE)
+    is_one_of(word, 0x0018_c060, &ONE_TO_NINE)
 }
 
 /// The texts `further_exceptions` of the specification.
@@ -651,7 +651,7 @@ static FURTHER_EXCEPTIONS: [[u8; 9]; 5] = [
 pub(crate) fn is_in_further_exceptions(word: &[u8]) -> bool
     ensures { result ≡ is_one_of word.now further_exceptions }
 {
-    is_one_of(word, &FURTHER_EXCEPTIONS)
+    is_one_of(word, 0x0080_4020, &FURTHER_EXCEPTIONS)
 }
 
 /// The texts `first_words` of the specification.
@@ -686,7 +686,7 @@ static FIRST_WORDS: [[u8; 9]; 24] = [
 pub(crate) fn is_in_first_words(word: &[u8]) -> bool
     ensures { result ≡ is_one_of word.now first_words }
 {
-    is_one_of(word, &FIRST_WORDS)
+    is_one_of(word, 0x0098_50a2, &FIRST_WORDS)
 }
 
 /// The texts `section_names` of the specification.
@@ -717,7 +717,7 @@ static SECTION_NAMES: [[u8; 8]; 20] = [
 pub(crate) fn is_in_section_names(word: &[u8]) -> bool
     ensures { result ≡ is_one_of word.now section_names }
 {
-    is_one_of(word, &SECTION_NAMES)
+    is_one_of(word, 0x0008_0020, &SECTION_NAMES)
 }
 
 /// The texts `list_words` of the specification.
@@ -744,7 +744,7 @@ static LIST_WORDS: [[u8; 9]; 16] = [
 pub(crate) fn is_in_list_words(word: &[u8]) -> bool
     ensures { result ≡ is_one_of word.now list_words }
 {
-    is_one_of(word, &LIST_WORDS)
+    is_one_of(word, 0x0010_c226, &LIST_WORDS)
 }
 
 /// The texts `location_marks` of the specification.
@@ -754,7 +754,7 @@ static LOCATION_MARKS: [[u8; 1]; 5] = [*b",", *b".", *b"-", *b"|", *b"/"];
 pub(crate) fn is_in_location_marks(word: &[u8]) -> bool
     ensures { result ≡ is_one_of word.now location_marks }
 {
-    is_one_of(word, &LOCATION_MARKS)
+    is_one_of(word, 0x1000_f000, &LOCATION_MARKS)
 }
 
 /// The texts `township_words` of the specification.
@@ -770,7 +770,7 @@ static TOWNSHIP_WORDS: [[u8; 8]; 5] = [
 pub(crate) fn is_in_township_words(word: &[u8]) -> bool
     ensures { result ≡ is_one_of word.now township_words }
 {
-    is_one_of(word, &TOWNSHIP_WORDS)
+    is_one_of(word, 0x0010_0200, &TOWNSHIP_WORDS)
 }
 
 /// The texts `north_words` of the specification.
@@ -780,7 +780,7 @@ static NORTH_WORDS: [[u8; 5]; 3] = [*b"n____", *b"north", *b"nr___"];
 pub(crate) fn is_in_north_words(word: &[u8]) -> bool
     ensures { result ≡ is_one_of word.now north_words }
 {
-    is_one_of(word, &NORTH_WORDS)
+    is_one_of(word, 0x0000_4000, &NORTH_WORDS)
 }
 
 /// The texts `south_words` of the specification.
@@ -790,7 +790,7 @@ static SOUTH_WORDS: [[u8; 5]; 3] = [*b"s____", *b"south", *b"sr___"];
 pub(crate) fn is_in_south_words(word: &[u8]) -> bool
     ensures { result ≡ is_one_of word.now south_words }
 {
-    is_one_of(word, &SOUTH_WORDS)
+    is_one_of(word, 0x0008_0000, &SOUTH_WORDS)
 }
 
 /// The texts `east_words` of the specification.
@@ -800,7 +800,7 @@ static EAST_WORDS: [[u8; 4]; 2] = [*b"e___", *b"east"];
 pub(crate) fn is_in_east_words(word: &[u8]) -> bool
     ensures { result ≡ is_one_of word.now east_words }
 {
-    is_one_of(word, &EAST_WORDS)
+    is_one_of(word, 0x0000_0020, &EAST_WORDS)
 }
 
 /// The texts `west_words` of the specification.
@@ -810,7 +810,7 @@ static WEST_WORDS: [[u8; 4]; 2] = [*b"w___", *b"west"];
 pub(crate) fn is_in_west_words(word: &[u8]) -> bool
     ensures { result ≡ is_one_of word.now west_words }
 {
-    is_one_of(word, &WEST_WORDS)
+    is_one_of(word, 0x0080_0000, &WEST_WORDS)
 }
 
 /// The texts `damaged_digits` of the specification.
@@ -820,7 +820,7 @@ static DAMAGED_DIGITS: [[u8; 1]; 3] = [*b"l", *b"i", *b"o"];
 pub(crate) fn is_in_damaged_digits(word: &[u8]) -> bool
     ensures { result ≡ is_one_of word.now damaged_digits }
 {
-    is_one_of(word, &DAMAGED_DIGITS)
+    is_one_of(word, 0x0000_9200, &DAMAGED_DIGITS)
 }
 
 /// The texts `numeral_words` of the specification.
@@ -852,7 +852,7 @@ static NUMERAL_WORDS: [[u8; 9]; 21] = [
 pub(crate) fn is_in_numeral_words(word: &[u8]) -> bool
     ensures { result ≡ is_one_of word.now numeral_words }
 {
-    is_one_of(word, &NUMERAL_WORDS)
+    is_one_of(word, 0x0018_c060, &NUMERAL_WORDS)
 }
 
 /// The texts `tier_words` of the specification.
@@ -862,7 +862,7 @@ static TIER_WORDS: [[u8; 1]; 1] = [*b"t"];
 pub(crate) fn is_in_tier_words(word: &[u8]) -> bool
     ensures { result ≡ is_one_of word.now tier_words }
 {
-    is_one_of(word, &TIER_WORDS)
+    is_one_of(word, 0x0010_0000, &TIER_WORDS)
 }
 
 /// The texts `range_words` of the specification.
@@ -872,7 +872,7 @@ static RANGE_WORDS: [[u8; 1]; 1] = [*b"r"];
 pub(crate) fn is_in_range_words(word: &[u8]) -> bool
     ensures { result ≡ is_one_of word.now range_words }
 {
-    is_one_of(word, &RANGE_WORDS)
+    is_one_of(word, 0x0004_0000, &RANGE_WORDS)
 }
 
 /// The texts `cell_marks` of the specification.
@@ -882,7 +882,7 @@ static CELL_MARKS: [[u8; 1]; 2] = [*b"|", *b"\t"];
 pub(crate) fn is_in_cell_marks(word: &[u8]) -> bool
     ensures { result ≡ is_one_of word.now cell_marks }
 {
-    is_one_of(word, &CELL_MARKS)
+    is_one_of(word, 0x1000_0200, &CELL_MARKS)
 }
 
 /// The texts `apart_marks` of the specification.
@@ -894,7 +894,7 @@ static APART_MARKS: [[u8; 1]; 11] = [
 pub(crate) fn is_in_apart_marks(word: &[u8]) -> bool
     ensures { result ≡ is_one_of word.now apart_marks }
 {
-    is_one_of(word, &APART_MARKS)
+    is_one_of(word, 0x1c00_7b44, &APART_MARKS)
 }
 
 /// The texts `before_land_marks` of the specification.
@@ -904,7 +904,7 @@ static BEFORE_LAND_MARKS: [[u8; 1]; 5] = [*b":", *b"-", *b"|", *b"(", *b"\t"];
 pub(crate) fn is_in_before_land_marks(word: &[u8]) -> bool
     ensures { result ≡ is_one_of word.now before_land_marks }
 {
-    is_one_of(word, &BEFORE_LAND_MARKS)
+    is_one_of(word, 0x1400_2300, &BEFORE_LAND_MARKS)
 }
 
 /// The texts `words_in_parts` of the specification.
@@ -914,5 +914,5 @@ static WORDS_IN_PARTS: [[u8; 2]; 3] = [*b"of", *b"\\_", *b"/_"];
 pub(crate) fn is_in_words_in_parts(word: &[u8]) -> bool
     ensures { result ≡ is_one_of word.now words_in_parts }
 {
-    is_one_of(word, &WORDS_IN_PARTS)
+    is_one_of(word, 0x1000_8000, &WORDS_IN_PARTS)
 }

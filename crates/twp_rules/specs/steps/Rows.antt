@@ -1,6 +1,7 @@
 -- Rows of the tables, as the code has them. All rows of a table have as many bytes, filled up with `_` (95).
 -- In a row of what is written for a text, `=` (61) is after the text.
-use Rattle.std.specs.Prelude.{◌==◌, ℕ, List, [], ◌∷◌, if◌then◌else◌}
+use Rattle.std.specs.Prelude.{◌==◌, ◌&&◌, ◌/◌, ◌%◌, ◌^◌, ℕ, Bool, true, List, [], ◌∷◌, bit_and, if◌then◌else◌}
+use Rattle.std.specs.Prelude.{slice_index_or}
 use Rattle.twp_rules.specs.Tables.{Entry, ◌⇒◌}
 
 -- the bytes before a mark
@@ -29,3 +30,12 @@ front_of row = before 95 row
 -- a text that others end with
 abbrev pub end_of : List ℕ → List ℕ
 end_of row = without 95 row
+
+-- a number has the bit of a byte, which is that of the last five bits of it
+abbrev pub is_head : ℕ → ℕ → Bool
+is_head heads byte = bit_and (heads / 2 ^ (byte % 32)) 1 == 1
+
+-- it has the bits of the first bytes of all rows, or of the mark for those that have none
+abbrev pub have_heads : ℕ → ℕ → List (List ℕ) → Bool
+have_heads mark heads [] = true
+have_heads mark heads (row ∷ rows) = is_head heads (slice_index_or row 0 mark) && have_heads mark heads rows

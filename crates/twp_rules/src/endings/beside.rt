@@ -22,7 +22,7 @@ static MERIDIAN_LETTERS: [[u8; 5]; 3] = [*b"w. m.", *b"w.m._", *b"w m__"];
 pub(crate) fn is_in_meridian_letters(seen: &[u8]) -> bool
     ensures { result ≡ is_one_of seen.now meridian_letters }
 {
-    is_one_of(seen, &MERIDIAN_LETTERS)
+    is_one_of(seen, 0x0080_0000, &MERIDIAN_LETTERS)
 }
 
 /// The texts `but_what` of the specification.
@@ -72,7 +72,7 @@ static DASH_MARKS: [[u8; 3]; 3] = [*b"-__", *b"\xE2\x80\x93", *b"\xE2\x80\x94"];
 pub(crate) fn is_in_dash_marks(seen: &[u8]) -> bool
     ensures { result ≡ is_one_of seen.now dash_marks }
 {
-    is_one_of(seen, &DASH_MARKS)
+    is_one_of(seen, 0x0000_2004, &DASH_MARKS)
 }
 
 /// Whether a text begins with one of them.

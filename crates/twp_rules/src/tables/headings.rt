@@ -23,7 +23,7 @@ static HEADINGS: [[u8; 9]; 8] = [
 pub(crate) fn is_in_headings(seen: &[u8], written: &[u8]) -> bool
     ensures { result ≡ is_among seen.now written.now headings }
 {
-    is_among(seen, written, &HEADINGS)
+    is_among(seen, written, 0x2000_0000, &HEADINGS)
 }
 
 /// The table `heading_words` of the specification.
@@ -48,7 +48,7 @@ static HEADING_WORDS: [[u8; 14]; 14] = [
 pub(crate) fn is_in_heading_words(seen: &[u8], written: &[u8]) -> bool
     ensures { result ≡ is_among seen.now written.now heading_words }
 {
-    is_among(seen, written, &HEADING_WORDS)
+    is_among(seen, written, 0x0015_c202, &HEADING_WORDS)
 }
 
 /// The table `heading_marks` of the specification.
@@ -60,7 +60,7 @@ static HEADING_MARKS: [[u8; 3]; 7] = [
 pub(crate) fn is_in_heading_marks(seen: &[u8], written: &[u8]) -> bool
     ensures { result ≡ is_among seen.now written.now heading_marks }
 {
-    is_among(seen, written, &HEADING_MARKS)
+    is_among(seen, written, 0x1c00_f000, &HEADING_MARKS)
 }
 
 /// The table `section_words` of the specification.
@@ -85,7 +85,7 @@ static SECTION_WORDS: [[u8; 12]; 14] = [
 pub(crate) fn is_in_section_words(seen: &[u8], written: &[u8]) -> bool
     ensures { result ≡ is_among seen.now written.now section_words }
 {
-    is_among(seen, written, &SECTION_WORDS)
+    is_among(seen, written, 0x2008_1004, &SECTION_WORDS)
 }
 
 /// The table `worn_section_words` of the specification.
@@ -104,7 +104,7 @@ static WORN_SECTION_WORDS: [[u8; 11]; 8] = [
 pub(crate) fn is_in_worn_section_words(seen: &[u8], written: &[u8]) -> bool
     ensures { result ≡ is_among seen.now written.now worn_section_words }
 {
-    is_among(seen, written, &WORN_SECTION_WORDS)
+    is_among(seen, written, 0x0008_0000, &WORN_SECTION_WORDS)
 }
 
 /// The table `lot_words` of the specification.
@@ -131,7 +131,7 @@ static LOT_WORDS: [[u8; 11]; 16] = [
 pub(crate) fn is_in_lot_words(seen: &[u8], written: &[u8]) -> bool
     ensures { result ≡ is_among seen.now written.now lot_words }
 {
-    is_among(seen, written, &LOT_WORDS)
+    is_among(seen, written, 0x0038_5280, &LOT_WORDS)
 }
 
 /// The table `lot_marks` of the specification.
@@ -141,7 +141,7 @@ static LOT_MARKS: [[u8; 4]; 5] = [*b"'=__", *b"\xE2\x80\x99=", *b".=__", *b"#=__
 pub(crate) fn is_in_lot_marks(seen: &[u8], written: &[u8]) -> bool
     ensures { result ≡ is_among seen.now written.now lot_marks }
 {
-    is_among(seen, written, &LOT_MARKS)
+    is_among(seen, written, 0x0400_408c, &LOT_MARKS)
 }
 
 /// The table `numerals` of the specification.
@@ -164,7 +164,7 @@ static NUMERALS: [[u8; 9]; 12] = [
 pub(crate) fn is_in_numerals(seen: &[u8], written: &[u8]) -> bool
     ensures { result ≡ is_among seen.now written.now numerals }
 {
-    is_among(seen, written, &NUMERALS)
+    is_among(seen, written, 0x0018_c060, &NUMERALS)
 }
 
 /// The table `more_numerals` of the specification.
@@ -188,7 +188,7 @@ static MORE_NUMERALS: [[u8; 12]; 13] = [
 pub(crate) fn is_in_more_numerals(seen: &[u8], written: &[u8]) -> bool
     ensures { result ≡ is_among seen.now written.now more_numerals }
 {
-    is_among(seen, written, &MORE_NUMERALS)
+    is_among(seen, written, 0x0018_4060, &MORE_NUMERALS)
 }
 
 /// The table `zeros` of the specification.
@@ -198,7 +198,7 @@ static ZEROS: [[u8; 4]; 3] = [*b"0=__", *b"00=_", *b"000="];
 pub(crate) fn is_in_zeros(seen: &[u8], written: &[u8]) -> bool
     ensures { result ≡ is_among seen.now written.now zeros }
 {
-    is_among(seen, written, &ZEROS)
+    is_among(seen, written, 0x0001_0000, &ZEROS)
 }
 
 /// The table `fraction_digits` of the specification.
@@ -208,5 +208,5 @@ static FRACTION_DIGITS: [[u8; 2]; 1] = [*b"0="];
 pub(crate) fn is_in_fraction_digits(seen: &[u8], written: &[u8]) -> bool
     ensures { result ≡ is_among seen.now written.now fraction_digits }
 {
-    is_among(seen, written, &FRACTION_DIGITS)
+    is_among(seen, written, 0x0001_0000, &FRACTION_DIGITS)
 }

@@ -24,7 +24,7 @@ static COMMAS: [[u8; 5]; 11] = [
 pub(crate) fn is_in_commas(seen: &[u8], written: &[u8]) -> bool
     ensures { result ≡ is_among seen.now written.now commas }
 {
-    is_among(seen, written, &COMMAS)
+    is_among(seen, written, 0x3c00_6844, &COMMAS)
 }
 
 /// The table `semicolons` of the specification.
@@ -36,7 +36,7 @@ static SEMICOLONS: [[u8; 3]; 10] = [
 pub(crate) fn is_in_semicolons(seen: &[u8], written: &[u8]) -> bool
     ensures { result ≡ is_among seen.now written.now semicolons }
 {
-    is_among(seen, written, &SEMICOLONS)
+    is_among(seen, written, 0x3400_f840, &SEMICOLONS)
 }
 
 /// The table `dashes` of the specification.
@@ -50,7 +50,7 @@ static DASHES: [[u8; 10]; 3] = [
 pub(crate) fn is_in_dashes(seen: &[u8], written: &[u8]) -> bool
     ensures { result ≡ is_among seen.now written.now dashes }
 {
-    is_among(seen, written, &DASHES)
+    is_among(seen, written, 0x0000_2004, &DASHES)
 }
 
 /// The table `ampersands` of the specification.
@@ -60,7 +60,7 @@ static AMPERSANDS: [[u8; 7]; 2] = [*b"&= and ", *b"&=and__"];
 pub(crate) fn is_in_ampersands(seen: &[u8], written: &[u8]) -> bool
     ensures { result ≡ is_among seen.now written.now ampersands }
 {
-    is_among(seen, written, &AMPERSANDS)
+    is_among(seen, written, 0x0000_0040, &AMPERSANDS)
 }
 
 /// The table `marks` of the specification.
@@ -84,7 +84,7 @@ static MARKS: [[u8; 4]; 13] = [
 pub(crate) fn is_in_marks(seen: &[u8], written: &[u8]) -> bool
     ensures { result ≡ is_among seen.now written.now marks }
 {
-    is_among(seen, written, &MARKS)
+    is_among(seen, written, 0x1c00_704c, &MARKS)
 }
 
 /// The table `more_marks` of the specification.
@@ -101,7 +101,7 @@ static MORE_MARKS: [[u8; 4]; 6] = [
 pub(crate) fn is_in_more_marks(seen: &[u8], written: &[u8]) -> bool
     ensures { result ≡ is_among seen.now written.now more_marks }
 {
-    is_among(seen, written, &MORE_MARKS)
+    is_among(seen, written, 0x1000_8b04, &MORE_MARKS)
 }
 
 /// The table `joints` of the specification.
@@ -111,5 +111,5 @@ static JOINTS: [[u8; 2]; 6] = [*b" =", *b"\t=", *b"\n=", *b"\r=", *b".=", *b"-="
 pub(crate) fn is_in_joints(seen: &[u8], written: &[u8]) -> bool
     ensures { result ≡ is_among seen.now written.now joints }
 {
-    is_among(seen, written, &JOINTS)
+    is_among(seen, written, 0x0000_6601, &JOINTS)
 }

@@ -22,7 +22,7 @@ static HALVES: [[u8; 12]; 8] = [
 pub(crate) fn is_in_halves(seen: &[u8], written: &[u8]) -> bool
     ensures { result ≡ is_among seen.now written.now halves }
 {
-    is_among(seen, written, &HALVES)
+    is_among(seen, written, 0x0006_8100, &HALVES)
 }
 
 /// The table `worn_halves` of the specification.
@@ -48,7 +48,7 @@ static WORN_HALVES: [[u8; 12]; 15] = [
 pub(crate) fn is_in_worn_halves(seen: &[u8], written: &[u8]) -> bool
     ensures { result ≡ is_among seen.now written.now worn_halves }
 {
-    is_among(seen, written, &WORN_HALVES)
+    is_among(seen, written, 0x3246_13a6, &WORN_HALVES)
 }
 
 /// The table `quarters` of the specification.
@@ -66,7 +66,7 @@ static QUARTERS: [[u8; 15]; 7] = [
 pub(crate) fn is_in_quarters(seen: &[u8], written: &[u8]) -> bool
     ensures { result ≡ is_among seen.now written.now quarters }
 {
-    is_among(seen, written, &QUARTERS)
+    is_among(seen, written, 0x2012_8000, &QUARTERS)
 }
 
 /// The table `quarter_abbreviations` of the specification.
@@ -82,7 +82,7 @@ static QUARTER_ABBREVIATIONS: [[u8; 10]; 5] = [
 pub(crate) fn is_in_quarter_abbreviations(seen: &[u8], written: &[u8]) -> bool
     ensures { result ≡ is_among seen.now written.now quarter_abbreviations }
 {
-    is_among(seen, written, &QUARTER_ABBREVIATIONS)
+    is_among(seen, written, 0x0002_4000, &QUARTER_ABBREVIATIONS)
 }
 
 /// The table `worn_quarters` of the specification.
@@ -108,7 +108,7 @@ static WORN_QUARTERS: [[u8; 12]; 15] = [
 pub(crate) fn is_in_worn_quarters(seen: &[u8], written: &[u8]) -> bool
     ensures { result ≡ is_among seen.now written.now worn_quarters }
 {
-    is_among(seen, written, &WORN_QUARTERS)
+    is_among(seen, written, 0x7242_92a6, &WORN_QUARTERS)
 }
 
 /// The table `directions` of the specification.
@@ -131,7 +131,7 @@ static DIRECTIONS: [[u8; 13]; 12] = [
 pub(crate) fn is_in_directions(seen: &[u8], written: &[u8]) -> bool
     ensures { result ≡ is_among seen.now written.now directions }
 {
-    is_among(seen, written, &DIRECTIONS)
+    is_among(seen, written, 0x0088_4020, &DIRECTIONS)
 }
 
 /// The table `worn_directions` of the specification.
@@ -156,7 +156,7 @@ static WORN_DIRECTIONS: [[u8; 12]; 14] = [
 pub(crate) fn is_in_worn_directions(seen: &[u8], written: &[u8]) -> bool
     ensures { result ≡ is_among seen.now written.now worn_directions }
 {
-    is_among(seen, written, &WORN_DIRECTIONS)
+    is_among(seen, written, 0x0008_4000, &WORN_DIRECTIONS)
 }
 
 /// The table `damages` of the specification.
@@ -166,7 +166,7 @@ static DAMAGES: [[u8; 3]; 3] = [*b"l=1", *b"i=1", *b"o=0"];
 pub(crate) fn is_in_damages(seen: &[u8], written: &[u8]) -> bool
     ensures { result ≡ is_among seen.now written.now damages }
 {
-    is_among(seen, written, &DAMAGES)
+    is_among(seen, written, 0x0000_9200, &DAMAGES)
 }
 
 /// The table `damaged_corners` of the specification.
@@ -176,5 +176,5 @@ static DAMAGED_CORNERS: [[u8; 3]; 2] = [*b"5=S", *b"8=S"];
 pub(crate) fn is_in_damaged_corners(seen: &[u8], written: &[u8]) -> bool
     ensures { result ≡ is_among seen.now written.now damaged_corners }
 {
-    is_among(seen, written, &DAMAGED_CORNERS)
+    is_among(seen, written, 0x0120_0000, &DAMAGED_CORNERS)
 }

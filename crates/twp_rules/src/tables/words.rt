@@ -26,7 +26,7 @@ static EXCEPTIONS: [[u8; 18]; 13] = [
 pub(crate) fn is_in_exceptions(seen: &[u8], written: &[u8]) -> bool
     ensures { result ≡ is_among seen.now written.now exceptions }
 {
-    is_among(seen, written, &EXCEPTIONS)
+    is_among(seen, written, 0x0088_3024, &EXCEPTIONS)
 }
 
 /// The table `little_words` of the specification.
@@ -48,7 +48,7 @@ static LITTLE_WORDS: [[u8; 12]; 11] = [
 pub(crate) fn is_in_little_words(seen: &[u8], written: &[u8]) -> bool
     ensures { result ≡ is_among seen.now written.now little_words }
 {
-    is_among(seen, written, &LITTLE_WORDS)
+    is_among(seen, written, 0x0098_8222, &LITTLE_WORDS)
 }
 
 /// The table `more_little_words` of the specification.
@@ -71,7 +71,7 @@ static MORE_LITTLE_WORDS: [[u8; 11]; 12] = [
 pub(crate) fn is_in_more_little_words(seen: &[u8], written: &[u8]) -> bool
     ensures { result ≡ is_among seen.now written.now more_little_words }
 {
-    is_among(seen, written, &MORE_LITTLE_WORDS)
+    is_among(seen, written, 0x0011_1070, &MORE_LITTLE_WORDS)
 }
 
 /// The table `joining_words` of the specification.
@@ -92,5 +92,5 @@ static JOINING_WORDS: [[u8; 14]; 10] = [
 pub(crate) fn is_in_joining_words(seen: &[u8], written: &[u8]) -> bool
     ensures { result ≡ is_among seen.now written.now joining_words }
 {
-    is_among(seen, written, &JOINING_WORDS)
+    is_among(seen, written, 0x0090_4226, &JOINING_WORDS)
 }

@@ -3,7 +3,7 @@ use Rattle.std.specs.List.{list_any}
 use Rattle.std.specs.Str.{str_to_ascii_lowercase}
 use Rattle.twp_grammar.specs.Tokens.{same_bytes}
 use Rattle.twp_rules.specs.steps.Rows.{front_of}
-use Rattle.twp_rules.proofs.rows.is_one_of.Given as goal
+use Rattle.twp_rules.proofs.rows.is_some_word.Given as goal
 
 -- the rest decides
 abbrev pub invariant-loop-row : goal.invariant-loop-row

@@ -1,0 +1,59 @@
+-- A text whose first byte is that of no row is in no row of a table.
+use Rattle.std.proofs.Common.{◌≡◌, ◌∙◌, ap, refl, Bool, sym, true, false, List, [], ◌∷◌, ℕ, slice_index_or}
+use Rattle.std.proofs.lemmas.Bool.{false≢true}
+use Rattle.std.specs.Char.{to_ascii_lowercase}
+use Rattle.std.specs.List.{list_any}
+use Rattle.std.specs.Str.{str_to_ascii_lowercase}
+use Rattle.twp_grammar.specs.Tokens.{same_bytes}
+use Rattle.twp_rules.specs.Rules.{is_entry}
+use Rattle.twp_rules.specs.steps.Rows.{entry_of, front_of, have_heads, is_head}
+use Rattle.twp_rules.proofs.RowFacts.{other_head}
+use Rattle.twp_rules.proofs.SameTexts.{both}
+
+-- a word is in no row
+no_word_from : (heads : ℕ) (word : List ℕ) (rows : List (List ℕ)) → have_heads 95 heads rows ≡ true
+    → is_head heads (to_ascii_lowercase (slice_index_or word 0 95)) ≡ false
+    → list_any (λ row. same_bytes (str_to_ascii_lowercase word) (front_of row)) rows ≡ false
+no_word_from heads word [] have other = refl
+no_word_from heads word (row ∷ rows) have other =
+    let parts = both (is_head heads (slice_index_or row 0 95)) (have_heads 95 heads rows) have in
+    rw (other_head 95 word row refl (λ (e : slice_index_or row 0 95
+    ≡ to_ascii_lowercase (slice_index_or word 0 95)). false≢true (sym other ∙ ap (is_head heads) (sym e)
+    ∙ parts.0)))
+    (no_word_from heads word rows parts.1 other)
+
+-- nothing is written for a text
+no_entry_from : (heads : ℕ) (seen written : List ℕ) (rows : List (List ℕ)) → have_heads 61 heads rows ≡ true
+    → is_head heads (to_ascii_lowercase (slice_index_or seen 0 61)) ≡ false
+    → list_any (λ row. is_entry seen written (entry_of row)) rows ≡ false
+no_entry_from heads seen written [] have other = refl
+no_entry_from heads seen written (row ∷ rows) have other =
+    let parts = both (is_head heads (slice_index_or row 0 61)) (have_heads 61 heads rows) have in
+    rw (other_head 61 seen row refl (λ (e : slice_index_or row 0 61
+    ≡ to_ascii_lowercase (slice_index_or seen 0 61)). false≢true (sym other ∙ ap (is_head heads) (sym e)
+    ∙ parts.0)))
+    (no_entry_from heads seen written rows parts.1 other)
+
+-- the same, by the steps in which the code tests it
+first_is_no_head : (heads mark first byte : ℕ) (answer : Bool) (text : List ℕ)
+    → byte ≡ slice_index_or text 0 mark → first ≡ to_ascii_lowercase byte → answer ≡ is_head heads first
+    → answer ≡ false → is_head heads (to_ascii_lowercase (slice_index_or text 0 mark)) ≡ false
+first_is_no_head heads mark first byte answer text byte_is first_is answer_is other =
+    ap (λ (n : ℕ). is_head heads (to_ascii_lowercase n)) (sym byte_is) ∙ ap (is_head heads) (sym first_is)
+    ∙ sym answer_is ∙ other
+
+pub no_word : (heads first byte : ℕ) (answer : Bool) (word : List ℕ) (rows : List (List ℕ))
+    → have_heads 95 heads rows ≡ true → byte ≡ slice_index_or word 0 95 → first ≡ to_ascii_lowercase byte
+    → answer ≡ is_head heads first → answer ≡ false
+    → false ≡ list_any (λ row. same_bytes (str_to_ascii_lowercase word) (front_of row)) rows
+no_word heads first byte answer word rows have byte_is first_is answer_is other =
+    sym (no_word_from heads word rows have
+    (first_is_no_head heads 95 first byte answer word byte_is first_is answer_is other))
+
+pub no_entry : (heads first byte : ℕ) (answer : Bool) (seen written : List ℕ) (rows : List (List ℕ))
+    → have_heads 61 heads rows ≡ true → byte ≡ slice_index_or seen 0 61 → first ≡ to_ascii_lowercase byte
+    → answer ≡ is_head heads first → answer ≡ false
+    → false ≡ list_any (λ row. is_entry seen written (entry_of row)) rows
+no_entry heads first byte answer seen written rows have byte_is first_is answer_is other =
+    sym (no_entry_from heads seen written rows have
+    (first_is_no_head heads 61 first byte answer seen byte_is first_is answer_is other))
