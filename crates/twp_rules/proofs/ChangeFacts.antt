@@ -43,6 +43,27 @@ end_within text at (piece ∷ pieces) zero default h (first, order, allowed, res
 end_within text at (piece ∷ pieces) (suc i) default h all =
     end_within text at pieces i default (omega arith) all
 
+-- the end of each is not before its beginning
+pub order_of : (text : List ℕ) (at : ℕ) (pieces : List Piece) (i : ℕ) (default : Piece)
+    → i < length pieces
+    → AreChangesFrom at text (map seen pieces)
+    → (slice_index_or pieces i default).start ≤ (slice_index_or pieces i default).end
+order_of text at [] i default h all = absurd (omega arith)
+order_of text at (piece ∷ pieces) zero default h (first, order, allowed, rest) = order
+order_of text at (piece ∷ pieces) (suc i) default h (first, order, allowed, rest) =
+    order_of text piece.end pieces i default (omega arith) rest
+
+-- and is in the text
+pub end_of : (text : List ℕ) (at : ℕ) (pieces : List Piece) (i : ℕ) (default : Piece)
+    → i < length pieces
+    → AreChangesFrom at text (map seen pieces)
+    → (slice_index_or pieces i default).end ≤ length text
+end_of text at [] i default h all = absurd (omega arith)
+end_of text at (piece ∷ pieces) zero default h (first, order, allowed, rest) =
+    begin_within piece.end text (map seen pieces) rest
+end_of text at (piece ∷ pieces) (suc i) default h (first, order, allowed, rest) =
+    end_of text piece.end pieces i default (omega arith) rest
+
 -- a change fits, and the rest decides of numbers
 pub next_numbers : (text : List ℕ) (role : Role) (place copied : ℕ) (changes : List Piece) (index : ℕ)
     (default : Piece)

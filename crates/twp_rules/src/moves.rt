@@ -5,7 +5,7 @@ ghost use Rattle.twp_rules.specs.Moves.{are_written_from, copies_place, digits_a
 ghost use Rattle.twp_rules.specs.Moves.{is_named_last, is_number_at, is_same_number, is_written_at, is_written_by, keep_moved, named_after, named_by};
 ghost use Rattle.twp_rules.specs.Moves.{named_with, nothing_named, number_at, role_named_by, side_by, value_from};
 ghost use Rattle.std.specs.Prelude.{◌<◌, drop, slice_range};
-ghost use Rattle.twp_rules.specs.steps.Moved.{move_something, moves};
+ghost use Rattle.twp_rules.specs.steps.Moved.{are_copied_from, are_moved_copied, is_copied_at, moves};
 
 use crate::change::{Change, between};
 use crate::context::{before, is_fraction_digit, less};
@@ -18,14 +18,14 @@ use crate::rule::Rule;
 use crate::same::begins_with;
 use crate::words::*;
 
-/// Whether what is left out where it is written elsewhere is written. In most texts nothing is moved, and then nothing
-/// else is looked at.
-#[tactic(auto, using(crate::proofs::ChangeFacts::next_moved, crate::proofs::ChangeFacts::not_written, crate::proofs::ChangeFacts::start_within, crate::proofs::ChangeFacts::end_within, crate::proofs::MoveFacts::nothing_moved))]
+/// Whether what is left out where it is written elsewhere is written. In most texts each number of it is copied, or
+/// nothing is moved, and then it doesn't matter what was named last.
+#[tactic(auto, using(crate::proofs::ChangeFacts::next_moved, crate::proofs::ChangeFacts::not_written, crate::proofs::ChangeFacts::start_within, crate::proofs::ChangeFacts::end_within, crate::proofs::MoveFacts::all_are_copied))]
 pub(crate) fn is_moved_text_written(text: &[u8], changes: &[Change<'_>]) -> bool
     requires { AreChangesFrom 0 text.now (map seen changes.now) }
     ensures { result ≡ keep_moved text.now (map seen changes.now) 0 nothing_named (map seen changes.now) }
 {
-    if !move_something(changes) {
+    if are_moved_copied(text, changes) {
         return true;
     }
     let mut at = 0;
@@ -49,16 +49,41 @@ pub(crate) fn is_moved_text_written(text: &[u8], changes: &[Change<'_>]) -> bool
     true
 }
 
-/// Whether some change moves something.
-fn move_something(changes: &[Change<'_>]) -> bool
-    ensures { result ≡ move_something (map seen changes.now) }
+/// Whether each number of what is moved is copied.
+#[tactic(auto, using(crate::proofs::ChangeFacts::order_of, crate::proofs::ChangeFacts::end_of))]
+fn are_moved_copied(text: &[u8], changes: &[Change<'_>]) -> bool
+    requires { AreChangesFrom 0 text.now (map seen changes.now) }
+    ensures { result ≡ are_moved_copied text.now (map seen changes.now) (map seen changes.now) }
 {
     for change in changes {
-        if moves(change.rule) {
-            return true;
+        if moves(change.rule) && !are_copied(text, changes, change.start, change.end) {
+            return false;
         }
     }
-    false
+    true
+}
+
+/// Whether each number from one place up to another is copied.
+#[tactic(auto, using(crate::proofs::MoveFacts::next_is_copied, crate::proofs::MoveFacts::is_not_copied))]
+fn are_copied(text: &[u8], changes: &[Change<'_>], start: usize, end: usize) -> bool
+    requires order { start ≤ end }
+    requires within { end ≤ length text.now }
+    ensures { result ≡ are_copied_from text.now (map seen changes.now) start start (slice_range text.now start end) }
+{
+    let left_out = &text[start..end];
+    for index in 0..left_out.len() {
+        if !is_copied_at(text, changes, start, start + index) {
+            return false;
+        }
+    }
+    true
+}
+
+/// Whether the number at a place, if one begins there, is copied.
+fn is_copied_at(text: &[u8], changes: &[Change<'_>], start: usize, at: usize) -> bool
+    ensures { result ≡ is_copied_at text.now (map seen changes.now) start at }
+{
+    !is_number_at(text, start, at) || is_copied_by(changes, first_place(text, at))
 }
 
 /// Whether a rule leaves out what is written elsewhere.

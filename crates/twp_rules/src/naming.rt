@@ -48,36 +48,37 @@ pub(crate) fn has_no_land(seen: &[u8]) -> bool
 pub(crate) fn has_no_bare_number(seen: &[u8]) -> bool
     ensures { result ≡ has_no_bare_number seen.now }
 {
-    let mut name: &[u8] = b"";
+    let mut named: &[u8] = b"";
     for at in 0..seen.len() {
-        if !is_explained_at(seen, at, name) {
+        if !is_explained_at(seen, at, named) {
             return false;
         }
-        name = name_after(seen, at, name);
+        named = named_after(seen, at, named);
     }
     true
 }
 
-/// Whether a number at a place, if there is one, is that of something other than a section or a lot.
-fn is_explained_at(seen: &[u8], at: usize, name: &[u8]) -> bool
+/// Whether a number at a place, if there is one, is that of something other than a section or a lot: the word with which
+/// `named` begins is before it.
+fn is_explained_at(seen: &[u8], at: usize, named: &[u8]) -> bool
     requires { at ≤ length seen.now }
-    ensures { result ≡ is_explained_at seen.now at name.now (drop at seen.now) }
+    ensures { result ≡ is_explained_at seen.now at (word_of named.now) (drop at seen.now) }
 {
-    !begins_number(seen, at) || is_of_something_else(seen, at, name)
+    !begins_number(seen, at) || is_of_something_else(seen, at, word_of(named))
 }
 
-/// The last word before a number that may name it: a number ends it.
-fn name_after<'a>(seen: &'a [u8], at: usize, name: &'a [u8]) -> &'a [u8]
+/// The text from the last word on that may name a number: a number ends it.
+fn named_after<'a>(seen: &'a [u8], at: usize, named: &'a [u8]) -> &'a [u8]
     requires { at ≤ length seen.now }
-    ensures { result.now ≡ name_after seen.now at name.now (drop at seen.now) }
+    ensures { word_of result.now ≡ name_after seen.now at (word_of named.now) (drop at seen.now) }
 {
     if begins_word(seen, at) {
-        return word_of(from(seen, at));
+        return from(seen, at);
     }
     if begins_number(seen, at) {
         return b"";
     }
-    name
+    named
 }
 
 /// Whether land is named at a place.
