@@ -1,5 +1,5 @@
 //! Changes of a text, and the text that they make.
-ghost use Rattle.std.specs.Prelude.{◌≡◌, ◌≤◌, true, IfOk, length, drop, map, slice_range};
+ghost use Rattle.std.specs.Prelude.{◌≡◌, ◌≤◌, ◌++◌, true, IfOk, OnOk, length, drop, map, slice_range};
 ghost use Rattle.twp_rules.specs.Changes.{AreChangesFrom, changed_from, seen};
 ghost use Rattle.twp_rules.specs.Moves.{MayBeMade};
 
@@ -32,12 +32,22 @@ pub fn changed(alloc: Global, text: &[u8], changes: &[Change<'_>]) -> Result<Vec
     let mut made = Vec::with_capacity(alloc, text.len().saturating_mul(2))?;
     let mut at = 0;
     for change in changes {
-        made.extend_from_slice(between(text, at, change.start))?;
-        made.extend_from_slice(change.written)?;
+        append(&mut made, between(text, at, change.start))?;
+        append(&mut made, change.written)?;
         at = change.end;
     }
-    made.extend_from_slice(after(text, at))?;
+    append(&mut made, after(text, at))?;
     Ok(made)
+}
+
+/// Appends bytes to a text. Mostly there are none: changes touch each other, or leave something out.
+fn append(made: &mut Vec<u8>, bytes: &[u8]) -> Result<(), AllocError>
+    ensures { OnOk result (made.new.items ≡ made.old.items ++ bytes.now) }
+{
+    if bytes.is_empty() {
+        return Ok(());
+    }
+    made.extend_from_slice(bytes)
 }
 
 /// The bytes of a text from one place up to another.

@@ -350,7 +350,12 @@ fn loses_by(rule: Rule, seen: &[u8]) -> bool
 fn is_blank(bytes: &[u8]) -> bool
     ensures { result ≡ is_blank bytes.now }
 {
-    are_same(without_white(bytes), b"")
+    for byte in bytes {
+        if !is_white(*byte) {
+            return false;
+        }
+    }
+    true
 }
 
 /// Whether bytes begin with a step of a part.

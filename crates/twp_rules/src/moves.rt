@@ -154,6 +154,7 @@ fn is_written_at(
 }
 
 /// Whether a number begins at a place of what is left out, which begins at another.
+#[inline(always)]
 fn is_number_at(text: &[u8], start: usize, at: usize) -> bool
     ensures { result ≡ is_number_at text.now start at }
 {

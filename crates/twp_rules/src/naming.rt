@@ -152,7 +152,7 @@ fn is_of_corner(is_first: bool, byte: u8) -> bool
 pub(crate) fn makes_half(rest: &[u8]) -> bool
     ensures { result ≡ makes_half rest.now }
 {
-    begins_with_one(rest, &HALF_FRONTS)
+    begins_with_one(rest, 0x0002_8104, &HALF_FRONTS)
         || (begins_with(rest, b"2") && !byte_at(rest, 1).is_ascii_digit())
 }
 

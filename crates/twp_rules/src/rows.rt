@@ -10,7 +10,7 @@ ghost use Rattle.std.specs.Str.{str_to_ascii_lowercase};
 ghost use Rattle.twp_grammar.specs.Tokens.{same_bytes};
 ghost use Rattle.twp_rules.specs.Edges.{begins_with, ends_with};
 ghost use Rattle.twp_rules.specs.Rules.{is_entry};
-ghost use Rattle.twp_rules.specs.steps.Rows.{before, end_of, entry_of, front_of, have_heads, is_head};
+ghost use Rattle.twp_rules.specs.steps.Rows.{before, end_of, entry_of, front_of, have_ends, have_fronts, have_heads, is_head};
 
 use crate::same::{begins_with, ends_with};
 
@@ -95,10 +95,23 @@ fn is_front(word: &[u8], first: u8, row: &[u8]) -> bool
 }
 
 /// Whether a text begins with one of the rows, which are in lowercase, as in `*b"acres__"`.
-pub(crate) fn begins_with_one<const N: usize>(seen: &[u8], rows: &[[u8; N]]) -> bool
+#[inline(always)]
+pub(crate) fn begins_with_one<const N: usize>(seen: &[u8], heads: u32, rows: &[[u8; N]]) -> bool
+    requires { have_fronts heads rows.now ≡ true }
     ensures { result ≡ list_any (λ row. begins_with seen.now (front_of row)) rows.now }
 {
     let first = byte_or(seen, 0, b'_').to_ascii_lowercase();
+    if !is_head(heads, first) {
+        return false;
+    }
+    has_some_front(seen, first, rows)
+}
+
+/// The same, for any table.
+fn has_some_front<const N: usize>(seen: &[u8], first: u8, rows: &[[u8; N]]) -> bool
+    requires { first ≡ to_ascii_lowercase (slice_index_or seen.now 0 95) }
+    ensures { result ≡ list_any (λ row. begins_with seen.now (front_of row)) rows.now }
+{
     for row in rows {
         if has_front(seen, first, row) {
             return true;
@@ -107,11 +120,25 @@ pub(crate) fn begins_with_one<const N: usize>(seen: &[u8], rows: &[[u8; N]]) -> 
     false
 }
 
-/// Whether a text ends with one of the rows, which are in lowercase, as in `*b"__acres"`.
-pub(crate) fn ends_with_one<const N: usize>(seen: &[u8], rows: &[[u8; N]]) -> bool
+/// Whether a text ends with one of the rows, which are in lowercase, as in `*b"__acres"`: `ends` has the bits of their last
+/// bytes.
+#[inline(always)]
+pub(crate) fn ends_with_one<const N: usize>(seen: &[u8], ends: u32, rows: &[[u8; N]]) -> bool
+    requires { have_ends ends rows.now ≡ true }
     ensures { result ≡ list_any (λ row. ends_with seen.now (end_of row)) rows.now }
 {
     let last = last_byte(seen).to_ascii_lowercase();
+    if !is_head(ends, last) {
+        return false;
+    }
+    has_some_end(seen, last, rows)
+}
+
+/// The same, for any table.
+fn has_some_end<const N: usize>(seen: &[u8], last: u8, rows: &[[u8; N]]) -> bool
+    requires { last ≡ to_ascii_lowercase (slice_index_or seen.now (length seen.now - 1) 95) }
+    ensures { result ≡ list_any (λ row. ends_with seen.now (end_of row)) rows.now }
+{
     for row in rows {
         if has_end(seen, last, row) {
             return true;
@@ -134,6 +161,7 @@ fn is_row(seen: &[u8], first: u8, written: &[u8], row: &[u8]) -> bool
 }
 
 /// Whether this is a row, by each of its parts.
+#[inline(always)]
 #[tactic(auto, using(crate::proofs::RowFacts::is_entry_by_parts))]
 fn is_row_by_parts(seen: &[u8], written: &[u8], row: &[u8]) -> bool
     ensures { result ≡ is_entry seen.now written.now (entry_of row.now) }
@@ -142,6 +170,7 @@ fn is_row_by_parts(seen: &[u8], written: &[u8], row: &[u8]) -> bool
 }
 
 /// Whether a text in lowercase is what is before a mark of a row, or all of it. Most rows are ruled out by their length.
+#[inline(always)]
 #[tactic(auto, using(crate::proofs::RowFacts::other_size, crate::proofs::RowFacts::no_more_lower))]
 fn is_before(row: &[u8], mark: u8, seen: &[u8]) -> bool
     ensures { result ≡ same_bytes (str_to_ascii_lowercase seen.now) (before mark row.now) }
@@ -162,6 +191,7 @@ fn is_before(row: &[u8], mark: u8, seen: &[u8]) -> bool
 }
 
 /// Whether a text is what is before the filling of the rest of a row. Most are ruled out by their length.
+#[inline(always)]
 #[tactic(auto, using(crate::proofs::RowFacts::no_more, crate::proofs::RowFacts::other_written))]
 fn is_before_filling(written: &[u8], rest: &[u8]) -> bool
     ensures { result ≡ same_bytes written.now (before 95 rest.now) }

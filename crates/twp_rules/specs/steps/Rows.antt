@@ -1,7 +1,7 @@
 -- Rows of the tables, as the code has them. All rows of a table have as many bytes, filled up with `_` (95).
 -- In a row of what is written for a text, `=` (61) is after the text.
-use Rattle.std.specs.Prelude.{◌==◌, ◌&&◌, ◌/◌, ◌%◌, ◌^◌, ℕ, Bool, true, List, [], ◌∷◌, bit_and, if◌then◌else◌}
-use Rattle.std.specs.Prelude.{slice_index_or}
+use Rattle.std.specs.Prelude.{◌==◌, ◌&&◌, ◌-◌, ◌/◌, ◌%◌, ◌^◌, ℕ, Bool, true, List, [], ◌∷◌, bit_and}
+use Rattle.std.specs.Prelude.{if◌then◌else◌, length, not, slice_index_or}
 use Rattle.twp_rules.specs.Tables.{Entry, ◌⇒◌}
 
 -- the bytes before a mark
@@ -39,3 +39,16 @@ is_head heads byte = bit_and (heads / 2 ^ (byte % 32)) 1 == 1
 abbrev pub have_heads : ℕ → ℕ → List (List ℕ) → Bool
 have_heads mark heads [] = true
 have_heads mark heads (row ∷ rows) = is_head heads (slice_index_or row 0 mark) && have_heads mark heads rows
+
+-- and of those with which texts begin, of which none is empty
+abbrev pub have_fronts : ℕ → List (List ℕ) → Bool
+have_fronts heads [] = true
+have_fronts heads (row ∷ rows) =
+    is_head heads (slice_index_or row 0 95) && not (slice_index_or row 0 95 == 95) && have_fronts heads rows
+
+-- and of the last bytes of those with which texts end
+abbrev pub have_ends : ℕ → List (List ℕ) → Bool
+have_ends ends [] = true
+have_ends ends (row ∷ rows) =
+    is_head ends (slice_index_or row (length row - 1) 95)
+    && not (slice_index_or row (length row - 1) 95 == 95) && have_ends ends rows

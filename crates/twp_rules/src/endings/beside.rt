@@ -12,7 +12,7 @@ static TENS_ENDS: [[u8; 1]; 2] = [*b"-", *b" "];
 pub(crate) fn has_tens_ends(seen: &[u8]) -> bool
     ensures { result ≡ ends_with_one seen.now tens_ends }
 {
-    ends_with_one(seen, &TENS_ENDS)
+    ends_with_one(seen, 0x0000_2001, &TENS_ENDS)
 }
 
 /// The texts `meridian_letters` of the specification.
@@ -32,7 +32,7 @@ static BUT_WHAT: [[u8; 9]; 4] = [*b"not______", *b"excluding", *b"except___", *b
 pub(crate) fn has_but_what(seen: &[u8]) -> bool
     ensures { result ≡ begins_with_one seen.now but_what }
 {
-    begins_with_one(seen, &BUT_WHAT)
+    begins_with_one(seen, 0x0000_4020, &BUT_WHAT)
 }
 
 /// The texts `all_but` of the specification.
@@ -42,7 +42,7 @@ static ALL_BUT: [[u8; 11]; 2] = [*b"_______all ", *b"everything "];
 pub(crate) fn has_all_but(seen: &[u8]) -> bool
     ensures { result ≡ ends_with_one seen.now all_but }
 {
-    ends_with_one(seen, &ALL_BUT)
+    ends_with_one(seen, 0x0000_0001, &ALL_BUT)
 }
 
 /// The texts `first_exceptions` of the specification.
@@ -62,7 +62,7 @@ static FIRST_EXCEPTIONS: [[u8; 9]; 9] = [
 pub(crate) fn has_first_exceptions(seen: &[u8]) -> bool
     ensures { result ≡ ends_with_one seen.now first_exceptions }
 {
-    ends_with_one(seen, &FIRST_EXCEPTIONS)
+    ends_with_one(seen, 0x0000_0001, &FIRST_EXCEPTIONS)
 }
 
 /// The texts `dash_marks` of the specification.
@@ -79,7 +79,7 @@ pub(crate) fn is_in_dash_marks(seen: &[u8]) -> bool
 pub(crate) fn has_dash_fronts(seen: &[u8]) -> bool
     ensures { result ≡ begins_with_one seen.now dash_marks }
 {
-    begins_with_one(seen, &DASH_MARKS)
+    begins_with_one(seen, 0x0000_2004, &DASH_MARKS)
 }
 
 /// The texts `words_apart` of the specification.
@@ -89,5 +89,5 @@ static WORDS_APART: [[u8; 4]; 2] = [*b"and ", *b"_of "];
 pub(crate) fn has_words_apart(seen: &[u8]) -> bool
     ensures { result ≡ ends_with_one seen.now words_apart }
 {
-    ends_with_one(seen, &WORDS_APART)
+    ends_with_one(seen, 0x0000_0001, &WORDS_APART)
 }

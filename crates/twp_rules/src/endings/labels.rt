@@ -17,7 +17,7 @@ static ACREAGE_ENDS: [[u8; 6]; 16] = [
 pub(crate) fn has_acreage_ends(seen: &[u8]) -> bool
     ensures { result ≡ ends_with_one seen.now acreage_ends }
 {
-    ends_with_one(seen, &ACREAGE_ENDS)
+    ends_with_one(seen, 0x2018_7238, &ACREAGE_ENDS)
 }
 
 /// The texts `acreage_fronts` of the specification.
@@ -36,7 +36,7 @@ static ACREAGE_FRONTS: [[u8; 10]; 8] = [
 pub(crate) fn has_acreage_fronts(seen: &[u8]) -> bool
     ensures { result ≡ begins_with_one seen.now acreage_fronts }
 {
-    begins_with_one(seen, &ACREAGE_FRONTS)
+    begins_with_one(seen, 0x0010_408a, &ACREAGE_FRONTS)
 }
 
 /// The texts `parenthesis_ends` of the specification.
@@ -46,7 +46,7 @@ static PARENTHESIS_ENDS: [[u8; 1]; 2] = [*b")", *b"]"];
 pub(crate) fn has_parenthesis_ends(seen: &[u8]) -> bool
     ensures { result ≡ ends_with_one seen.now parenthesis_ends }
 {
-    ends_with_one(seen, &PARENTHESIS_ENDS)
+    ends_with_one(seen, 0x2000_0200, &PARENTHESIS_ENDS)
 }
 
 /// The texts `being_fronts` of the specification.
@@ -56,7 +56,7 @@ static BEING_FRONTS: [[u8; 5]; 3] = [*b"being", *b"aka__", *b"a/___"];
 pub(crate) fn has_being_fronts(seen: &[u8]) -> bool
     ensures { result ≡ begins_with_one seen.now being_fronts }
 {
-    begins_with_one(seen, &BEING_FRONTS)
+    begins_with_one(seen, 0x0000_0006, &BEING_FRONTS)
 }
 
 /// The texts `less_ends` of the specification.
@@ -66,7 +66,7 @@ static LESS_ENDS: [[u8; 8]; 4] = [*b"_or less", *b"or less)", *b"or less]", *b"o
 pub(crate) fn has_less_ends(seen: &[u8]) -> bool
     ensures { result ≡ ends_with_one seen.now less_ends }
 {
-    ends_with_one(seen, &LESS_ENDS)
+    ends_with_one(seen, 0x2008_4200, &LESS_ENDS)
 }
 
 /// The texts `rights` of the specification.
@@ -76,7 +76,7 @@ static RIGHTS: [[u8; 13]; 2] = [*b"subj_________", *b"together with"];
 pub(crate) fn has_rights(seen: &[u8]) -> bool
     ensures { result ≡ begins_with_one seen.now rights }
 {
-    begins_with_one(seen, &RIGHTS)
+    begins_with_one(seen, 0x0018_0000, &RIGHTS)
 }
 
 /// The texts `records` of the specification.
@@ -91,7 +91,7 @@ static RECORDS: [[u8; 15]; 4] = [
 pub(crate) fn has_records(seen: &[u8]) -> bool
     ensures { result ≡ begins_with_one seen.now records }
 {
-    begins_with_one(seen, &RECORDS)
+    begins_with_one(seen, 0x0000_0202, &RECORDS)
 }
 
 /// The texts `reservations` of the specification.
@@ -101,7 +101,7 @@ static RESERVATIONS: [[u8; 13]; 3] = [*b"reserving____", *b"excepting and", *b"g
 pub(crate) fn has_reservations(seen: &[u8]) -> bool
     ensures { result ≡ begins_with_one seen.now reservations }
 {
-    begins_with_one(seen, &RESERVATIONS)
+    begins_with_one(seen, 0x0004_00a0, &RESERVATIONS)
 }
 
 /// The texts `terms` of the specification.
@@ -111,7 +111,7 @@ static TERMS: [[u8; 7]; 3] = [*b"insofar", *b"limited", *b"as to__"];
 pub(crate) fn has_terms(seen: &[u8]) -> bool
     ensures { result ≡ begins_with_one seen.now terms }
 {
-    begins_with_one(seen, &TERMS)
+    begins_with_one(seen, 0x0000_1202, &TERMS)
 }
 
 /// The texts `depths` of the specification.
@@ -127,7 +127,7 @@ static DEPTHS: [[u8; 10]; 5] = [
 pub(crate) fn has_depths(seen: &[u8]) -> bool
     ensures { result ≡ begins_with_one seen.now depths }
 {
-    begins_with_one(seen, &DEPTHS)
+    begins_with_one(seen, 0x0000_0056, &DEPTHS)
 }
 
 /// The texts `estates` of the specification.
@@ -144,7 +144,7 @@ static ESTATES: [[u8; 9]; 6] = [
 pub(crate) fn has_estates(seen: &[u8]) -> bool
     ensures { result ≡ begins_with_one seen.now estates }
 {
-    begins_with_one(seen, &ESTATES)
+    begins_with_one(seen, 0x0008_a050, &ESTATES)
 }
 
 /// The texts `number_fronts` of the specification.
@@ -154,7 +154,7 @@ static NUMBER_FRONTS: [[u8; 5]; 4] = [*b"lease", *b"rp___", *b"pin__", *b"apn__"
 pub(crate) fn has_number_fronts(seen: &[u8]) -> bool
     ensures { result ≡ begins_with_one seen.now number_fronts }
 {
-    begins_with_one(seen, &NUMBER_FRONTS)
+    begins_with_one(seen, 0x0005_1002, &NUMBER_FRONTS)
 }
 
 /// The texts `interest_fronts` of the specification.
@@ -164,7 +164,7 @@ static INTEREST_FRONTS: [[u8; 8]; 4] = [*b"an und__", *b"und_____", *b"one-half"
 pub(crate) fn has_interest_fronts(seen: &[u8]) -> bool
     ensures { result ≡ begins_with_one seen.now interest_fronts }
 {
-    begins_with_one(seen, &INTEREST_FRONTS)
+    begins_with_one(seen, 0x0020_8002, &INTEREST_FRONTS)
 }
 
 /// The texts `property_fronts` of the specification.
@@ -180,5 +180,5 @@ static PROPERTY_FRONTS: [[u8; 15]; 5] = [
 pub(crate) fn has_property_fronts(seen: &[u8]) -> bool
     ensures { result ≡ begins_with_one seen.now property_fronts }
 {
-    begins_with_one(seen, &PROPERTY_FRONTS)
+    begins_with_one(seen, 0x0010_1002, &PROPERTY_FRONTS)
 }

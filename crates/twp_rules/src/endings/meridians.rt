@@ -28,7 +28,7 @@ static MERIDIAN_ENDS: [[u8; 10]; 14] = [
 pub(crate) fn has_meridian_ends(seen: &[u8]) -> bool
     ensures { result ≡ ends_with_one seen.now meridian_ends }
 {
-    ends_with_one(seen, &MERIDIAN_ENDS)
+    ends_with_one(seen, 0x1214_e120, &MERIDIAN_ENDS)
 }
 
 /// The texts `meridian_fronts` of the specification.
@@ -42,7 +42,7 @@ static MERIDIAN_FRONTS: [[u8; 16]; 3] = [
 pub(crate) fn has_meridian_fronts(seen: &[u8]) -> bool
     ensures { result ≡ begins_with_one seen.now meridian_fronts }
 {
-    begins_with_one(seen, &MERIDIAN_FRONTS)
+    begins_with_one(seen, 0x0008_0208, &MERIDIAN_FRONTS)
 }
 
 /// The texts `meridian_labels` of the specification.
@@ -58,7 +58,7 @@ static MERIDIAN_LABELS: [[u8; 9]; 5] = [
 pub(crate) fn has_meridian_labels(seen: &[u8]) -> bool
     ensures { result ≡ begins_with_one seen.now meridian_labels }
 {
-    begins_with_one(seen, &MERIDIAN_LABELS)
+    begins_with_one(seen, 0x0008_2008, &MERIDIAN_LABELS)
 }
 
 /// The texts `states` of the specification.
@@ -82,7 +82,7 @@ static STATES: [[u8; 10]; 13] = [
 pub(crate) fn has_states(seen: &[u8]) -> bool
     ensures { result ≡ ends_with_one seen.now states }
 {
-    ends_with_one(seen, &STATES)
+    ends_with_one(seen, 0x0000_c182, &STATES)
 }
 
 /// The texts `more_states` of the specification.
@@ -108,7 +108,7 @@ static MORE_STATES: [[u8; 9]; 15] = [
 pub(crate) fn has_more_states(seen: &[u8]) -> bool
     ensures { result ≡ ends_with_one seen.now more_states }
 {
-    ends_with_one(seen, &MORE_STATES)
+    ends_with_one(seen, 0x045c_c042, &MORE_STATES)
 }
 
 /// The texts `state_letters` of the specification.
@@ -120,5 +120,5 @@ static STATE_LETTERS: [[u8; 2]; 12] = [
 pub(crate) fn has_state_letters(seen: &[u8]) -> bool
     ensures { result ≡ ends_with_one seen.now state_letters }
 {
-    ends_with_one(seen, &STATE_LETTERS)
+    ends_with_one(seen, 0x0650_a812, &STATE_LETTERS)
 }

@@ -16,7 +16,7 @@ static SIDES: [[u8; 5]; 12] = [
 pub(crate) fn has_sides(seen: &[u8]) -> bool
     ensures { result ≡ ends_with_one seen.now sides }
 {
-    ends_with_one(seen, &SIDES)
+    ends_with_one(seen, 0x0098_4120, &SIDES)
 }
 
 /// The texts `corners` of the specification.
@@ -29,7 +29,7 @@ static CORNERS: [[u8; 4]; 10] = [
 pub(crate) fn has_corners(seen: &[u8]) -> bool
     ensures { result ≡ ends_with_one seen.now corners }
 {
-    ends_with_one(seen, &CORNERS)
+    ends_with_one(seen, 0x0090_4020, &CORNERS)
 }
 
 /// The texts `digits` of the specification.
@@ -41,7 +41,7 @@ static DIGITS: [[u8; 1]; 10] = [
 pub(crate) fn has_digits(seen: &[u8]) -> bool
     ensures { result ≡ ends_with_one seen.now digits }
 {
-    ends_with_one(seen, &DIGITS)
+    ends_with_one(seen, 0x03ff_0000, &DIGITS)
 }
 
 /// The texts `section_ends` of the specification.
@@ -54,7 +54,7 @@ static SECTION_ENDS: [[u8; 6]; 15] = [
 pub(crate) fn has_section_ends(seen: &[u8]) -> bool
     ensures { result ≡ ends_with_one seen.now section_ends }
 {
-    ends_with_one(seen, &SECTION_ENDS)
+    ends_with_one(seen, 0x0314_c220, &SECTION_ENDS)
 }
 
 /// The texts `worn_section_ends` of the specification.
@@ -66,7 +66,7 @@ static WORN_SECTION_ENDS: [[u8; 2]; 9] = [
 pub(crate) fn has_worn_section_ends(seen: &[u8]) -> bool
     ensures { result ≡ ends_with_one seen.now worn_section_ends }
 {
-    ends_with_one(seen, &WORN_SECTION_ENDS)
+    ends_with_one(seen, 0x0000_9200, &WORN_SECTION_ENDS)
 }
 
 /// The texts `section_again` of the specification.
@@ -76,7 +76,7 @@ static SECTION_AGAIN: [[u8; 7]; 3] = [*b"section", *b"____sec", *b"___sec."];
 pub(crate) fn has_section_again(seen: &[u8]) -> bool
     ensures { result ≡ ends_with_one seen.now section_again }
 {
-    ends_with_one(seen, &SECTION_AGAIN)
+    ends_with_one(seen, 0x0000_4008, &SECTION_AGAIN)
 }
 
 /// The texts `heading_ends` of the specification.
@@ -97,5 +97,5 @@ static HEADING_ENDS: [[u8; 8]; 10] = [
 pub(crate) fn has_heading_ends(seen: &[u8]) -> bool
     ensures { result ≡ ends_with_one seen.now heading_ends }
 {
-    ends_with_one(seen, &HEADING_ENDS)
+    ends_with_one(seen, 0x0091_4220, &HEADING_ENDS)
 }

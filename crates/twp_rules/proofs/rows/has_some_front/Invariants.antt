@@ -2,7 +2,7 @@ use Rattle.std.proofs.Common.{◌≡◌, drop}
 use Rattle.std.specs.List.{list_any}
 use Rattle.twp_rules.specs.Edges.{begins_with}
 use Rattle.twp_rules.specs.steps.Rows.{front_of}
-use Rattle.twp_rules.proofs.rows.begins_with_one.Given as goal
+use Rattle.twp_rules.proofs.rows.has_some_front.Given as goal
 
 -- the rest decides
 abbrev pub invariant-loop-row : goal.invariant-loop-row

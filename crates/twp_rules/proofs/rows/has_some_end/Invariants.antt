@@ -2,7 +2,7 @@ use Rattle.std.proofs.Common.{◌≡◌, drop}
 use Rattle.std.specs.List.{list_any}
 use Rattle.twp_rules.specs.Edges.{ends_with}
 use Rattle.twp_rules.specs.steps.Rows.{end_of}
-use Rattle.twp_rules.proofs.rows.ends_with_one.Given as goal
+use Rattle.twp_rules.proofs.rows.has_some_end.Given as goal
 
 -- the rest decides
 abbrev pub invariant-loop-row : goal.invariant-loop-row
