@@ -10,7 +10,8 @@ use Rattle.std.specs.Char.{to_ascii_lowercase}
 use Rattle.std.specs.Str.{str_to_ascii_lowercase}
 use Rattle.twp_rules.specs.Edges.{begins_with, ends_with}
 use Rattle.twp_grammar.specs.Tokens.{same_bytes}
-use Rattle.twp_rules.specs.steps.Rows.{without, before}
+use Rattle.twp_rules.specs.Lists.{before}
+use Rattle.twp_rules.specs.steps.Rows.{without}
 use Rattle.twp_rules.proofs.SameTexts.{both, same_tells}
 
 -- the last byte, or the mark if there is none

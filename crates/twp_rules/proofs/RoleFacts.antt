@@ -1,5 +1,5 @@
 -- What the bytes and words before a place say, from the place backward.
-use Rattle.std.proofs.Common.{◌≡◌, ◌==◌, ◌<◌, ◌+◌, ◌-◌, true, false, List, ℕ, suc, refl}
+use Rattle.std.proofs.Common.{◌≡◌, ◌==◌, ◌||◌, ◌&&◌, ◌<◌, ◌+◌, ◌-◌, Bool, true, false, List, ℕ, suc, refl}
 use Rattle.std.proofs.Common.{arith, drop, length}
 use Rattle.std.proofs.Common.{slice_index}
 use Rattle.twp_rules.specs.Edges.{byte_before}
@@ -24,6 +24,23 @@ other_before text at count within other =
     let e : at - count ≡ suc (at - 1 - count) = omega arith in
     rw (e, other) refl
 
+-- a list is open after a word that begins one,
+begun : (begins goes before : Bool) → begins ≡ true → (begins || goes && before) ≡ true
+begun true goes before begin = refl
+begun false goes before begin = cc begin
+
+-- and isn't after a word that isn't of one
+ended : (begins goes before : Bool) → begins ≡ false → goes ≡ false → (begins || goes && before) ≡ false
+ended true goes before other ends = cc other
+ended false true before other ends = cc ends
+ended false false before other ends = refl
+
+-- after one that goes on with it, it is if it was before
+gone_on : (begins goes before : Bool) → begins ≡ false → goes ≡ true → (begins || goes && before) ≡ before
+gone_on true goes before other go = cc other
+gone_on false false before other go = cc go
+gone_on false true before other go = refl
+
 -- a word that begins a list is before the place
 pub word_begins : (text : List ℕ) (at count : ℕ) → count < at
     → begins_word text (at - 1 - count) ≡ true
@@ -32,7 +49,9 @@ pub word_begins : (text : List ℕ) (at count : ℕ) → count < at
     → is_in_list text (at - count) ≡ true
 word_begins text at count within is list =
     let e : at - count ≡ suc (at - 1 - count) = omega arith in
-    rw (e, is, list) refl
+    rw (e, is) (begun (begins_list (byte_before text (at - 1 - count)) (word_of (drop (at - 1 - count) text))
+    (drop (length (word_of (drop (at - 1 - count) text))) (drop (at - 1 - count) text)))
+    (goes_on_with_list (word_of (drop (at - 1 - count) text))) (is_in_list text (at - 1 - count)) list)
 
 -- a word that isn't of a list is
 pub word_ends : (text : List ℕ) (at count : ℕ) → count < at
@@ -43,7 +62,9 @@ pub word_ends : (text : List ℕ) (at count : ℕ) → count < at
     → is_in_list text (at - count) ≡ false
 word_ends text at count within is other ends =
     let e : at - count ≡ suc (at - 1 - count) = omega arith in
-    rw (e, is, other, ends) refl
+    rw (e, is) (ended (begins_list (byte_before text (at - 1 - count)) (word_of (drop (at - 1 - count) text))
+    (drop (length (word_of (drop (at - 1 - count) text))) (drop (at - 1 - count) text)))
+    (goes_on_with_list (word_of (drop (at - 1 - count) text))) (is_in_list text (at - 1 - count)) other ends)
 
 -- a word that goes on with a list is passed over
 pub word_goes_on : (text : List ℕ) (at count : ℕ) → count < at
@@ -55,7 +76,9 @@ pub word_goes_on : (text : List ℕ) (at count : ℕ) → count < at
 word_goes_on text at count within is other goes =
     let e : at - count ≡ suc (at - 1 - count) = omega arith in
     let f : at - (count + 1) ≡ at - 1 - count = omega arith in
-    rw (e, f, is, other, goes) refl
+    rw (e, f, is) (gone_on (begins_list (byte_before text (at - 1 - count)) (word_of (drop (at - 1 - count) text))
+    (drop (length (word_of (drop (at - 1 - count) text))) (drop (at - 1 - count) text)))
+    (goes_on_with_list (word_of (drop (at - 1 - count) text))) (is_in_list text (at - 1 - count)) other goes)
 
 -- a section sign is before the place
 pub sign_begins : (text : List ℕ) (at count : ℕ) → count < at

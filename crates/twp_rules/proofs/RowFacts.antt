@@ -9,7 +9,8 @@ use Rattle.std.specs.Char.{to_ascii_lowercase}
 use Rattle.std.specs.Str.{str_to_ascii_lowercase}
 use Rattle.twp_grammar.specs.Tokens.{same_bytes}
 use Rattle.twp_rules.specs.Rules.{is_entry}
-use Rattle.twp_rules.specs.steps.Rows.{after, before, entry_of}
+use Rattle.twp_rules.specs.Lists.{after, before}
+use Rattle.twp_rules.specs.steps.Rows.{entry_of}
 use Rattle.twp_rules.proofs.SameTexts.{both}
 
 -- nothing is before a mark at the beginning

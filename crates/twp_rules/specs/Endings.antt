@@ -1,165 +1,147 @@
 -- What the texts that the rules look at, or leave out, begin and end with, in lowercase.
-use Rattle.std.specs.Prelude.{ℕ, List, [], ◌∷◌, codes}
+use Rattle.std.specs.Prelude.{ℕ, List, [], ◌∷◌, ◌++◌, codes}
+use Rattle.twp_rules.specs.Lists.{texts, words}
 use Rattle.twp_rules.specs.Tables.{em_dash, en_dash, half_sign, quarter_sign}
 
 -- what the land is before of which HALF is written
 abbrev pub sides : List (List ℕ)
-sides = codes "n" ∷ codes "s" ∷ codes "e" ∷ codes "w" ∷ codes "n." ∷ codes "s." ∷ codes "e." ∷ codes "w."
-    ∷ codes "north" ∷ codes "south" ∷ codes "east" ∷ codes "west" ∷ []
+sides = words (codes "n s e w n. s. e. w. north south east west")
 
 -- what the land is before of which QUARTER is written, or the last word of it
 abbrev pub corners : List (List ℕ)
-corners = codes "ne" ∷ codes "nw" ∷ codes "se" ∷ codes "sw" ∷ codes "e." ∷ codes "w." ∷ codes "east"
-    ∷ codes "west" ∷ codes " e" ∷ codes " w" ∷ []
+corners = texts (codes "ne|nw|se|sw|e.|w.|east|west| e| w")
 
 -- what the range of a township ends with, and words for one that was named before
 abbrev pub heading_ends : List (List ℕ)
-heading_ends = codes "e" ∷ codes "w" ∷ codes "e." ∷ codes "w." ∷ codes "east" ∷ codes "west"
-    ∷ codes "e)" ∷ codes "w)" ∷ codes "township" ∷ codes "range" ∷ []
+heading_ends = words (codes "e w e. w. east west e) w) township range")
 
 -- the spellings of a half, after white space, if any
 abbrev pub half_texts : List (List ℕ)
-half_texts = codes "2" ∷ codes "/2" ∷ codes "1/2" ∷ half_sign ∷ codes "half" ∷ codes "one-half"
-    ∷ codes "one half" ∷ []
+half_texts = words (codes "2 /2 1/2") ++ half_sign ∷ texts (codes "half|one-half|one half")
 
 -- the spellings of a quarter, after white space, if any
 abbrev pub quarter_texts : List (List ℕ)
-quarter_texts = [] ∷ codes "4" ∷ codes "/4" ∷ codes "1/4" ∷ quarter_sign ∷ codes "quarter"
-    ∷ codes "one-quarter" ∷ codes "one quarter" ∷ []
+quarter_texts = texts (codes "|4|/4|1/4") ++ quarter_sign ∷ texts (codes "quarter|one-quarter|one quarter")
 
 -- digits
 abbrev pub digits : List (List ℕ)
-digits = codes "0" ∷ codes "1" ∷ codes "2" ∷ codes "3" ∷ codes "4" ∷ codes "5" ∷ codes "6" ∷ codes "7"
-    ∷ codes "8" ∷ codes "9" ∷ []
+digits = words (codes "0 1 2 3 4 5 6 7 8 9")
 
 -- what the number of a section ends with, if not with a digit
 abbrev pub section_ends : List (List ℕ)
-section_ends = codes ")" ∷ codes "one" ∷ codes "two" ∷ codes "three" ∷ codes "four" ∷ codes "five"
-    ∷ codes "six" ∷ codes "seven" ∷ codes "eight" ∷ codes "nine" ∷ codes "ten" ∷ codes "eleven"
-    ∷ codes "twelve" ∷ codes "teen" ∷ codes "ty" ∷ []
+section_ends = words (codes ") one two three four five six seven eight nine ten eleven twelve teen ty")
 
 -- or with a digit that scanning made a letter of
 abbrev pub worn_section_ends : List (List ℕ)
-worn_section_ends = codes "1l" ∷ codes "1i" ∷ codes "1o" ∷ codes "2l" ∷ codes "2i" ∷ codes "2o" ∷ codes "3l"
-    ∷ codes "3i" ∷ codes "3o" ∷ []
+worn_section_ends = words (codes "1l 1i 1o 2l 2i 2o 3l 3i 3o")
 
 -- and the word for one that was named before
 abbrev pub section_again : List (List ℕ)
-section_again = codes "section" ∷ codes "sec" ∷ codes "sec." ∷ []
+section_again = words (codes "section sec sec.")
 
 -- what a meridian or a county ends with, if not with a digit, or a cell after a state: the word for it, or a
 -- meridian's name
 abbrev pub meridian_ends : List (List ℕ)
-meridian_ends = codes "meridian" ∷ codes "meridan" ∷ codes "mer" ∷ codes "mer." ∷ codes "m" ∷ codes "m."
-    ∷ codes "county" ∷ codes "co" ∷ codes "co." ∷ codes "|" ∷ codes "boise" ∷ codes "willamette"
-    ∷ codes "humboldt" ∷ codes "uintah" ∷ []
+meridian_ends = words (codes "meridian meridan mer mer. m m. county co co. | boise willamette humboldt")
+    ++ codes "uintah" ∷ []
 
 -- what a county or a state begins with, if not with its name, after white space
 abbrev pub meridian_fronts : List (List ℕ)
-meridian_fronts = codes "county of" ∷ codes "state of" ∷ codes "in the county of" ∷ []
+meridian_fronts = texts (codes "county of|state of|in the county of")
 
 -- or the word for it, and a colon
 abbrev pub meridian_labels : List (List ℕ)
-meridian_labels = codes "meridian:" ∷ codes "mer:" ∷ codes "county:" ∷ codes "state:" ∷ codes "st:" ∷ []
+meridian_labels = words (codes "meridian: mer: county: state: st:")
 
 -- the names of states that have public land
 abbrev pub states : List (List ℕ)
-states = codes "idaho" ∷ codes "wyoming" ∷ codes "nevada" ∷ codes "california" ∷ codes "utah"
-    ∷ codes "montana" ∷ codes "oregon" ∷ codes "colorado" ∷ codes "mexico" ∷ codes "arizona"
-    ∷ codes "dakota" ∷ codes "alaska" ∷ codes "washington" ∷ []
+states = words (codes "idaho wyoming nevada california utah montana oregon colorado mexico arizona dakota")
+    ++ words (codes "alaska washington")
 
 -- and more of them, with abbreviations
 abbrev pub more_states : List (List ℕ)
-more_states = codes "nebraska" ∷ codes "kansas" ∷ codes "oklahoma" ∷ codes "minnesota" ∷ codes "michigan"
-    ∷ codes "nebr" ∷ codes "kans" ∷ codes "okla" ∷ codes "minn" ∷ codes "wyo" ∷ codes "colo" ∷ codes "mont"
-    ∷ codes "ariz" ∷ codes "calif" ∷ codes "nev" ∷ []
+more_states = words (codes "nebraska kansas oklahoma minnesota michigan nebr kans okla minn wyo colo mont")
+    ++ words (codes "ariz calif nev")
 
 -- and the letters for them
 abbrev pub state_letters : List (List ℕ)
-state_letters = codes "id" ∷ codes "wy" ∷ codes "nv" ∷ codes "ca" ∷ codes "ut" ∷ codes "mt" ∷ codes "co"
-    ∷ codes "nm" ∷ codes "az" ∷ codes "nd" ∷ codes "sd" ∷ codes "ak" ∷ []
+state_letters = words (codes "id wy nv ca ut mt co nm az nd sd ak")
 
 -- what stated acreage ends with
 abbrev pub acreage_ends : List (List ℕ)
-acreage_ends = codes "acres" ∷ codes "acre" ∷ codes "ac" ∷ codes "acres." ∷ codes "ac." ∷ codes "less"
-    ∷ codes "m/l" ∷ codes ")" ∷ codes "pooled" ∷ codes "total" ∷ codes "net" ∷ codes "gross" ∷ codes "/-"
-    ∷ codes "acs" ∷ codes "acs." ∷ codes "]" ∷ []
+acreage_ends = words (codes "acres acre ac acres. ac. less m/l ) pooled total net gross /- acs acs. ]")
 
 -- or begins with, after white space
 abbrev pub acreage_fronts : List (List ℕ)
-acreage_fronts = codes "acres" ∷ codes "acreage" ∷ codes "ac" ∷ codes "gross" ∷ codes "net" ∷ codes "total"
-    ∷ codes "containing" ∷ codes "the area" ∷ []
+acreage_fronts = texts (codes "acres|acreage|ac|gross|net|total|containing|the area")
 
 -- what is said of land begins with, if it isn't a remark: rights,
 abbrev pub rights : List (List ℕ)
-rights = codes "subj" ∷ codes "together with" ∷ []
+rights = texts (codes "subj|together with")
 
 -- records,
 abbrev pub records : List (List ℕ)
-records = codes "according" ∷ codes "attached to" ∷ codes "as shown" ∷ codes "in the district" ∷ []
+records = texts (codes "according|attached to|as shown|in the district")
 
 -- minerals that are kept back,
 abbrev pub reservations : List (List ℕ)
-reservations = codes "reserving" ∷ codes "excepting and" ∷ codes "grantor" ∷ []
+reservations = texts (codes "reserving|excepting and|grantor")
 
 -- terms,
 abbrev pub terms : List (List ℕ)
-terms = codes "insofar" ∷ codes "limited" ∷ codes "as to" ∷ []
+terms = texts (codes "insofar|limited|as to")
 
 -- depths,
 abbrev pub depths : List (List ℕ)
-depths = codes "from the" ∷ codes "below" ∷ codes "above" ∷ codes "down to" ∷ codes "all depths" ∷ []
+depths = texts (codes "from the|below|above|down to|all depths")
 
 -- what is at them,
 abbrev pub estates : List (List ℕ)
-estates = codes "depths" ∷ codes "surface" ∷ codes "from surf" ∷ codes "mineral" ∷ codes "oil"
-    ∷ codes "only" ∷ []
+estates = texts (codes "depths|surface|from surf|mineral|oil|only")
 
 -- or the number of a lease, or of a parcel
 abbrev pub number_fronts : List (List ℕ)
-number_fronts = codes "lease" ∷ codes "rp" ∷ codes "pin" ∷ codes "apn" ∷ []
+number_fronts = words (codes "lease rp pin apn")
 
 -- what an interest begins with,
 abbrev pub interest_fronts : List (List ℕ)
-interest_fronts = codes "an und" ∷ codes "und" ∷ codes "one-half" ∷ codes "one half" ∷ []
+interest_fronts = texts (codes "an und|und|one-half|one half")
 
 -- or a property
 abbrev pub property_fronts : List (List ℕ)
-property_fronts = codes "all that" ∷ codes "that certain" ∷ codes "all those" ∷ codes "the lands"
-    ∷ codes "lands remaining" ∷ []
+property_fronts = texts (codes "all that|that certain|all those|the lands|lands remaining")
 
 -- and acreage that is more or less ends with
 abbrev pub less_ends : List (List ℕ)
-less_ends = codes "or less" ∷ codes "or less)" ∷ codes "or less]" ∷ codes "or less." ∷ []
+less_ends = texts (codes "or less|or less)|or less]|or less.")
 
 -- what is in parentheses ends with
 abbrev pub parenthesis_ends : List (List ℕ)
-parenthesis_ends = codes ")" ∷ codes "]" ∷ []
+parenthesis_ends = words (codes ") ]")
 
 -- land that was named before, without parentheses, begins with, after white space
 abbrev pub being_fronts : List (List ℕ)
-being_fronts = codes "being" ∷ codes "aka" ∷ codes "a/" ∷ []
+being_fronts = words (codes "being aka a/")
 
 -- what a word for tens ends with, before that for a number from one to nine
 abbrev pub tens_ends : List (List ℕ)
-tens_ends = codes "-" ∷ codes " " ∷ []
+tens_ends = texts (codes "-| ")
 
 -- meridians of which only letters are written
 abbrev pub meridian_letters : List (List ℕ)
-meridian_letters = codes "w. m." ∷ codes "w.m." ∷ codes "w m" ∷ []
+meridian_letters = texts (codes "w. m.|w.m.|w m")
 
 -- what is after `but` where it begins an exception,
 abbrev pub but_what : List (List ℕ)
-but_what = codes "not" ∷ codes "excluding" ∷ codes "except" ∷ codes "exclusive" ∷ []
+but_what = words (codes "not excluding except exclusive")
 
 -- or before it
 abbrev pub all_but : List (List ℕ)
-all_but = codes "all " ∷ codes "everything " ∷ []
+all_but = texts (codes "all |everything ")
 
 -- what is before a further word of an exception
 abbrev pub first_exceptions : List (List ℕ)
-first_exceptions = codes "less and " ∷ codes "save and " ∷ codes "less & " ∷ codes "save & "
-    ∷ codes "with the " ∷ codes "but " ∷ codes "less " ∷ codes "save " ∷ codes "save, " ∷ []
+first_exceptions = texts (codes "less and |save and |less & |save & |with the |but |less |save |save, ")
 
 -- hyphens and dashes
 abbrev pub dash_marks : List (List ℕ)
@@ -167,4 +149,4 @@ dash_marks = codes "-" ∷ en_dash ∷ em_dash ∷ []
 
 -- what is before a number that is apart from the land before it
 abbrev pub words_apart : List (List ℕ)
-words_apart = codes "and " ∷ codes "of " ∷ []
+words_apart = texts (codes "and |of ")

@@ -1,6 +1,7 @@
 -- The tables of the rules by which a text that people write is changed into a description: what each looks
 -- at, in lowercase, and what it writes instead.
 use Rattle.std.specs.Prelude.{ℕ, List, [], ◌∷◌, ◌++◌, codes}
+use Rattle.twp_rules.specs.Lists.{after, before, texts, words}
 
 -- a text that a rule looks at, and what it writes instead
 pub record Entry : Type 0 where
@@ -15,6 +16,21 @@ seen ⇒ written = record { seen = seen; written = written }
 -- this is left out
 abbrev pub left_out : List ℕ → Entry
 left_out seen = seen ⇒ []
+
+-- each of these is
+abbrev pub all_left_out : List (List ℕ) → List Entry
+all_left_out [] = []
+all_left_out (seen ∷ more) = left_out seen ∷ all_left_out more
+
+-- the same is written for each of these
+abbrev pub all_as : List (List ℕ) → List ℕ → List Entry
+all_as [] written = []
+all_as (seen ∷ more) written = (seen ⇒ written) ∷ all_as more written
+
+-- what is after the `=` of each of these is written for what is before it
+abbrev pub pairs : List (List ℕ) → List Entry
+pairs [] = []
+pairs (text ∷ texts) = (before 61 text ⇒ after 61 text) ∷ pairs texts
 
 -- marks of more than one byte: ’ “ ” – —
 abbrev pub right_quote : List ℕ
@@ -61,193 +77,143 @@ section_sign = 194 ∷ 167 ∷ []
 
 -- HALF: after N, S, E, or W, and white space, if any
 abbrev pub halves : List Entry
-halves = (codes "2" ⇒ codes "1/2") ∷ (codes "/2" ⇒ codes "1/2") ∷ (codes "half" ⇒ codes "1/2")
-    ∷ (codes "one-half" ⇒ codes "1/2") ∷ (codes "one half" ⇒ codes "1/2")
-    ∷ ((49 ∷ fraction_slash ++ 50 ∷ []) ⇒ codes "1/2") ∷ (codes "/ 2" ⇒ codes "1/2")
-    ∷ (codes "1-2" ⇒ codes "1/2") ∷ []
+halves = all_as (texts (codes "2|/2|half|one-half|one half")) (codes "1/2")
+    ++ all_as ((49 ∷ fraction_slash ++ 50 ∷ []) ∷ texts (codes "/ 2|1-2")) (codes "1/2")
 
 -- and what is left of a half after scanning, and old abbreviations
 abbrev pub worn_halves : List Entry
-worn_halves = (codes "l/2" ⇒ codes "1/2") ∷ (codes "i/2" ⇒ codes "1/2") ∷ (codes "'/2" ⇒ codes "1/2")
-    ∷ ((right_quote ++ codes "/2") ⇒ codes "1/2") ∷ (codes "]/2" ⇒ codes "1/2")
-    ∷ (codes "!/2" ⇒ codes "1/2") ∷ (codes "|/2" ⇒ codes "1/2") ∷ (codes "1/" ⇒ codes "1/2")
-    ∷ (codes "2/2" ⇒ codes "1/2") ∷ (codes "1/z" ⇒ codes "1/2")
-    ∷ ((raised_one ++ fraction_slash ++ lowered_two) ⇒ codes "1/2") ∷ (codes "h." ⇒ codes "1/2")
-    ∷ (codes "v2" ⇒ codes "1/2") ∷ (codes "y2" ⇒ codes "1/2") ∷ (codes "%" ⇒ codes "1/2") ∷ []
+worn_halves = all_as (words (codes "l/2 i/2 '/2") ++ (right_quote ++ codes "/2") ∷ []) (codes "1/2")
+    ++ all_as (words (codes "]/2 !/2 |/2 1/ 2/2 1/z")) (codes "1/2")
+    ++ all_as ((raised_one ++ fraction_slash ++ lowered_two) ∷ words (codes "h. v2 y2 %")) (codes "1/2")
 
 -- QUARTER: after NE, NW, SW, or SE, and white space, if any
 abbrev pub quarters : List Entry
-quarters = ([] ⇒ codes "1/4") ∷ (codes "4" ⇒ codes "1/4") ∷ (codes "/4" ⇒ codes "1/4")
-    ∷ (codes "quarter" ⇒ codes "1/4") ∷ (codes "one-quarter" ⇒ codes "1/4")
-    ∷ (codes "one quarter" ⇒ codes "1/4") ∷ ((49 ∷ fraction_slash ++ 52 ∷ []) ⇒ codes "1/4") ∷ []
+quarters = all_as (texts (codes "|4|/4|quarter|one-quarter|one quarter")) (codes "1/4")
+    ++ all_as ((49 ∷ fraction_slash ++ 52 ∷ []) ∷ []) (codes "1/4")
 
 -- and what is left of a quarter after scanning, and old abbreviations
 abbrev pub worn_quarters : List Entry
-worn_quarters = (codes "/ 4" ⇒ codes "1/4") ∷ (codes "1-4" ⇒ codes "1/4") ∷ (codes "^" ⇒ codes "1/4")
-    ∷ (codes "l/4" ⇒ codes "1/4") ∷ (codes "i/4" ⇒ codes "1/4") ∷ (codes "'/4" ⇒ codes "1/4")
-    ∷ ((right_quote ++ codes "/4") ⇒ codes "1/4") ∷ (codes "]/4" ⇒ codes "1/4")
-    ∷ (codes "!/4" ⇒ codes "1/4") ∷ (codes "|/4" ⇒ codes "1/4") ∷ (codes "1/" ⇒ codes "1/4")
-    ∷ (codes "v4" ⇒ codes "1/4") ∷ (codes "y4" ⇒ codes "1/4") ∷ (codes "%" ⇒ codes "1/4")
-    ∷ ((raised_one ++ fraction_slash ++ lowered_four) ⇒ codes "1/4") ∷ []
+worn_quarters = all_as (texts (codes "/ 4|1-4|^|l/4|i/4|'/4")) (codes "1/4")
+    ++ all_as ((right_quote ++ codes "/4") ∷ words (codes "]/4 !/4 |/4 1/ v4 y4 %")) (codes "1/4")
+    ++ all_as ((raised_one ++ fraction_slash ++ lowered_four) ∷ []) (codes "1/4")
 
 -- or abbreviated
 abbrev pub quarter_abbreviations : List Entry
-quarter_abbreviations = (codes "qr." ⇒ codes "1/4") ∷ (codes "." ⇒ codes "1/4") ∷ (codes "qtr" ⇒ codes "1/4")
-    ∷ (codes "qtr." ⇒ codes "1/4") ∷ (codes "quater" ⇒ codes "1/4") ∷ []
+quarter_abbreviations = all_as (words (codes "qr. . qtr qtr. quater")) (codes "1/4")
 
 -- DAMAGE: letters that scanning makes of digits, and digits of letters
 abbrev pub damages : List Entry
-damages = (codes "l" ⇒ codes "1") ∷ (codes "i" ⇒ codes "1") ∷ (codes "o" ⇒ codes "0") ∷ []
+damages = pairs (words (codes "l=1 i=1 o=0"))
 
 abbrev pub damaged_corners : List Entry
-damaged_corners = (codes "5" ⇒ codes "S") ∷ (codes "8" ⇒ codes "S") ∷ []
+damaged_corners = all_as (words (codes "5 8")) (codes "S")
 
 -- EXCEPTION: the words before what the land is without
 abbrev pub exceptions : List Entry
-exceptions = (codes "less" ⇒ codes " except ") ∷ (codes "except" ⇒ codes " except ")
-    ∷ (codes "excepting" ⇒ codes " except ") ∷ (codes "excluding" ⇒ codes " except ")
-    ∷ (codes "save" ⇒ codes " except ") ∷ (codes "exc" ⇒ codes " except ")
-    ∷ (codes "exclusive" ⇒ codes " except ") ∷ (codes "l&e" ⇒ codes " except ")
-    ∷ (codes "minus" ⇒ codes " except ") ∷ (codes "but" ⇒ codes " except ")
-    ∷ (codes "with" ⇒ codes " except ") ∷ (codes "ex" ⇒ codes " except ")
-    ∷ (codes "ls" ⇒ codes " except ") ∷ []
+exceptions = all_as (words (codes "less except excepting excluding save exc exclusive")) (codes " except ")
+    ++ all_as (words (codes "l&e minus but with ex ls")) (codes " except ")
 
 -- DIRECTION: words for sides and corners
 abbrev pub directions : List Entry
-directions = (codes "north" ⇒ codes "N") ∷ (codes "south" ⇒ codes "S") ∷ (codes "east" ⇒ codes "E")
-    ∷ (codes "west" ⇒ codes "W") ∷ (codes "northeast" ⇒ codes "NE") ∷ (codes "northwest" ⇒ codes "NW")
-    ∷ (codes "southeast" ⇒ codes "SE") ∷ (codes "southwest" ⇒ codes "SW")
-    ∷ (codes "north east" ⇒ codes "NE") ∷ (codes "north west" ⇒ codes "NW")
-    ∷ (codes "south east" ⇒ codes "SE") ∷ (codes "south west" ⇒ codes "SW") ∷ []
+directions = pairs (words (codes "north=N south=S east=E west=W northeast=NE northwest=NW southeast=SE"))
+    ++ pairs (texts (codes "southwest=SW|north east=NE|north west=NW|south east=SE|south west=SW"))
 
 -- and such words with a letter missing, or two letters in each other's place
 abbrev pub worn_directions : List Entry
-worn_directions = (codes "nothwest" ⇒ codes "NW") ∷ (codes "norhwest" ⇒ codes "NW")
-    ∷ (codes "nortwest" ⇒ codes "NW") ∷ (codes "northwset" ⇒ codes "NW")
-    ∷ (codes "notheast" ⇒ codes "NE") ∷ (codes "norhteast" ⇒ codes "NE")
-    ∷ (codes "norteast" ⇒ codes "NE") ∷ (codes "northeat" ⇒ codes "NE")
-    ∷ (codes "sothwest" ⇒ codes "SW") ∷ (codes "souhwest" ⇒ codes "SW")
-    ∷ (codes "soutwest" ⇒ codes "SW") ∷ (codes "sotheast" ⇒ codes "SE")
-    ∷ (codes "souhteast" ⇒ codes "SE") ∷ (codes "souteast" ⇒ codes "SE") ∷ []
+worn_directions = all_as (words (codes "nothwest norhwest nortwest northwset")) (codes "NW")
+    ++ all_as (words (codes "notheast norhteast norteast northeat")) (codes "NE")
+    ++ all_as (words (codes "sothwest souhwest soutwest")) (codes "SW")
+    ++ all_as (words (codes "sotheast souhteast souteast")) (codes "SE")
 
 -- NUMERAL: words for numbers up to twelve
 abbrev pub numerals : List Entry
-numerals = (codes "one" ⇒ codes "1") ∷ (codes "two" ⇒ codes "2") ∷ (codes "three" ⇒ codes "3")
-    ∷ (codes "four" ⇒ codes "4") ∷ (codes "five" ⇒ codes "5") ∷ (codes "six" ⇒ codes "6")
-    ∷ (codes "seven" ⇒ codes "7") ∷ (codes "eight" ⇒ codes "8") ∷ (codes "nine" ⇒ codes "9")
-    ∷ (codes "ten" ⇒ codes "10") ∷ (codes "eleven" ⇒ codes "11") ∷ (codes "twelve" ⇒ codes "12") ∷ []
+numerals = pairs (words (codes "one=1 two=2 three=3 four=4 five=5 six=6 seven=7 eight=8 nine=9 ten=10"))
+    ++ pairs (words (codes "eleven=11 twelve=12"))
 
 -- and from thirteen on, and for tens
 abbrev pub more_numerals : List Entry
-more_numerals =
-    (codes "thirteen" ⇒ codes "13") ∷ (codes "fourteen" ⇒ codes "14") ∷ (codes "fifteen" ⇒ codes "15")
-    ∷ (codes "sixteen" ⇒ codes "16") ∷ (codes "seventeen" ⇒ codes "17") ∷ (codes "eighteen" ⇒ codes "18")
-    ∷ (codes "nineteen" ⇒ codes "19") ∷ (codes "twenty" ⇒ codes "20") ∷ (codes "thirty" ⇒ codes "30")
-    ∷ (codes "twenty-" ⇒ codes "2") ∷ (codes "thirty-" ⇒ codes "3")
-    ∷ (codes "twenty " ⇒ codes "2") ∷ (codes "thirty " ⇒ codes "3") ∷ []
+more_numerals = pairs (words (codes "thirteen=13 fourteen=14 fifteen=15 sixteen=16 seventeen=17 eighteen=18"))
+    ++ pairs (texts (codes "nineteen=19|twenty=20|thirty=30|twenty-=2|thirty-=3|twenty =2|thirty =3"))
 
 -- HEADING: the letters of a township and range, where they are missing
 abbrev pub headings : List Entry
-headings = ([] ⇒ codes "T. ") ∷ ([] ⇒ codes " R. ") ∷ ([] ⇒ codes "R. ") ∷ ([] ⇒ codes " ")
-    ∷ ([] ⇒ codes " N., R. ") ∷ ([] ⇒ codes " S., R. ") ∷ ([] ⇒ codes " E., ") ∷ ([] ⇒ codes " W., ")
-    ∷ []
+headings = pairs (texts (codes "=T. |= R. |=R. |= |= N., R. |= S., R. |= E., |= W., "))
 
 -- and the words for them
 abbrev pub heading_words : List Entry
-heading_words = (codes "township" ⇒ codes "T.") ∷ (codes "twp" ⇒ codes "T.") ∷ (codes "tp" ⇒ codes "T.")
-    ∷ (codes "twsp" ⇒ codes "T.") ∷ (codes "range" ⇒ codes "R.") ∷ (codes "rng" ⇒ codes "R.")
-    ∷ (codes "rge" ⇒ codes "R.") ∷ (codes "rg" ⇒ codes "R.") ∷ left_out (codes "in") ∷ left_out (codes "of")
-    ∷ (codes "0sn" ⇒ codes ", sec. ") ∷ left_out (codes "a") ∷ left_out (codes "numbered")
-    ∷ left_out (codes "aliquot part:") ∷ []
+heading_words = all_as (words (codes "township twp tp twsp")) (codes "T.")
+    ++ all_as (words (codes "range rng rge rg")) (codes "R.")
+    ++ pairs (texts (codes "in=|of=|0sn=, sec. |a=|numbered=|aliquot part:="))
 
 -- and the marks in them
 abbrev pub heading_marks : List Entry
-heading_marks = left_out (codes ".") ∷ left_out (codes ",") ∷ left_out (codes ":")
-    ∷ (codes "-" ⇒ codes " ") ∷ (codes "/" ⇒ codes " ") ∷ (codes "|" ⇒ codes " ")
-    ∷ (codes ";" ⇒ codes " ") ∷ []
+heading_marks = all_left_out (words (codes ". , :")) ++ all_as (words (codes "- / | ;")) (codes " ")
 
 -- SECTION: the word for a section or for several, which may be missing
 abbrev pub section_words : List Entry
-section_words = ([] ⇒ codes "sec. ") ∷ ([] ⇒ codes "secs. ") ∷ (codes "s" ⇒ codes "sec. ")
-    ∷ (codes "sect" ⇒ codes "sec") ∷ (codes "sect" ⇒ codes "secs") ∷ (codes "sects" ⇒ codes "secs")
-    ∷ (codes "sec" ⇒ codes "secs") ∷ (codes "section" ⇒ codes "secs") ∷ (codes "," ⇒ codes ".")
-    ∷ (codes "scc" ⇒ codes "sec") ∷ (codes "sce" ⇒ codes "sec") ∷ (section_sign ⇒ codes "sec")
-    ∷ (section_sign ⇒ codes "secs") ∷ (codes "seo" ⇒ codes "sec") ∷ []
+section_words = pairs (texts (codes "=sec. |=secs. |s=sec. |sect=sec"))
+    ++ all_as (words (codes "sect sects sec section")) (codes "secs") ++ pairs (codes ",=." ∷ [])
+    ++ all_as (words (codes "scc sce") ++ section_sign ∷ []) (codes "sec")
+    ++ (section_sign ⇒ codes "secs") ∷ pairs (codes "seo=sec" ∷ [])
 
 -- and what a slip of the pen, or scanning, leaves of them
 abbrev pub worn_section_words : List Entry
-worn_section_words = (codes "secton" ⇒ codes "sec") ∷ (codes "sectlon" ⇒ codes "sec")
-    ∷ (codes "sectoin" ⇒ codes "sec") ∷ (codes "seciton" ⇒ codes "sec") ∷ (codes "sectiou" ⇒ codes "sec")
-    ∷ (codes "seclion" ⇒ codes "sec") ∷ (codes "seotion" ⇒ codes "sec") ∷ (codes "sectior" ⇒ codes "sec")
-    ∷ []
+worn_section_words =
+    all_as (words (codes "secton sectlon sectoin seciton sectiou seclion seotion sectior")) (codes "sec")
 
 -- LOT: the words for lots
 abbrev pub lot_words : List Entry
-lot_words = (codes "l" ⇒ codes "lot ") ∷ (codes "lt" ⇒ codes "lot ") ∷ (codes "lts" ⇒ codes "lots ")
-    ∷ left_out (codes "government") ∷ left_out (codes "govt") ∷ left_out (codes "gov")
-    ∷ left_out (codes "t") ∷ left_out (codes "u") ∷ left_out (codes "s") ∷ left_out (codes "the")
-    ∷ left_out (codes "numbered") ∷ left_out (codes "no") ∷ left_out (codes "nos")
-    ∷ (codes "gl" ⇒ codes "lot ") ∷ (codes "iot" ⇒ codes "lot") ∷ (codes "iots" ⇒ codes "lots") ∷ []
+lot_words = pairs (texts (codes "l=lot |lt=lot |lts=lots "))
+    ++ all_left_out (words (codes "government govt gov t u s the numbered no nos"))
+    ++ pairs (texts (codes "gl=lot |iot=lot|iots=lots"))
 
 -- and marks in them
 abbrev pub lot_marks : List Entry
-lot_marks = left_out (codes "'") ∷ left_out right_quote ∷ left_out (codes ".") ∷ left_out (codes "#")
-    ∷ left_out (codes ":") ∷ []
+lot_marks = all_left_out (codes "'" ∷ right_quote ∷ words (codes ". # :"))
 
 -- THROUGH: between numbers
 abbrev pub dashes : List Entry
-dashes = (codes "-" ⇒ codes " thru ") ∷ (en_dash ⇒ codes " thru ") ∷ (em_dash ⇒ codes " thru ") ∷ []
+dashes = all_as (codes "-" ∷ en_dash ∷ em_dash ∷ []) (codes " thru ")
 
 -- AND: an ampersand
 abbrev pub ampersands : List Entry
-ampersands = (codes "&" ⇒ codes " and ") ∷ (codes "&" ⇒ codes "and") ∷ []
+ampersands = pairs (texts (codes "&= and |&=and"))
 
 -- COMMA: between the parts of a section, before them, and after a heading
 abbrev pub commas : List Entry
-commas = ([] ⇒ codes ", ") ∷ ([] ⇒ codes ",") ∷ (codes ";" ⇒ codes ",") ∷ (codes ":" ⇒ codes ",")
-    ∷ (codes "." ⇒ codes ",") ∷ (codes "&" ⇒ codes ",") ∷ (codes "-" ⇒ codes ",")
-    ∷ (en_dash ⇒ codes ",") ∷ (em_dash ⇒ codes ",") ∷ (codes "|" ⇒ codes ",") ∷ (codes "+" ⇒ codes ",") ∷ []
+commas = pairs (codes "=, " ∷ [])
+    ++ all_as (texts (codes "|;|:|.|&|-") ++ en_dash ∷ em_dash ∷ words (codes "| +")) (codes ",")
 
 -- SEMICOLON: between one section, with its parts, and another
 abbrev pub semicolons : List Entry
-semicolons = ([] ⇒ codes "; ") ∷ ([] ⇒ codes ";") ∷ (codes "," ⇒ codes ";") ∷ (codes "." ⇒ codes ";")
-    ∷ (codes "&" ⇒ codes ";") ∷ (codes "-" ⇒ codes ";") ∷ (codes ":" ⇒ codes ";")
-    ∷ (codes "|" ⇒ codes ";") ∷ (codes "+" ⇒ codes ";") ∷ (codes "/" ⇒ codes ";") ∷ []
+semicolons = pairs (codes "=; " ∷ [])
+    ++ all_as (texts (codes "|,|.|&|-|:") ++ words (codes "| + /")) (codes ";")
 
 -- MARK: a mark that means nothing is left out
 abbrev pub marks : List Entry
-marks = left_out (codes ",") ∷ left_out (codes ";") ∷ left_out (codes ":") ∷ left_out (codes ".")
-    ∷ left_out (codes "-") ∷ left_out en_dash ∷ left_out em_dash ∷ left_out (codes "&")
-    ∷ left_out (34 ∷ []) ∷ left_out opening_quotes ∷ left_out closing_quotes ∷ left_out (92 ∷ [])
-    ∷ left_out (codes "#") ∷ []
+marks = all_left_out (words (codes ", ; : . -") ++ en_dash ∷ em_dash ∷ codes "&" ∷ (34 ∷ []) ∷ [])
+    ++ all_left_out (opening_quotes ∷ closing_quotes ∷ (92 ∷ []) ∷ codes "#" ∷ [])
 
 -- and parentheses around land, and marks between cells
 abbrev pub more_marks : List Entry
-more_marks = left_out (codes "(") ∷ left_out (codes ")") ∷ left_out (codes "|") ∷ left_out (codes "+")
-    ∷ left_out (codes "/") ∷ left_out bullet ∷ []
+more_marks = all_left_out (words (codes "( ) | + /") ++ bullet ∷ [])
 
 -- WORD: a word that means nothing is left out
 abbrev pub little_words : List Entry
-little_words = left_out (codes "the") ∷ left_out (codes "of") ∷ left_out (codes "in") ∷ left_out (codes "and")
-    ∷ left_out (codes "said") ∷ left_out (codes "all") ∷ left_out (codes "entire")
-    ∷ left_out (codes "section") ∷ (codes "entire" ⇒ codes "all") ∷ (codes "whole" ⇒ codes "all")
-    ∷ (codes "entirety" ⇒ codes "all") ∷ []
+little_words = all_left_out (words (codes "the of in and said all entire section"))
+    ++ all_as (words (codes "entire whole entirety")) (codes "all")
 
 abbrev pub more_little_words : List Entry
-more_little_words = left_out (codes "public") ∷ left_out (codes "domain") ∷ left_out (codes "federal")
-    ∷ left_out (codes "land") ∷ left_out (codes "lands") ∷ left_out (codes "fractional")
-    ∷ left_out (codes "thereof") ∷ left_out (codes "except") ∷ left_out (codes "excepting")
-    ∷ left_out (codes "for") ∷ left_out (codes "therefrom") ∷ left_out (codes "&") ∷ []
+more_little_words = all_left_out (words (codes "public domain federal land lands fractional thereof except"))
+    ++ all_left_out (words (codes "excepting for therefrom &"))
 
 abbrev pub joining_words : List Entry
-joining_words = left_out (codes "also") ∷ left_out (codes "together") ∷ left_out (codes "with")
-    ∷ left_out (codes "not") ∷ left_out (codes "exception") ∷ left_out (codes "inclusive")
-    ∷ left_out (codes "incl") ∷ left_out (codes "both") ∷ left_out (codes "numbered")
-    ∷ (codes "everything" ⇒ codes "all") ∷ []
+joining_words = all_left_out (words (codes "also together with not exception inclusive incl both numbered"))
+    ++ pairs (codes "everything=all" ∷ [])
 
 -- ZEROS: before the other digits of a number
 abbrev pub zeros : List Entry
-zeros = left_out (codes "0") ∷ left_out (codes "00") ∷ left_out (codes "000") ∷ []
+zeros = all_left_out (words (codes "0 00 000"))
 
 -- FRACTION DIGIT: registers write a 0 after the number of a township or a range
 abbrev pub fraction_digits : List Entry
@@ -255,5 +221,4 @@ fraction_digits = left_out (codes "0") ∷ []
 
 -- ONE PART: white space within a part is left out, and a hyphen at the end of a line
 abbrev pub joints : List Entry
-joints = left_out (codes " ") ∷ left_out (9 ∷ []) ∷ left_out (10 ∷ [])
-    ∷ left_out (13 ∷ []) ∷ left_out (codes ".") ∷ left_out (codes "-") ∷ []
+joints = all_left_out (codes " " ∷ (9 ∷ []) ∷ (10 ∷ []) ∷ (13 ∷ []) ∷ words (codes ". -"))

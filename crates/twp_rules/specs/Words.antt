@@ -1,63 +1,52 @@
 -- The words and marks that tell what names land, what takes it away or says where it ends, and what a number
 -- is of, in lowercase.
-use Rattle.std.specs.Prelude.{ℕ, List, [], ◌∷◌, codes}
+use Rattle.std.specs.Prelude.{ℕ, List, [], ◌∷◌, ◌++◌, codes}
+use Rattle.twp_rules.specs.Lists.{texts, words}
 use Rattle.twp_rules.specs.Tables.{half_sign}
 
 -- the letters for north and south
 abbrev pub north_south : List (List ℕ)
-north_south = codes "n" ∷ codes "s" ∷ []
+north_south = words (codes "n s")
 
 -- and for east and west
 abbrev pub east_west : List (List ℕ)
-east_west = codes "e" ∷ codes "w" ∷ []
+east_west = words (codes "e w")
 
 -- the names of sides
 abbrev pub side_names : List (List ℕ)
-side_names = codes "n" ∷ codes "s" ∷ codes "e" ∷ codes "w" ∷ codes "north" ∷ codes "south" ∷ codes "east"
-    ∷ codes "west" ∷ []
+side_names = words (codes "n s e w north south east west")
 
 -- words that name land: sections, lots, and corners
 abbrev pub land_words : List (List ℕ)
-land_words = codes "sec" ∷ codes "secs" ∷ codes "section" ∷ codes "sections" ∷ codes "sect"
-    ∷ codes "sects" ∷ codes "lot" ∷ codes "lots" ∷ codes "lt" ∷ codes "lts" ∷ codes "ne" ∷ codes "nw"
-    ∷ codes "se" ∷ codes "sw" ∷ codes "northeast" ∷ codes "northwest" ∷ codes "southeast"
-    ∷ codes "southwest" ∷ []
+land_words = words (codes "sec secs section sections sect sects lot lots lt lts ne nw se sw northeast")
+    ++ words (codes "northwest southeast southwest")
 
 -- letters that name land with a number after them, as in L1, T2N, and S14
 abbrev pub number_letters : List (List ℕ)
-number_letters = codes "l" ∷ codes "gl" ∷ codes "t" ∷ codes "r" ∷ codes "s" ∷ []
+number_letters = words (codes "l gl t r s")
 
 -- what makes a half of a side, but for a 2 without a slash
 abbrev pub half_fronts : List (List ℕ)
-half_fronts = codes "/2" ∷ codes "/ 2" ∷ codes "1/2" ∷ half_sign ∷ codes "half" ∷ codes "one-half"
-    ∷ codes "one half" ∷ []
+half_fronts = texts (codes "/2|/ 2|1/2") ++ half_sign ∷ texts (codes "half|one-half|one half")
 
 -- words whose number is not that of a section or a lot
 abbrev pub numbered_words : List (List ℕ)
-numbered_words = codes "tract" ∷ codes "tr" ∷ codes "parcel" ∷ codes "no" ∷ codes "nos" ∷ codes "number"
-    ∷ codes "bk" ∷ codes "book" ∷ codes "vol" ∷ codes "pg" ∷ codes "page" ∷ codes "p" ∷ codes "misc"
-    ∷ codes "inst" ∷ codes "instrument" ∷ codes "doc" ∷ codes "case" ∷ codes "exhibit" ∷ codes "item"
-    ∷ codes "comment" ∷ codes "allotment" ∷ codes "owner" ∷ codes "unit" ∷ codes "property"
-    ∷ codes "prop" ∷ codes "psc" ∷ codes "lease" ∷ codes "lse" ∷ codes "est" ∷ codes "probate"
-    ∷ codes "permit" ∷ codes "entry" ∷ codes "cat" ∷ codes "idi" ∷ codes "meridian" ∷ codes "mer"
-    ∷ codes "jan" ∷ codes "january" ∷ codes "feb" ∷ codes "february" ∷ codes "mar" ∷ codes "march"
-    ∷ codes "apr" ∷ codes "april" ∷ codes "may" ∷ codes "jun" ∷ codes "june" ∷ codes "jul" ∷ codes "july"
-    ∷ codes "aug" ∷ codes "august" ∷ codes "sep" ∷ codes "sept" ∷ codes "september" ∷ codes "oct"
-    ∷ codes "october" ∷ codes "nov" ∷ codes "november" ∷ codes "dec" ∷ codes "december" ∷ []
+numbered_words = words (codes "tract tr parcel no nos number bk book vol pg page p misc inst instrument doc")
+    ++ words (codes "case exhibit item comment allotment owner unit property prop psc lease lse est probate")
+    ++ words (codes "permit entry cat idi meridian mer jan january feb february mar march apr april may jun")
+    ++ words (codes "june jul july aug august sep sept september oct october nov november dec december")
 
 -- words for what a number before them counts, and for a meridian
 abbrev pub units : List (List ℕ)
-units = codes "acres" ∷ codes "acre" ∷ codes "ac" ∷ codes "acs" ∷ codes "a" ∷ codes "net" ∷ codes "gross"
-    ∷ codes "yr" ∷ codes "yrs" ∷ codes "year" ∷ codes "years" ∷ codes "shares" ∷ codes "feet"
-    ∷ codes "foot" ∷ codes "ft" ∷ codes "pm" ∷ codes "p" ∷ codes "mer" ∷ []
+units = words (codes "acres acre ac acs a net gross yr yrs year years shares feet foot ft pm p mer")
 
 -- marks after the digits of a code, a share, or a measure
 abbrev pub code_marks : List (List ℕ)
-code_marks = codes "/" ∷ codes "%" ∷ codes "'" ∷ []
+code_marks = words (codes "/ % '")
 
 -- marks within a figure
 abbrev pub figure_marks : List (List ℕ)
-figure_marks = codes "." ∷ codes "," ∷ []
+figure_marks = words (codes ". ,")
 
 -- marks within a date, or the name of a well
 abbrev pub date_marks : List (List ℕ)
@@ -65,50 +54,43 @@ date_marks = codes "-" ∷ []
 
 -- marks before the digits of a code, or of a further number of it
 abbrev pub marks_before_codes : List (List ℕ)
-marks_before_codes = codes "#" ∷ codes "$" ∷ codes "/" ∷ codes "." ∷ codes "-" ∷ []
+marks_before_codes = words (codes "# $ / . -")
 
 -- words for a share, of land or of an interest in it
 abbrev pub share_words : List (List ℕ)
-share_words = codes "half" ∷ codes "halves" ∷ codes "quarter" ∷ codes "quarters" ∷ []
+share_words = words (codes "half halves quarter quarters")
 
 -- words for sides and corners
 abbrev pub side_words : List (List ℕ)
-side_words = codes "n" ∷ codes "s" ∷ codes "e" ∷ codes "w" ∷ codes "north" ∷ codes "south" ∷ codes "east"
-    ∷ codes "west" ∷ codes "northeast" ∷ codes "northwest" ∷ codes "southeast" ∷ codes "southwest"
-    ∷ codes "corner" ∷ codes "cor" ∷ []
+side_words = words (codes "n s e w north south east west northeast northwest southeast southwest corner cor")
 
 -- words that take land away
 abbrev pub taking_words : List (List ℕ)
-taking_words = codes "except" ∷ codes "excepting" ∷ codes "exception" ∷ codes "exceptions"
-    ∷ codes "excepted" ∷ codes "excluding" ∷ codes "excludes" ∷ codes "excluded" ∷ codes "exclusive"
-    ∷ codes "ex" ∷ codes "less" ∷ codes "save" ∷ codes "but" ∷ codes "not" ∷ codes "without" ∷ []
+taking_words = words (codes "except excepting exception exceptions excepted excluding excludes excluded")
+    ++ words (codes "exclusive ex less save but not without")
 
 -- and more of them
 abbrev pub more_taking_words : List (List ℕ)
-more_taking_words = codes "minus" ∷ codes "omitted" ∷ codes "deleted" ∷ codes "void" ∷ codes "cancelled"
-    ∷ codes "withdrawn" ∷ codes "surrendered" ∷ codes "relinquished" ∷ codes "remaining"
-    ∷ codes "balance" ∷ codes "former" ∷ codes "formerly" ∷ []
+more_taking_words = words (codes "minus omitted deleted void cancelled withdrawn surrendered relinquished")
+    ++ words (codes "remaining balance former formerly")
 
 -- words for a part of land that is no aliquot part
 abbrev pub portion_words : List (List ℕ)
-portion_words = codes "portion" ∷ codes "portions" ∷ codes "part" ∷ codes "parts" ∷ codes "por"
-    ∷ codes "pt" ∷ codes "ptn" ∷ codes "strip" ∷ codes "block" ∷ codes "blk" ∷ codes "claim"
-    ∷ codes "claims" ∷ codes "lode" ∷ codes "tax" ∷ codes "survey" ∷ []
+portion_words = words (codes "portion portions part parts por pt ptn strip block blk claim claims lode tax")
+    ++ codes "survey" ∷ []
 
 -- words that tell where land ends
 abbrev pub bound_words : List (List ℕ)
-bound_words = codes "beginning" ∷ codes "thence" ∷ codes "lying" ∷ codes "bounded" ∷ codes "within"
-    ∷ codes "outside" ∷ codes "inside" ∷ codes "along" ∷ codes "across" ∷ codes "between" ∷ codes "above"
-    ∷ codes "below" ∷ codes "adjacent" ∷ codes "adjoining" ∷ []
+bound_words = words (codes "beginning thence lying bounded within outside inside along across between above")
+    ++ words (codes "below adjacent adjoining")
 
 -- and measures
 abbrev pub measure_words : List (List ℕ)
-measure_words = codes "feet" ∷ codes "foot" ∷ codes "ft" ∷ codes "rod" ∷ codes "rods" ∷ codes "chain"
-    ∷ codes "chains" ∷ codes "centerline" ∷ codes "line" ∷ codes "point" ∷ []
+measure_words = words (codes "feet foot ft rod rods chain chains centerline line point")
 
 -- words that a phrase on rights may contain that take land away from nobody: a record or a plat
 abbrev pub record_limits : List (List ℕ)
-record_limits = codes "survey" ∷ codes "part" ∷ []
+record_limits = words (codes "survey part")
 
 -- the word by which minerals are kept back
 abbrev pub reserving_words : List (List ℕ)
@@ -116,8 +98,7 @@ reserving_words = codes "excepting" ∷ []
 
 -- what a phrase on depths may say
 abbrev pub depth_limits : List (List ℕ)
-depth_limits = codes "below" ∷ codes "above" ∷ codes "between" ∷ codes "within" ∷ codes "feet" ∷ codes "foot"
-    ∷ codes "ft" ∷ []
+depth_limits = words (codes "below above between within feet foot ft")
 
 -- what is left of a lease
 abbrev pub lease_limits : List (List ℕ)
@@ -129,64 +110,47 @@ acreage_limits = codes "less" ∷ []
 
 -- words for minerals, and for what is due for them
 abbrev pub mineral_words : List (List ℕ)
-mineral_words = codes "oil" ∷ codes "gas" ∷ codes "mineral" ∷ codes "minerals" ∷ codes "coal"
-    ∷ codes "hydrocarbons" ∷ codes "royalty" ∷ codes "geothermal" ∷ []
+mineral_words = words (codes "oil gas mineral minerals coal hydrocarbons royalty geothermal")
 
 -- words for depths, and for what is at them
 abbrev pub depth_words : List (List ℕ)
-depth_words = codes "depth" ∷ codes "depths" ∷ codes "surface" ∷ codes "subsurface" ∷ codes "formation"
-    ∷ codes "formations" ∷ codes "base" ∷ codes "stratigraphic" ∷ codes "feet" ∷ codes "ft" ∷ codes "rights"
-    ∷ []
+depth_words = words (codes "depth depths surface subsurface formation formations base stratigraphic feet ft")
+    ++ codes "rights" ∷ []
 
 -- the names of columns
 abbrev pub column_words : List (List ℕ)
-column_words = codes "mer" ∷ codes "meridian" ∷ codes "twp" ∷ codes "township" ∷ codes "t" ∷ codes "rng"
-    ∷ codes "range" ∷ codes "r" ∷ codes "sec" ∷ codes "section" ∷ codes "stype" ∷ codes "type" ∷ codes "nr"
-    ∷ codes "no" ∷ codes "suff" ∷ codes "survey" ∷ codes "subdivision" ∷ codes "legal" ∷ codes "desc"
-    ∷ codes "description" ∷ codes "aliquot" ∷ codes "aliquots" ∷ codes "lots" ∷ codes "acres" ∷ codes "ac"
-    ∷ codes "gross" ∷ codes "net" ∷ codes "district" ∷ codes "field" ∷ codes "office" ∷ codes "county"
-    ∷ codes "state" ∷ codes "st" ∷ codes "mgmt" ∷ codes "agency" ∷ codes "tract" ∷ codes "school" ∷ []
+column_words = words (codes "mer meridian twp township t rng range r sec section stype type nr no suff")
+    ++ words (codes "survey subdivision legal desc description aliquot aliquots lots acres ac gross net")
+    ++ words (codes "district field office county state st mgmt agency tract school")
 
 -- the words of a section that is written elsewhere, or that was named before
 abbrev pub moved_section_words : List (List ℕ)
-moved_section_words = codes "sec" ∷ codes "secs" ∷ codes "section" ∷ codes "sections" ∷ codes "sect"
-    ∷ codes "sects" ∷ codes "s" ∷ codes "sn" ∷ codes "scc" ∷ codes "sce" ∷ codes "seo" ∷ codes "ec"
-    ∷ codes "ection" ∷ codes "secton" ∷ codes "sectlon" ∷ codes "sectoin" ∷ codes "seciton"
-    ∷ codes "sectiou" ∷ codes "seclion" ∷ codes "seotion" ∷ codes "sectior" ∷ codes "numbered" ∷ codes "no"
-    ∷ codes "nos" ∷ codes "said" ∷ codes "same" ∷ codes "all" ∷ codes "both" ∷ codes "fractional" ∷ codes "in"
-    ∷ codes "of"
-    ∷ codes "the" ∷ codes "and" ∷ codes "to" ∷ codes "thru" ∷ codes "through" ∷ []
+moved_section_words = words (codes "sec secs section sections sect sects s sn scc sce seo ec ection secton")
+    ++ words (codes "sectlon sectoin seciton sectiou seclion seotion sectior numbered no nos said same all")
+    ++ words (codes "both fractional in of the and to thru through")
 
 -- the words of a township and range that are
 abbrev pub moved_heading_words : List (List ℕ)
-moved_heading_words = codes "t" ∷ codes "tp" ∷ codes "twp" ∷ codes "twsp" ∷ codes "township" ∷ codes "r"
-    ∷ codes "rg" ∷ codes "rge" ∷ codes "rng" ∷ codes "range" ∷ codes "n" ∷ codes "nr" ∷ codes "s" ∷ codes "e"
-    ∷ codes "w" ∷ codes "north" ∷ codes "south" ∷ codes "east" ∷ codes "west" ∷ codes "said" ∷ codes "same"
-    ∷ codes "all" ∷ codes "in" ∷ codes "of" ∷ codes "the" ∷ codes "and" ∷ codes "numbered" ∷ codes "no" ∷ []
+moved_heading_words = words (codes "t tp twp twsp township r rg rge rng range n nr s e w north south east")
+    ++ words (codes "west said same all in of the and numbered no")
 
 -- the words of a number, and letters that scanning makes of digits
 abbrev pub number_words : List (List ℕ)
-number_words = codes "one" ∷ codes "two" ∷ codes "three" ∷ codes "four" ∷ codes "five" ∷ codes "six"
-    ∷ codes "seven" ∷ codes "eight" ∷ codes "nine" ∷ codes "ten" ∷ codes "eleven" ∷ codes "twelve"
-    ∷ codes "thirteen" ∷ codes "fourteen" ∷ codes "fifteen" ∷ codes "sixteen" ∷ codes "seventeen"
-    ∷ codes "eighteen" ∷ codes "nineteen" ∷ codes "twenty" ∷ codes "thirty" ∷ codes "l" ∷ codes "i"
-    ∷ codes "o" ∷ []
+number_words = words (codes "one two three four five six seven eight nine ten eleven twelve thirteen")
+    ++ words (codes "fourteen fifteen sixteen seventeen eighteen nineteen twenty thirty l i o")
 
 -- the words of numbers from one to nine, which follow those for tens
 abbrev pub one_to_nine : List (List ℕ)
-one_to_nine = codes "one" ∷ codes "two" ∷ codes "three" ∷ codes "four" ∷ codes "five" ∷ codes "six"
-    ∷ codes "seven" ∷ codes "eight" ∷ codes "nine" ∷ []
+one_to_nine = words (codes "one two three four five six seven eight nine")
 
 -- words of an exception that another one begins
 abbrev pub further_exceptions : List (List ℕ)
-further_exceptions = codes "except" ∷ codes "excepting" ∷ codes "not" ∷ codes "exception" ∷ codes "with" ∷ []
+further_exceptions = words (codes "except excepting not exception with")
 
 -- words with which land begins
 abbrev pub first_words : List (List ℕ)
-first_words = codes "n" ∷ codes "s" ∷ codes "e" ∷ codes "w" ∷ codes "north" ∷ codes "south" ∷ codes "east"
-    ∷ codes "west" ∷ codes "northeast" ∷ codes "northwest" ∷ codes "southeast" ∷ codes "southwest"
-    ∷ codes "lot" ∷ codes "lots" ∷ codes "lt" ∷ codes "lts" ∷ codes "l" ∷ codes "gl" ∷ codes "all"
-    ∷ codes "the" ∷ codes "entire" ∷ codes "whole" ∷ codes "aliq" ∷ codes "aliquot" ∷ []
+first_words = words (codes "n s e w north south east west northeast northwest southeast southwest lot lots")
+    ++ words (codes "lt lts l gl all the entire whole aliq aliquot")
 
 -- marks between cells
 abbrev pub cell_marks : List (List ℕ)
@@ -194,50 +158,46 @@ cell_marks = codes "|" ∷ (9 ∷ []) ∷ []
 
 -- the words for a section, with slips, and that of a register
 abbrev pub section_names : List (List ℕ)
-section_names = codes "sec" ∷ codes "secs" ∷ codes "sect" ∷ codes "sects" ∷ codes "section" ∷ codes "sections"
-    ∷ codes "scc" ∷ codes "sce" ∷ codes "seo" ∷ codes "ec" ∷ codes "ection" ∷ codes "sn" ∷ codes "secton"
-    ∷ codes "sectlon" ∷ codes "sectoin" ∷ codes "seciton" ∷ codes "sectiou" ∷ codes "seclion"
-    ∷ codes "seotion" ∷ codes "sectior" ∷ []
+section_names = words (codes "sec secs sect sects section sections scc sce seo ec ection sn secton sectlon")
+    ++ words (codes "sectoin seciton sectiou seclion seotion sectior")
 
 -- the words between the numbers of a list of sections, or before them
 abbrev pub list_words : List (List ℕ)
-list_words = codes "and" ∷ codes "or" ∷ codes "thru" ∷ codes "through" ∷ codes "to" ∷ codes "numbered"
-    ∷ codes "no" ∷ codes "nos" ∷ codes "inclusive" ∷ codes "incl" ∷ codes "all" ∷ codes "entire"
-    ∷ codes "being" ∷ codes "both" ∷ codes "each" ∷ codes "the" ∷ []
+list_words = words (codes "and or thru through to numbered no nos inclusive incl all entire being both each")
+    ++ codes "the" ∷ []
 
 -- marks between a section and its township
 abbrev pub location_marks : List (List ℕ)
-location_marks = codes "," ∷ codes "." ∷ codes "-" ∷ codes "|" ∷ codes "/" ∷ []
+location_marks = words (codes ", . - | /")
 
 -- words before the number of a township
 abbrev pub township_words : List (List ℕ)
-township_words = codes "in" ∷ codes "t" ∷ codes "tp" ∷ codes "twp" ∷ codes "township" ∷ []
+township_words = words (codes "in t tp twp township")
 
 -- the words for north and south, and for east and west
 abbrev pub north_words : List (List ℕ)
-north_words = codes "n" ∷ codes "north" ∷ codes "nr" ∷ []
+north_words = words (codes "n north nr")
 
 abbrev pub south_words : List (List ℕ)
-south_words = codes "s" ∷ codes "south" ∷ codes "sr" ∷ []
+south_words = words (codes "s south sr")
 
 abbrev pub east_words : List (List ℕ)
-east_words = codes "e" ∷ codes "east" ∷ []
+east_words = words (codes "e east")
 
 abbrev pub west_words : List (List ℕ)
-west_words = codes "w" ∷ codes "west" ∷ []
+west_words = words (codes "w west")
 
 -- marks that set a number apart from the land before it
 abbrev pub apart_marks : List (List ℕ)
-apart_marks = codes "," ∷ codes ";" ∷ codes ":" ∷ codes "." ∷ codes "|" ∷ codes "(" ∷ codes ")" ∷ codes "-"
-    ∷ codes "&" ∷ codes "+" ∷ (34 ∷ []) ∷ []
+apart_marks = words (codes ", ; : . | ( ) - & +") ++ (34 ∷ []) ∷ []
 
 -- marks between a section and its land
 abbrev pub before_land_marks : List (List ℕ)
-before_land_marks = codes ":" ∷ codes "-" ∷ codes "|" ∷ codes "(" ∷ (9 ∷ []) ∷ []
+before_land_marks = words (codes ": - | (") ++ (9 ∷ []) ∷ []
 
 -- letters that scanning makes of digits
 abbrev pub damaged_digits : List (List ℕ)
-damaged_digits = codes "l" ∷ codes "i" ∷ codes "o" ∷ []
+damaged_digits = words (codes "l i o")
 
 -- the words in a part, between its steps, and marks that don't part them
 abbrev pub words_in_parts : List (List ℕ)
@@ -245,10 +205,8 @@ words_in_parts = codes "of" ∷ (92 ∷ []) ∷ codes "/" ∷ []
 
 -- words for numbers
 abbrev pub numeral_words : List (List ℕ)
-numeral_words = codes "one" ∷ codes "two" ∷ codes "three" ∷ codes "four" ∷ codes "five" ∷ codes "six"
-    ∷ codes "seven" ∷ codes "eight" ∷ codes "nine" ∷ codes "ten" ∷ codes "eleven" ∷ codes "twelve"
-    ∷ codes "thirteen" ∷ codes "fourteen" ∷ codes "fifteen" ∷ codes "sixteen" ∷ codes "seventeen"
-    ∷ codes "eighteen" ∷ codes "nineteen" ∷ codes "twenty" ∷ codes "thirty" ∷ []
+numeral_words = words (codes "one two three four five six seven eight nine ten eleven twelve thirteen")
+    ++ words (codes "fourteen fifteen sixteen seventeen eighteen nineteen twenty thirty")
 
 -- the words before the number of a township, as descriptions have them, and of a range
 abbrev pub tier_words : List (List ℕ)

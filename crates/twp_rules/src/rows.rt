@@ -10,7 +10,8 @@ ghost use Rattle.std.specs.Str.{str_to_ascii_lowercase};
 ghost use Rattle.twp_grammar.specs.Tokens.{same_bytes};
 ghost use Rattle.twp_rules.specs.Edges.{begins_with, ends_with};
 ghost use Rattle.twp_rules.specs.Rules.{is_entry};
-ghost use Rattle.twp_rules.specs.steps.Rows.{before, end_of, entry_of, front_of, have_ends, have_fronts, have_heads, is_head};
+ghost use Rattle.twp_rules.specs.Lists.{before};
+ghost use Rattle.twp_rules.specs.steps.Rows.{end_of, entry_of, front_of, have_ends, have_fronts, have_heads, is_head};
 
 use crate::same::{begins_with, ends_with};
 

@@ -2,17 +2,8 @@
 -- In a row of what is written for a text, `=` (61) is after the text.
 use Rattle.std.specs.Prelude.{◌==◌, ◌&&◌, ◌-◌, ◌/◌, ◌%◌, ◌^◌, ℕ, Bool, true, List, [], ◌∷◌, bit_and}
 use Rattle.std.specs.Prelude.{if◌then◌else◌, length, not, slice_index_or}
+use Rattle.twp_rules.specs.Lists.{after, before}
 use Rattle.twp_rules.specs.Tables.{Entry, ◌⇒◌}
-
--- the bytes before a mark
-abbrev pub before : ℕ → List ℕ → List ℕ
-before mark [] = []
-before mark (byte ∷ bytes) = if byte == mark then [] else byte ∷ before mark bytes
-
--- the bytes after it
-abbrev pub after : ℕ → List ℕ → List ℕ
-after mark [] = []
-after mark (byte ∷ bytes) = if byte == mark then bytes else after mark bytes
 
 -- the bytes without these at the beginning
 abbrev pub without : ℕ → List ℕ → List ℕ

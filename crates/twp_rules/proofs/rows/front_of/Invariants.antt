@@ -1,5 +1,5 @@
 use Rattle.std.proofs.Common.{◌≡◌, ◌++◌, drop, take}
-use Rattle.twp_rules.specs.steps.Rows.{before}
+use Rattle.twp_rules.specs.Lists.{before}
 use Rattle.twp_rules.proofs.rows.front_of.Given as goal
 
 -- no mark is before the rest

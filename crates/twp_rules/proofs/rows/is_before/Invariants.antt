@@ -1,7 +1,7 @@
 use Rattle.std.proofs.Common.{◌≡◌, drop}
 use Rattle.std.specs.Str.{str_to_ascii_lowercase}
 use Rattle.twp_grammar.specs.Tokens.{same_bytes}
-use Rattle.twp_rules.specs.steps.Rows.{before}
+use Rattle.twp_rules.specs.Lists.{before}
 use Rattle.twp_rules.proofs.rows.is_before.Given as goal
 
 -- the rest decides

@@ -1,6 +1,6 @@
 use Rattle.std.proofs.Common.{◌≡◌, drop}
 use Rattle.twp_grammar.specs.Tokens.{same_bytes}
-use Rattle.twp_rules.specs.steps.Rows.{before}
+use Rattle.twp_rules.specs.Lists.{before}
 use Rattle.twp_rules.proofs.rows.is_before_filling.Given as goal
 
 -- the rest decides
