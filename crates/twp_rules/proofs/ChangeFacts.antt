@@ -1,14 +1,15 @@
 -- Changes one after another, over plain values.
 use Rattle.std.proofs.Common.{◌≡◌, ◌&&◌, ◌+◌, ◌≤◌, ◌<◌, ℕ, zero, suc, true, false, List, [], ◌∷◌, length, drop, map}
-use Rattle.std.proofs.Common.{add-one, arith, refl, slice_index_or, slice_range}
+use Rattle.std.proofs.Common.{add-one, arith, not, refl, slice_index_or, slice_range}
 use Rattle.std.proofs.Math.Seq.{drop-cons}
 use Rattle.twp_rules.proofs.SameTexts.{both}
 use Rattle.twp_rules.specs.declared.role.Role.{Role}
 use Rattle.twp_rules.specs.declared.seam.Seam.{Seam}
 use Rattle.twp_rules.specs.declared.named.Named.{Named}
 use Rattle.twp_rules.specs.Moves.{is_written_by, keep_moved, named_after}
-use Rattle.twp_rules.specs.Keeping.{copied_by, fits_by, is_apart_at, keep_apart, keep_numbers, role_after}
-use Rattle.twp_rules.specs.Keeping.{seam_after, seam_with}
+use Rattle.twp_rules.specs.Apart.{is_apart_at, keep_apart, parts_run}
+use Rattle.twp_rules.specs.Keeping.{copied_by, fits_by, keep_numbers, role_after}
+use Rattle.twp_rules.specs.Apart.{seam_after, seam_with}
 use Rattle.twp_rules.specs.declared.change.Change.{Change as Piece}
 use Rattle.twp_rules.specs.Changes.{Change, seen, AreChangesFrom}
 
@@ -84,7 +85,9 @@ pub next_apart : (text : List ℕ) (at : ℕ) (seam : Seam) (changes : List Piec
     → index < length changes
     → (is_apart_at seam (slice_range text at (slice_index_or changes index default).start)
     && is_apart_at (seam_after seam (slice_range text at (slice_index_or changes index default).start))
-    (slice_index_or changes index default).written.now) ≡ true
+    (slice_index_or changes index default).written.now
+    && not (parts_run text (seam_after seam (slice_range text at (slice_index_or changes index default).start))
+    (seen (slice_index_or changes index default)))) ≡ true
     → keep_apart text at seam (map seen (drop index changes))
     ≡ keep_apart text (slice_index_or changes index default).end
     (seam_with text (seam_after seam (slice_range text at (slice_index_or changes index default).start))
@@ -92,10 +95,15 @@ pub next_apart : (text : List ℕ) (at : ℕ) (seam : Seam) (changes : List Piec
 next_apart text at seam changes index default within apart =
     let e = drop-cons changes index default within in
     let f = add-one index in
+    let of_run = both (is_apart_at seam (slice_range text at (slice_index_or changes index default).start)
+    && is_apart_at (seam_after seam (slice_range text at (slice_index_or changes index default).start))
+    (slice_index_or changes index default).written.now)
+    (not (parts_run text (seam_after seam (slice_range text at (slice_index_or changes index default).start))
+    (seen (slice_index_or changes index default)))) apart in
     let both_of = both (is_apart_at seam (slice_range text at (slice_index_or changes index default).start))
     (is_apart_at (seam_after seam (slice_range text at (slice_index_or changes index default).start))
-    (slice_index_or changes index default).written.now) apart in
-    rw (f, e, both_of.0, both_of.1) refl
+    (slice_index_or changes index default).written.now) of_run.0 in
+    rw (f, e, both_of.0, both_of.1, of_run.1) refl
 
 -- what is moved is written, and the rest decides of it
 pub next_moved : (text : List ℕ) (all : List Change) (at : ℕ) (it : Named) (changes : List Piece) (index : ℕ)

@@ -3,7 +3,7 @@ use Rattle.std.proofs.Common.{◌≡◌, ◌<◌, ◌≤◌, ◌+◌, ◌-◌, B
 use Rattle.std.proofs.Common.{arith, drop, if◌then◌else◌, length, slice_index, subst, sym}
 use Rattle.std.proofs.Math.Seq.{drop-cons}
 use Rattle.twp_grammar.specs.Tokens.{is_white}
-use Rattle.twp_rules.specs.Keeping.{ends_after, ends_step}
+use Rattle.twp_rules.specs.Apart.{ends_after, ends_step}
 
 -- a byte, and the rest after it
 next_byte : (ends : Bool) (bytes : List ℕ) (at : ℕ) → at < length bytes

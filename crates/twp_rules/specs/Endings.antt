@@ -150,3 +150,7 @@ dash_marks = codes "-" ∷ en_dash ∷ em_dash ∷ []
 -- what is before a number that is apart from the land before it
 abbrev pub words_apart : List (List ℕ)
 words_apart = texts (codes "and |of ")
+
+-- what is before `the` that is not between two steps
+abbrev pub before_articles : List (List ℕ)
+before_articles = texts (codes "and |of ") ++ (97 ∷ 110 ∷ 100 ∷ 10 ∷ []) ∷ (111 ∷ 102 ∷ 10 ∷ []) ∷ []

@@ -1,24 +1,20 @@
--- What changes keep, one after another: a number that is copied is whole, and is that of a section only if
--- the text says so; a township and range are copied with their sides; and what is between two parts in the
--- text is between them in what is made of it.
+-- What changes keep of numbers, one after another: a number that is copied is whole, and is that of a section only
+-- if the text says so; and a township and range are copied with their sides.
 use Rattle.std.specs.Prelude.{◌==◌, ◌||◌, ◌&&◌, ℕ, suc, ◌+◌, ◌-◌, Bool, true, false, List, [], ◌∷◌}
 use Rattle.std.specs.Prelude.{if◌then◌else◌, codes, drop, length, nat_le, nat_lt, not, slice_index}
 use Rattle.std.specs.Prelude.{slice_range}
 use Rattle.std.specs.Char.{is_ascii_alphabetic, is_ascii_digit}
-use Rattle.twp_grammar.specs.Tokens.{same_bytes, is_white}
+use Rattle.twp_grammar.specs.Tokens.{same_bytes}
 use Rattle.twp_rules.specs.declared.role.Role.{Role}
 use Rattle.twp_rules.specs.declared.role.Role.TheVariants.{Nothing, Section, Tier, Range}
 use Rattle.twp_rules.specs.declared.rule.Rule.{Rule}
-use Rattle.twp_rules.specs.declared.rule.Rule.TheVariants.{Copied, SectionWord, Heading, Comma, OnePart}
-use Rattle.twp_rules.specs.declared.rule.Rule.TheVariants.{Zeros, FractionDigit}
-use Rattle.twp_rules.specs.declared.seam.Seam.{Seam}
+use Rattle.twp_rules.specs.declared.rule.Rule.TheVariants.{Copied, SectionWord, Heading, Comma}
 use Rattle.twp_rules.specs.Changes.{Change}
-use Rattle.twp_rules.specs.Edges.{begins_with, byte_before, is_one_of, without_white}
+use Rattle.twp_rules.specs.Edges.{byte_before, is_one_of, without_white}
 use Rattle.twp_rules.specs.Naming.{digits_of, word_of}
-use Rattle.twp_rules.specs.Roles.{begins_whole, ends_whole, is_apart, is_said_section, without_location_marks}
+use Rattle.twp_rules.specs.Roles.{begins_whole, ends_whole, is_said_section, without_location_marks}
 use Rattle.twp_rules.specs.Rules.{is_fraction_digit}
 use Rattle.twp_rules.specs.Words.{damaged_digits, east_words, north_words, south_words, west_words}
-use Rattle.twp_rules.specs.Words.{words_in_parts}
 
 -- nothing is left out
 abbrev pub leaves_nothing_out : Change → Bool
@@ -152,76 +148,3 @@ keep_numbers text role place copied [] = true
 keep_numbers text role place copied (change ∷ changes) =
     fits_by text role place copied change changes change.rule
     && keep_numbers text (role_after role change) change.end (copied_by copied change.rule) changes
-
--- only white space
-abbrev pub is_blank : List ℕ → Bool
-is_blank bytes = same_bytes (without_white bytes) []
-
--- a step of a part begins a text: N, S, E, or W, and no word for a section or an exception
-abbrev pub begins_with_step : List ℕ → Bool
-begins_with_step bytes =
-    (begins_with bytes (codes "n") || begins_with bytes (codes "s") || begins_with bytes (codes "e")
-    || begins_with bytes (codes "w"))
-    && not (begins_with bytes (codes "sec")) && not (begins_with bytes (codes "ex"))
-
--- a step ends with the digit of a fraction, or with the sign for one
-abbrev pub ends_step : List ℕ → ℕ → Bool
-ends_step bytes at =
-    is_one_of (slice_index bytes at ∷ []) (codes "2" ∷ codes "4" ∷ []) && (byte_before bytes at == 47)
-    || is_one_of (slice_index bytes at ∷ []) ((189 ∷ []) ∷ (188 ∷ []) ∷ []) && (byte_before bytes at == 194)
-
--- a text is written at a seam: it doesn't begin with a step, if the text before it ends with one, and
--- something between them was left out
-abbrev pub is_apart_at : Seam → List ℕ → Bool
-is_apart_at seam bytes = not (seam.ends_step && seam.lost && begins_with_step (without_white bytes))
-
--- whether more bytes end with a step, if what is before them did, or didn't
-abbrev pub ends_after : Bool → List ℕ → ℕ → List ℕ → Bool
-ends_after ends bytes at [] = ends
-ends_after ends bytes at (byte ∷ rest) =
-    ends_after (if is_white byte then ends else ends_step bytes at) bytes (suc at) rest
-
--- the seam after more bytes
-abbrev pub seam_after : Seam → List ℕ → Seam
-seam_after seam bytes = record {
-  ends_step = ends_after seam.ends_step bytes 0 bytes;
-  lost = seam.lost && is_blank bytes;
-}
-
--- a rule leaves out what may be between two parts
-abbrev pub loses_by : Rule → List ℕ → Bool
-loses_by OnePart seen = false
-loses_by Zeros seen = false
-loses_by FractionDigit seen = false
-loses_by rule seen = not (is_blank seen) && not (is_one_of seen words_in_parts)
-
--- `the` before a part, unless it is between two steps
-abbrev pub is_article : List ℕ → ℕ → List ℕ → Bool
-is_article text start seen = is_one_of seen (codes "the" ∷ []) && is_apart text start
-
--- a change does
-abbrev pub loses : List ℕ → Change → Bool
-loses text change =
-    is_blank change.written && loses_by change.rule (slice_range text change.start change.end)
-    && not (is_article text change.start (slice_range text change.start change.end))
-
--- the seam after a change
-abbrev pub seam_with : List ℕ → Seam → Change → Seam
-seam_with text seam change = record {
-  ends_step = (seam_after seam change.written).ends_step;
-  lost = (seam_after seam change.written).lost || loses text change;
-}
-
--- PARTS ARE KEPT APART, from a place on: two steps that are written beside each other have nothing between
--- them in the text that was left out, but words and marks within a part
-abbrev pub keep_apart : List ℕ → ℕ → Seam → List Change → Bool
-keep_apart text at seam [] = is_apart_at seam (drop at text)
-keep_apart text at seam (change ∷ changes) =
-    is_apart_at seam (slice_range text at change.start)
-    && is_apart_at (seam_after seam (slice_range text at change.start)) change.written
-    && keep_apart text change.end
-    (seam_with text (seam_after seam (slice_range text at change.start)) change) changes
-
--- the seam at the beginning of a text
-abbrev pub first_seam : Seam
-first_seam = record { ends_step = false; lost = false }

@@ -10,6 +10,7 @@ pub mod Rules
 pub mod Roles
 pub mod Changes
 pub mod Keeping
+pub mod Apart
 pub mod Moves
 pub mod Origins
 pub mod Arrangement

@@ -12,7 +12,8 @@ use Rattle.twp_rules.specs.declared.rule.Rule.{Rule}
 use Rattle.twp_rules.specs.declared.rule.Rule.TheVariants.{Copied, MovedSection, MovedHeading}
 use Rattle.twp_rules.specs.Changes.{AreChangesFrom, Change}
 use Rattle.twp_rules.specs.Edges.{begins_with, byte_before, is_one_of}
-use Rattle.twp_rules.specs.Keeping.{first_seam, keep_apart, keep_numbers, side_after, without_zeros}
+use Rattle.twp_rules.specs.Apart.{first_seam, keep_apart}
+use Rattle.twp_rules.specs.Keeping.{keep_numbers, side_after, without_zeros}
 use Rattle.twp_rules.specs.Naming.{begins_word, digits_of, word_of}
 use Rattle.twp_rules.specs.Roles.{is_north_south_word}
 use Rattle.twp_rules.specs.Rules.{is_fraction_digit}

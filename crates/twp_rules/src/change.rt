@@ -4,7 +4,8 @@ ghost use Rattle.twp_rules.specs.Changes.{AreChangesFrom, changed_from, seen};
 ghost use Rattle.twp_rules.specs.Moves.{MayBeMade};
 
 use crate::allowed::is_allowed;
-use crate::keeping::{copied_by, fits, is_apart, is_apart_at, role_after, seam_after, seam_with};
+use crate::apart::{is_apart, is_apart_at, seam_after, seam_with};
+use crate::keeping::{copied_by, fits, role_after};
 use crate::moves::is_moved_text_written;
 use crate::role::Role;
 use crate::rule::Rule;
@@ -95,7 +96,7 @@ pub fn are_changes(text: &[u8], changes: &[Change<'_>]) -> bool
         }
         let gap = between(text, at, change.start);
         let near = seam_after(seam, gap);
-        if !is_apart(seam, near, gap, change.written) {
+        if !is_apart(text, seam, near, gap, change) {
             return false;
         }
         seam = seam_with(text, near, change);

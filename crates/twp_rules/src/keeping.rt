@@ -1,27 +1,23 @@
-//! What changes keep, one after another: numbers with their roles, and parts that are apart.
+//! What changes keep of numbers, one after another: whether they are whole, and what the text says of them.
 ghost use Rattle.std.specs.Prelude.{◌≡◌, ◌≤◌, ◌&&◌, IsTrue, true, drop, length, map};
 ghost use Rattle.twp_rules.specs.Changes.{seen};
 ghost use Rattle.twp_rules.specs.declared.role.Role.TheVariants.{Nothing};
 ghost use Rattle.twp_rules.specs.declared.rule.Rule.TheVariants.{Heading};
-ghost use Rattle.twp_rules.specs.Keeping.{after_fraction_digit, after_parenthesis, begins_whole_copy, begins_with_step, copied_by, ends_after, ends_step, ends_whole_copy};
+ghost use Rattle.twp_rules.specs.Keeping.{after_fraction_digit, after_parenthesis, begins_whole_copy, copied_by, ends_whole_copy};
 ghost use Rattle.twp_rules.specs.Keeping.{fits_by, fits_copy};
-ghost use Rattle.twp_rules.specs.Keeping.{has_its_side, is_article, is_apart_at, is_blank, is_copy, is_damaged_digit, is_said_at};
-ghost use Rattle.twp_rules.specs.Keeping.{is_said_if_section, loses, loses_by, next_copies_at, next_copies_from};
+ghost use Rattle.twp_rules.specs.Keeping.{has_its_side, is_copy, is_damaged_digit, is_said_at};
+ghost use Rattle.twp_rules.specs.Keeping.{is_said_if_section, next_copies_at, next_copies_from};
 ghost use Rattle.twp_rules.specs.Keeping.{role_after, role_by};
-ghost use Rattle.twp_rules.specs.Keeping.{seam_after, seam_with, side_after, without_parentheses, without_zeros};
+ghost use Rattle.twp_rules.specs.Keeping.{side_after, without_parentheses, without_zeros};
 
 use crate::change::Change;
 use crate::context::is_fraction_digit;
-use crate::figures::{is_white, without_white};
+use crate::figures::without_white;
 use crate::naming::{byte_at, byte_before, digits_of, word_of};
 use crate::role::Role;
-use crate::roles::{
-    begins_whole, ends_whole, is_apart as is_apart_from_land, is_said_section,
-    without_location_marks,
-};
+use crate::roles::{begins_whole, ends_whole, is_said_section, without_location_marks};
 use crate::rule::Rule;
-use crate::same::{are_same, begins_with, is_text};
-use crate::seam::Seam;
+use crate::same::are_same;
 use crate::words::*;
 
 /// What a number is that is copied after a change.
@@ -277,119 +273,4 @@ pub(crate) fn rest_of(text: &[u8], at: usize) -> &[u8]
     }
     let (_, rest) = text.split_at(at);
     rest
-}
-
-/// Whether the text before a change, and what it writes, are apart from what was written before each of them.
-pub(crate) fn is_apart(seam: Seam, near: Seam, gap: &[u8], written: &[u8]) -> bool
-    ensures { result ≡ (is_apart_at seam gap.now && is_apart_at near written.now) }
-{
-    is_apart_at(seam, gap) && is_apart_at(near, written)
-}
-
-/// Whether no step is joined at a seam to one that something was between.
-pub(crate) fn is_apart_at(seam: Seam, bytes: &[u8]) -> bool
-    ensures { result ≡ is_apart_at seam bytes.now }
-{
-    !(seam.ends_step && seam.lost && begins_with_step(without_white(bytes)))
-}
-
-/// The seam after more bytes.
-pub(crate) fn seam_after(seam: Seam, bytes: &[u8]) -> Seam
-    ensures { result ≡ seam_after seam bytes.now }
-{
-    Seam {
-        ends_step: ends_after(seam.ends_step, bytes),
-        lost: seam.lost && is_blank(bytes),
-    }
-}
-
-/// The seam after a change.
-pub(crate) fn seam_with(text: &[u8], seam: Seam, change: &Change<'_>) -> Seam
-    requires order { change.now.start ≤ change.now.end }
-    requires within { change.now.end ≤ length text.now }
-    ensures { result ≡ seam_with text.now seam (seen change.now) }
-{
-    let after = seam_after(seam, change.written);
-    Seam {
-        ends_step: after.ends_step,
-        lost: after.lost || loses(text, change),
-    }
-}
-
-/// Whether a change leaves out what may be between two parts.
-fn loses(text: &[u8], change: &Change<'_>) -> bool
-    requires order { change.now.start ≤ change.now.end }
-    requires within { change.now.end ≤ length text.now }
-    ensures { result ≡ loses text.now (seen change.now) }
-{
-    let left_out = &text[change.start..change.end];
-    is_blank(change.written)
-        && loses_by(change.rule, left_out)
-        && !is_article(text, change.start, left_out)
-}
-
-/// Whether `the` is before a part, and not between two steps.
-fn is_article(text: &[u8], start: usize, seen: &[u8]) -> bool
-    requires { start ≤ length text.now }
-    ensures { result ≡ is_article text.now start seen.now }
-{
-    is_text(seen, b"the") && is_apart_from_land(text, start)
-}
-
-/// Whether a rule leaves out what may be between two parts.
-fn loses_by(rule: Rule, seen: &[u8]) -> bool
-    ensures { result ≡ loses_by rule seen.now }
-{
-    match rule {
-        Rule::OnePart | Rule::Zeros | Rule::FractionDigit => false,
-        _ => !is_blank(seen) && !is_in_words_in_parts(seen),
-    }
-}
-
-/// Whether bytes are white space alone.
-fn is_blank(bytes: &[u8]) -> bool
-    ensures { result ≡ is_blank bytes.now }
-{
-    for byte in bytes {
-        if !is_white(*byte) {
-            return false;
-        }
-    }
-    true
-}
-
-/// Whether bytes begin with a step of a part.
-fn begins_with_step(bytes: &[u8]) -> bool
-    ensures { result ≡ begins_with_step bytes.now }
-{
-    (begins_with(bytes, b"n")
-        || begins_with(bytes, b"s")
-        || begins_with(bytes, b"e")
-        || begins_with(bytes, b"w"))
-        && !begins_with(bytes, b"sec")
-        && !begins_with(bytes, b"ex")
-}
-
-/// Whether bytes end with a step, if what is before them did: the last one that isn't white space decides.
-#[tactic(auto, using(crate::proofs::SeamFacts::white_is_passed, crate::proofs::SeamFacts::last_decides, crate::proofs::SeamFacts::none_decides))]
-fn ends_after(ends: bool, bytes: &[u8]) -> bool
-    ensures { result ≡ ends_after ends bytes.now 0 bytes.now }
-{
-    for count in 0..bytes.len() {
-        let at = bytes.len() - 1 - count;
-        if !is_white(bytes[at]) {
-            return ends_step(bytes, at);
-        }
-    }
-    ends
-}
-
-/// Whether a byte ends a step: the digit of a fraction, or the sign for one.
-fn ends_step(bytes: &[u8], at: usize) -> bool
-    requires { at ≤ length bytes.now }
-    ensures { result ≡ ends_step bytes.now at }
-{
-    let byte = byte_at(bytes, at);
-    let before = byte_before(bytes, at);
-    (matches!(byte, b'2' | b'4') && before == b'/') || (matches!(byte, 189 | 188) && before == 194)
 }

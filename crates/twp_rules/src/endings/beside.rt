@@ -1,7 +1,7 @@
 //! What is beside words of an exception, numbers in words, and hyphens; and meridians of letters alone.
 ghost use Rattle.std.specs.Prelude.{◌≡◌};
 ghost use Rattle.twp_rules.specs.Edges.{begins_with_one, ends_with_one, is_one_of};
-ghost use Rattle.twp_rules.specs.Endings.{all_but, but_what, dash_marks, first_exceptions, meridian_letters, tens_ends, words_apart};
+ghost use Rattle.twp_rules.specs.Endings.{all_but, before_articles, but_what, dash_marks, first_exceptions, meridian_letters, tens_ends, words_apart};
 
 use crate::rows::{begins_with_one, ends_with_one, is_one_of};
 
@@ -90,4 +90,14 @@ pub(crate) fn has_words_apart(seen: &[u8]) -> bool
     ensures { result ≡ ends_with_one seen.now words_apart }
 {
     ends_with_one(seen, 0x0000_0001, &WORDS_APART)
+}
+
+/// The texts `before_articles` of the specification.
+static BEFORE_ARTICLES: [[u8; 4]; 4] = [*b"and ", *b"_of ", *b"and\n", *b"_of\n"];
+
+/// Whether a text ends with one of them.
+pub(crate) fn has_before_articles(seen: &[u8]) -> bool
+    ensures { result ≡ ends_with_one seen.now before_articles }
+{
+    ends_with_one(seen, 0x0000_0401, &BEFORE_ARTICLES)
 }

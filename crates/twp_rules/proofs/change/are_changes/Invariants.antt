@@ -1,7 +1,8 @@
 use Rattle.std.proofs.Common.{◌≡◌, ◌≤◌, drop, map, length}
 use Rattle.twp_rules.specs.declared.role.Role.TheVariants.{Nothing}
 use Rattle.twp_rules.specs.Changes.{AreChangesFrom, seen}
-use Rattle.twp_rules.specs.Keeping.{first_seam, keep_apart, keep_numbers}
+use Rattle.twp_rules.specs.Apart.{first_seam, keep_apart}
+use Rattle.twp_rules.specs.Keeping.{keep_numbers}
 use Rattle.twp_rules.proofs.change.are_changes.Given as goal
 
 -- if the changes that are left are changes from here on, all are; and the rest decides of numbers and parts

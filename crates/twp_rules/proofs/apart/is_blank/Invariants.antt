@@ -1,6 +1,6 @@
 use Rattle.std.proofs.Common.{◌≡◌, drop}
-use Rattle.twp_rules.specs.Keeping.{is_blank}
-use Rattle.twp_rules.proofs.keeping.is_blank.Given as goal
+use Rattle.twp_rules.specs.Apart.{is_blank}
+use Rattle.twp_rules.proofs.apart.is_blank.Given as goal
 
 -- the rest decides
 abbrev pub invariant-loop-byte : goal.invariant-loop-byte

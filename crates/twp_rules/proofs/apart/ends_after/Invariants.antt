@@ -1,6 +1,6 @@
 use Rattle.std.proofs.Common.{◌≡◌, ◌-◌, Bool, drop, length}
-use Rattle.twp_rules.specs.Keeping.{ends_after}
-use Rattle.twp_rules.proofs.keeping.ends_after.Given as goal
+use Rattle.twp_rules.specs.Apart.{ends_after}
+use Rattle.twp_rules.proofs.apart.ends_after.Given as goal
 
 -- the rest decides nothing
 abbrev pub invariant-loop-count : goal.invariant-loop-count
