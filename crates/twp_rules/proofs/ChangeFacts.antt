@@ -1,5 +1,6 @@
 -- Changes one after another, over plain values.
-use Rattle.std.proofs.Common.{◌≡◌, ◌&&◌, ◌+◌, ◌≤◌, ◌<◌, ℕ, zero, suc, true, false, List, [], ◌∷◌, length, drop, map}
+use Rattle.std.proofs.Common.{◌≡◌, ◌&&◌, ◌+◌, ◌≤◌, ◌<◌, ℕ, zero, suc, true, false, List, [], ◌∷◌, length}
+use Rattle.std.proofs.Common.{drop, map}
 use Rattle.std.proofs.Common.{add-one, arith, not, refl, slice_index_or, slice_range}
 use Rattle.std.proofs.Math.Seq.{drop-cons}
 use Rattle.twp_rules.proofs.SameTexts.{both}
@@ -86,7 +87,8 @@ pub next_apart : (text : List ℕ) (at : ℕ) (seam : Seam) (changes : List Piec
     → (is_apart_at seam (slice_range text at (slice_index_or changes index default).start)
     && is_apart_at (seam_after seam (slice_range text at (slice_index_or changes index default).start))
     (slice_index_or changes index default).written.now
-    && not (parts_run text (seam_after seam (slice_range text at (slice_index_or changes index default).start))
+    && not
+    (parts_run text (seam_after seam (slice_range text at (slice_index_or changes index default).start))
     (seen (slice_index_or changes index default)))) ≡ true
     → keep_apart text at seam (map seen (drop index changes))
     ≡ keep_apart text (slice_index_or changes index default).end

@@ -8,7 +8,8 @@ use Rattle.std.specs.Str.{str_to_ascii_lowercase}
 use Rattle.twp_grammar.specs.Tokens.{same_bytes}
 use Rattle.twp_rules.specs.Edges.{begins_with, ends_with}
 use Rattle.twp_rules.specs.Rules.{is_entry}
-use Rattle.twp_rules.specs.steps.Rows.{end_of, entry_of, front_of, have_ends, have_fronts, have_heads, is_head}
+use Rattle.twp_rules.specs.steps.Rows.{end_of, entry_of, front_of, have_ends, have_fronts, have_heads}
+use Rattle.twp_rules.specs.steps.Rows.{is_head}
 use Rattle.twp_rules.proofs.EdgeFacts.{other_first, other_last}
 use Rattle.twp_rules.proofs.RowFacts.{other_head}
 use Rattle.twp_rules.proofs.SameTexts.{both}

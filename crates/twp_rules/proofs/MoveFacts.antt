@@ -7,7 +7,8 @@ use Rattle.twp_rules.specs.declared.named.Named.{Named}
 use Rattle.twp_rules.specs.declared.role.Role.{Role}
 use Rattle.twp_rules.specs.declared.rule.Rule.{Rule}
 use Rattle.twp_rules.specs.declared.rule.Rule.TheVariants.{Half, Quarter, Direction, Numeral, Copied}
-use Rattle.twp_rules.specs.declared.rule.Rule.TheVariants.{CopiedStep, Damage, Exception, Zeros, FractionDigit}
+use Rattle.twp_rules.specs.declared.rule.Rule.TheVariants.{CopiedStep, Damage, Exception, Zeros}
+use Rattle.twp_rules.specs.declared.rule.Rule.TheVariants.{FractionDigit}
 use Rattle.twp_rules.specs.declared.rule.Rule.TheVariants.{Heading, SectionWord, LotWord, Through, And, Comma}
 use Rattle.twp_rules.specs.declared.rule.Rule.TheVariants.{Semicolon, OnePart, Mark, Word, Repeated}
 use Rattle.twp_rules.specs.declared.rule.Rule.TheVariants.{MovedSection, MovedHeading, Meridian, Acreage}
@@ -74,7 +75,8 @@ copied_is_written : (text : List ℕ) (all : List Change) (role : Role) (it : Na
     → are_written_from text all role it start at bytes ≡ true
 copied_is_written text all role it start at [] copied = refl
 copied_is_written text all role it start at (byte ∷ bytes) copied =
-    let parts = both (is_copied_at text all start at) (are_copied_from text all start (suc at) bytes) copied in
+    let parts =
+    both (is_copied_at text all start at) (are_copied_from text all start (suc at) bytes) copied in
     rw (either (not (is_number_at text start at))
     (is_ascii_digit (slice_index text at) && is_named_last text role it at)
     (is_copied_by all (first_place text at)) parts.0)

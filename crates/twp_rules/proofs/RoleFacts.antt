@@ -76,7 +76,8 @@ pub word_goes_on : (text : List ℕ) (at count : ℕ) → count < at
 word_goes_on text at count within is other goes =
     let e : at - count ≡ suc (at - 1 - count) = omega arith in
     let f : at - (count + 1) ≡ at - 1 - count = omega arith in
-    rw (e, f, is) (gone_on (begins_list (byte_before text (at - 1 - count)) (word_of (drop (at - 1 - count) text))
+    rw (e, f, is)
+    (gone_on (begins_list (byte_before text (at - 1 - count)) (word_of (drop (at - 1 - count) text))
     (drop (length (word_of (drop (at - 1 - count) text))) (drop (at - 1 - count) text)))
     (goes_on_with_list (word_of (drop (at - 1 - count) text))) (is_in_list text (at - 1 - count)) other goes)
 

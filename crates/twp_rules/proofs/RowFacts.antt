@@ -87,7 +87,8 @@ other_size mark seen row other = by_test (same_bytes (str_to_ascii_lowercase see
   where
     by_test : (t : Bool) → same_bytes (str_to_ascii_lowercase seen) (before mark row) ≡ t → t ≡ false
     by_test true e =
-        absurd (other (subst (λ (n : ℕ). slice_index_or row n mark ≡ mark) (length-map seen to_ascii_lowercase)
+        absurd
+        (other (subst (λ (n : ℕ). slice_index_or row n mark ≡ mark) (length-map seen to_ascii_lowercase)
         (mark_is mark (str_to_ascii_lowercase seen) row e)))
     by_test false e = refl
 

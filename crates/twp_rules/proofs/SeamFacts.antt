@@ -1,6 +1,6 @@
 -- Whether bytes end with a step, from the last byte backward; over plain values.
 use Rattle.std.proofs.Common.{◌≡◌, ◌<◌, ◌≤◌, ◌+◌, ◌-◌, Bool, true, false, List, ℕ, zero, suc, refl, ◌∙◌}
-use Rattle.std.proofs.Common.{arith, drop, if◌then◌else◌, length, slice_index, subst, sym}
+use Rattle.std.proofs.Common.{arith, drop, if◌then◌else◌, length, slice_index}
 use Rattle.std.proofs.Math.Seq.{drop-cons}
 use Rattle.twp_grammar.specs.Tokens.{is_white}
 use Rattle.twp_rules.specs.Apart.{ends_after, ends_step}
@@ -27,7 +27,8 @@ from_beginning bytes (suc at) answer within decides ends =
 -- white space is passed over
 pub white_is_passed : (bytes : List ℕ) (count : ℕ) → count < length bytes
     → is_white (slice_index bytes (length bytes - 1 - count)) ≡ true
-    → ((ends : Bool) → ends_after ends bytes (length bytes - count) (drop (length bytes - count) bytes) ≡ ends)
+    → ((ends : Bool)
+    → ends_after ends bytes (length bytes - count) (drop (length bytes - count) bytes) ≡ ends)
     → (ends : Bool)
     → ends_after ends bytes (length bytes - (count + 1)) (drop (length bytes - (count + 1)) bytes) ≡ ends
 white_is_passed bytes count within white rest ends =
@@ -39,7 +40,8 @@ white_is_passed bytes count within white rest ends =
 -- the last byte that isn't white space decides
 pub last_decides : (ends : Bool) (bytes : List ℕ) (count : ℕ) → count < length bytes
     → is_white (slice_index bytes (length bytes - 1 - count)) ≡ false
-    → ((ends : Bool) → ends_after ends bytes (length bytes - count) (drop (length bytes - count) bytes) ≡ ends)
+    → ((ends : Bool)
+    → ends_after ends bytes (length bytes - count) (drop (length bytes - count) bytes) ≡ ends)
     → ends_after ends bytes 0 bytes ≡ ends_step bytes (length bytes - 1 - count)
 last_decides ends bytes count within solid rest =
     let at = length bytes - 1 - count in

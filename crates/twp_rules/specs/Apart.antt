@@ -1,5 +1,5 @@
 -- What changes keep apart: what is between two parts in the text is between them in what is made of it.
-use Rattle.std.specs.Prelude.{◌==◌, ◌||◌, ◌&&◌, ℕ, suc, Bool, true, false, List, [], ◌∷◌, if◌then◌else◌}
+use Rattle.std.specs.Prelude.{◌==◌, ◌||◌, ◌&&◌, ℕ, suc, Bool, false, List, [], ◌∷◌, if◌then◌else◌}
 use Rattle.std.specs.Prelude.{codes, drop, not, slice_index, slice_range, take}
 use Rattle.twp_grammar.specs.Tokens.{same_bytes, is_white}
 use Rattle.twp_rules.specs.declared.rule.Rule.{Rule}

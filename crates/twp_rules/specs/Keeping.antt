@@ -1,8 +1,7 @@
--- What changes keep of numbers, one after another: a number that is copied is whole, and is that of a section only
--- if the text says so; and a township and range are copied with their sides.
-use Rattle.std.specs.Prelude.{◌==◌, ◌||◌, ◌&&◌, ℕ, suc, ◌+◌, ◌-◌, Bool, true, false, List, [], ◌∷◌}
+-- What changes keep of numbers, one after another: a number that is copied is whole, and is that of a section
+-- only if the text says so; and a township and range are copied with their sides.
+use Rattle.std.specs.Prelude.{◌==◌, ◌||◌, ◌&&◌, ℕ, ◌+◌, ◌-◌, Bool, true, false, List, [], ◌∷◌}
 use Rattle.std.specs.Prelude.{if◌then◌else◌, codes, drop, length, nat_le, nat_lt, not, slice_index}
-use Rattle.std.specs.Prelude.{slice_range}
 use Rattle.std.specs.Char.{is_ascii_alphabetic, is_ascii_digit}
 use Rattle.twp_grammar.specs.Tokens.{same_bytes}
 use Rattle.twp_rules.specs.declared.role.Role.{Role}

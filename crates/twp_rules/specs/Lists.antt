@@ -1,5 +1,5 @@
--- Lists of texts, written as one text: words with a space between each two of them, or texts with a bar. In an
--- entry of a table, `=` is between a text and what is written instead.
+-- Lists of texts, written as one text: words with a space between each two of them, or texts with a bar. In
+-- an entry of a table, `=` is between a text and what is written instead.
 use Rattle.std.specs.Prelude.{◌==◌, ℕ, List, [], ◌∷◌, if◌then◌else◌}
 
 -- the bytes before a mark

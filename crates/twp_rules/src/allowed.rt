@@ -22,7 +22,7 @@ use crate::tables::headings::*;
 use crate::tables::marks::*;
 use crate::tables::parts::*;
 use crate::tables::words::*;
-use crate::words::*;
+use crate::words::limits::*;
 
 /// Whether the rule of a change allows it.
 pub(crate) fn is_allowed(text: &[u8], change: &Change<'_>) -> bool

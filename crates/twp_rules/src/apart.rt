@@ -18,7 +18,7 @@ use crate::naming::{byte_at, byte_before};
 use crate::rule::Rule;
 use crate::same::{are_same, begins_with, is_text};
 use crate::seam::Seam;
-use crate::words::*;
+use crate::words::land::*;
 
 /// Whether the text before a change, and what it writes, are apart from what was written before each of them, and no run
 /// of steps is parted.

@@ -12,7 +12,7 @@ use crate::mark::Mark;
 use crate::naming::{begins_word, word_of};
 use crate::origins::marks_of;
 use crate::roles::goes_on_with_list;
-use crate::words::*;
+use crate::words::sections::is_in_section_names;
 use std::alloc::{AllocError, Global};
 use twp_grammar::Item;
 

@@ -8,7 +8,8 @@ use crate::figures::{from, is_white, without_white};
 use crate::keeping::rest_of;
 use crate::naming::*;
 use crate::same::ends_with;
-use crate::words::*;
+use crate::words::numbers::*;
+use crate::words::sides::*;
 
 /// A text without the spaces before it.
 pub(crate) fn without_spaces(text: &[u8]) -> &[u8]

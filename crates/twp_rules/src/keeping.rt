@@ -18,7 +18,8 @@ use crate::role::Role;
 use crate::roles::{begins_whole, ends_whole, is_said_section, without_location_marks};
 use crate::rule::Rule;
 use crate::same::are_same;
-use crate::words::*;
+use crate::words::numbers::*;
+use crate::words::sides::*;
 
 /// What a number is that is copied after a change.
 pub(crate) fn role_after(role: Role, change: &Change<'_>) -> Role

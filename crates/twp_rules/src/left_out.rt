@@ -16,7 +16,7 @@ use crate::rule::Rule;
 use crate::same::{are_same, begins_with, ends_with};
 use crate::saying::Saying;
 use crate::sayings::{has_no_limit, has_only_columns, is_more_or_less, is_remark, is_said_of_land};
-use crate::words::*;
+use crate::words::land::*;
 
 /// Whether a rule allows to leave out a text, with what is after it.
 pub(crate) fn may_be_left_out(rule: Rule, seen: &[u8], after: &[u8]) -> bool

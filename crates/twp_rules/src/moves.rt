@@ -16,7 +16,8 @@ use crate::role::Role;
 use crate::roles::is_north_south_word;
 use crate::rule::Rule;
 use crate::same::begins_with;
-use crate::words::*;
+use crate::words::numbers::*;
+use crate::words::sections::*;
 
 /// Whether what is left out where it is written elsewhere is written. In most texts each number of it is copied, or
 /// nothing is moved, and then it doesn't matter what was named last.

@@ -5,7 +5,9 @@ ghost use Rattle.twp_rules.specs.Moving.{is_moved_at, is_moved_word, is_only_of,
 use crate::figures::{from, without_white};
 use crate::moved::Moved;
 use crate::naming::{begins_word, makes_half, word_of};
-use crate::words::*;
+use crate::words::numbers::*;
+use crate::words::sections::*;
+use crate::words::sides::*;
 
 /// Whether only a section, or a township and range, is in a text.
 #[tactic(auto, using(crate::proofs::NamingFacts::next_is_moved))]

@@ -10,7 +10,9 @@ ghost use Rattle.twp_rules.specs.Words.{east_west, half_fronts, north_south};
 use crate::figures::{from, without_white};
 use crate::rows::begins_with_one;
 use crate::same::{are_same, begins_with};
-use crate::words::*;
+use crate::words::land::*;
+use crate::words::numbers::*;
+use crate::words::sides::*;
 
 /// The texts `half_fronts` of the specification.
 static HALF_FRONTS: [[u8; 8]; 7] = [

@@ -13,7 +13,10 @@ use crate::figures::{from, is_white, without_white};
 use crate::keeping::rest_of;
 use crate::naming::{begins_word, byte_at, byte_before, digits_of, makes_half, word_of};
 use crate::same::is_text;
-use crate::words::*;
+use crate::words::land::*;
+use crate::words::numbers::*;
+use crate::words::sections::*;
+use crate::words::sides::*;
 
 /// Whether a text says that the number from one place up to another is that of a section.
 pub(crate) fn is_said_section(text: &[u8], start: usize, end: usize) -> bool

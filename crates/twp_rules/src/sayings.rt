@@ -9,7 +9,9 @@ use crate::endings::labels::*;
 use crate::figures::from;
 use crate::naming::{begins_word, byte_at, byte_before, names_no_land, word_of};
 use crate::saying::Saying;
-use crate::words::*;
+use crate::words::limits::*;
+use crate::words::sections::*;
+use crate::words::sides::*;
 
 /// Whether a text is a remark.
 pub(crate) fn is_remark(seen: &[u8]) -> bool

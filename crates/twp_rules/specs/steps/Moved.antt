@@ -1,5 +1,5 @@
--- Whether each number that is moved is copied: in most texts it is, or nothing is moved, and what was named last
--- decides nothing.
+-- Whether each number that is moved is copied: in most texts it is, or nothing is moved, and what was named
+-- last decides nothing.
 use Rattle.std.specs.Prelude.{◌||◌, ◌&&◌, ℕ, suc, Bool, true, false, List, [], ◌∷◌, not, slice_range}
 use Rattle.twp_rules.specs.declared.rule.Rule.{Rule}
 use Rattle.twp_rules.specs.declared.rule.Rule.TheVariants.{MovedSection, MovedHeading}

@@ -1,0 +1,223 @@
+//! The words for numbers, and the words and marks that say what a number is of.
+ghost use Rattle.std.specs.Prelude.{◌≡◌};
+ghost use Rattle.twp_rules.specs.Edges.{is_one_of};
+ghost use Rattle.twp_rules.specs.Words.{numbered_words, units, code_marks, figure_marks, date_marks};
+ghost use Rattle.twp_rules.specs.Words.{marks_before_codes, number_words, one_to_nine, damaged_digits};
+ghost use Rattle.twp_rules.specs.Words.{numeral_words};
+
+use crate::rows::is_one_of;
+
+/// The texts `numbered_words` of the specification.
+static NUMBERED_WORDS: [[u8; 10]; 60] = [
+    *b"tract_____",
+    *b"tr________",
+    *b"parcel____",
+    *b"no________",
+    *b"nos_______",
+    *b"number____",
+    *b"bk________",
+    *b"book______",
+    *b"vol_______",
+    *b"pg________",
+    *b"page______",
+    *b"p_________",
+    *b"misc______",
+    *b"inst______",
+    *b"instrument",
+    *b"doc_______",
+    *b"case______",
+    *b"exhibit___",
+    *b"item______",
+    *b"comment___",
+    *b"allotment_",
+    *b"owner_____",
+    *b"unit______",
+    *b"property__",
+    *b"prop______",
+    *b"psc_______",
+    *b"lease_____",
+    *b"lse_______",
+    *b"est_______",
+    *b"probate___",
+    *b"permit____",
+    *b"entry_____",
+    *b"cat_______",
+    *b"idi_______",
+    *b"meridian__",
+    *b"mer_______",
+    *b"jan_______",
+    *b"january___",
+    *b"feb_______",
+    *b"february__",
+    *b"mar_______",
+    *b"march_____",
+    *b"apr_______",
+    *b"april_____",
+    *b"may_______",
+    *b"jun_______",
+    *b"june______",
+    *b"jul_______",
+    *b"july______",
+    *b"aug_______",
+    *b"august____",
+    *b"sep_______",
+    *b"sept______",
+    *b"september_",
+    *b"oct_______",
+    *b"october___",
+    *b"nov_______",
+    *b"november__",
+    *b"dec_______",
+    *b"december__",
+];
+
+/// Whether a word is one of them.
+pub(crate) fn is_in_numbered_words(word: &[u8]) -> bool
+    ensures { result ≡ is_one_of word.now numbered_words }
+{
+    is_one_of(word, 0x0079_f67e, &NUMBERED_WORDS)
+}
+
+/// The texts `units` of the specification.
+static UNITS: [[u8; 6]; 18] = [
+    *b"acres_", *b"acre__", *b"ac____", *b"acs___", *b"a_____", *b"net___", *b"gross_", *b"yr____",
+    *b"yrs___", *b"year__", *b"years_", *b"shares", *b"feet__", *b"foot__", *b"ft____", *b"pm____",
+    *b"p_____", *b"mer___",
+];
+
+/// Whether a word is one of them.
+pub(crate) fn is_in_units(word: &[u8]) -> bool
+    ensures { result ≡ is_one_of word.now units }
+{
+    is_one_of(word, 0x0209_60c2, &UNITS)
+}
+
+/// The texts `code_marks` of the specification.
+static CODE_MARKS: [[u8; 1]; 3] = [*b"/", *b"%", *b"'"];
+
+/// Whether a word is one of them.
+pub(crate) fn is_in_code_marks(word: &[u8]) -> bool
+    ensures { result ≡ is_one_of word.now code_marks }
+{
+    is_one_of(word, 0x0000_80a0, &CODE_MARKS)
+}
+
+/// The texts `figure_marks` of the specification.
+static FIGURE_MARKS: [[u8; 1]; 2] = [*b".", *b","];
+
+/// Whether a word is one of them.
+pub(crate) fn is_in_figure_marks(word: &[u8]) -> bool
+    ensures { result ≡ is_one_of word.now figure_marks }
+{
+    is_one_of(word, 0x0000_5000, &FIGURE_MARKS)
+}
+
+/// The texts `date_marks` of the specification.
+static DATE_MARKS: [[u8; 1]; 1] = [*b"-"];
+
+/// Whether a word is one of them.
+pub(crate) fn is_in_date_marks(word: &[u8]) -> bool
+    ensures { result ≡ is_one_of word.now date_marks }
+{
+    is_one_of(word, 0x0000_2000, &DATE_MARKS)
+}
+
+/// The texts `marks_before_codes` of the specification.
+static MARKS_BEFORE_CODES: [[u8; 1]; 5] = [*b"#", *b"$", *b"/", *b".", *b"-"];
+
+/// Whether a word is one of them.
+pub(crate) fn is_in_marks_before_codes(word: &[u8]) -> bool
+    ensures { result ≡ is_one_of word.now marks_before_codes }
+{
+    is_one_of(word, 0x0000_e018, &MARKS_BEFORE_CODES)
+}
+
+/// The texts `number_words` of the specification.
+static NUMBER_WORDS: [[u8; 9]; 24] = [
+    *b"one______",
+    *b"two______",
+    *b"three____",
+    *b"four_____",
+    *b"five_____",
+    *b"six______",
+    *b"seven____",
+    *b"eight____",
+    *b"nine_____",
+    *b"ten______",
+    *b"eleven___",
+    *b"twelve___",
+    *b"thirteen_",
+    *b"fourteen_",
+    *b"fifteen__",
+    *b"sixteen__",
+    *b"seventeen",
+    *b"eighteen_",
+    *b"nineteen_",
+    *b"twenty___",
+    *b"thirty___",
+    *b"l________",
+    *b"i________",
+    *b"o________",
+];
+
+/// Whether a word is one of them.
+pub(crate) fn is_in_number_words(word: &[u8]) -> bool
+    ensures { result ≡ is_one_of word.now number_words }
+{
+    is_one_of(word, 0x0018_d260, &NUMBER_WORDS)
+}
+
+/// The texts `one_to_nine` of the specification.
+static ONE_TO_NINE: [[u8; 5]; 9] = [
+    *b"one__", *b"two__", *b"three", *b"four_", *b"five_", *b"six__", *b"seven", *b"eight",
+    *b"nine_",
+];
+
+/// Whether a word is one of them.
+pub(crate) fn is_in_one_to_nine(word: &[u8]) -> bool
+    ensures { result ≡ is_one_of word.now one_to_nine }
+{
+    is_one_of(word, 0x0018_c060, &ONE_TO_NINE)
+}
+
+/// The texts `damaged_digits` of the specification.
+static DAMAGED_DIGITS: [[u8; 1]; 3] = [*b"l", *b"i", *b"o"];
+
+/// Whether a word is one of them.
+pub(crate) fn is_in_damaged_digits(word: &[u8]) -> bool
+    ensures { result ≡ is_one_of word.now damaged_digits }
+{
+    is_one_of(word, 0x0000_9200, &DAMAGED_DIGITS)
+}
+
+/// The texts `numeral_words` of the specification.
+static NUMERAL_WORDS: [[u8; 9]; 21] = [
+    *b"one______",
+    *b"two______",
+    *b"three____",
+    *b"four_____",
+    *b"five_____",
+    *b"six______",
+    *b"seven____",
+    *b"eight____",
+    *b"nine_____",
+    *b"ten______",
+    *b"eleven___",
+    *b"twelve___",
+    *b"thirteen_",
+    *b"fourteen_",
+    *b"fifteen__",
+    *b"sixteen__",
+    *b"seventeen",
+    *b"eighteen_",
+    *b"nineteen_",
+    *b"twenty___",
+    *b"thirty___",
+];
+
+/// Whether a word is one of them.
+pub(crate) fn is_in_numeral_words(word: &[u8]) -> bool
+    ensures { result ≡ is_one_of word.now numeral_words }
+{
+    is_one_of(word, 0x0018_c060, &NUMERAL_WORDS)
+}

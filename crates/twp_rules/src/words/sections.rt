@@ -1,0 +1,246 @@
+//! The words of sections, townships, and ranges, and the names of columns.
+ghost use Rattle.std.specs.Prelude.{◌≡◌};
+ghost use Rattle.twp_rules.specs.Edges.{is_one_of};
+ghost use Rattle.twp_rules.specs.Words.{column_words, moved_section_words, moved_heading_words};
+ghost use Rattle.twp_rules.specs.Words.{section_names, list_words, location_marks, township_words};
+ghost use Rattle.twp_rules.specs.Words.{tier_words, range_words};
+
+use crate::rows::is_one_of;
+
+/// The texts `column_words` of the specification.
+static COLUMN_WORDS: [[u8; 11]; 37] = [
+    *b"mer________",
+    *b"meridian___",
+    *b"twp________",
+    *b"township___",
+    *b"t__________",
+    *b"rng________",
+    *b"range______",
+    *b"r__________",
+    *b"sec________",
+    *b"section____",
+    *b"stype______",
+    *b"type_______",
+    *b"nr_________",
+    *b"no_________",
+    *b"suff_______",
+    *b"survey_____",
+    *b"subdivision",
+    *b"legal______",
+    *b"desc_______",
+    *b"description",
+    *b"aliquot____",
+    *b"aliquots___",
+    *b"lots_______",
+    *b"acres______",
+    *b"ac_________",
+    *b"gross______",
+    *b"net________",
+    *b"district___",
+    *b"field______",
+    *b"office_____",
+    *b"county_____",
+    *b"state______",
+    *b"st_________",
+    *b"mgmt_______",
+    *b"agency_____",
+    *b"tract______",
+    *b"school_____",
+];
+
+/// Whether a word is one of them.
+pub(crate) fn is_in_column_words(word: &[u8]) -> bool
+    ensures { result ≡ is_one_of word.now column_words }
+{
+    is_one_of(word, 0x001c_f0da, &COLUMN_WORDS)
+}
+
+/// The texts `moved_section_words` of the specification.
+static MOVED_SECTION_WORDS: [[u8; 10]; 36] = [
+    *b"sec_______",
+    *b"secs______",
+    *b"section___",
+    *b"sections__",
+    *b"sect______",
+    *b"sects_____",
+    *b"s_________",
+    *b"sn________",
+    *b"scc_______",
+    *b"sce_______",
+    *b"seo_______",
+    *b"ec________",
+    *b"ection____",
+    *b"secton____",
+    *b"sectlon___",
+    *b"sectoin___",
+    *b"seciton___",
+    *b"sectiou___",
+    *b"seclion___",
+    *b"seotion___",
+    *b"sectior___",
+    *b"numbered__",
+    *b"no________",
+    *b"nos_______",
+    *b"said______",
+    *b"same______",
+    *b"all_______",
+    *b"both______",
+    *b"fractional",
+    *b"in________",
+    *b"of________",
+    *b"the_______",
+    *b"and_______",
+    *b"to________",
+    *b"thru______",
+    *b"through___",
+];
+
+/// Whether a word is one of them.
+pub(crate) fn is_in_moved_section_words(word: &[u8]) -> bool
+    ensures { result ≡ is_one_of word.now moved_section_words }
+{
+    is_one_of(word, 0x0018_c266, &MOVED_SECTION_WORDS)
+}
+
+/// The texts `moved_heading_words` of the specification.
+static MOVED_HEADING_WORDS: [[u8; 8]; 28] = [
+    *b"t_______",
+    *b"tp______",
+    *b"twp_____",
+    *b"twsp____",
+    *b"township",
+    *b"r_______",
+    *b"rg______",
+    *b"rge_____",
+    *b"rng_____",
+    *b"range___",
+    *b"n_______",
+    *b"nr______",
+    *b"s_______",
+    *b"e_______",
+    *b"w_______",
+    *b"north___",
+    *b"south___",
+    *b"east____",
+    *b"west____",
+    *b"said____",
+    *b"same____",
+    *b"all_____",
+    *b"in______",
+    *b"of______",
+    *b"the_____",
+    *b"and_____",
+    *b"numbered",
+    *b"no______",
+];
+
+/// Whether a word is one of them.
+pub(crate) fn is_in_moved_heading_words(word: &[u8]) -> bool
+    ensures { result ≡ is_one_of word.now moved_heading_words }
+{
+    is_one_of(word, 0x009c_c222, &MOVED_HEADING_WORDS)
+}
+
+/// The texts `section_names` of the specification.
+static SECTION_NAMES: [[u8; 8]; 20] = [
+    *b"sec_____",
+    *b"secs____",
+    *b"sect____",
+    *b"sects___",
+    *b"section_",
+    *b"sections",
+    *b"scc_____",
+    *b"sce_____",
+    *b"seo_____",
+    *b"ec______",
+    *b"ection__",
+    *b"sn______",
+    *b"secton__",
+    *b"sectlon_",
+    *b"sectoin_",
+    *b"seciton_",
+    *b"sectiou_",
+    *b"seclion_",
+    *b"seotion_",
+    *b"sectior_",
+];
+
+/// Whether a word is one of them.
+pub(crate) fn is_in_section_names(word: &[u8]) -> bool
+    ensures { result ≡ is_one_of word.now section_names }
+{
+    is_one_of(word, 0x0008_0020, &SECTION_NAMES)
+}
+
+/// The texts `list_words` of the specification.
+static LIST_WORDS: [[u8; 9]; 16] = [
+    *b"and______",
+    *b"or_______",
+    *b"thru_____",
+    *b"through__",
+    *b"to_______",
+    *b"numbered_",
+    *b"no_______",
+    *b"nos______",
+    *b"inclusive",
+    *b"incl_____",
+    *b"all______",
+    *b"entire___",
+    *b"being____",
+    *b"both_____",
+    *b"each_____",
+    *b"the______",
+];
+
+/// Whether a word is one of them.
+pub(crate) fn is_in_list_words(word: &[u8]) -> bool
+    ensures { result ≡ is_one_of word.now list_words }
+{
+    is_one_of(word, 0x0010_c226, &LIST_WORDS)
+}
+
+/// The texts `location_marks` of the specification.
+static LOCATION_MARKS: [[u8; 1]; 5] = [*b",", *b".", *b"-", *b"|", *b"/"];
+
+/// Whether a word is one of them.
+pub(crate) fn is_in_location_marks(word: &[u8]) -> bool
+    ensures { result ≡ is_one_of word.now location_marks }
+{
+    is_one_of(word, 0x1000_f000, &LOCATION_MARKS)
+}
+
+/// The texts `township_words` of the specification.
+static TOWNSHIP_WORDS: [[u8; 8]; 5] = [
+    *b"in______",
+    *b"t_______",
+    *b"tp______",
+    *b"twp_____",
+    *b"township",
+];
+
+/// Whether a word is one of them.
+pub(crate) fn is_in_township_words(word: &[u8]) -> bool
+    ensures { result ≡ is_one_of word.now township_words }
+{
+    is_one_of(word, 0x0010_0200, &TOWNSHIP_WORDS)
+}
+
+/// The texts `tier_words` of the specification.
+static TIER_WORDS: [[u8; 1]; 1] = [*b"t"];
+
+/// Whether a word is one of them.
+pub(crate) fn is_in_tier_words(word: &[u8]) -> bool
+    ensures { result ≡ is_one_of word.now tier_words }
+{
+    is_one_of(word, 0x0010_0000, &TIER_WORDS)
+}
+
+/// The texts `range_words` of the specification.
+static RANGE_WORDS: [[u8; 1]; 1] = [*b"r"];
+
+/// Whether a word is one of them.
+pub(crate) fn is_in_range_words(word: &[u8]) -> bool
+    ensures { result ≡ is_one_of word.now range_words }
+{
+    is_one_of(word, 0x0004_0000, &RANGE_WORDS)
+}
