@@ -53,11 +53,12 @@ loses_by Zeros seen = false
 loses_by FractionDigit seen = false
 loses_by rule seen = not (is_blank seen) && not (is_one_of seen words_in_parts)
 
--- a hyphen at the end of a line within a part
-abbrev pub is_hyphen : Rule → List ℕ → ℕ → List ℕ → Bool
-is_hyphen OnePart text end seen =
-    same_bytes seen (codes "-") && is_one_of (slice_index text end ∷ []) ((10 ∷ []) ∷ (13 ∷ []) ∷ [])
-is_hyphen rule text end seen = false
+-- a period, or a hyphen at the end of a line, may be within a part
+abbrev pub is_within_part : Rule → List ℕ → ℕ → List ℕ → Bool
+is_within_part OnePart text end seen =
+    same_bytes seen (codes ".")
+    || same_bytes seen (codes "-") && is_one_of (slice_index text end ∷ []) ((10 ∷ []) ∷ (13 ∷ []) ∷ [])
+is_within_part rule text end seen = false
 
 -- `the` after a mark, `and`, or `of`, and so not between two steps
 abbrev pub is_article : List ℕ → ℕ → List ℕ → Bool
@@ -69,7 +70,7 @@ is_article text start seen =
 -- what a change leaves out may be between two parts
 abbrev pub loses_seen : List ℕ → Change → List ℕ → Bool
 loses_seen text change seen =
-    loses_by change.rule seen && not (is_hyphen change.rule text change.end seen)
+    loses_by change.rule seen && not (is_within_part change.rule text change.end seen)
     && not (is_article text change.start seen)
 
 -- and it writes nothing else

@@ -5,7 +5,7 @@ ghost use Rattle.twp_rules.specs.Edges.{is_one_of};
 ghost use Rattle.twp_rules.specs.Rules.{solid_before};
 ghost use Rattle.twp_rules.specs.Words.{apart_marks};
 ghost use Rattle.twp_rules.specs.Apart.{inserts_comma, parts_run, begins_with_step, ends_after, ends_step};
-ghost use Rattle.twp_rules.specs.Apart.{is_article, is_hyphen, is_apart_at, is_blank};
+ghost use Rattle.twp_rules.specs.Apart.{is_article, is_apart_at, is_blank, is_within_part};
 ghost use Rattle.twp_rules.specs.Apart.{loses, loses_by, loses_seen};
 ghost use Rattle.twp_rules.specs.Apart.{seam_after, seam_with};
 
@@ -96,16 +96,19 @@ fn loses_seen(text: &[u8], change: &Change<'_>, left_out: &[u8]) -> bool
     ensures { result ≡ loses_seen text.now (seen change.now) left_out.now }
 {
     loses_by(change.rule, left_out)
-        && !is_hyphen(change.rule, text, change.end, left_out)
+        && !is_within_part(change.rule, text, change.end, left_out)
         && !is_article(text, change.start, left_out)
 }
 
-/// Whether a hyphen at the end of a line is left out within a part.
-fn is_hyphen(rule: Rule, text: &[u8], end: usize, left_out: &[u8]) -> bool
-    ensures { result ≡ is_hyphen rule text.now end left_out.now }
+/// Whether what is left out may be within a part: a period, or a hyphen at the end of a line.
+fn is_within_part(rule: Rule, text: &[u8], end: usize, left_out: &[u8]) -> bool
+    ensures { result ≡ is_within_part rule text.now end left_out.now }
 {
     match rule {
-        Rule::OnePart => are_same(left_out, b"-") && matches!(byte_at(text, end), b'\n' | b'\r'),
+        Rule::OnePart => {
+            are_same(left_out, b".")
+                || (are_same(left_out, b"-") && matches!(byte_at(text, end), b'\n' | b'\r'))
+        }
         _ => false,
     }
 }
