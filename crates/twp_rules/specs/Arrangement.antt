@@ -1,6 +1,6 @@
--- Where land lies: with the section that the text gives it to. Between them no other section is, but those of the
--- same list; and where land that is before its section follows land that is after its own, or other sections, a
--- semicolon or a line end tells them apart.
+-- Where land lies: with the section that the text gives it to. Between them no other section is, but those of
+-- the same list; and where land that is before its section follows land that is after its own, or other
+-- sections, a semicolon or a line end tells them apart.
 use Rattle.std.specs.Prelude.{◌==◌, ◌||◌, ◌&&◌, ℕ, suc, Bool, true, false, List, [], ◌∷◌, Option, Some, None}
 use Rattle.std.specs.Prelude.{if◌then◌else◌, length, nat_le, nat_lt, not, slice_range}
 use Rattle.twp_grammar.specs.declared.item.Item.{Item}
@@ -52,8 +52,8 @@ has_no_other text it from to (mark ∷ marks) =
 abbrev pub is_after : Lying → Bool
 is_after it = nat_le it.section it.land
 
--- land that is after its section: so is the land before it; or a break is between their sections, or between its
--- section and itself, if that has land on both sides, and isn't the only one
+-- land that is after its section: so is the land before it; or a break is between their sections, or between
+-- its section and itself, if that has land on both sides, and isn't the only one
 abbrev pub lies_after : List ℕ → List Mark → Option Lying → Lying → Bool
 lies_after text marks None it = true
 lies_after text marks (Some last) it =
@@ -62,8 +62,8 @@ lies_after text marks (Some last) it =
     then has_break (slice_range text it.section it.land) || has_no_other text it 0 (length text) marks
     else has_break (slice_range text last.section it.section))
 
--- land that is before its section: so is the land before it; or the only break from the section of that to its own
--- is between the two
+-- land that is before its section: so is the land before it; or the only break from the section of that to
+-- its own is between the two
 abbrev pub lies_before : List ℕ → List Mark → Option Lying → Lying → Bool
 lies_before text marks None it =
     has_no_other text it 0 it.land marks || has_break (slice_range text 0 it.land)
@@ -87,7 +87,8 @@ lie_from text all number section last (Section next place ∷ marks) =
     lie_from text all next place last marks
 lie_from text all number section last (Land place ∷ marks) =
     lies text all last (record { number = number; section = section; land = place })
-    && lie_from text all number section (Some (record { number = number; section = section; land = place })) marks
+    && lie_from text all number section (Some (record { number = number; section = section; land = place }))
+    marks
 
 -- ALL LAND LIES WITH ITS SECTIONS: that of items, which are those of the changed text from an offset on
 abbrev pub lie_with_sections : List ℕ → List Change → ℕ → List Item → Bool

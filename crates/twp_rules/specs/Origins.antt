@@ -1,5 +1,5 @@
--- Where what a changed text names comes from in the text: the sections and the land of its items, each with the
--- place of its first byte.
+-- Where what a changed text names comes from in the text: the sections and the land of its items, each with
+-- the place of its first byte.
 use Rattle.std.specs.Prelude.{ℕ, ◌+◌, ◌-◌, nat_lt, List, [], ◌∷◌, ◌++◌, length, if◌then◌else◌}
 use Rattle.twp_grammar.specs.declared.item.Item.{Item}
 use Rattle.twp_grammar.specs.declared.item.Item.TheVariants.{Heading, Sections, Lots, Chain, All}

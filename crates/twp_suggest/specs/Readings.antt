@@ -13,8 +13,8 @@ use Rattle.twp_rules.specs.Moves.{MayBeMade}
 use Rattle.twp_suggest.specs.Closed.{AreClosed}
 use Rattle.twp_suggest.specs.declared.reading.Reading.{Reading}
 
--- the land of the changed text lies with the sections that the text gives it to: that of its items, and that of what
--- is excepted
+-- the land of the changed text lies with the sections that the text gives it to: that of its items, and that
+-- of what is excepted
 abbrev pub LiesExcepted : List ℕ → List Change → Option Excepted → Type 0
 LiesExcepted text changes None = Unit {0}
 LiesExcepted text changes (Some part) = lie_with_sections text changes part.at part.items ≡ true
