@@ -9,7 +9,7 @@ use Rattle.twp_rules.specs.declared.rule.Rule.TheVariants.{Word}
 use Rattle.twp_rules.specs.Changes.{Change, changed_from, seen}
 use Rattle.twp_suggest.specs.declared.reading.Reading.{Reading}
 use Rattle.twp_suggest.specs.declared.way.Way.{Way}
-use Rattle.twp_suggest.specs.Sharing.{IsShared, has_of}
+use Rattle.twp_suggest.specs.Sharing.{IsShared, has_place}
 use Rattle.twp_suggest.specs.Ways.{AreTurned, text_by}
 
 -- a reading names these places in a township
@@ -43,7 +43,7 @@ IsWayGiven readings own made way = IsGiven readings own (text_by made way)
 pub record AreWaysGiven (readings : List Reading) (own : Reading) (text made : List ℕ)
     (changes : List Change) : Type 0 where
   pub turned : AreTurned (IsWayGiven readings own made) text made Word 0 0 changes
-  pub shared : has_of made ≡ true → IsShared (IsWayGiven readings own made) text made changes
+  pub shared : has_place 0 made ≡ true → IsShared (IsWayGiven readings own made) text made changes
 
 -- the other ways to read each place of a reading are given
 abbrev pub IsClosed : List ℕ → List Reading → Reading → Type 0

@@ -1,20 +1,22 @@
--- Two parts with `and` between them, of which one has an `of` that the other hasn't: it may be for both. The
--- other way to read them is found in the tokens of a text.
+-- Two parts with `and` between them, of which one has an `of` that the other hasn't: it may be for both. And
+-- two steps with white space between them may be one part, or two. The other way is found in the tokens of a
+-- text.
 use Rattle.std.specs.Prelude.{◌≡◌, ◌==◌, ◌||◌, ◌&&◌, ℕ, ◌+◌, ◌-◌, Bool, true, false, List, [], ◌∷◌}
 use Rattle.std.specs.Prelude.{if◌then◌else◌, length, map, nat_le, nat_lt, not, Option, None}
 use Rattle.std.specs.Prelude.{slice_index}
 use Rattle.twp_grammar.specs.declared.kind.Kind.{Kind}
-use Rattle.twp_grammar.specs.declared.kind.Kind.TheVariants.{And, Comma, Colon, The}
-use Rattle.twp_grammar.specs.Tokens.{Token, HasTokens}
-use Rattle.twp_read.specs.Doubts.{after_part, begins_step, is_and, is_number, is_of, is_of_part, is_of_step}
+use Rattle.twp_grammar.specs.declared.kind.Kind.TheVariants.{And, Comma, Colon, Half, Quarter, The}
+use Rattle.twp_grammar.specs.Tokens.{Token, HasTokens, is_white}
+use Rattle.twp_read.specs.Doubts.{after_part, begins_step, end_of, is_and, is_number, is_of, is_of_part}
+use Rattle.twp_read.specs.Doubts.{is_of_step}
 use Rattle.twp_rules.specs.declared.rule.Rule.{Rule}
 use Rattle.twp_rules.specs.declared.rule.Rule.TheVariants as rule
 use Rattle.twp_rules.specs.Changes.{Change}
 use Rattle.twp_suggest.specs.declared.sharing.Sought.{Sought}
 use Rattle.twp_suggest.specs.declared.sharing.Sought.TheVariants.{Copies, Phrases}
 use Rattle.twp_suggest.specs.declared.way.Way.{Way}
-use Rattle.twp_suggest.specs.declared.way.Way.TheVariants.{Again}
-use Rattle.twp_suggest.specs.Ways.{IfWay, way_if}
+use Rattle.twp_suggest.specs.declared.way.Way.TheVariants.{Again, Apart}
+use Rattle.twp_suggest.specs.Ways.{IfWay, is_side, way_if}
 
 abbrev pub is_comma : Kind → Bool
 is_comma Comma = true
@@ -142,16 +144,30 @@ abbrev pub head_after : List Change → ℕ → Kind → List Token → Option W
 head_after changes end kind more =
     if leads_part kind && begins_part more then head_of changes end more else None
 
--- the other ways at a token before others are given
-abbrev pub AtToken : (Way → Type 0) → List Change → ℕ → Kind → List Token → Type 0
-AtToken IsGiven changes end kind more =
-    IfWay IsGiven (tail_after changes end kind more) × IfWay IsGiven (head_after changes end kind more)
+abbrev pub is_fraction : Kind → Bool
+is_fraction Half = true
+is_fraction Quarter = true
+is_fraction kind = false
 
--- THE OTHER WAYS AT EACH `OF` ARE GIVEN, in tokens of a text that ends at a place
+-- A STEP AND ANOTHER WITH WHITE SPACE BETWEEN THEM MAY BE TWO PARTS, if the first one is of the text
+abbrev pub apart_after : List Change → Token → List Token → Option Way
+apart_after changes token [] = None
+apart_after changes token (next ∷ more) =
+    way_if (is_fraction token.kind && begins_step next.kind && nat_lt (end_of token) next.at
+    && not (is_within Copies (token.at - 2) token.at 0 0 changes)) (Apart (end_of token))
+
+-- the other ways at a token before others are given
+abbrev pub AtToken : (Way → Type 0) → List Change → ℕ → Token → List Token → Type 0
+AtToken IsGiven changes end token more =
+    IfWay IsGiven (tail_after changes end token.kind more)
+    × IfWay IsGiven (head_after changes end token.kind more)
+    × IfWay IsGiven (apart_after changes token more)
+
+-- THE OTHER WAYS AT EACH TOKEN ARE GIVEN, in tokens of a text that ends at a place
 abbrev pub AreShared : (Way → Type 0) → List Change → ℕ → List Token → Type 0
 AreShared IsGiven changes end [] = Unit {0}
 AreShared IsGiven changes end (token ∷ more) =
-    AtToken IsGiven changes end token.kind more × AreShared IsGiven changes end more
+    AtToken IsGiven changes end token more × AreShared IsGiven changes end more
 
 -- a comma is written for `&`
 abbrev pub is_comma_by : Rule → List ℕ → ℕ → ℕ → Bool
@@ -181,12 +197,26 @@ pub record HasJoinedTokens (text made : List ℕ) (changes : List Change) (token
   pub cut : HasTokens 0 made cut_tokens
   pub joined : tokens ≡ map (as_and text changes) cut_tokens
 
--- `of` is written in a text: no other word of a description has an F
-abbrev pub has_of : List ℕ → Bool
-has_of [] = false
-has_of (byte ∷ bytes) = (byte == 102) || (byte == 70) || has_of bytes
+-- F, which of the words of a description only `of` has
+abbrev pub is_f : ℕ → Bool
+is_f byte = (byte == 102) || (byte == 70)
 
--- the other ways at each `of` of a text are given
+-- the last byte of a step
+abbrev pub may_end_step : ℕ → Bool
+may_end_step byte = (byte == 50) || (byte == 52) || (byte == 188) || (byte == 189)
+
+-- white space between a step and another, or more white space
+abbrev pub may_be_between : ℕ → ℕ → ℕ → Bool
+may_be_between before byte after =
+    is_white byte && may_end_step before && (is_side after || is_white after)
+
+-- `of` may be written in a text, or white space between two steps
+abbrev pub has_place : ℕ → List ℕ → Bool
+has_place before [] = false
+has_place before (byte ∷ bytes) =
+    is_f byte || may_be_between before byte (slice_index bytes 0) || has_place byte bytes
+
+-- the other ways at each token of a text are given
 pub record IsShared (IsGiven : Way → Type 0) (text made : List ℕ) (changes : List Change) : Type 0 where
   pub tokens : List Token
   pub joined : HasJoinedTokens text made changes tokens

@@ -10,12 +10,12 @@ ghost use Rattle.twp_suggest.specs.Sharing.{AreShared, AtToken, IsShared};
 ghost use Rattle.twp_suggest.specs.Ways.{AreTurned, IfWay};
 
 use crate::reading::Reading;
-use crate::sharing::{has_of, head_after, here, joined_tokens, tail_after};
+use crate::sharing::{apart_after, has_place, head_after, here, joined_tokens, tail_after};
 use crate::turned::{Before, way_after};
 use crate::way::{Way, text_by};
 use std::alloc::{AllocError, Global};
 use twp_described::{Manner, find_land, township_of};
-use twp_grammar::{Kind, Token};
+use twp_grammar::Token;
 use twp_grid::Township;
 use twp_land::{Land, Lanes};
 use twp_rules::{Change, Rule, changed};
@@ -67,7 +67,7 @@ fn are_given(
         AreWaysGiven readings.now own.now text.now made.now (map seen own.now.changes.items)) }
 {
     let is_turned = are_turned(alloc, text, made, readings, own)?;
-    if !is_turned || !has_of(made) {
+    if !is_turned || !has_place(made) {
         return Ok(is_turned);
     }
     is_shared(alloc, text, made, readings, own)
@@ -115,7 +115,8 @@ fn are_turned(
     Ok(true)
 }
 
-/// Whether the other ways at each `of` are given. Not inlined, since few texts have one.
+/// Whether the other ways at each token are given. Not inlined, since few texts
+/// have such a place.
 #[inline(never)]
 fn is_shared(
     alloc: Global,
@@ -148,7 +149,7 @@ fn are_all_given(
 {
     let mut left = tokens;
     while let [first, more @ ..] = left {
-        let are_given = are_both_given(alloc, made, first.kind, more, readings, own)?;
+        let are_given = are_at_token(alloc, made, first, more, readings, own)?;
         if !are_given {
             return Ok(false);
         }
@@ -158,30 +159,38 @@ fn are_all_given(
 }
 
 /// Whether the other ways at a token before others are given.
-fn are_both_given(
+fn are_at_token(
     alloc: Global,
     made: &[u8],
-    kind: Kind,
+    first: &Token<'_>,
     more: &[Token<'_>],
     readings: &[Reading<'_>],
     own: &Reading<'_>,
 ) -> Result<bool, AllocError>
     ensures { IfOk result (λ it. it ≡ true →
         AtToken (IsWayGiven readings.now own.now made.now) (map seen own.now.changes.items)
-        (length made.now) kind (map token more.now)) }
+        (length made.now) (token first.now) (map token more.now)) }
 {
     let changes = own.changes.as_slice();
-    let Some(tail) = tail_after(changes, made.len(), kind, more) else {
+    let Some(tail) = tail_after(changes, made.len(), first.kind, more) else {
         return Ok(false);
     };
     let has_tail = is_given(alloc, made, tail, readings, own)?;
     if !has_tail {
         return Ok(false);
     }
-    let Some(head) = head_after(changes, made.len(), kind, more) else {
+    let Some(head) = head_after(changes, made.len(), first.kind, more) else {
         return Ok(false);
     };
-    is_given(alloc, made, head, readings, own)
+    let has_head = is_given(alloc, made, head, readings, own)?;
+    if !has_head {
+        return Ok(false);
+    }
+    let Some(apart) = apart_after(changes, first, more) else {
+        return Ok(false);
+    };
+    let is_apart = is_given(alloc, made, apart, readings, own)?;
+    Ok(is_apart)
 }
 
 /// Whether there is no other way, or it is given.

@@ -3,13 +3,14 @@ ghost use Rattle.std.specs.Prelude.{◌≡◌, ◌+◌, ◌-◌, IfOk, IfSome, m
 ghost use Rattle.twp_grammar.specs.Tokens.{seen as token};
 ghost use Rattle.twp_read.specs.Doubts.{after_part, is_and, is_of, is_of_part, is_of_step};
 ghost use Rattle.twp_rules.specs.Changes.{seen};
-ghost use Rattle.twp_suggest.specs.Sharing.{HasJoinedTokens, after_of, are_as_written, as_and, begins_part};
-ghost use Rattle.twp_suggest.specs.Sharing.{first_at, has_of, head_after, head_of, is_comma, is_comma_by};
+ghost use Rattle.twp_suggest.specs.Sharing.{HasJoinedTokens, after_of, apart_after, are_as_written, as_and};
+ghost use Rattle.twp_suggest.specs.Sharing.{begins_part, is_f, is_fraction, may_be_between, may_end_step};
+ghost use Rattle.twp_suggest.specs.Sharing.{first_at, has_place, head_after, head_of, is_comma, is_comma_by};
 ghost use Rattle.twp_suggest.specs.Sharing.{is_for_and, is_listed, is_nothing, is_part_of, is_sought, is_the, is_within};
 ghost use Rattle.twp_suggest.specs.Sharing.{last_part, leads_part, of_count, part_after_and, tail_after, tail_of};
 ghost use Rattle.twp_suggest.specs.Sharing.{without_the};
 
-use crate::turned::{byte_at, way_if};
+use crate::turned::{byte_at, is_side, is_white, way_if};
 use crate::way::Way;
 use std::alloc::{AllocError, Global};
 use twp_grammar::{Kind, Token, Tokens};
@@ -103,16 +104,74 @@ pub(crate) fn here(place: usize, at: usize, start: usize) -> Option<usize>
     place.checked_add(start.saturating_sub(at))
 }
 
-/// Whether `of` is written in a text: no other word of a description has an F.
-pub(crate) fn has_of(made: &[u8]) -> bool
-    ensures { result ≡ has_of made.now }
+/// Whether `of` may be written in a text, or white space between two steps.
+pub(crate) fn has_place(made: &[u8]) -> bool
+    ensures { result ≡ has_place 0 made.now }
 {
-    for byte in made {
-        if *byte == 102 || *byte == 70 {
+    let mut before = 0;
+    let mut left = made;
+    while let [byte, more @ ..] = left {
+        let is_place = is_f(*byte) || may_be_between(before, *byte, byte_at(more, 0));
+        if is_place {
             return true;
         }
+        before = *byte;
+        left = more;
     }
     false
+}
+
+/// Whether a byte is F, which of the words of a description only `of` has.
+fn is_f(byte: u8) -> bool
+    ensures { result ≡ is_f byte }
+{
+    byte == 102 || byte == 70
+}
+
+/// Whether white space may be between a step and another.
+fn may_be_between(before: u8, byte: u8, after: u8) -> bool
+    ensures { result ≡ may_be_between before byte after }
+{
+    is_white(byte) && may_end_step(before) && (is_side(after) || is_white(after))
+}
+
+/// Whether a byte may be the last one of a step.
+fn may_end_step(byte: u8) -> bool
+    ensures { result ≡ may_end_step byte }
+{
+    byte == 50 || byte == 52 || byte == 188 || byte == 189
+}
+
+/// The other way to read a step and another with white space between them: as two parts.
+pub(crate) fn apart_after(
+    changes: &[Change<'_>],
+    first: &Token<'_>,
+    more: &[Token<'_>],
+) -> Option<Option<Way>>
+    ensures { IfSome result (λ way. way ≡ apart_after (map seen changes.now) (token first.now)
+        (map token more.now)) }
+{
+    let [next, ..] = more else {
+        return Some(None);
+    };
+    if !is_fraction(first.kind) || !begins_step(next.kind) {
+        return Some(None);
+    }
+    let end = first.at.checked_add(first.text.len())?;
+    let is_copied = is_within(
+        Sought::Copies,
+        first.at.saturating_sub(2),
+        first.at,
+        changes,
+    )?;
+    Some(way_if(end < next.at && !is_copied, Way::Apart(end)))
+}
+
+/// Whether a token is a fraction.
+fn is_fraction(kind: Kind) -> bool
+    ensures { result ≡ is_fraction kind }
+{
+    matches!(kind, Kind::Half | Kind::Quarter)
 }
 
 /// The other way to read a part that may be of the land of a later one, if it follows a token.

@@ -213,7 +213,7 @@ fn begins_step_at(made: &[u8], at: usize) -> bool
 }
 
 /// Whether a byte is N, S, E, or W.
-fn is_side(byte: u8) -> bool
+pub(crate) fn is_side(byte: u8) -> bool
     ensures { result ≡ is_side byte }
 {
     byte == 78
@@ -255,7 +255,7 @@ fn without_white(bytes: &[u8]) -> &[u8]
 }
 
 /// Whether a byte is white space.
-fn is_white(byte: u8) -> bool
+pub(crate) fn is_white(byte: u8) -> bool
     ensures { result ≡ is_white byte }
 {
     byte == b' ' || byte == b'\t' || byte == b'\n' || byte == b'\r'
