@@ -119,6 +119,7 @@ PART_BEFORE = re.compile(rf"(?<![A-Za-z0-9])(?:{STEP}(?:\s?of (?:the )?)?)*{STEP
 PART_AFTER = re.compile(rf"(?:the )?{STEP}(?:(?:\s?of (?:the )?)?{STEP})*", re.IGNORECASE)
 RUN_BEFORE = re.compile(r"[^\s,;:]*(?:[NSEW]|[NSEW][24]|[24½¼])$", re.IGNORECASE)
 RUN_AFTER = re.compile(rf"{STEP}[^\s,;:]*", re.IGNORECASE)
+NUMBER_WORD = re.compile(r"[A-Za-z]?\d+[NSEW]?", re.IGNORECASE)
 FORMAL_RUN = re.compile(r"(?:[NS][EW](?:1/4|¼)|[NSEW](?:1/2|½))+", re.IGNORECASE)
 AND_WORDS = {"and", "AND", "&", "+"}
 NUMBER_WORDS = set("""one two three four five six seven eight nine ten eleven twelve thirteen fourteen fifteen sixteen
@@ -244,8 +245,12 @@ def digits(text, numbers):
 
 def letters(text, numbers):
     for match in number_places(text, numbers):
+        # Not in the number of a parcel, which isn't land.
+        if NUMBER_WORD.fullmatch(re.search("[A-Za-z0-9]*$", text[:match.start()])[0]
+                                 + re.match("[A-Za-z0-9]*", text[match.start():])[0]) is None:
+            continue
         for at, digit in enumerate(match[0]):
-            for letter in {"1": "lI", "0": "O"}.get(digit, ""):
+            for letter in {"1": "l", "0": "O"}.get(digit, ""):
                 changed = replaced(match[0], at, at + 1, letter)
                 yield "a digit as a letter", replaced(text, *match.span(), changed), match[0], changed
 
@@ -389,8 +394,10 @@ def says(mutant, text, land, row_land):
 
 
 def is_told(mutant, assumptions):
-    """Whether an assumption names what was damaged: words of the mutant that aren't in the row."""
+    """Whether an assumption names what was damaged: the number with the letter, or a run that isn't in the row."""
     named = [name for line in assumptions for name in re.findall("`([^`]+)`", line)]
+    if KINDS[mutant.kind] == LETTER:
+        return any(re.search(rf"(?<![A-Za-z0-9]){mutant.change[1]}(?!\d)", name) for name in named)
     return any(name in mutant.text and name not in mutant.row.description for name in named)
 
 
