@@ -302,7 +302,7 @@ class Batch(BatchCase):
         status, (heading, *rows) = self.answers("--suggest", data=data)
         self.assertEqual((status, heading), (1, ["description", *ADDED, *SUGGESTED]))
         self.assertEqual([row[-4:] for row in rows], [
-            ["T. 2 N., R. 3 W., sec. 14, NE1/4NE1/4, S1/2NE1/4.", "1", "", "120.00"],
+            ["T. 2 N., R. 3 W., sec. 14, NE1/4NE1/4, S1/2NE1/4.", "1", "`NENE`: no comma is missing; `S2NE4`: no comma is missing", "120.00"],
             ["", "2", "", ""],
             ["sec. 14, NE1/4.", "1", "", "160.00"],
             ["", "0", "", ""],

@@ -88,9 +88,11 @@ class Reading(NamedTuple):
     >>> reading, = plat.suggest("NENE, S2NE4 Sec 14-2N-3W, Boise Meridian")
     >>> reading.acres
     Decimal('120.00')
-    >>> reading.assumptions
-    ('`NENE`: no comma is missing', '`S2NE4`: no comma is missing',
-    'without `Boise Meridian`: the meridian, state, or county is that of the field notes')
+    >>> for assumption in reading.assumptions:
+    ...     print(assumption)
+    `NENE`: no comma is missing
+    `S2NE4`: no comma is missing
+    without `Boise Meridian`: the meridian, state, or county is that of the field notes
     """
 
     #: The description.

@@ -36,9 +36,7 @@ impl Assumption {
     /// Returns what is assumed, in words.
     pub fn words(self) -> &'static str {
         match self {
-            Assumption::SameMeridian => {
-                "the meridian, state, or county is that of the field notes"
-            }
+            Assumption::SameMeridian => "the meridian, state, or county is that of the field notes",
             Assumption::SameAcreage => "the acreage is not compared",
             Assumption::NotLand => "this is not land",
             Assumption::SaidBefore => "this repeats what is before it",
@@ -49,7 +47,9 @@ impl Assumption {
 
     /// Returns the assumption with a number, or `None` for 0.
     pub(super) fn of(number: u32) -> Option<Assumption> {
-        let index = usize::try_from(number).unwrap_or(usize::MAX).checked_sub(1)?;
+        let index = usize::try_from(number)
+            .unwrap_or(usize::MAX)
+            .checked_sub(1)?;
         match ASSUMPTIONS.get(index) {
             Some(assumption) => Some(*assumption),
             None => panic!("the library answered with assumption {number}, which is unknown here"),
