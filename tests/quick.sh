@@ -11,7 +11,8 @@ if python=$(python_with argparse); then
     try 'how wrong bodies are tried together' "$python" tests/tools/test_wrong_bodies.py
     try 'how the progress of proofs is shown' "$python" tests/tools/test_prove.py
     try 'what the gate shows' "$python" tests/tools/test_gate.py
-    try 'each word in the row of its length' "$python" tests/tools/test_words.py
+    try 'the table of words, and what is made of it' "$python" tools/words.py --check
+    try 'how lists of words are compared' "$python" tests/tools/test_words.py
     try 'the signatures of the calls' "$python" tools/signatures.py
     try 'the constants of township.h' "$python" tools/header_names.py --check
     try 'what several files repeat' "$python" -B tools/repeated

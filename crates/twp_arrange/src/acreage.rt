@@ -5,7 +5,7 @@ use crate::placed::{Placed, Role};
 use crate::plan::Plan;
 use twp_draft::{Names, Phrase};
 use twp_grammar::Kind;
-use twp_pieces::{is_of_count, plus, value_of_count};
+use twp_pieces::{is_acres, is_of_count, plus, value_of_count};
 use twp_rules::Rule;
 
 /// The nominal area of a section, in hundredths of an acre.
@@ -66,11 +66,7 @@ impl<'a> Plan<'a> {
         let pieces = &self.draft.pieces;
         let last = acreage.end.saturating_sub(1);
         let is_figure = matches!(pieces.kind(acreage.first), Kind::Number(_));
-        is_figure
-            && (pieces.is(last, b"acres")
-                || pieces.is(last, b"acre")
-                || pieces.is(last, b"ac")
-                || pieces.is(last, b"acs"))
+        is_figure && is_acres(pieces.lower(last))
     }
 
     /// Whether a section or land is before a phrase.

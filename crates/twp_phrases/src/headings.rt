@@ -6,6 +6,7 @@ use twp_draft::{Names, Numeral, Phrase};
 use twp_grammar::Kind;
 use twp_pieces::plus;
 use twp_rules::Rule;
+use twp_words::{is_range_name, is_township_name};
 
 impl<'a> Finder<'a> {
     /// The township and range at an index.
@@ -122,22 +123,12 @@ impl<'a> Finder<'a> {
 
     /// Whether a word for a township is at an index.
     fn has_township_word(&self, index: usize) -> bool {
-        let pieces = &self.draft.pieces;
-        pieces.is(index, b"t")
-            || pieces.is(index, b"township")
-            || pieces.is(index, b"twp")
-            || pieces.is(index, b"tp")
-            || pieces.is(index, b"twsp")
+        is_township_name(self.draft.pieces.lower(index))
     }
 
     /// Whether a word for a range is at an index.
     fn has_range_word(&self, index: usize) -> bool {
-        let pieces = &self.draft.pieces;
-        pieces.is(index, b"r")
-            || pieces.is(index, b"range")
-            || pieces.is(index, b"rng")
-            || pieces.is(index, b"rge")
-            || pieces.is(index, b"rg")
+        is_range_name(self.draft.pieces.lower(index))
     }
 
     /// Whether the word for a side at one index, and the letter at another, are of the same side.

@@ -5,6 +5,7 @@ use twp_draft::{Names, Phrase};
 use twp_grammar::Kind;
 use twp_pieces::plus;
 use twp_rules::Rule;
+use twp_words::is_of_domain;
 
 impl<'a> Finder<'a> {
     /// All of a section, at an index.
@@ -67,12 +68,7 @@ impl<'a> Finder<'a> {
     fn after_lands(&mut self, index: usize) -> usize {
         let mut next = index;
         for place in index..plus(index, 5) {
-            if (self.draft.pieces.is(place, b"public")
-                || self.draft.pieces.is(place, b"domain")
-                || self.draft.pieces.is(place, b"land")
-                || self.draft.pieces.is(place, b"lands"))
-                && place == next
-            {
+            if is_of_domain(self.draft.pieces.lower(place)) && place == next {
                 next = plus(place, 1);
             }
         }

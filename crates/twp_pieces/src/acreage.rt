@@ -4,6 +4,7 @@ use crate::pieces::{Pieces, plus};
 use twp_grammar::Kind;
 use twp_words::{
     are_corners, is_acreage_lead, is_acres, is_area_word, is_net_or_gross, is_of_count, is_same,
+    joins_acreage,
 };
 
 /// The most sections of a township: a greater number alone in a cell is acreage.
@@ -178,19 +179,7 @@ impl<'a> Pieces<'a> {
                 let is_in_land = is_same(word, b"in")
                     && self.end_of_state_after_in(index).is_none();
                 self.begins_line(index)
-                    || !(is_in_land
-                        || is_same(word, b"out")
-                        || is_same(word, b"off")
-                        || is_same(word, b"on")
-                        || is_same(word, b"lying")
-                        || is_same(word, b"located")
-                        || is_same(word, b"situated")
-                        || is_same(word, b"unit")
-                        || is_same(word, b"spacing")
-                        || is_same(word, b"drilling")
-                        || is_same(word, b"thereof")
-                        || is_same(word, b"therein")
-                        || self.begins_step(index))
+                    || !(is_in_land || joins_acreage(word) || self.begins_step(index))
             }
         }
     }

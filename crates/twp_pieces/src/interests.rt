@@ -3,7 +3,10 @@
 
 use crate::pieces::{Pieces, plus};
 use twp_grammar::Kind;
-use twp_words::{is_of_interest, is_of_property, is_owner, is_same, is_whose, points_into};
+use twp_words::{
+    begins_property, is_of_interest, is_of_property, is_owner, is_same, is_whose, names_property,
+    points_into,
+};
 
 /// The most pieces of an interest, or of words for a property.
 const PIECES_MOST: usize = 48;
@@ -101,15 +104,7 @@ impl<'a> Pieces<'a> {
 
     /// Where `all that certain real property being`, or words like it, end.
     pub(crate) fn end_of_property(&self, index: usize) -> Option<usize> {
-        let word = self.lower(index);
-        if !(is_same(word, b"all")
-            || is_same(word, b"the")
-            || is_same(word, b"that")
-            || is_same(word, b"those")
-            || is_same(word, b"real")
-            || is_same(word, b"property")
-            || is_same(word, b"lands"))
-        {
+        if !begins_property(self.lower(index)) {
             return None;
         }
         let mut has_property = false;
@@ -133,12 +128,7 @@ impl<'a> Pieces<'a> {
                     && self.end_of_state_after_in(after).is_none();
                 return if is_within { None } else { Some(after) };
             }
-            has_property = has_property
-                || is_same(word, b"property")
-                || is_same(word, b"land")
-                || is_same(word, b"lands")
-                || is_same(word, b"estate")
-                || is_same(word, b"premises");
+            has_property = has_property || names_property(word);
             if has_property {
                 if let Some(end) = self.end_of_meridian(place).or(self.end_of_code(place)) {
                     next = end;

@@ -2,7 +2,9 @@
 
 use crate::pieces::{Pieces, plus};
 use twp_grammar::Kind;
-use twp_words::{begins_request, is_acres, is_column, is_field, is_of_request, is_same};
+use twp_words::{
+    begins_request, is_acres, is_column, is_field, is_of_request, is_same, is_township_word,
+};
 
 /// The most pieces of a label.
 const PIECES_MOST: usize = 24;
@@ -196,12 +198,7 @@ impl<'a> Pieces<'a> {
         let next = plus(index, 1);
         let number = plus(next, usize::from(self.is(next, b".")));
         (matches!(self.kind(index), Kind::T | Kind::R) && self.number(number).is_some())
-            || is_same(word, b"township")
-            || is_same(word, b"twp")
-            || is_same(word, b"range")
-            || is_same(word, b"rng")
-            || is_same(word, b"rge")
-            || is_same(word, b"rg")
+            || is_township_word(word)
     }
 
     /// Whether the text begins with the names of columns, of which one is for lots: a date below it may be

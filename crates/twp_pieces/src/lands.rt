@@ -2,7 +2,7 @@
 
 use crate::pieces::{Pieces, plus};
 use twp_grammar::Kind;
-use twp_words::{are_corners, begins_exception, is_of_right, is_same, is_worn_corner};
+use twp_words::{are_corners, begins_exception, is_of_right, is_step_word};
 
 impl<'a> Pieces<'a> {
     /// Whether the piece at an index may be of land.
@@ -44,17 +44,6 @@ impl<'a> Pieces<'a> {
     /// Whether the word at an index is a side or a corner, or a run of corners.
     pub fn begins_step(&self, index: usize) -> bool {
         let word = self.lower(index);
-        is_same(word, b"north")
-            || is_same(word, b"south")
-            || is_same(word, b"east")
-            || is_same(word, b"west")
-            || is_same(word, b"northeast")
-            || is_same(word, b"northwest")
-            || is_same(word, b"southeast")
-            || is_same(word, b"southwest")
-            || is_same(word, b"half")
-            || is_same(word, b"quarter")
-            || is_worn_corner(word)
-            || are_corners(word)
+        is_step_word(word) || are_corners(word)
     }
 }

@@ -17,6 +17,6 @@ mod states;
 pub use beyond::{Beyond, beyond_of};
 pub use pieces::{Pieces, plus};
 pub use twp_words::{
-    are_corners, begins_terms, is_of_count, is_same, is_worn_section, letters_of, tens_of,
-    value_of, value_of_count,
+    are_corners, begins_terms, is_acres, is_of_count, is_same, is_worn_section, letters_of,
+    tens_of, value_of, value_of_count,
 };

@@ -3,7 +3,8 @@
 use crate::pieces::{Pieces, plus};
 use twp_grammar::Kind;
 use twp_words::{
-    are_meridian_letters, is_bare_meridian, is_meridian, is_meridian_of_two, is_state,
+    are_meridian_letters, is_bare_meridian, is_before_meridian, is_meridian, is_meridian_of_two,
+    is_state,
 };
 
 /// The most letters for a meridian.
@@ -205,11 +206,7 @@ impl<'a> Pieces<'a> {
     /// Where the word for a meridian at an index ends.
     fn end_of_meridian_word(&self, index: usize) -> Option<usize> {
         let mut index = index;
-        if self.is(index, b"principal")
-            || self.is(index, b"prin")
-            || self.is(index, b"base")
-            || self.is(index, b"special")
-        {
+        if is_before_meridian(self.lower(index)) {
             index = self.after_point(plus(index, 1));
             if self.is(index, b"and") || self.is(index, b"&") {
                 index = plus(index, 1);

@@ -26,20 +26,18 @@ impl<'a> Pieces<'a> {
         let second = plus(index, 1);
         let third = plus(index, 2);
         if (self.is(index, b"state") || self.is(index, b"county")) && self.is(second, b"of") {
-            let is_known = is_state(self.lower(third)) || self.is(index, b"county");
-            let state = plus(index, 6);
             let has_state = self.is(plus(index, 3), b"and")
                 && self.is(plus(index, 4), b"state")
-                && self.is(plus(index, 5), b"of")
-                && is_state(self.lower(state));
+                && self.is(plus(index, 5), b"of");
             if has_state {
-                return Some(plus(state, 1));
+                if let Some(end) = self.end_of_name(plus(index, 6)) {
+                    return Some(end);
+                }
             }
-            return if is_known && matches!(self.kind(third), Kind::Other) {
-                Some(plus(third, 1))
-            } else {
-                None
-            };
+            if self.is(index, b"county") && matches!(self.kind(third), Kind::Other) {
+                return Some(plus(third, 1));
+            }
+            return self.end_of_name(third);
         }
         if is_state_of_two(self.lower(index), self.lower(second)) {
             return Some(third);
@@ -48,6 +46,19 @@ impl<'a> Pieces<'a> {
             if let Some(end) = self.end_of_county(index) {
                 return Some(end);
             }
+        }
+        if is_state(self.lower(index)) {
+            Some(second)
+        } else {
+            None
+        }
+    }
+
+    /// Where the name of a state at an index ends, which has one word or two.
+    fn end_of_name(&self, index: usize) -> Option<usize> {
+        let second = plus(index, 1);
+        if is_state_of_two(self.lower(index), self.lower(second)) {
+            return Some(plus(second, 1));
         }
         if is_state(self.lower(index)) {
             Some(second)

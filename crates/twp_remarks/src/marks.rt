@@ -62,14 +62,6 @@ pub(crate) fn is_homesite_of_acreage(pieces: &Pieces<'_>, index: usize) -> bool 
         && pieces.begins_column(plus(index, 1))
 }
 
-/// Words with which what is before land adds it to other land.
-pub(crate) fn is_more(word: &[u8]) -> bool {
-    is_same(word, b"and")
-        || is_same(word, b"or")
-        || is_same(word, b"also")
-        || is_same(word, b"plus")
-}
-
 /// What nobody has in land after `no`.
 pub(crate) fn has_no_title(word: &[u8]) -> bool {
     is_same(word, b"interest") || is_same(word, b"title")

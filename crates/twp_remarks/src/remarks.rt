@@ -2,15 +2,15 @@
 
 use crate::marks::{
     begins_tract, has_no_title, is_homesite_of_acreage, is_initial, is_known_at,
-    is_metes_and_bounds, is_more, is_of_well, is_title_of_other,
+    is_metes_and_bounds, is_of_well, is_title_of_other,
 };
 use crate::trailers::end_of_depths;
 use twp_grammar::Kind;
 use twp_pieces::{Pieces, plus};
 use twp_words::{
     adds_land, alters_land, begins_reference, begins_terms, has_side, is_acres, is_beyond_label,
-    is_boundary, is_glued, is_instrument, is_month, is_numeral, is_of_covering, is_of_label,
-    is_of_record, is_of_time, is_of_water, is_partial, is_round_acreage, limits_land,
+    is_boundary, is_glued, is_instrument, is_month, is_more, is_numeral, is_of_covering,
+    is_of_label, is_of_record, is_of_time, is_of_water, is_partial, is_round_acreage, limits_land,
     may_be_corners, names_parcel, points_into,
 };
 

@@ -6,8 +6,8 @@ use twp_grammar::Kind;
 use twp_pieces::{Pieces, plus};
 use twp_words::{
     alters_land, begins_terms, is_beyond_depths, is_beyond_terms, is_boundary, is_conveyance,
-    is_of_appurtenance, is_of_depth, is_of_estate, is_of_survey, is_of_town, is_partial, is_same,
-    is_site, limits_land, names_parcel,
+    is_land_by_name, is_of_appurtenance, is_of_depth, is_of_estate, is_of_survey, is_of_town,
+    is_partial, is_same, is_site, is_word_for_depths, limits_land, names_parcel,
 };
 
 /// The most pieces of depths in parentheses.
@@ -116,25 +116,6 @@ fn is_beyond_trailer(pieces: &Pieces<'_>, trailer: Trailer, index: usize) -> boo
     is_limit || is_part || is_beyond || is_of_town(word) || alters_land(word)
 }
 
-/// Whether a word names land, other than a right.
-fn is_land_by_name(word: &[u8]) -> bool {
-    is_same(word, b"lands")
-        || is_same(word, b"place")
-        || is_same(word, b"street")
-        || is_same(word, b"bed")
-        || is_same(word, b"ground")
-        || is_same(word, b"farm")
-        || is_same(word, b"field")
-        || is_same(word, b"meadow")
-        || is_same(word, b"mill")
-        || is_same(word, b"mining")
-        || is_same(word, b"property")
-        || is_same(word, b"quarry")
-        || is_same(word, b"reservoir")
-        || is_same(word, b"tracts")
-        || is_same(word, b"acreage")
-}
-
 /// What is said at an index.
 fn trailer_at(pieces: &Pieces<'_>, index: usize) -> Option<Trailer> {
     if !matches!(pieces.kind(index), Kind::Other | Kind::All) {
@@ -168,19 +149,6 @@ fn trailer_of(word: &[u8]) -> Option<Trailer> {
         return Some(Trailer::Depths);
     }
     None
-}
-
-/// Whether a word is of depths, whatever follows it.
-fn is_word_for_depths(word: &[u8]) -> bool {
-    is_same(word, b"insofar")
-        || is_same(word, b"limited")
-        || is_same(word, b"depths")
-        || is_same(word, b"below")
-        || is_same(word, b"above")
-        || is_same(word, b"surface")
-        || is_same(word, b"minerals")
-        || is_same(word, b"mineral")
-        || is_same(word, b"oil")
 }
 
 /// The trailer that a word begins with what follows it at an index.

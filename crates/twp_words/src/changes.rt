@@ -1,74 +1,115 @@
-//! Words that change which land is meant: corrections, parts of it, sizes, and what is reserved or granted with it.
+// Made by tools/words.py from words.tsv and classes.tsv. To change a word, change its row there.
+//! Words that change which land is meant: corrections, doubts, parts of it, sizes, and what is reserved or granted with
+//! it.
 
-use crate::doubts::{casts_doubt, casts_doubt_after};
 use crate::same::is_among;
 
-/// Words by which land isn't meant any more, or other land is: no remark, label, or term has them.
+/// Words by which land isn't meant any more, or other land is, or a part of it, or it isn't sure: no remark, label, or
+/// term has them.
 pub fn alters_land(word: &[u8]) -> bool {
-    changes_land(word) || casts_doubt(word)
-}
-
-/// Words by which land is changed.
-fn changes_land(word: &[u8]) -> bool {
     match word.len() {
-        3 => is_among(word, "bal del err gap rej"),
+        2 => is_among(word, "vs"),
+        3 => is_among(word, "alt bad bal del err gap lla rej"),
         4 => is_among(
             word,
-            "canc corr dump keep lost most oops sans true typo void",
+            "abbr addl canc corr dump frac gore keep lieu lost most oops prtn sans swap \
+             true typo void zero",
         ),
-        5 => is_among(word, "abuts carve error false keeps meant minus"),
+        5 => is_among(
+            word,
+            "abuts brief carve error false guess inter keeps meant minus neblm nwblm omits \
+             seblm split swblm trade wedge",
+        ),
         6 => is_among(
             word,
-            "cutout delete errata exempt facing failed ignore nearby rather relinq strike \
-             struck verify versus voided",
+            "abbrev beside cancel carved circle cutout defect delete either errata exempt \
+             facing failed ignore likely nearby outlot rather reduce relinq replat resold \
+             splits strike struck taking traded verify versus voided",
         ),
         7 => is_among(
             word,
-            "balance becomes besides borders deleted failure invalid neither outsale \
-             perhaps release residue revoked updated without",
+            "balance becomes besides borders claimed deleted divided expired failure \
+             feedlot invalid lengthy missing nearest neither outsale overlap perhaps \
+             platted reduced release removal residue revoked roughly setback severed \
+             swapped takings unclear updated vacancy without",
         ),
         8 => is_among(
             word,
-            "canceled carveout conflict deletion disputed expunged majority opposite \
-             outsales rejected released replaced servient touching",
+            "accreted amending canceled carveout conflict deletion disposed disputed \
+             divested envelope exchange expunged farmyard fraction homesite majority \
+             mistaken neighbor opposite outsales platting possibly probably rejected \
+             released replaced replaces resurvey reverted servient touching vacation \
+             vicinity withdrew",
         ),
         9 => is_among(
             word,
-            "alternate cancelled corrected deletions disregard exchanged inholding \
-             outparcel replacing rescinded",
+            "abandoned alternate cancelled contested cornering corrected dedicated \
+             deletions disposals disregard duplicate exchanged farmstead forfeited \
+             homesites inholding irregular neighbors nonleased omissions outparcel \
+             partition reduction replacing rescinded somewhere streambed submerged \
+             truncated uncertain",
         ),
         10 => is_among(
             word,
-            "correction disclaimed eliminated everything incomplete ineligible inholdings \
-             rescission unreadable unsurveyed",
+            "adjustment contiguous correcting correction dedication disclaimed duplicates \
+             eliminated everything foreclosed incomplete ineligible inholdings originally \
+             reconveyed rescission subdivided triangular unreadable unsurveyed withdrawal",
         ),
-        11 => is_among(word, "corrections erroneously surrendered uncommitted"),
-        12 => is_among(word, "cancellation relinquished"),
+        11 => is_among(
+            word,
+            "abbreviated alternative corrections divestiture erroneously partitioned \
+             replacement surrendered unavailable uncommitted",
+        ),
+        12 => is_among(word, "cancellation condemnation relinquished"),
+        13 => is_among(word, "outconveyance"),
         14 => is_among(word, "relinquishment"),
         _ => false,
     }
 }
 
-/// Words for sizes, places, and parts: after land, no remark has them, and no limit to depths.
+/// Words for sizes, places, and parts, and that the text goes on: after land, no remark has them, and no limit to
+/// depths.
 pub fn limits_land(word: &[u8]) -> bool {
-    casts_doubt_after(word) || is_of_limits(word)
-}
-
-/// Words of boundaries, measures, and sites.
-fn is_of_limits(word: &[u8]) -> bool {
     match word.len() {
-        2 => is_among(word, "tx"),
-        3 => is_among(word, "bds bla cos div exh mid mts pcl rds"),
-        4 => is_among(word, "area desc mete prtn txlt wide"),
-        5 => is_among(word, "calls descr front links metes pivot portn right"),
+        2 => is_among(word, "fr rr tx"),
+        3 => is_among(
+            word,
+            "bds beg bla cos cut div est exh fix hwy itd map mid mts new nso off pcl pud \
+             rds sub",
+        ),
+        4 => is_among(
+            word,
+            "area desc farm full home long mete plat prtn rear toge tpob txlt wide",
+        ),
+        5 => is_among(
+            word,
+            "after begin cabin calls condo descr draft front legal links metes pivot portn \
+             right sales secti toget towns twnst",
+        ),
         6 => is_among(
             word,
-            "around burial fenced meadow meters middle outlot radius slough taxlot",
+            "around before burial cancel change errors farmed fenced gravel lapsed meadow \
+             meters middle mining option outlot quarry radius revise sectio slough staked \
+             street strips taxlot togeth townsh tracks tracts villas",
         ),
-        7 => is_among(word, "acreage central uplands"),
-        8 => is_among(word, "included orchards"),
-        9 => is_among(word, "described drillsite elevation graveyard irrigated"),
-        11 => is_among(word, "schoolhouse"),
+        7 => is_among(
+            word,
+            "acreage bottoms central compare corners corrals dryland estates expired \
+             feedlot grounds hatched lateral meander ranchos replace rescind streets \
+             townshi twnsite uplands",
+        ),
+        8 => is_among(
+            word,
+            "cropland exchange included interior occupied orchards outlined riparian \
+             surveyed tillable vineyard wetlands",
+        ),
+        9 => is_among(
+            word,
+            "amendment buildings continues described drillsite elevation graveyard \
+             inholders irrigated pumphouse ranchette",
+        ),
+        10 => is_among(word, "bottomland ranchettes supplement"),
+        11 => is_among(word, "conveyances description schoolhouse"),
         _ => false,
     }
 }
@@ -142,33 +183,16 @@ pub fn is_site(word: &[u8]) -> bool {
     }
 }
 
-/// Whether a word has the name of a side, or of a half or a quarter, in it, as `soeast`, or `whalf`.
-pub fn has_side(word: &[u8]) -> bool {
-    for start in 0..word.len() {
-        let rest = word.get(start..).unwrap_or(b"");
-        if begins_side(rest) {
-            return true;
-        }
+/// Words that name land, other than a right.
+pub fn is_land_by_name(word: &[u8]) -> bool {
+    match word.len() {
+        3 => is_among(word, "bed"),
+        4 => is_among(word, "farm mill"),
+        5 => is_among(word, "field lands place"),
+        6 => is_among(word, "ground meadow mining quarry street tracts"),
+        7 => is_among(word, "acreage"),
+        8 => is_among(word, "property"),
+        9 => is_among(word, "reservoir"),
+        _ => false,
     }
-    false
-}
-
-/// Whether a text begins with the name of a side, or of a half or a quarter.
-fn begins_side(text: &[u8]) -> bool {
-    text.starts_with(b"north")
-        || text.starts_with(b"south")
-        || text.starts_with(b"east")
-        || text.starts_with(b"west")
-        || text.starts_with(b"half")
-        || text.starts_with(b"hlf")
-        || text.starts_with(b"qtr")
-        || text.starts_with(b"quarter")
-}
-
-/// Acreage that people call land by, as in `the Smith 80`.
-pub fn is_round_acreage(number: u16) -> bool {
-    matches!(
-        number,
-        40 | 60 | 80 | 120 | 160 | 200 | 240 | 280 | 320 | 480 | 640
-    )
 }

@@ -1,13 +1,17 @@
+// Made by tools/words.py from words.tsv and classes.tsv. To change a word, change its row there.
 //! Words of acreage and of numbers.
 
-use crate::same::{index_among, is_among, is_same};
+use crate::same::{is_among, value_among};
 
 /// Words for the unit of acreage.
 pub fn is_acres(word: &[u8]) -> bool {
-    is_same(word, b"acres")
-        || is_same(word, b"acre")
-        || is_same(word, b"ac")
-        || is_same(word, b"acs")
+    match word.len() {
+        2 => is_among(word, "ac"),
+        3 => is_among(word, "acs"),
+        4 => is_among(word, "acre"),
+        5 => is_among(word, "acres"),
+        _ => false,
+    }
 }
 
 /// Words that say that acreage follows.
@@ -39,13 +43,31 @@ pub fn is_area_word(word: &[u8]) -> bool {
     }
 }
 
+/// Words after acreage that make it that of a part, or of a unit, as in `40 acres out of`.
+pub fn joins_acreage(word: &[u8]) -> bool {
+    match word.len() {
+        2 => is_among(word, "on"),
+        3 => is_among(word, "off out"),
+        4 => is_among(word, "unit"),
+        5 => is_among(word, "lying"),
+        7 => is_among(word, "located spacing therein thereof"),
+        8 => is_among(word, "drilling situated"),
+        _ => false,
+    }
+}
+
 /// Words for a number that a section may have.
 pub fn is_numeral(word: &[u8]) -> bool {
-    is_of_count(word)
-        && !(is_same(word, b"hundred")
-            || is_same(word, b"thousand")
-            || is_same(word, b"and")
-            || is_same(word, b"-"))
+    match word.len() {
+        3 => is_among(word, "one six ten two"),
+        4 => is_among(word, "five four nine"),
+        5 => is_among(word, "eight fifty forty seven sixty three"),
+        6 => is_among(word, "eighty eleven ninety thirty twelve twenty"),
+        7 => is_among(word, "fifteen seventy sixteen"),
+        8 => is_among(word, "eighteen fourteen nineteen thirteen"),
+        9 => is_among(word, "seventeen"),
+        _ => false,
+    }
 }
 
 /// The words of a number.
@@ -87,10 +109,4 @@ pub fn value_of_count(word: &[u8]) -> Option<u64> {
         9 => value_among(word, "seventeen", &[17]),
         _ => None,
     }
-}
-
-/// The value of a word, if it is one of these words, which have these values.
-fn value_among(word: &[u8], words: &str, values: &[u8]) -> Option<u64> {
-    let at = index_among(word, words)?;
-    Some(u64::from(*values.get(at)?))
 }

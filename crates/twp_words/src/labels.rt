@@ -1,6 +1,7 @@
+// Made by tools/words.py from words.tsv and classes.tsv. To change a word, change its row there.
 //! Words of labels before land, of instruments, and of columns.
 
-use crate::same::{is_among, is_same};
+use crate::same::is_among;
 
 /// Words of labels, after which a label may end with a number.
 pub fn is_of_label(word: &[u8]) -> bool {
@@ -18,10 +19,13 @@ pub fn is_of_label(word: &[u8]) -> bool {
 
 /// Words for a tract, with which the label of one begins, as `Tract 2:` or `Tr. 2:`.
 pub fn is_of_tract(word: &[u8]) -> bool {
-    is_same(word, b"tract")
-        || is_same(word, b"parcel")
-        || is_same(word, b"unit")
-        || is_same(word, b"tr")
+    match word.len() {
+        2 => is_among(word, "tr"),
+        4 => is_among(word, "unit"),
+        5 => is_among(word, "tract"),
+        6 => is_among(word, "parcel"),
+        _ => false,
+    }
 }
 
 /// Letters before the number of other land, as `TL1200` of a tax lot, or `MS-4411` of a mineral survey.
@@ -50,10 +54,13 @@ pub fn is_instrument(word: &[u8]) -> bool {
 
 /// Words of a label after which the land of an instrument follows.
 pub fn is_of_covering(word: &[u8]) -> bool {
-    is_same(word, b"covering")
-        || is_same(word, b"covers")
-        || is_same(word, b"embracing")
-        || is_same(word, b"describing")
+    match word.len() {
+        6 => is_among(word, "covers"),
+        8 => is_among(word, "covering"),
+        9 => is_among(word, "embracing"),
+        10 => is_among(word, "describing"),
+        _ => false,
+    }
 }
 
 /// The names of columns.
@@ -85,6 +92,51 @@ pub fn is_field(word: &[u8]) -> bool {
     }
 }
 
+/// Words before the number of a township.
+pub fn is_township_name(word: &[u8]) -> bool {
+    match word.len() {
+        1 => is_among(word, "t"),
+        2 => is_among(word, "tp"),
+        3 => is_among(word, "twp"),
+        4 => is_among(word, "twsp"),
+        8 => is_among(word, "township"),
+        _ => false,
+    }
+}
+
+/// Words before the number of a range.
+pub fn is_range_name(word: &[u8]) -> bool {
+    match word.len() {
+        1 => is_among(word, "r"),
+        2 => is_among(word, "rg"),
+        3 => is_among(word, "rge rng"),
+        5 => is_among(word, "range"),
+        _ => false,
+    }
+}
+
+/// Such words, besides the letters.
+pub fn is_township_word(word: &[u8]) -> bool {
+    match word.len() {
+        2 => is_among(word, "rg tp"),
+        3 => is_among(word, "rge rng twp"),
+        4 => is_among(word, "twsp"),
+        5 => is_among(word, "range"),
+        8 => is_among(word, "township"),
+        _ => false,
+    }
+}
+
+/// The words of `public domain lands`.
+pub fn is_of_domain(word: &[u8]) -> bool {
+    match word.len() {
+        4 => is_among(word, "land"),
+        5 => is_among(word, "lands"),
+        6 => is_among(word, "domain public"),
+        _ => false,
+    }
+}
+
 /// Words in whose company a label may be of land, or limit it: no label has them.
 pub fn is_beyond_label(word: &[u8]) -> bool {
     match word.len() {
@@ -101,8 +153,8 @@ pub fn is_beyond_label(word: &[u8]) -> bool {
         ),
         5 => is_among(
             word,
-            "about above along below block canal claim creek depth ditch error esmts \
-             lanes lying other parts point ponds river roads sites strip tower trail",
+            "about above along below block canal claim creek depth ditch error esmts lanes \
+             lying other parts point ponds river roads sites strip tower trail",
         ),
         6 => is_among(
             word,
@@ -158,6 +210,31 @@ pub fn is_feature(word: &[u8]) -> bool {
     }
 }
 
+/// Words with which a label before land ends that is of a place in it, or of land that isn't meant.
+pub fn is_doubtful_title(word: &[u8]) -> bool {
+    match word.len() {
+        2 => is_among(word, "as"),
+        3 => is_among(word, "lek non"),
+        4 => is_among(word, "area plot ramp tank well zone"),
+        5 => is_among(
+            word,
+            "fence field marsh patch pivot plant prior sales trade",
+        ),
+        6 => is_among(word, "ground option slough trough"),
+        7 => is_among(word, "battery corrals station woodlot"),
+        8 => is_among(
+            word,
+            "airstrip cropland exchange landfill monument wetlands windmill",
+        ),
+        9 => is_among(word, "irrigated perimeter pumphouse residence trailhead"),
+        11 => is_among(
+            word,
+            "cattleguard conveyances schoolhouse stipulation termination",
+        ),
+        _ => false,
+    }
+}
+
 /// The words of `all that certain real property being`.
 pub fn is_of_property(word: &[u8]) -> bool {
     match word.len() {
@@ -179,6 +256,28 @@ pub fn is_of_property(word: &[u8]) -> bool {
     }
 }
 
+/// The words with which `all that certain real property being` may begin.
+pub fn begins_property(word: &[u8]) -> bool {
+    match word.len() {
+        3 => is_among(word, "all the"),
+        4 => is_among(word, "real that"),
+        5 => is_among(word, "lands those"),
+        8 => is_among(word, "property"),
+        _ => false,
+    }
+}
+
+/// The words for land in it.
+pub fn names_property(word: &[u8]) -> bool {
+    match word.len() {
+        4 => is_among(word, "land"),
+        5 => is_among(word, "lands"),
+        6 => is_among(word, "estate"),
+        8 => is_among(word, "premises property"),
+        _ => false,
+    }
+}
+
 /// Words that begin other land than was named, as in `and the mill site`, and what no remark after land begins with.
 pub fn adds_land(word: &[u8]) -> bool {
     match word.len() {
@@ -191,6 +290,16 @@ pub fn adds_land(word: &[u8]) -> bool {
         8 => is_among(word, "together"),
         9 => is_among(word, "according including"),
         10 => is_among(word, "government"),
+        _ => false,
+    }
+}
+
+/// Words with which what is before land adds it to other land.
+pub fn is_more(word: &[u8]) -> bool {
+    match word.len() {
+        2 => is_among(word, "or"),
+        3 => is_among(word, "and"),
+        4 => is_among(word, "also plus"),
         _ => false,
     }
 }

@@ -1,14 +1,16 @@
 //! The words of what people write about land, in lowercase: those of labels, of terms, of acreage, of meridians, and of
-//! sides and corners. Each list says what its words are in a text.
+//! sides and corners. Each list says what its words are in a text. The lists are rows of `words.tsv`, of which
+//! `tools/words.py` makes their functions; written by hand are `forms`, `numbers`, `same`, and `steps`.
 #![tactic(auto)]
 
 mod changes;
 mod directions;
-mod doubts;
 mod figures;
+mod forms;
 mod known;
 mod labels;
 mod meridians;
+mod numbers;
 mod parties;
 mod requests;
 mod same;
@@ -16,34 +18,34 @@ mod steps;
 mod terms;
 
 pub use changes::{
-    alters_land, has_side, is_of_appurtenance, is_of_estate, is_of_survey, is_round_acreage,
-    is_site, limits_land,
+    alters_land, is_land_by_name, is_of_appurtenance, is_of_estate, is_of_survey, is_site,
+    limits_land,
 };
-pub use directions::{
-    is_damaged_corner, is_damaged_half, is_worn_corner, is_worn_section, letters_of, tens_of,
-    value_of,
-};
-pub use doubts::is_doubtful_title;
+pub use directions::{is_step_word, is_worn_corner, is_worn_section, letters_of, tens_of};
 pub use figures::{
-    is_acreage_lead, is_acres, is_area_word, is_numeral, is_of_count, value_of_count,
+    is_acreage_lead, is_acres, is_area_word, is_numeral, is_of_count, joins_acreage, value_of_count,
 };
+pub use forms::{has_side, is_damaged_corner, is_damaged_half, is_partial, may_be_corners};
 pub use known::is_known;
 pub use labels::{
-    adds_land, is_beyond_label, is_column, is_feature, is_field, is_instrument, is_of_covering,
-    is_of_label, is_of_other_land, is_of_property, is_of_tract, is_of_water, points_into,
+    adds_land, begins_property, is_beyond_label, is_column, is_doubtful_title, is_feature,
+    is_field, is_instrument, is_more, is_of_covering, is_of_domain, is_of_label, is_of_other_land,
+    is_of_property, is_of_tract, is_of_water, is_range_name, is_township_name, is_township_word,
+    names_property, points_into,
 };
 pub use meridians::{
-    are_meridian_letters, is_bare_meridian, is_meridian, is_meridian_of_two, is_state,
-    is_state_of_two,
+    are_meridian_letters, is_bare_meridian, is_before_meridian, is_meridian, is_meridian_of_two,
+    is_state, is_state_of_two,
 };
+pub use numbers::{is_round_acreage, value_of};
 pub use parties::{
     begins_exception, begins_reference, excepts_land, is_month, is_net_or_gross, is_of_record,
-    is_of_time, is_owner, is_partial, is_whose, may_be_corners,
+    is_of_time, is_owner, is_whose,
 };
 pub use requests::{begins_request, is_of_request};
 pub use same::{are_corners, is_glued, is_one_of, is_same, size_of_character};
 pub use steps::{Size, written_step};
 pub use terms::{
     begins_terms, is_beyond_depths, is_beyond_terms, is_boundary, is_conveyance, is_of_depth,
-    is_of_interest, is_of_right, is_of_share, is_of_town, names_parcel,
+    is_of_interest, is_of_right, is_of_share, is_of_town, is_word_for_depths, names_parcel,
 };

@@ -1,3 +1,4 @@
+// Made by tools/words.py from words.tsv and classes.tsv. To change a word, change its row there.
 //! Names of meridians and of states, and the letters for them.
 
 use crate::same::{is_among, is_same};
@@ -18,12 +19,89 @@ pub fn is_meridian(word: &[u8]) -> bool {
     }
 }
 
+/// Names of meridians of two words.
+pub fn is_meridian_of_two(first: &[u8], second: &[u8]) -> bool {
+    match first.len() {
+        2 => {
+            if is_same(first, b"mt") {
+                return is_same(second, b"diablo");
+            }
+            false
+        }
+        3 => {
+            if is_same(first, b"new") {
+                return is_same(second, b"mexico");
+            }
+            if is_same(first, b"san") {
+                return is_same(second, b"bernardino");
+            }
+            false
+        }
+        4 => {
+            if is_same(first, b"salt") {
+                return is_same(second, b"lake");
+            }
+            if is_same(first, b"wind") {
+                return is_same(second, b"river");
+            }
+            false
+        }
+        5 => {
+            if is_same(first, b"black") {
+                return is_same(second, b"hills");
+            }
+            if is_same(first, b"fifth") {
+                return is_same(second, b"principal");
+            }
+            if is_same(first, b"first") {
+                return is_same(second, b"principal");
+            }
+            if is_same(first, b"mount") {
+                return is_same(second, b"diablo");
+            }
+            if is_same(first, b"sixth") {
+                return is_same(second, b"principal");
+            }
+            if is_same(first, b"third") {
+                return is_same(second, b"principal");
+            }
+            false
+        }
+        6 => {
+            if is_same(first, b"copper") {
+                return is_same(second, b"river");
+            }
+            if is_same(first, b"fourth") {
+                return is_same(second, b"principal");
+            }
+            if is_same(first, b"second") {
+                return is_same(second, b"principal");
+            }
+            false
+        }
+        _ => false,
+    }
+}
+
+/// Words before the word for a meridian, besides its name.
+pub fn is_before_meridian(word: &[u8]) -> bool {
+    match word.len() {
+        4 => is_among(word, "base prin"),
+        7 => is_among(word, "special"),
+        9 => is_among(word, "principal"),
+        _ => false,
+    }
+}
+
 /// Names of meridians that are written without the word for it after a township and range.
 pub fn is_bare_meridian(word: &[u8]) -> bool {
-    is_same(word, b"boise")
-        || is_same(word, b"willamette")
-        || is_same(word, b"humboldt")
-        || is_same(word, b"uintah")
+    match word.len() {
+        5 => is_among(word, "boise"),
+        6 => is_among(word, "uintah"),
+        8 => is_among(word, "humboldt"),
+        10 => is_among(word, "willamette"),
+        _ => false,
+    }
 }
 
 /// Letters for a meridian.
@@ -37,48 +115,51 @@ pub fn are_meridian_letters(word: &[u8]) -> bool {
     }
 }
 
-/// States, and the letters for them, that have public land.
+/// States that have public land, their abbreviations, and the letters for them, but for those that are also words, or
+/// land.
 pub fn is_state(word: &[u8]) -> bool {
     match word.len() {
-        2 => is_among(word, "ak az ca co id mt nd nm nv sd ut wy"),
-        3 => is_among(word, "nev wyo"),
-        4 => is_among(word, "ariz colo kans minn mont nebr okla utah"),
+        2 => is_among(
+            word,
+            "ak ar az ca co fl ia id ks mn mt nd nm nv ok sd ut wa wy",
+        ),
+        3 => is_among(word, "ala ark fla kan nev wis wyo"),
+        4 => is_among(
+            word,
+            "ariz colo iowa kans mich minn mont nebr ohio okla oreg utah",
+        ),
         5 => is_among(word, "calif idaho"),
         6 => is_among(word, "alaska kansas nevada oregon"),
-        7 => is_among(word, "alabama arizona florida montana wyoming"),
-        8 => is_among(word, "arkansas colorado michigan nebraska oklahoma"),
-        9 => is_among(word, "minnesota wisconsin"),
-        10 => is_among(word, "california"),
+        7 => is_among(word, "alabama arizona florida indiana montana wyoming"),
+        8 => is_among(
+            word,
+            "arkansas colorado illinois michigan missouri nebraska oklahoma",
+        ),
+        9 => is_among(word, "louisiana minnesota wisconsin"),
+        10 => is_among(word, "california washington"),
         11 => is_among(word, "mississippi"),
         _ => false,
     }
 }
 
-/// Whether two words are a meridian's name.
-pub fn is_meridian_of_two(first: &[u8], second: &[u8]) -> bool {
-    (is_same(first, b"salt") && is_same(second, b"lake"))
-        || (is_same(first, b"mount") && is_same(second, b"diablo"))
-        || (is_same(first, b"mt") && is_same(second, b"diablo"))
-        || (is_same(first, b"new") && is_same(second, b"mexico"))
-        || (is_same(first, b"black") && is_same(second, b"hills"))
-        || (is_same(first, b"san") && is_same(second, b"bernardino"))
-        || (is_same(first, b"wind") && is_same(second, b"river"))
-        || (is_same(first, b"copper") && is_same(second, b"river"))
-        || (is_same(second, b"principal") && is_ordinal(first))
-}
-
-/// The numbers of principal meridians.
-fn is_ordinal(word: &[u8]) -> bool {
-    match word.len() {
-        5 => is_among(word, "fifth first sixth third"),
-        6 => is_among(word, "fourth second"),
+/// Names of states of two words.
+pub fn is_state_of_two(first: &[u8], second: &[u8]) -> bool {
+    match first.len() {
+        3 => {
+            if is_same(first, b"new") {
+                return is_same(second, b"mexico");
+            }
+            false
+        }
+        5 => {
+            if is_same(first, b"north") {
+                return is_same(second, b"dakota");
+            }
+            if is_same(first, b"south") {
+                return is_same(second, b"dakota");
+            }
+            false
+        }
         _ => false,
     }
-}
-
-/// Whether two words are a state's name.
-pub fn is_state_of_two(first: &[u8], second: &[u8]) -> bool {
-    (is_same(first, b"new") && is_same(second, b"mexico"))
-        || (is_same(first, b"north") && is_same(second, b"dakota"))
-        || (is_same(first, b"south") && is_same(second, b"dakota"))
 }

@@ -1,6 +1,7 @@
-//! Words for who has an interest, of exceptions, of time, and for corners with a slip.
+// Made by tools/words.py from words.tsv and classes.tsv. To change a word, change its row there.
+//! Words for who has an interest, of exceptions, of time, and of parts of the land.
 
-use crate::same::{is_among, is_same};
+use crate::same::is_among;
 
 /// Words for whose a right is.
 pub fn is_whose(word: &[u8]) -> bool {
@@ -56,17 +57,6 @@ pub fn excepts_land(word: &[u8]) -> bool {
     }
 }
 
-/// Whether a word may be corners with a slip.
-pub fn may_be_corners(word: &[u8]) -> bool {
-    match word {
-        [b'n' | b's', b'e' | b'w'] => true,
-        [b'n' | b's', b'e' | b'w', third, ..] => {
-            matches!(*third, b'n' | b's' | b'q' | b'h' | b'0'..=b'9') || word.len() == 4
-        }
-        _ => false,
-    }
-}
-
 /// Words for years and months.
 pub fn is_of_time(word: &[u8]) -> bool {
     match word.len() {
@@ -92,19 +82,19 @@ pub fn begins_reference(word: &[u8]) -> bool {
     }
 }
 
-/// Words before the number of a paragraph, a day of a month, or the like.
+/// Words before the number of a note or a paragraph, or a day of a month.
 pub fn is_of_record(word: &[u8]) -> bool {
-    is_month(word) || is_of_note(word)
-}
-
-/// Words for notes, and for what is counted in a record.
-fn is_of_note(word: &[u8]) -> bool {
     match word.len() {
-        3 => is_among(word, "par vol"),
-        4 => is_among(word, "misc note"),
-        7 => is_among(word, "comment"),
-        8 => is_among(word, "addendum"),
-        9 => is_among(word, "paragraph"),
+        3 => is_among(
+            word,
+            "apr aug dec feb jan jul jun mar may nov oct par sep vol",
+        ),
+        4 => is_among(word, "july june misc note sept"),
+        5 => is_among(word, "april march"),
+        6 => is_among(word, "august"),
+        7 => is_among(word, "comment january october"),
+        8 => is_among(word, "addendum december february november"),
+        9 => is_among(word, "paragraph september"),
         _ => false,
     }
 }
@@ -123,16 +113,8 @@ pub fn is_month(word: &[u8]) -> bool {
     }
 }
 
-/// Words for a part of the land, for other land, or for a correction: no remark has them.
-pub fn is_partial(word: &[u8]) -> bool {
-    is_side_with_more(word)
-        || is_like_exception(word)
-        || is_like_section(word)
-        || says_partial(word)
-}
-
 /// Words of parts of land, of what is taken out of it, and of corrections.
-fn says_partial(word: &[u8]) -> bool {
+pub fn says_partial(word: &[u8]) -> bool {
     match word.len() {
         2 => is_among(word, "cf ff ms pb tl tr yd"),
         3 => is_among(
@@ -147,9 +129,8 @@ fn says_partial(word: &[u8]) -> bool {
         ),
         5 => is_among(
             word,
-            "added apart bench ditto doesn exept forty fract haven house lower maybe \
-             meets metes never owned piece short taken third under upper weren wrong \
-             yards",
+            "added apart bench ditto doesn exept forty fract haven house lower maybe meets \
+             metes never owned piece short taken third under upper weren wrong yards",
         ),
         6 => is_among(
             word,
@@ -181,34 +162,4 @@ fn says_partial(word: &[u8]) -> bool {
         13 => is_among(word, "alternatively"),
         _ => false,
     }
-}
-
-/// Whether a word is made of that for a side, as `northerly`, `eastern`, or `Southhalf`.
-fn is_side_with_more(word: &[u8]) -> bool {
-    word.len() > 5
-        && (word.starts_with(b"north")
-            || word.starts_with(b"south")
-            || word.starts_with(b"easter")
-            || word.starts_with(b"wester")
-            || word.starts_with(b"easth")
-            || word.starts_with(b"westh"))
-}
-
-/// Whether a word is like one for an exception, with a slip, or as no list has it.
-fn is_like_exception(word: &[u8]) -> bool {
-    let is_front = word.starts_with(b"exc")
-        || word.starts_with(b"exep")
-        || word.starts_with(b"exemp")
-        || word.starts_with(b"exlu")
-        || word.starts_with(b"expt")
-        || word.starts_with(b"xc");
-    is_front && !begins_exception(word) && !word.starts_with(b"exchang")
-}
-
-/// Whether a word is like `section`, with a slip.
-fn is_like_section(word: &[u8]) -> bool {
-    word.len() <= 8
-        && word.starts_with(b"s")
-        && word.ends_with(b"tion")
-        && !is_same(word, b"station")
 }

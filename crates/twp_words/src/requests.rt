@@ -1,3 +1,4 @@
+// Made by tools/words.py from words.tsv and classes.tsv. To change a word, change its row there.
 //! Words of a question or a request before land, as in `can you run the NE/4 of 14?`.
 
 use crate::same::is_among;

@@ -15,7 +15,7 @@ pub(crate) fn is_among(word: &[u8], words: &str) -> bool {
 }
 
 /// Which of these words a word is, counted from 0.
-pub(crate) fn index_among(word: &[u8], words: &str) -> Option<usize> {
+fn index_among(word: &[u8], words: &str) -> Option<usize> {
     let mut index: usize = 0;
     for one in words.as_bytes().chunks(word.len().saturating_add(1)) {
         if one.first() == word.first() && one.starts_with(word) {
@@ -24,6 +24,12 @@ pub(crate) fn index_among(word: &[u8], words: &str) -> Option<usize> {
         index = index.saturating_add(1);
     }
     None
+}
+
+/// The value of a word, if it is one of these words, which have these values.
+pub(crate) fn value_among(word: &[u8], words: &str, values: &[u8]) -> Option<u64> {
+    let at = index_among(word, words)?;
+    Some(u64::from(*values.get(at)?))
 }
 
 /// Whether letters in lowercase are those of two corners or more.

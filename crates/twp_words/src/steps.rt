@@ -1,5 +1,6 @@
 //! The steps of aliquot parts: halves and quarters, and how they are written in a description.
 
+use crate::directions::{is_half, is_half_name, is_quarter, is_quarter_name};
 use crate::same::is_same;
 
 /// What a step is: a half or a quarter.
@@ -29,20 +30,16 @@ impl Size {
     /// Whether a word in lowercase is one for it.
     pub fn is_word(self, word: &[u8]) -> bool {
         match self {
-            Size::Half => is_same(word, b"half") || is_same(word, b"h") || is_same(word, b"hf"),
-            Size::Quarter => is_same(word, b"quarter")
-                || is_same(word, b"qr")
-                || is_same(word, b"qtr")
-                || is_same(word, b"quar")
-                || is_same(word, b"quater"),
+            Size::Half => is_half(word),
+            Size::Quarter => is_quarter(word),
         }
     }
 
     /// Whether a word in lowercase is its name, and no abbreviation.
     pub fn is_whole_word(self, word: &[u8]) -> bool {
         match self {
-            Size::Half => is_same(word, b"half"),
-            Size::Quarter => is_same(word, b"quarter") || is_same(word, b"qtr"),
+            Size::Half => is_half_name(word),
+            Size::Quarter => is_quarter_name(word),
         }
     }
 

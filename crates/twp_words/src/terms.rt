@@ -1,3 +1,4 @@
+// Made by tools/words.py from words.tsv and classes.tsv. To change a word, change its row there.
 //! Words of terms after land: depths, rights, boundaries, and interests.
 
 use crate::same::is_among;
@@ -46,6 +47,18 @@ pub fn is_beyond_depths(word: &[u8]) -> bool {
     }
 }
 
+/// Words that begin terms of depths, whatever follows them.
+pub fn is_word_for_depths(word: &[u8]) -> bool {
+    match word.len() {
+        3 => is_among(word, "oil"),
+        5 => is_among(word, "above below"),
+        6 => is_among(word, "depths"),
+        7 => is_among(word, "insofar limited mineral surface"),
+        8 => is_among(word, "minerals"),
+        _ => false,
+    }
+}
+
 /// Words for what takes land away that rights are said of, as in `subject to prior sales`.
 pub fn is_conveyance(word: &[u8]) -> bool {
     match word.len() {
@@ -88,8 +101,8 @@ pub fn is_boundary(word: &[u8]) -> bool {
         ),
         5 => is_among(
             word,
-            "bluff canal cliff creek ditch dunes fence hills lines lying ridge river \
-             roads shore water",
+            "bluff canal cliff creek ditch dunes fence hills lines lying ridge river roads \
+             shore water",
         ),
         6 => is_among(word, "ground limits within"),
         7 => is_among(word, "contour highway orchard outside portion railway"),
