@@ -56,16 +56,17 @@ meridian_labels = words (codes "meridian: mer: county: state: st:")
 -- the names of states that have public land
 abbrev pub states : List (List ℕ)
 states = words (codes "idaho wyoming nevada california utah montana oregon colorado mexico arizona dakota")
-    ++ words (codes "alaska washington")
+    ++ words (codes "alaska washington alabama arkansas florida illinois indiana iowa louisiana mississippi")
+    ++ words (codes "missouri ohio wisconsin")
 
 -- and more of them, with abbreviations
 abbrev pub more_states : List (List ℕ)
 more_states = words (codes "nebraska kansas oklahoma minnesota michigan nebr kans okla minn wyo colo mont")
-    ++ words (codes "ariz calif nev")
+    ++ words (codes "ariz calif nev ala ark fla kan mich oreg wis")
 
 -- and the letters for them
 abbrev pub state_letters : List (List ℕ)
-state_letters = words (codes "id wy nv ca ut mt co nm az nd sd ak")
+state_letters = words (codes "id wy nv ca ut mt co nm az nd sd ak ar fl ia ks mn ok wa")
 
 -- what stated acreage ends with
 abbrev pub acreage_ends : List (List ℕ)
@@ -127,9 +128,10 @@ being_fronts = words (codes "being aka a/")
 abbrev pub tens_ends : List (List ℕ)
 tens_ends = texts (codes "-| ")
 
--- meridians of which only letters are written
+-- meridians of which only letters are written, and states whose names begin with a side
 abbrev pub meridian_letters : List (List ℕ)
-meridian_letters = texts (codes "w. m.|w.m.|w m")
+meridian_letters = texts (codes "w. m.|w.m.|w m|north dakota|south dakota")
+    ++ texts (codes "state of north dakota|state of south dakota")
 
 -- what is after `but` where it begins an exception,
 abbrev pub but_what : List (List ℕ)

@@ -16,13 +16,21 @@ pub(crate) fn has_tens_ends(seen: &[u8]) -> bool
 }
 
 /// The texts `meridian_letters` of the specification.
-static MERIDIAN_LETTERS: [[u8; 5]; 3] = [*b"w. m.", *b"w.m._", *b"w m__"];
+static MERIDIAN_LETTERS: [[u8; 21]; 7] = [
+    *b"w. m.________________",
+    *b"w.m._________________",
+    *b"w m__________________",
+    *b"north dakota_________",
+    *b"south dakota_________",
+    *b"state of north dakota",
+    *b"state of south dakota",
+];
 
 /// Whether a text is one of them.
 pub(crate) fn is_in_meridian_letters(seen: &[u8]) -> bool
     ensures { result ≡ is_one_of seen.now meridian_letters }
 {
-    is_one_of(seen, 0x0080_0000, &MERIDIAN_LETTERS)
+    is_one_of(seen, 0x0088_4000, &MERIDIAN_LETTERS)
 }
 
 /// The texts `but_what` of the specification.

@@ -62,31 +62,42 @@ pub(crate) fn has_meridian_labels(seen: &[u8]) -> bool
 }
 
 /// The texts `states` of the specification.
-static STATES: [[u8; 10]; 13] = [
-    *b"_____idaho",
-    *b"___wyoming",
-    *b"____nevada",
-    *b"california",
-    *b"______utah",
-    *b"___montana",
-    *b"____oregon",
-    *b"__colorado",
-    *b"____mexico",
-    *b"___arizona",
-    *b"____dakota",
-    *b"____alaska",
-    *b"washington",
+static STATES: [[u8; 11]; 24] = [
+    *b"______idaho",
+    *b"____wyoming",
+    *b"_____nevada",
+    *b"_california",
+    *b"_______utah",
+    *b"____montana",
+    *b"_____oregon",
+    *b"___colorado",
+    *b"_____mexico",
+    *b"____arizona",
+    *b"_____dakota",
+    *b"_____alaska",
+    *b"_washington",
+    *b"____alabama",
+    *b"___arkansas",
+    *b"____florida",
+    *b"___illinois",
+    *b"____indiana",
+    *b"_______iowa",
+    *b"__louisiana",
+    *b"mississippi",
+    *b"___missouri",
+    *b"_______ohio",
+    *b"__wisconsin",
 ];
 
 /// Whether a text ends with one of them.
 pub(crate) fn has_states(seen: &[u8]) -> bool
     ensures { result ≡ ends_with_one seen.now states }
 {
-    ends_with_one(seen, 0x0000_c182, &STATES)
+    ends_with_one(seen, 0x0008_c382, &STATES)
 }
 
 /// The texts `more_states` of the specification.
-static MORE_STATES: [[u8; 9]; 15] = [
+static MORE_STATES: [[u8; 9]; 22] = [
     *b"_nebraska",
     *b"___kansas",
     *b"_oklahoma",
@@ -102,23 +113,31 @@ static MORE_STATES: [[u8; 9]; 15] = [
     *b"_____ariz",
     *b"____calif",
     *b"______nev",
+    *b"______ala",
+    *b"______ark",
+    *b"______fla",
+    *b"______kan",
+    *b"_____mich",
+    *b"_____oreg",
+    *b"______wis",
 ];
 
 /// Whether a text ends with one of them.
 pub(crate) fn has_more_states(seen: &[u8]) -> bool
     ensures { result ≡ ends_with_one seen.now more_states }
 {
-    ends_with_one(seen, 0x045c_c042, &MORE_STATES)
+    ends_with_one(seen, 0x045c_c9c2, &MORE_STATES)
 }
 
 /// The texts `state_letters` of the specification.
-static STATE_LETTERS: [[u8; 2]; 12] = [
+static STATE_LETTERS: [[u8; 2]; 19] = [
     *b"id", *b"wy", *b"nv", *b"ca", *b"ut", *b"mt", *b"co", *b"nm", *b"az", *b"nd", *b"sd", *b"ak",
+    *b"ar", *b"fl", *b"ia", *b"ks", *b"mn", *b"ok", *b"wa",
 ];
 
 /// Whether a text ends with one of them.
 pub(crate) fn has_state_letters(seen: &[u8]) -> bool
     ensures { result ≡ ends_with_one seen.now state_letters }
 {
-    ends_with_one(seen, 0x0650_a812, &STATE_LETTERS)
+    ends_with_one(seen, 0x065c_f812, &STATE_LETTERS)
 }
