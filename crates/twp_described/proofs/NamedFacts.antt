@@ -1,6 +1,6 @@
 -- The land of items, added one after another.
 use Rattle.std.proofs.Common.{◌≡◌, ℕ, ◌+◌, ◌<◌, ◌≤◌, ◌||◌, Bool, List, length, take, drop, refl, sym, ap}
-use Rattle.std.proofs.Common.{◌∙◌, arith, IfOk, Result, Ok, Err}
+use Rattle.std.proofs.Common.{◌∙◌, arith, IfOk, IfSome, Option, Some, None, Result, Ok, Err}
 use Rattle.std.proofs.Math.Path.{fun_ext}
 use Rattle.std.proofs.Math.ListN.{get_or}
 use Rattle.std.proofs.lemmas.List.{take_all}
@@ -13,7 +13,7 @@ use Rattle.twp_grammar.specs.ItemPlaces.{ItemOfSection, item_of, item_places, la
 use Rattle.twp_grammar.specs.ItemPlaces.{section_after, with_sections}
 use Rattle.twp_grammar.specs.Sentences.{IsReadAs}
 use Rattle.twp_spell.specs.CanonicalText.{IsCanonicalText}
-use Rattle.twp_described.specs.Descriptions.{AreLotsNamed, NamesTownship, as_written}
+use Rattle.twp_described.specs.Descriptions.{AreLotsNamed, AreNamed, NamesTownship, as_written}
 use Rattle.twp_resolve.proofs.ResolvingFacts.{IsNext, next_is, parts_count}
 
 -- the land of the items before an index
@@ -55,6 +55,16 @@ pub if_ok_at : {T E : Type 0} (result : Result T E) (P : ℕ → Type 0) (at : �
     → IfOk result (λ _. (n : ℕ) → P n) → IfOk result (λ _. P at)
 if_ok_at (Ok value) P at all = all at
 if_ok_at (Err fault) P at all = all
+
+-- the land of a text that is read
+pub are_named : {T : Type 0} (found : Option T) (places_of : T → ℕ → ℕ → ℕ → Bool) (text : List ℕ)
+    (items : List Item) → IsReadAs text items
+    → IfSome found (λ land. places_of land ≡ land_of PLACE_DIGITS (parts_of items))
+    → IfSome found (λ land. HasWholeLots PLACE_DIGITS (places_of land))
+    → IfSome found (λ land. AreNamed text (places_of land))
+are_named (Some land) places_of text items read named whole =
+    record { items = items; read = read; places_are = named; whole = whole }
+are_named None places_of text items read named whole = named
 
 pub are_lots_named : (made text full : List ℕ) (items : List Item) (township : Designation)
     (places : ℕ → ℕ → ℕ → Bool) → IsReadAs made items → NamesTownship items township

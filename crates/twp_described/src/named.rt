@@ -6,6 +6,7 @@ ghost use Rattle.twp_grid.specs.Lands.{HasWholeLots, Meets, block_places, union}
 ghost use Rattle.twp_grammar.specs.declared.item.Item.TheVariants.{Chain, All, Sections as RangeOfSections, Lots as RangeOfLots};
 ghost use Rattle.twp_grammar.specs.ItemPlaces.{item_of, item_places, land_of, parts_of, section_after};
 ghost use Rattle.twp_grammar.specs.OnPlat.{HasLot};
+ghost use Rattle.twp_described.specs.Descriptions.{AreNamed};
 ghost use Rattle.twp_resolve.specs.steps.ResolvingSteps.{sections_from, lots_from, AreAdded, number_of_section};
 
 use crate::on_plat::read;
@@ -23,7 +24,10 @@ struct Unnamed;
 
 /// The land that a text names, also by aliquot parts that include lots. None if it names none, or land twice,
 /// or a part of a lot.
-pub fn land_in(alloc: Global, text: &[u8]) -> Result<Option<Lanes>, AllocError> {
+pub fn land_in(alloc: Global, text: &[u8]) -> Result<Option<Lanes>, AllocError>
+    ensures { IfOk result (λ it. IfSome it (λ land.
+        AreNamed text.now (⟦<Lanes as Land>⟧.places land))) }
+{
     match read(alloc, text)? {
         Some(description) => Ok(land_with_lots(&description)),
         None => Ok(None),
