@@ -1,6 +1,7 @@
 //! A draft: the phrases that were found in a text so far, and the changes in them.
 
 use std::alloc::{AllocError, Global};
+use std::mem;
 use twp_pieces::{Pieces, plus};
 use twp_rules::{Change, Rule};
 
@@ -86,27 +87,23 @@ pub struct PlacedStep {
     pub is_after_of: bool,
 }
 
-/// What is said of the land before a place, as in parentheses.
-#[derive(Clone, Copy, PartialEq, Eq)]
-pub enum Claimed {
-    /// The same part.
-    Same,
-    /// All of its section.
-    WholeSection,
-    /// Land that includes lots, as a fractional quarter does.
-    WithLots,
-    /// What some pieces name, with changes.
-    Land { pieces: Span, changes: Span },
-    /// A part with these steps.
-    Part(Span),
+/// Land that is said again, as in parentheses: the bytes of the text that name it.
+#[derive(Clone, Copy)]
+pub struct Said {
+    /// Where they begin.
+    pub start: usize,
+    /// Where they end.
+    pub end: usize,
+    /// The changes in them, among those of what is said again.
+    pub changes: Span,
 }
 
-/// What is said of land before a place, which has to be so.
-#[derive(Clone, Copy)]
-pub struct Claim {
-    /// The index of the piece where it is said.
-    pub place: usize,
-    pub what: Claimed,
+/// What phrases of a text say again.
+#[derive(Drop)]
+pub struct Again<'a> {
+    pub said: Vec<Said>,
+    /// The changes in it, whose places are counted from where it begins.
+    pub changes: Vec<Change<'a>>,
 }
 
 /// The phrases of a text so far.
@@ -119,8 +116,10 @@ pub struct Draft<'a> {
     pub changes: Vec<Change<'a>>,
     pub steps: Vec<PlacedStep>,
     pub numbers: Vec<Numeral>,
-    /// What has to be so of the land.
-    pub claims: Vec<Claim>,
+    /// What is said again.
+    pub again: Again<'a>,
+    /// The index after each part that is called fractional: it has to include lots.
+    pub fractional: Vec<usize>,
     /// Whether text was left out as a remark.
     pub has_remark: bool,
     /// Whether something was found that makes the text unsure, or that isn't land.
@@ -164,7 +163,11 @@ impl<'a> Draft<'a> {
             changes: Vec::with_capacity(alloc, CHANGES_FIRST)?,
             steps: Vec::with_capacity(alloc, STEPS_FIRST)?,
             numbers: Vec::with_capacity(alloc, NUMBERS_FIRST)?,
-            claims: Vec::new(alloc),
+            again: Again {
+                said: Vec::new(alloc),
+                changes: Vec::new(alloc),
+            },
+            fractional: Vec::new(alloc),
             has_remark: false,
             is_unsure: false,
             last_section: None,
@@ -260,9 +263,51 @@ impl<'a> Draft<'a> {
         }
     }
 
-    /// Adds what has to be so of the land before a place.
-    pub fn add_claim(&mut self, place: usize, what: Claimed) {
-        if self.claims.push(Claim { place, what }).is_err() {
+    /// Adds the index after a part that is called fractional.
+    pub fn add_fractional(&mut self, index: usize) {
+        if self.fractional.push(index).is_err() {
+            self.lacks_memory = true;
+        }
+    }
+
+    /// Notes that some pieces say land again, with the changes that were added after an extent.
+    pub fn add_said(&mut self, first: usize, end: usize, from: Extent) {
+        let start = self.pieces.start(first);
+        let before = self.again.changes.len();
+        for index in from.changes..self.changes.len() {
+            if let Some(change) = self.changes.get(index).copied() {
+                self.add_said_change(Change {
+                    start: change.start.saturating_sub(start),
+                    end: change.end.saturating_sub(start),
+                    ..change
+                });
+            }
+        }
+        let said = Said {
+            start,
+            end: self.pieces.end_before(end),
+            changes: Span {
+                first: before,
+                end: self.again.changes.len(),
+            },
+        };
+        if self.again.said.push(said).is_err() {
+            self.lacks_memory = true;
+        }
+    }
+
+    /// What phrases say again, which the draft has no more.
+    pub fn take_again(&mut self, alloc: Global) -> Again<'a> {
+        let nothing = Again {
+            said: Vec::new(alloc),
+            changes: Vec::new(alloc),
+        };
+        mem::replace(&mut self.again, nothing)
+    }
+
+    /// Adds a change in what is said again.
+    fn add_said_change(&mut self, change: Change<'a>) {
+        if self.again.changes.push(change).is_err() {
             self.lacks_memory = true;
         }
     }

@@ -9,5 +9,5 @@ mod headings;
 mod numerals;
 mod steps;
 
-pub use draft::{Claim, Claimed, Draft, Extent, Form, Names, Numeral, Phrase, PlacedStep, Span};
+pub use draft::{Again, Draft, Extent, Form, Names, Numeral, Phrase, PlacedStep, Said, Span};
 pub use finds_phrases::FindsPhrases;

@@ -1,7 +1,7 @@
 //! What is left out: the meridian, acreage, labels, and land that is repeated in parentheses.
 
 use crate::finder::Finder;
-use twp_draft::{Claimed, Form, Names, Phrase, Span};
+use twp_draft::{Names, Phrase, Span};
 use twp_grammar::Kind;
 use twp_pieces::plus;
 use twp_remarks::end_of_trailer;
@@ -69,13 +69,7 @@ impl<'a> Finder<'a> {
         let land = self
             .draft
             .phrase(Names::Nothing(Rule::Repeated), index, last, from);
-        self.draft.add_claim(
-            index,
-            Claimed::Land {
-                pieces: Span { first, end },
-                changes: land.changes,
-            },
-        );
+        self.draft.add_said(first, end, from);
         Some(land)
     }
 
@@ -206,27 +200,17 @@ impl<'a> Finder<'a> {
         let Some(before) = self.draft.phrases.last().copied() else {
             return None;
         };
-        let (what, close) = if matches!(self.draft.pieces.kind(first), Kind::All) {
-            (Claimed::WholeSection, plus(first, 1))
+        let land = if matches!(self.draft.pieces.kind(first), Kind::All) {
+            plus(first, 1)
         } else {
-            let Some(part) = self.part_in_pieces(first) else {
-                return None;
-            };
-            let is_same = before.names == Names::Part
-                && (self.draft.have_same_steps(before, part) || self.is_last_step(before, part));
-            let what = if is_same {
-                Claimed::Same
-            } else {
-                Claimed::Part(part.steps)
-            };
-            (what, part.end)
+            self.part_in_pieces(first)?.end
         };
-        let acreage = if self.draft.pieces.is(close, b",") {
-            self.draft.pieces.end_of_acreage(plus(close, 1))
+        let acreage = if self.draft.pieces.is(land, b",") {
+            self.draft.pieces.end_of_acreage(plus(land, 1))
         } else {
             None
         };
-        let close = acreage.unwrap_or(close);
+        let close = acreage.unwrap_or(land);
         let is_land = matches!(before.names, Names::Part | Names::Lots);
         let mark: &'static [u8] = if self.draft.pieces.is(index, b"[") {
             b"]"
@@ -237,10 +221,8 @@ impl<'a> Finder<'a> {
             return None;
         }
         let end = plus(close, 1);
+        self.draft.add_said(first, land, from);
         self.draft.shrink_changes(from);
-        if !matches!(what, Claimed::Same) {
-            self.draft.add_claim(index, what);
-        }
         Some(
             self.draft
                 .phrase(Names::Nothing(Rule::Repeated), index, end, from),
@@ -262,15 +244,6 @@ impl<'a> Finder<'a> {
                 ..first
             }),
             None => Some(first),
-        }
-    }
-
-    /// Whether a part is the last step of another, which has an `of`, as in
-    /// `the West half of the Southwest quarter (SW¼)`.
-    fn is_last_step(&self, whole: Phrase, part: Phrase) -> bool {
-        match (self.draft.steps_of(whole), self.draft.steps_of(part)) {
-            ([.., last], [step]) => whole.form == Form::WithOf && last.written == step.written,
-            _ => false,
         }
     }
 }

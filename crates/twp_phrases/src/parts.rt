@@ -65,16 +65,17 @@ impl<'a> Finder<'a> {
         let close = self.step(plus(index, 1));
         let same = self.draft.steps.last().copied();
         let count = self.draft.extent().steps_after(extent);
-        self.draft.shrink(extent);
-        let (Some(close), Some(before), Some(same)) = (close, before, same) else {
-            return index;
-        };
+        let close = close.unwrap_or(index);
         let end = plus(close, 1);
-        if count != 1
-            || before.written != same.written
-            || !self.draft.pieces.is(close, b")")
-            || !self.draft.pieces.is(end, b"of")
-        {
+        let is_same = count == 1
+            && before.map(|step| step.written) == same.map(|step| step.written)
+            && self.draft.pieces.is(close, b")")
+            && self.draft.pieces.is(end, b"of");
+        if is_same {
+            self.draft.add_said(plus(index, 1), close, extent);
+        }
+        self.draft.shrink(extent);
+        if !is_same {
             return index;
         }
         self.draft.leave_out(index, end, Rule::Repeated);

@@ -2,7 +2,7 @@
 
 use crate::finder::Finder;
 use crate::sought::{OF_NUMBERS, OF_WORDS};
-use twp_draft::{Claimed, Names, Phrase};
+use twp_draft::{Names, Phrase};
 use twp_grammar::Kind;
 use twp_pieces::plus;
 
@@ -260,7 +260,7 @@ impl<'a> Finder<'a> {
         };
         self.doubt_part(part);
         if self.draft.pieces.after_fractional(index) > index {
-            self.draft.add_claim(part.end, Claimed::WithLots);
+            self.draft.add_fractional(part.end);
         }
         if !self.draft.pieces.is(part.end, b"thereof") {
             return Some(part);

@@ -15,7 +15,7 @@ use Rattle.twp_rules.specs.declared.change.Change.{Change as Piece}
 use Rattle.twp_rules.specs.Changes.{Change, seen, AreChangesFrom}
 
 -- changes are in the text from a place on
-begin_within : (from : ℕ) (text : List ℕ) (changes : List Change)
+pub begin_within : (from : ℕ) (text : List ℕ) (changes : List Change)
     → AreChangesFrom from text changes → from ≤ length text
 begin_within from text [] within = within
 begin_within from text (change ∷ changes) (first, order, allowed, rest) =

@@ -230,7 +230,7 @@ pub(crate) fn word_of(seen: &[u8]) -> &[u8]
 }
 
 /// The digits with which a text begins.
-pub(crate) fn digits_of(seen: &[u8]) -> &[u8]
+pub fn digits_of(seen: &[u8]) -> &[u8]
     ensures digits { result.now ≡ digits_of seen.now }
     ensures within { length result.now ≤ length seen.now }
 {
@@ -258,14 +258,14 @@ pub(crate) fn begins_number(seen: &[u8], at: usize) -> bool
 }
 
 /// The byte at a place, or 0 at the end and after it.
-pub(crate) fn byte_at(text: &[u8], at: usize) -> u8
+pub fn byte_at(text: &[u8], at: usize) -> u8
     ensures { result ≡ slice_index text.now at }
 {
     if at < text.len() { text[at] } else { 0 }
 }
 
 /// The byte before a place, or 0 at the beginning.
-pub(crate) fn byte_before(text: &[u8], at: usize) -> u8
+pub fn byte_before(text: &[u8], at: usize) -> u8
     ensures { result ≡ byte_before text.now at }
 {
     if at == 0 { 0 } else { byte_at(text, at - 1) }

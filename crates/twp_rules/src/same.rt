@@ -6,7 +6,7 @@ ghost use Rattle.twp_rules.specs.Edges.{begins_with, ends_with};
 
 /// Whether two texts are the same.
 #[tactic(auto, using(crate::proofs::SameTexts::is_same))]
-pub(crate) fn are_same(one: &[u8], other: &[u8]) -> bool
+pub fn are_same(one: &[u8], other: &[u8]) -> bool
     ensures { result ≡ same_bytes one.now other.now }
 {
     one == other
@@ -29,7 +29,7 @@ pub(crate) fn is_text(seen: &[u8], text: &[u8]) -> bool
 }
 
 /// Whether a text, with its letters in lowercase, ends with another one.
-pub(crate) fn ends_with(seen: &[u8], end: &[u8]) -> bool
+pub fn ends_with(seen: &[u8], end: &[u8]) -> bool
     ensures { result ≡ ends_with seen.now end.now }
 {
     if seen.len() < end.len() {
@@ -40,7 +40,7 @@ pub(crate) fn ends_with(seen: &[u8], end: &[u8]) -> bool
 }
 
 /// Whether a text, with its letters in lowercase, begins with another one.
-pub(crate) fn begins_with(seen: &[u8], front: &[u8]) -> bool
+pub fn begins_with(seen: &[u8], front: &[u8]) -> bool
     ensures { result ≡ begins_with seen.now front.now }
 {
     if seen.len() < front.len() {

@@ -14,7 +14,7 @@ use crate::words::sections::*;
 use crate::words::sides::*;
 
 /// Whether a text is a remark.
-pub(crate) fn is_remark(seen: &[u8]) -> bool
+pub fn is_remark(seen: &[u8]) -> bool
     ensures { result ≡ is_remark seen.now }
 {
     names_no_land(seen) && has_no_limit(Saying::Remark, seen)

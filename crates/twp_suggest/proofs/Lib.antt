@@ -3,3 +3,5 @@ mod PlaceFacts
 pub mod ReadingFacts
 pub mod CutFacts
 pub mod ClosedFacts
+pub mod RepeatFacts
+pub mod WordFacts

@@ -3,3 +3,4 @@ pub mod Readings
 pub mod Ways
 pub mod Sharing
 pub mod Closed
+pub mod Repeats

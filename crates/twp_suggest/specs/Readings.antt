@@ -11,6 +11,7 @@ use Rattle.twp_rules.specs.Arrangement.{lie_with_sections}
 use Rattle.twp_rules.specs.Changes.{Change, changed_from, seen}
 use Rattle.twp_rules.specs.Moves.{MayBeMade}
 use Rattle.twp_suggest.specs.Closed.{AreClosed}
+use Rattle.twp_suggest.specs.Repeats.{AreRepeated}
 use Rattle.twp_suggest.specs.declared.reading.Reading.{Reading}
 
 -- the land of the changed text lies with the sections that the text gives it to: that of its items, and that
@@ -26,9 +27,11 @@ pub record LiesWithSections (text : List ℕ) (changes : List Change) : Type 0 w
   pub land : lie_with_sections text changes 0 items ≡ true
   pub other : LiesExcepted text changes excepted
 
--- A READING of a text: what comes of its changes, which the reader accepts
+-- A READING of a text: what comes of its changes, which say again what they leave out as repeated, and which
+-- the reader accepts
 pub record IsReading (text : List ℕ) (reading : Reading) : Type 0 where
   pub made : MayBeMade text (map seen reading.changes.items)
+  pub repeated : AreRepeated text [] 0 (map seen reading.changes.items)
   pub described : IsDescribed reading.manner (changed_from 0 text (map seen reading.changes.items))
       reading.text.items
   pub accepted : IsAccepted reading.text.items

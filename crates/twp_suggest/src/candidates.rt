@@ -31,7 +31,7 @@ pub(crate) fn outline_of<'a, F: FindsPhrases>(
     let arranged = writer.plan.arranged(alloc)?;
     if writer.plan.draft.is_unsure
         || !writer.plan.acreage_fits(arranged.as_slice())
-        || !writer.claims_hold(alloc, arranged.as_slice())?
+        || !writer.fractional_fit(alloc, arranged.as_slice())?
     {
         return Ok(None);
     }

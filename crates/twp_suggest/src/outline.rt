@@ -3,7 +3,7 @@
 use crate::writer::Writer;
 use std::alloc::{AllocError, Global};
 use twp_arrange::{Placed, Role, has_except};
-use twp_draft::{Names, Phrase, Span};
+use twp_draft::{Again, Names, Phrase, Span};
 use twp_grammar::Kind;
 use twp_pieces::plus;
 use twp_rules::{Change, Rule};
@@ -29,6 +29,8 @@ pub(crate) struct Outline<'a> {
     pub(crate) changes: Vec<Change<'a>>,
     pub(crate) joints: Vec<Joint>,
     pub(crate) options: Vec<Change<'a>>,
+    /// What phrases say again.
+    pub(crate) again: Again<'a>,
     /// Whether there is an exception.
     pub(crate) has_except: bool,
     /// How many parts of a list are before the last phrase.
@@ -98,6 +100,7 @@ impl<'a> Writer<'a> {
             changes: Vec::with_capacity(alloc, plus(room, CHANGES_MORE))?,
             joints: Vec::new(alloc),
             options: Vec::new(alloc),
+            again: self.plan.draft.take_again(alloc),
             has_except: has_except(list),
             parts: 0,
             has_head: false,

@@ -9,9 +9,10 @@ ghost use Rattle.twp_suggest.specs.Readings.{AreSomeReadings, LiesExcepted, MayB
 use crate::candidates::{made_by, outline_of};
 use crate::closed::are_closed;
 use crate::outline::Outline;
+use crate::repeated::are_repeated;
 use std::alloc::{AllocError, Global};
 use twp_described::{Manner, Unread, Wording, described, find_land, is_clear, township_of};
-use twp_draft::FindsPhrases;
+use twp_draft::{Again, FindsPhrases};
 use twp_land::{Land, Lanes};
 use twp_rules::{Change, are_changes, changed, lie_with_sections};
 
@@ -65,7 +66,8 @@ fn readings_by<'a>(
     let mut readings = Vec::new(alloc);
     for number in 0..outline.candidates() {
         let changes = outline.changes_of(alloc, number)?;
-        let found = match reading_with(alloc, text, changes, outline.has_except, &mut land) {
+        let again = &outline.again;
+        let found = match reading_with(alloc, text, changes, outline.has_except, again, &mut land) {
             Ok(found) => found,
             Err(Unread::Unfit) => continue,
             Err(Unread::Refused) => return Ok(Vec::new(alloc)),
@@ -123,6 +125,7 @@ fn reading_with<'a>(
     text: &'a [u8],
     changes: Vec<Change<'a>>,
     has_except: bool,
+    again: &Again<'_>,
     land: &mut Lanes,
 ) -> Result<Option<Reading<'a>>, Unread>
     ensures { IfOk result (λ it. IfSome it (IsReading text.now)) }
@@ -133,6 +136,10 @@ fn reading_with<'a>(
             Some(_) => Err(Unread::Refused),
             None => Ok(None),
         };
+    }
+    let is_repeated = are_repeated(alloc, text, changes.as_slice(), again)?;
+    if !is_repeated {
+        return Ok(None);
     }
     let made = changed(alloc, text, changes.as_slice())?;
     let Some(wording) = described(alloc, made, has_except, land)? else {

@@ -1,14 +1,14 @@
-//! What a text says again in parentheses: it has to be the land before them.
+//! Parts that are called fractional: they have to include lots.
 
 use crate::writer::Writer;
 use std::alloc::{AllocError, Global};
 use twp_arrange::{Placed, Role};
 use twp_described::{find_land, first_township, land_in};
-use twp_draft::{Claim, Claimed, Names, Phrase, Span};
+use twp_draft::{Names, Phrase, Span};
 use twp_land::{Land, Lanes};
 use twp_pieces::plus;
 
-/// The land before a place, which moves from one claim to the next.
+/// The land before a place, which moves from one place to the next.
 #[derive(Clone, Copy)]
 struct Before {
     /// How many phrases are before the place.
@@ -45,31 +45,31 @@ impl Before {
 }
 
 impl<'a> Writer<'a> {
-    /// Whether the land is what the text says again.
-    pub(crate) fn claims_hold(&self, alloc: Global, list: &[Placed]) -> Result<bool, AllocError> {
+    /// Whether each part that is called fractional includes lots.
+    pub(crate) fn fractional_fit(
+        &self,
+        alloc: Global,
+        list: &[Placed],
+    ) -> Result<bool, AllocError> {
         let mut before = Before {
             count: 0,
             group: 0,
             last: None,
         };
-        for claim in &self.plan.draft.claims {
-            before = before.moved_to(claim.place, list);
+        for place in &self.plan.draft.fractional {
+            before = before.moved_to(*place, list);
             let group = list.get(before.group..).unwrap_or(&[]);
-            if !self.holds(alloc, *claim, before.last, group)? {
+            if !self.has_lots(alloc, before.last, group)? {
                 return Ok(false);
             }
         }
         Ok(true)
     }
 
-    /// Whether the last land before a claim, or all land of its section before it, is what is claimed. The
-    /// phrases begin with those of its section. Not inlined, since its sets of land would be cleared for each
-    /// text.
-    #[inline(never)]
-    fn holds(
+    /// Whether the last land before a place includes lots. The phrases begin with those of its section.
+    fn has_lots(
         &self,
         alloc: Global,
-        claim: Claim,
         last: Option<Placed>,
         group: &[Placed],
     ) -> Result<bool, AllocError> {
@@ -79,107 +79,14 @@ impl<'a> Writer<'a> {
         let Some(section) = self.section_of(last.role, group) else {
             return Ok(false);
         };
-        match claim.what {
-            Claimed::Same => Ok(true),
-            Claimed::WithLots => {
-                let text = self.text_of(alloc, section, last.phrase)?;
-                includes_lots(alloc, text.as_slice())
-            }
-            claimed => {
-                let text = self.claimed_text(alloc, section, claimed)?;
-                let Some(land) = land_in(alloc, text.as_slice())? else {
-                    return Ok(false);
-                };
-                let text = self.text_of(alloc, section, last.phrase)?;
-                if names(alloc, text.as_slice(), &land)? {
-                    return Ok(true);
-                }
-                self.is_group(
-                    alloc,
-                    section,
-                    &land,
-                    group_before(group, claim.place),
-                    last.role,
-                )
-            }
-        }
-    }
-
-    /// Whether the land of a group is this: as it is listed, or with what has nothing between it as one part.
-    fn is_group(
-        &self,
-        alloc: Global,
-        section: u16,
-        land: &Lanes,
-        group: &[Placed],
-        role: Role,
-    ) -> Result<bool, AllocError> {
-        let listed = self.text_of_group(alloc, section, group, role, b", ")?;
-        if names(alloc, listed.as_slice(), land)? {
-            return Ok(true);
-        }
-        let joined = self.text_of_group(alloc, section, group, role, b" ")?;
-        names(alloc, joined.as_slice(), land)
+        let text = self.text_of(alloc, section, last.phrase)?;
+        includes_lots(alloc, text.as_slice())
     }
 
     /// The text of a section and a phrase of it.
     fn text_of(&self, alloc: Global, section: u16, phrase: Phrase) -> Result<Vec<u8>, AllocError> {
         let mut text = section_text(alloc, section)?;
         self.write_phrase(phrase, b", ", &mut text)?;
-        Ok(text)
-    }
-
-    /// The text of a section and what is claimed of it.
-    fn claimed_text(
-        &self,
-        alloc: Global,
-        section: u16,
-        claimed: Claimed,
-    ) -> Result<Vec<u8>, AllocError> {
-        let mut text = section_text(alloc, section)?;
-        match claimed {
-            Claimed::Land { pieces, changes } => {
-                text.extend_from_slice(b", ")?;
-                self.write_land(pieces, changes, &mut text)?;
-            }
-            Claimed::Part(span) => {
-                text.extend_from_slice(b", ")?;
-                self.write_steps(span, &mut text)?;
-            }
-            _ => {}
-        }
-        Ok(text)
-    }
-
-    /// Appends the steps of an aliquot part.
-    fn write_steps(&self, span: Span, text: &mut Vec<u8>) -> Result<(), AllocError> {
-        let steps = &self.plan.draft.steps;
-        for step in steps.get(span.first..span.end).unwrap_or(&[]) {
-            text.extend_from_slice(step.written)?;
-        }
-        Ok(())
-    }
-
-    /// The text of a section and its land in a group, with a mark between phrases that have nothing between
-    /// them, and a comma between others.
-    fn text_of_group(
-        &self,
-        alloc: Global,
-        section: u16,
-        group: &[Placed],
-        role: Role,
-        mark: &[u8],
-    ) -> Result<Vec<u8>, AllocError> {
-        let mut text = section_text(alloc, section)?;
-        let mut end: Option<usize> = None;
-        for placed in group {
-            if is_land(*placed) && placed.role == role {
-                let is_next = end == Some(placed.phrase.first);
-                let mark = if is_next { mark } else { b", " };
-                self.write_phrase(placed.phrase, mark, &mut text)?;
-                end = Some(placed.phrase.end);
-            }
-        }
         Ok(text)
     }
 
@@ -261,24 +168,9 @@ fn section_text(alloc: Global, number: u16) -> Result<Vec<u8>, AllocError> {
     Ok(text)
 }
 
-/// The phrases of a group that end before a place.
-fn group_before(group: &[Placed], place: usize) -> &[Placed] {
-    let count = group
-        .iter()
-        .take_while(|placed| placed.phrase.end <= place)
-        .count();
-    group.get(..count).unwrap_or(&[])
-}
-
-/// Whether a text names this land.
-fn names(alloc: Global, text: &[u8], land: &Lanes) -> Result<bool, AllocError> {
-    match land_in(alloc, text)? {
-        Some(named) => Ok(named.same(land)),
-        None => Ok(false),
-    }
-}
-
-/// Whether the land of a text that names no township is on the plat only with its lots named.
+/// Whether the land of a text that names no township is on the plat only with its lots named. Not inlined, since its set
+/// of land would be cleared for each text.
+#[inline(never)]
 fn includes_lots(alloc: Global, text: &[u8]) -> Result<bool, AllocError> {
     if land_in(alloc, text)?.is_none() {
         return Ok(false);
