@@ -88,18 +88,19 @@ def rows_in(text: str) -> List[str]:
 
 def text_of_table(table: Table, comment: Iterable[str]) -> str:
     """words.tsv with these words."""
-    rows = defaultdict(list)
-    for name, words in table.items():
-        for word, values in words.items():
-            shown_values = [f"{name}={value_shown(value)}" for value in values]
-            rows[word] += shown_values or [name]
-    lines = [f"{shown(word)}\t{' '.join(sorted(classes))}" for word, classes in rows.items()]
+    words = {word for some in table.values() for word in some}
+    lines = [f"{shown(word)}\t{classes_shown(word, table)}" for word in words]
     return "\n".join([*comment, "word\tclasses", *sorted(lines)]) + "\n"
 
 
-def value_shown(value: str) -> str:
-    """A value as the table shows it: a class ends with the next space."""
-    return shown(value).replace(" ", "\\s") if value else ""
+def classes_shown(word: str, table: Table) -> str:
+    """The classes of a word as the table shows them. A class ends with the next space, so a value has none."""
+    classes = []
+    for name, words in table.items():
+        if word in words:
+            values = [shown(value).replace(" ", "\\s") if value else "" for value in words[word]]
+            classes += [f"{name}={value}" for value in values] or [name]
+    return " ".join(sorted(classes))
 
 
 def comment_of(text: str) -> List[str]:
@@ -268,7 +269,7 @@ def main(arguments: List[str]) -> int:
     elif arguments:
         table, _ = read_table()
         for word in arguments:
-            print(f"{word}: {' '.join(sorted(name for name, words in table.items() if word in words))}")
+            print(f"{word}: {classes_shown(word, table) or 'not known'}")
     else:
         write()
     return 0
