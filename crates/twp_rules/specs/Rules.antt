@@ -199,6 +199,11 @@ is_row_number seen after =
     && is_one_of (slice_index (without_spaces after) 0 ∷ []) cell_marks
     && is_no_land_word (word_of (without_white (drop 1 (without_spaces after))))
 
+-- no letter ends a phrase before a digit, as the damaged one in I4
+abbrev pub is_apart_from_digit : List ℕ → List ℕ → Bool
+is_apart_from_digit seen after =
+    not (is_ascii_alphabetic (slice_index seen (length seen - 1)) && is_ascii_digit (slice_index after 0))
+
 -- WHAT A RULE ALLOWS to leave out, with what is after it
 abbrev pub may_be_left_out : Rule → List ℕ → List ℕ → Bool
 may_be_left_out Repeated seen after =
@@ -208,8 +213,9 @@ may_be_left_out MovedHeading seen after = is_moved_heading seen after
 may_be_left_out Meridian seen after = is_meridian seen after
 may_be_left_out Acreage seen after = is_acreage seen
 may_be_left_out Label seen after =
-    is_remark seen || is_said_of_land seen || has_no_digit seen && has_only_columns_from seen 0 seen
-    || is_row_number seen after
+    is_apart_from_digit seen after
+    && (is_remark seen || is_said_of_land seen || has_no_digit seen && has_only_columns_from seen 0 seen
+    || is_row_number seen after)
 may_be_left_out _ seen after = false
 
 -- zeros before a number: no digit is before them, or the code of a register, and then four digits

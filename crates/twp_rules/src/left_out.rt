@@ -1,9 +1,9 @@
 //! What a rule leaves out: a moved section or township, a meridian, acreage, a label.
 ghost use Rattle.std.specs.Prelude.{◌≡◌};
 ghost use Rattle.twp_rules.specs.Rules.{is_acreage, is_meridian, is_moved_heading, is_moved_section, is_no_land_word};
-ghost use Rattle.twp_rules.specs.Rules.{is_place_name, is_row_number, may_be_left_out};
+ghost use Rattle.twp_rules.specs.Rules.{is_apart_from_digit, is_place_name, is_row_number, may_be_left_out};
 
-use crate::context::{is_township, without_spaces};
+use crate::context::{is_township, less, without_spaces};
 use crate::endings::beside::*;
 use crate::endings::labels::*;
 use crate::endings::meridians::*;
@@ -29,13 +29,22 @@ pub(crate) fn may_be_left_out(rule: Rule, seen: &[u8], after: &[u8]) -> bool
         Rule::Meridian => is_meridian(seen, after),
         Rule::Acreage => is_acreage(seen),
         Rule::Label => {
-            is_remark(seen)
-                || is_said_of_land(seen)
-                || (has_no_digit(seen) && has_only_columns(seen))
-                || is_row_number(seen, after)
+            is_apart_from_digit(seen, after)
+                && (is_remark(seen)
+                    || is_said_of_land(seen)
+                    || (has_no_digit(seen) && has_only_columns(seen))
+                    || is_row_number(seen, after))
         }
         _ => false,
     }
+}
+
+/// Whether no letter ends a phrase before a digit.
+fn is_apart_from_digit(seen: &[u8], after: &[u8]) -> bool
+    ensures { result ≡ is_apart_from_digit seen.now after.now }
+{
+    let last = byte_at(seen, less(seen.len(), 1));
+    !(last.is_ascii_alphabetic() && byte_at(after, 0).is_ascii_digit())
 }
 
 /// Whether a text is a section that is written elsewhere, or was named before.
