@@ -17,7 +17,7 @@ all_read 'descriptions from practice' "$(sed 1d "$root/tests/descriptions/writte
 
 # For each example, how many readings there are, and each reading, with the phrases of what it assumes. Readings are on
 # one line here, with single spaces.
-sed 's/^\(  without `.*`\): .*/\1/; s/\\[nt]/ /g; s/\(.\)  */\1 /g' "$root/crates/twp_readings/stdout" > "$work/wanted"
+sed 's/^\(  .*`\): [^`]*$/\1/; s/\\[nt]/ /g; s/\(.\)  */\1 /g' "$root/crates/twp_readings/stdout" > "$work/wanted"
 sql -d readings << 'END' > "$work/found"
 SELECT line
 FROM examples, LATERAL (
