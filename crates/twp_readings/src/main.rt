@@ -82,7 +82,7 @@ fn print_readings(rt: &HostRuntime, text: &[u8]) -> io::Result<()> {
 fn print_assumptions(rt: &HostRuntime, text: &[u8], changes: &[Change<'_>]) -> io::Result<()> {
     for (index, change) in changes.iter().enumerate() {
         if let Some(assumption) = assumption_of(text, change) {
-            let phrase = phrase_of(text, change);
+            let phrase = phrase_of(text, change).trim_ascii();
             let earlier = changes.get(..index).unwrap_or(&[]);
             if !is_said(text, earlier, assumption, phrase) {
                 print_assumption(rt, assumption, phrase)?;
@@ -95,7 +95,9 @@ fn print_assumptions(rt: &HostRuntime, text: &[u8], changes: &[Change<'_>]) -> i
 /// Whether some changes assume this of the same phrase.
 fn is_said(text: &[u8], changes: &[Change<'_>], assumption: Assumption, phrase: &[u8]) -> bool {
     for change in changes {
-        if assumption_of(text, change) == Some(assumption) && phrase_of(text, change) == phrase {
+        if assumption_of(text, change) == Some(assumption)
+            && phrase_of(text, change).trim_ascii() == phrase
+        {
             return true;
         }
     }
@@ -105,7 +107,7 @@ fn is_said(text: &[u8], changes: &[Change<'_>], assumption: Assumption, phrase: 
 /// Prints an assumption, and the phrase that it is about.
 fn print_assumption(rt: &HostRuntime, assumption: Assumption, phrase: &[u8]) -> io::Result<()> {
     let mut shown = String::new(rt.alloc());
-    write_escaped(phrase.trim_ascii(), &mut shown)?;
+    write_escaped(phrase, &mut shown)?;
     let (words, shown) = (assumption.words(), shown.as_str());
     if assumption.is_of_left_out() {
         println!(rt; "  without `{shown}`: {words}")
