@@ -125,9 +125,10 @@ fn is_said(
     other: &Change<'_>,
     assumption: Assumption,
 ) -> bool {
-    let phrase = phrase_of(text, other);
+    let phrase = phrase_of(text, other).trim_ascii();
     for change in changes {
-        if assumes(text, change, assumption) && phrase_of(text, change) == phrase {
+        let said = phrase_of(text, change).trim_ascii();
+        if assumes(text, change, assumption) && said == phrase {
             return true;
         }
     }
