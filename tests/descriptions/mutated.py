@@ -250,7 +250,7 @@ def letters(text, numbers):
                                  + re.match("[A-Za-z0-9]*", text[match.start():])[0]) is None:
             continue
         for at, digit in enumerate(match[0]):
-            for letter in {"1": "l", "0": "O"}.get(digit, ""):
+            for letter in {"1": "lI", "0": "O"}.get(digit, ""):
                 changed = replaced(match[0], at, at + 1, letter)
                 yield "a digit as a letter", replaced(text, *match.span(), changed), match[0], changed
 
