@@ -316,8 +316,8 @@ typedef struct township_part {
 #define TOWNSHIP_RULE_ACREAGE 25u        /* stated acreage is left out */
 #define TOWNSHIP_RULE_LABEL 26u          /* a label, which is not land, is left out */
 
-/* Assumptions: what a change assumes that the text does not say. The words around a change are those up to white space,
-   a comma, a semicolon, a colon, or a bar. */
+/* Assumptions: what a change assumes that the text does not state. The words around a change extend to white space, a
+   comma, a semicolon, a colon, or a vertical bar. */
 #define TOWNSHIP_ASSUMES_SAME_MERIDIAN 1u    /* what is left out is the meridian, state, or county of the field notes */
 #define TOWNSHIP_ASSUMES_SAME_ACREAGE 2u     /* the acreage that is left out is right: it is not compared */
 #define TOWNSHIP_ASSUMES_NOT_LAND 3u         /* what is left out is not land */
@@ -346,7 +346,7 @@ typedef struct township_change {
     uint64_t copied;     /* what rule 5 or 6 copies is in the text from here to before `copied_end` */
     uint64_t copied_end; /* with other rules, both are 0 */
     uint32_t rule;       /* such as TOWNSHIP_RULE_QUARTER */
-    uint32_t assumes;    /* what the change assumes, such as TOWNSHIP_ASSUMES_NOT_LAND; otherwise 0 */
+    uint32_t assumes;    /* what the change assumes, such as TOWNSHIP_ASSUMES_NOT_LAND, or 0 */
 } township_change;
 
 /*

@@ -1,7 +1,7 @@
-"""The lists of texts in definitions: `lists_of(texts)` works out what the lists in files of `specs/` contain.
+"""Reads the lists of texts in definitions: `lists_of(texts)` works out what the lists in files of `specs/` contain.
 
 A definition of a list is read if it is written with numbers, names of other definitions, `codes`, and the functions below,
-which are those of twp_rules. Any other form is an error, so that no list is passed over.
+which are those of twp_rules. Any other form is an error, so that no list is skipped.
 """
 
 import re
@@ -14,14 +14,14 @@ SIGN = re.compile(r'"[^"]*"|\d+|∷|\+\+|⇒|\(|\)|\[\]|[\w-]+')
 
 
 class Entry(NamedTuple):
-    """A text of a list, and what is written for it, if the list says that."""
+    """A text in a list, and what is written for it, if the list says so."""
 
     seen: bytes
     written: Optional[bytes] = None
 
 
 class Unread(Exception):
-    """A definition in a form that isn't read."""
+    """A definition in a form that can't be read."""
 
 
 def all_as(texts, written):
@@ -32,7 +32,7 @@ def each_as(texts, written):
     return [Entry(*both) for both in zip(as_list(texts), as_list(written), strict=True)]
 
 
-#: The functions by which lists are written, besides `codes`, and what each makes of its arguments.
+#: The functions with which lists are written, besides `codes`, and what each makes of its arguments.
 FUNCTIONS = {
     "words": lambda text: text.split(b" "),
     "texts": lambda text: text.split(b"|"),
@@ -73,7 +73,7 @@ class Reader:
         return Entry(seen, self.chain())
 
     def chain(self):
-        """Values with `∷` or `++` between them, which bind to the right."""
+        """Values with `∷` or `++` between them, which associate to the right."""
         first = self.application()
         if self.signs[:1] == ["∷"]:
             self.signs.pop(0)
@@ -118,7 +118,7 @@ class Reader:
 
 
 def bodies_in(text: str) -> Dict[str, str]:
-    """What the definitions of texts and lists in a file say, by name."""
+    """The bodies of the definitions of texts and lists in a file, by name."""
     found = {name: body for name, body in DEFINITION.findall(text)}
     for name in HEADING.findall(text):
         if name not in found:
@@ -155,5 +155,5 @@ def values_of(bodies: Dict[str, str], known: Dict[str, Any]) -> Dict[str, Any]:
 
 
 def entries_of(value: List[Any]) -> List[Entry]:
-    """The entries of a list, of which some may be texts alone."""
+    """The entries of a list, some of which may be only texts."""
     return [it if isinstance(it, Entry) else Entry(it) for it in value]

@@ -1,4 +1,4 @@
-"""The functions that are classes of the table of words: how tools/words.py writes them."""
+"""How tools/words.py writes the functions that are classes of the table of words."""
 
 import textwrap
 from collections import defaultdict
@@ -7,13 +7,13 @@ from typing import Dict, List, NamedTuple, Tuple
 #: The first line of each file that is written.
 MADE = "// Made by tools/words.py from words.tsv and classes.tsv. To change a word, change its row there."
 
-#: What a class that is a function may be: of a word, or of two, or what is written for a word, or its value.
+#: The forms of a class that is a function: a test of a word, or of two; what is written for a word; or its value.
 FORMS = ("word", "two words", "text", "number")
 
 #: The most columns of a source, of a comment, and of the arguments of a call on one line.
 COLUMNS, COMMENT, ARGUMENTS = 92, 120, 60
 
-#: The words of each class, with their values: an empty list for a class without one.
+#: The words of each class, with their values: an empty list for a class without values.
 Table = Dict[str, Dict[str, List[str]]]
 
 
@@ -28,7 +28,7 @@ class Class(NamedTuple):
 
 
 def sources_of(table: Table, classes: List[Class]) -> Dict[str, str]:
-    """Each module that is written, by its name."""
+    """The source of each module that is written, by its name."""
     sources = {}
     for heading in (it for it in classes if it.form == "module"):
         functions = [it for it in classes if it.module == heading.name and it.form != "module"]
@@ -66,7 +66,7 @@ def function_of(it: Class, words: Dict[str, List[str]]) -> str:
 
 
 def arm_of_words(length: int, words: Dict[str, List[str]]) -> List[str]:
-    """The row for words of one length."""
+    """The arm for words of one length."""
     return call_lines(f"        {length} => ", "is_among", " ".join(words), "", ",")
 
 
@@ -84,7 +84,7 @@ def call_lines(before: str, function: str, text: str, more: str, after: str) -> 
 
 
 def arm_of_two(length: int, words: Dict[str, List[str]]) -> List[str]:
-    """The row for two words, of which the first has this length."""
+    """The arm for two words, the first of which has this length."""
     pairs = defaultdict(list)
     for word in words:
         first, second = word.split(" ")
@@ -94,7 +94,7 @@ def arm_of_two(length: int, words: Dict[str, List[str]]) -> List[str]:
 
 
 def arm_of_texts(length: int, words: Dict[str, List[str]]) -> List[str]:
-    """The row for words of one length for which texts are written. A table of texts would be set at each start."""
+    """The arm for words of one length for which texts are written. A table of texts would be set up at each start."""
     by_text = defaultdict(list)
     for word, [text] in words.items():
         by_text[text].append(word)
@@ -103,12 +103,12 @@ def arm_of_texts(length: int, words: Dict[str, List[str]]) -> List[str]:
 
 
 def condition_of(words: List[str]) -> str:
-    """That a word is one of these."""
+    """The condition that a word is one of these."""
     return f'is_same(word, b"{words[0]}")' if len(words) == 1 else f'is_among(word, "{" ".join(words)}")'
 
 
 def returning_lines(length: int, cases: List[Tuple[str, str]], otherwise: str) -> List[str]:
-    """A row that tries some conditions, each with what is returned."""
+    """An arm that tries some conditions, each with what it returns."""
     lines = [f"        {length} => {{"]
     for condition, value in cases:
         lines += [f"            if {condition} {{", f"                return {value};", "            }"]
@@ -116,7 +116,7 @@ def returning_lines(length: int, cases: List[Tuple[str, str]], otherwise: str) -
 
 
 def arm_of_numbers(length: int, words: Dict[str, List[str]]) -> List[str]:
-    """The row for words of one length that have values."""
+    """The arm for words of one length that have values."""
     values = ", ".join(value for [value] in words.values())
     return call_lines(f"        {length} => ", "value_among", " ".join(words), f"&[{values}]", ",")
 

@@ -2,13 +2,13 @@
 """Writes the lists of words in twp_words from the table of words, and compares the lists of other crates with it.
 
     python3 tools/words.py              writes the functions of twp_words, and the list in docs/DESCRIPTIONS.md
-    python3 tools/words.py --check      names what differs from the table; the status is 1 if anything does
-    python3 tools/words.py --take       takes the words of the lists in other crates into the table
+    python3 tools/words.py --check      reports what differs from the table; the status is 1 if anything does
+    python3 tools/words.py --take       copies the words of the lists in other crates into the table
     python3 tools/words.py WORD ..      shows the classes of words
 
-The table is crates/twp_words/words.tsv, one word a row, with its classes. A class is a function of twp_words, a list of
-the definitions of twp_rules, or a list of words in a hint; crates/twp_words/classes.tsv says what each function is. A
-class with a value, as in `letters_of=NE`, says what is written for the word.
+The table is crates/twp_words/words.tsv: each row is a word, with its classes. A class is a function of twp_words, a
+list in the definitions of twp_rules, or a list of words in a hint; crates/twp_words/classes.tsv says what each function
+is. A class with a value, as in `letters_of=NE`, says what is written for the word.
 """
 
 import re
@@ -45,7 +45,7 @@ NAMES = ("states", "meridians")
 #: The list in the document is between these two lines.
 BEGIN, END = "<!-- Made by tools/words.py: -->", "<!-- End of what tools/words.py makes. -->"
 
-#: Signs that a table shows by letters, besides a backslash, a space where it can't be seen, and an empty text.
+#: Characters that a table shows as letters, besides a backslash, a space that can't be seen, and an empty text.
 ESCAPES = {"\t": "\\t", "\n": "\\n", "\r": "\\r"}
 
 
@@ -94,7 +94,7 @@ def text_of_table(table: Table, comment: Iterable[str]) -> str:
 
 
 def classes_shown(word: str, table: Table) -> str:
-    """The classes of a word as the table shows them. A class ends with the next space, so a value has none."""
+    """The classes of a word as the table shows them. A class ends at the next space, so a value contains none."""
     classes = []
     for name, words in table.items():
         if word in words:
@@ -173,7 +173,7 @@ def lists_elsewhere() -> Table:
 
 
 def hints_in(text: str) -> Table:
-    """The lists of words by which hints name signs, such as `<acres>`."""
+    """The lists of words by which hints name signs, such as that of `<acres>`."""
     texts = {name: words.replace("\\\n", " ") for name, words in
              re.findall(r'^const (\w+): &str =\s+"([^"]*)";$', text, re.M)}
     arms = re.search(r"fn texts_of\(.*?\n}\n", text, re.S)[0]
@@ -185,7 +185,7 @@ def hints_in(text: str) -> Table:
 
 
 def of_escapes(text: str) -> str:
-    """The text that a literal of the code means."""
+    """The text that a literal in the code means."""
     text = re.sub(r"\\u\{(\w+)\}", lambda found: chr(int(found[1], 16)), text)
     return text.replace("\\\\", "\\")
 
@@ -194,7 +194,7 @@ def of_escapes(text: str) -> str:
 
 
 def with_listed(text: str, table: Table) -> str:
-    """The document with the words that it lists."""
+    """The document, with the words that it lists."""
     before, _, rest = text.partition(BEGIN + "\n")
     _, _, after = rest.partition(END + "\n")
     lines = []
@@ -249,7 +249,7 @@ def write() -> None:
 
 
 def take() -> None:
-    """Take the lists of other crates into the table, as they are there."""
+    """Copy the lists of other crates into the table, as they are."""
     table, classes = read_table()
     functions: Set[str] = {it.name for it in classes}
     text = (ROOT / WORDS).read_text()

@@ -36,10 +36,10 @@ What a mutant means is known, since it is known what was damaged:
 - A comma or an `and` that is lost between two parts with white space keeps it, too. `NE/4 SW/4` may be one part for
   whoever sees only the mutant; so it needs both readings, or none, but not that one alone.
 - In a run without white space, one part is meant to be the reading (docs/DESCRIPTIONS.md). Such a reading isn't wrong,
-  but is told: a line of its assumptions has to name the run in backquotes, or the mutant fails. It may be untold only in a
-  run with all fractions as a description has them, such as `NE1/4SW1/4`, which is a part of the formal language as it
-  is; these are counted by themselves, and there are at most FORMAL_MOST of them.
-- A digit that became a letter is read as the digit only if that is told: a line of the assumptions has to name the
+  but has to state its assumption: a line of its assumptions names the run in backquotes, or the mutant fails. Only a
+  run with all its fractions, written as in a description (`NE1/4SW1/4`), needs no such line, since it is a part in the
+  formal language as it is; these runs are counted separately, and there are at most FORMAL_MOST of them.
+- A digit that became a letter may be read as the digit only if the reading says so: a line of its assumptions names the
   number with the letter, or the mutant fails.
 - The number of a section, a lot, a township, or a range that was changed is plainly the new one for whoever sees only
   the mutant. Its single reading isn't wrong if it is the row's, or has the new number in one place or in each, and
@@ -54,7 +54,7 @@ What a mutant means is known, since it is known what was damaged:
 
 Of several readings, it is counted whether one of them is right; a reading that the program refuses is no reading, and
 a mutant whose readings are all refused is counted as refused. A mutant fails if it has one reading, and that is wrong,
-or doesn't tell what it has to tell.
+or doesn't state an assumption that it has to state.
 Lands are compared by lands.py, which is first checked against the program on some hundreds of readings. It is a fault,
 too, if there are fewer mutants than FEWEST, since then the reader reads too few of the rows. The last line is
 `N passed, M failed`, and the status is 0 where nothing failed.
@@ -84,7 +84,7 @@ PIECE = 4_000_000
 FEWEST = 20_000
 # Readings on which lands.py is compared with the program.
 COMPARED = 400
-# More runs than these that have all their fractions, and are read as one part, are a fault.
+# It is a fault if more runs than this that have all their fractions are read as one part.
 FORMAL_MOST = 1
 
 SAME, NUMBER, JOINED, RUN, TOUCHES, SECTIONS = "same", "number", "joined", "run", "touches", "sections"

@@ -1,5 +1,5 @@
 #!/usr/bin/env python3
-"""Tests that tools/words.py finds what differs from the table of words, and that nothing does."""
+"""Tests that tools/words.py finds each difference from the table of words, and that there is none."""
 import pathlib
 import sys
 import tempfile
@@ -23,7 +23,7 @@ def defined(type_, value):
 
 class Table(unittest.TestCase):
     def setUp(self):
-        """A copy of everything that is compared."""
+        """Copies everything that is compared."""
         folder = tempfile.TemporaryDirectory()
         self.addCleanup(folder.cleanup)
         self.root = pathlib.Path(folder.name)
@@ -43,7 +43,7 @@ class Table(unittest.TestCase):
         (self.root / place).write_text(text.replace(old, new, 1))
 
     def faults(self, *parts):
-        """Makes sure that there are faults, and that each of some parts is in one of them."""
+        """Checks that there are faults, and that each of these parts is in one of them."""
         found = words.check()
         self.assertTrue(found)
         for part in parts:

@@ -1,6 +1,6 @@
-"""The numbers of the rules of readings, of their manners, and of what they assume: the definitions say them, and the header
-and the bindings repeat them. The words for what is assumed are those of the crate twp_suggest, which the bindings and the
-extension for PostgreSQL repeat."""
+"""The numbers of the rules of readings, of their manners, and of their assumptions: the definitions state them, and the
+header and the bindings repeat them. The words for assumptions are those of the crate twp_suggest; the bindings and the
+extension for PostgreSQL repeat them."""
 
 import re
 from typing import Dict, List

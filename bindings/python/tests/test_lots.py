@@ -49,7 +49,7 @@ class Made(RefusalCase):
         self.assertEqual(Lots.of_figures(WHERE, {(5, 1): 40}).figures[5, 1], Decimal("40.00"))
 
     def test_each_lot_has_its_own_figure(self):
-        # A figure of its own for each lot: 10.01 acres for the first one, 10.47 for the last.
+        # A different figure for each lot: 10.01 acres for the first one, 10.47 for the last.
         figures = {lot: Decimal(1001 + index) / 100 for index, lot in enumerate(township.Lots.of_figures(WHERE, {}).figures)}
         lots = Lots.of_figures(WHERE, figures)
         self.assertEqual(len(figures), 47)

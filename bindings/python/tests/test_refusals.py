@@ -205,7 +205,7 @@ class Sentences(RefusalCase):
         self.assertEqual(refused.repair, "sec. 14, NE1/4, SW1/4.")
         self.assertEqual(refused.hints[-1], "perhaps: sec. 14, NE1/4, SW1/4.")
         self.assertEqual(str(even().acres(refused.repair)), "320.00")
-        # White space is a space in the reading, which is on one line.
+        # White space becomes a single space in the reading, which is on one line.
         self.assertEqual(self.refused(even().acres, "sec. 14,\n\tNE/4, SW/4.").repair, refused.repair)
         self.assertIsNone(self.refused(even().acres, "sec. 37.").repair)
 

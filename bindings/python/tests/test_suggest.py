@@ -78,11 +78,11 @@ class Suggested(unittest.TestCase):
             ("Sec. 5: Lot 1 (40.21)", "same acreage", "(40.21)", "without `(40.21)`: the acreage is not compared"),
             ("TRACT 1: sec. 14, NE1/4.", "not land", "TRACT 1:", "without `TRACT 1:`: this is not land"),
             ("Section Fourteen (14): NE/4", "said before", "(14)", "without `(14)`: this repeats what is before it"),
-            # The words around the letter, and around one that is copied to the beginning. The period isn't part of them.
+            # The words around the letter, or around one that is copied to the beginning. The period isn't part of them.
             ("Sec. 14, NEI/4.", "wrong letter", "NEI/4", "`NEI/4`: a letter or digit is wrong"),
             ("NE/4 Sec. 1O", "wrong letter", "1O", "`1O`: a letter or digit is wrong"),
             ("Sec. 14: Nothwest quarter", "wrong letter", "Nothwest", "`Nothwest`: a letter or digit is wrong"),
-            # What may have lost a comma, without and with white space between the steps.
+            # Runs that may have lost a comma, without and with white space between the steps.
             ("Sec. 14: N2SW;", "no missing comma", "N2SW", "`N2SW`: no comma is missing"),
             ("Sec. 28: E/2 SE/4", "no missing comma", "E/2 SE/4", "`E/2 SE/4`: no comma is missing"),
         ):

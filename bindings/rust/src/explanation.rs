@@ -40,7 +40,7 @@ pub(crate) struct Explained {
     pub(crate) sentence: String,
     /// The hints, one each.
     pub(crate) hints: Vec<String>,
-    /// The only reading of a description.
+    /// The only reading of a description, if the explanation ends with it.
     pub(crate) repair: Option<String>,
     /// The bytes of the input that are underlined.
     pub(crate) span: Option<Range<usize>>,

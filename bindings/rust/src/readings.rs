@@ -81,7 +81,7 @@ pub struct Change {
     pub written: String,
     /// The rule by which this is done.
     pub rule: Rule,
-    /// What it assumes that the text does not say.
+    /// What it assumes that the text does not state, if anything.
     pub assumes: Option<Assumption>,
 }
 

@@ -122,7 +122,8 @@ impl Refused {
         &self.parts.hints
     }
 
-    /// Returns the only reading of a description, if it names land on the plat. It can be read.
+    /// Returns the only reading of a description, if the explanation ends with it. It names land on
+    /// the plat.
     ///
     /// ```
     /// # let notes = include_bytes!(concat!(env!("CARGO_MANIFEST_DIR"), "/samples/b1.csv"));

@@ -17,8 +17,8 @@ RULES = (
     *("acreage", "label"),
 )
 
-#: What changes assume that the text does not say, by the names of the assumptions: in the order of their numbers, which
-#: begin with 1.
+#: The assumptions of changes that the text does not state, by their names, in the order of their numbers, which begin
+#: with 1.
 ASSUMED = {
     "same meridian": "the meridian, state, or county is that of the field notes",
     "same acreage": "the acreage is not compared",
@@ -28,10 +28,10 @@ ASSUMED = {
     "no missing comma": "no comma is missing",
 }
 
-#: The assumptions about what is not left out: they are about the words around the change.
+#: The assumptions that are not about text that is left out, but about the words around the change.
 _AROUND = ("wrong letter", "no missing comma")
 
-#: White space, and what is between words.
+#: White space, and the bytes between words.
 _WHITE, _BETWEEN_WORDS = b" \t\n\r", b" \t\n\r,;:|"
 
 #: How the text of a reading comes of the changed text, by the numbers of manners.
@@ -58,10 +58,10 @@ class Change(NamedTuple):
     written: str
     #: The name of the rule by which this is done, such as `quarter`. `docs/DESCRIPTIONS.md` shows what each does.
     rule: str
-    #: The name of what the change assumes that the text does not say, or `None`: `same meridian`, `same acreage`,
+    #: The name of the change's assumption that the text does not state, or `None`: `same meridian`, `same acreage`,
     #: `not land`, `said before`, `wrong letter`, or `no missing comma`.
     assumes: Optional[str] = None
-    #: The phrase of the text that this is about, or `None`: what is left out, or the words around the change.
+    #: The phrase that the assumption is about, or `None`: the text that is left out, or the words around the change.
     phrase: Optional[str] = None
 
     @property
@@ -78,7 +78,7 @@ class Change(NamedTuple):
 
 
 def assumptions_of(changes: Iterable[Change]) -> Tuple[str, ...]:
-    """Return what changes assume, without repetitions."""
+    """Return the assumptions of changes, without repetitions."""
     return tuple(dict.fromkeys(filter(None, (change.assumption for change in changes))))
 
 
@@ -112,7 +112,7 @@ class Reading(NamedTuple):
 
     @property
     def assumptions(self) -> Tuple[str, ...]:
-        """What the reading assumes that the text does not say, each assumption once."""
+        """The assumptions of the reading that the text does not state, each one once."""
         return assumptions_of(self.changes)
 
 
@@ -179,14 +179,14 @@ def suggest(text: Text) -> Readings:
 
 
 def _start_before(given: bytes, at: int, is_end: Callable[[int], bool]) -> int:
-    """Return the place before `at` that comes after the last byte that ends a word, or white space."""
+    """Return the place after the last byte before `at` for which `is_end` holds, or 0."""
     while at and not is_end(given[at - 1]):
         at -= 1
     return at
 
 
 def _end_after(given: bytes, at: int, is_end: Callable[[int], bool]) -> int:
-    """Return the place after `at` of the first byte that ends a word, or white space."""
+    """Return the place of the first byte from `at` on for which `is_end` holds, or the end."""
     while at < len(given) and not is_end(given[at]):
         at += 1
     return at

@@ -60,7 +60,8 @@ class Refused(ValueError):
     >>> refused.hints
     ('`NE1/4` at 1:10 overlaps it; both include sec. 14, NE1/4.',)
 
-    If a refused description can be read in only one way, `repair` is that reading.
+    If a refused description can be read in only one way, `repair` is that reading, unless the plat refuses it, or it is
+    too long to be shown.
 
     >>> try:
     ...     plat.acres("sec. 14, NE/4.")
@@ -138,7 +139,7 @@ class Refused(ValueError):
 
     @property
     def repair(self) -> Optional[str]:
-        """The only reading of a description, if it names land on the plat. It can be read."""
+        """The only reading of a description, if the explanation ends with it. It names land on the plat."""
         return self._explained.repair
 
     def __eq__(self, other: object) -> bool:

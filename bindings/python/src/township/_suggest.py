@@ -135,7 +135,7 @@ def _refusal_of(reading: Reading) -> str:
 
 
 def _explained(given: bytes, changes: Sequence[Change], readings: Sequence[Reading]) -> List[str]:
-    """Return a line for each phrase that changes make something else, and for each of their assumptions."""
+    """Return a line for each phrase that the changes turn into something else, and for each of their assumptions."""
     phrases = [f"     {phrase.text:<{_PHRASE}} {phrase.meaning}" for phrase in phrases_of(given, changes)]
     manners = dict.fromkeys(_MANNERS[each.manner] for each in readings if each.manner in _MANNERS)
     return phrases + [f"     {said}" for said in (*manners, *assumptions_of(changes))]

@@ -1,8 +1,8 @@
-//! What readings assume that a text does not say.
+//! The assumptions of readings that a text does not state.
 
 use std::fmt;
 
-/// What a change of a reading assumes that the text does not say.
+/// What a change of a reading assumes that the text does not state.
 #[derive(Clone, Copy, Debug, PartialEq, Eq, Hash)]
 #[cfg_attr(feature = "serde", derive(serde::Serialize, serde::Deserialize))]
 #[non_exhaustive]
@@ -11,9 +11,9 @@ pub enum Assumption {
     SameMeridian,
     /// The acreage that is left out is right: it is not compared.
     SameAcreage,
-    /// What is left out is not land.
+    /// The text that is left out is not land.
     NotLand,
-    /// What is left out repeats what is before it.
+    /// The text that is left out repeats what is before it.
     SaidBefore,
     /// A letter or a digit in the words around the change is wrong: it was misread, or there is a
     /// slip of the pen.
@@ -33,7 +33,7 @@ const ASSUMPTIONS: [Assumption; 6] = [
 ];
 
 impl Assumption {
-    /// Returns what is assumed, in words.
+    /// Returns the assumption in words.
     pub fn words(self) -> &'static str {
         match self {
             Assumption::SameMeridian => "the meridian, state, or county is that of the field notes",
