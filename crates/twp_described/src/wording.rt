@@ -34,7 +34,7 @@ pub struct Excepted {
     pub at: usize,
 }
 
-/// A description that comes of a changed text, and how it does; and the items of the changed text.
+/// A description derived from a changed text, the manner in which it was derived, and the items of the changed text.
 #[derive(Drop)]
 pub struct Wording {
     pub text: Vec<u8>,

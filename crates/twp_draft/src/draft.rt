@@ -87,7 +87,7 @@ pub struct PlacedStep {
     pub is_after_of: bool,
 }
 
-/// Land that is said again, as in parentheses: the bytes of the text that name it.
+/// Land that is repeated, as in parentheses: the bytes of the text that name it.
 #[derive(Clone, Copy)]
 pub struct Said {
     /// Where they begin.
@@ -118,7 +118,7 @@ pub struct Draft<'a> {
     pub numbers: Vec<Numeral>,
     /// What is said again.
     pub again: Again<'a>,
-    /// The index after each part that is called fractional: it has to include lots.
+    /// For each part that is called fractional, and so has to include lots, the index after it.
     pub fractional: Vec<usize>,
     /// Whether text was left out as a remark.
     pub has_remark: bool,
@@ -296,7 +296,7 @@ impl<'a> Draft<'a> {
         }
     }
 
-    /// What phrases say again, which the draft has no more.
+    /// Takes the repetitions out of the draft.
     pub fn take_again(&mut self, alloc: Global) -> Again<'a> {
         let nothing = Again {
             said: Vec::new(alloc),

@@ -1,4 +1,4 @@
--- What was said stays said; over plain values.
+-- What was stated remains stated; over plain values.
 use Rattle.std.proofs.Common.{◌<◌, Bool, false, get_or, length, IsTrue, ◌↔◌}
 use Rattle.std.proofs.lemmas.Bool.{false≢true}
 use Rattle.std.proofs.Common.{◌≡◌, ℕ, ◌++◌, List, [], All, sym, ap, ◌∙◌, append_assoc, append-nil}

@@ -1,4 +1,4 @@
--- What is said of the assumptions of the reading that is suggested for a text.
+-- How the assumptions of a suggested reading are stated.
 use Rattle.std.specs.Prelude.{◌≡◌, ⊤, ℕ, ◌++◌, List, [], ◌∷◌, All, Some, string_bytes}
 use Rattle.twp_explain_text.specs.declared.suggests.Suggestion.{Suggestion}
 use Rattle.twp_explain_text.specs.declared.suggests.Suggestion.TheVariants.{Nothing, Beyond, Several, Only}
@@ -24,7 +24,7 @@ pub record Grows (old new : List ℕ) : Type 0 where
 abbrev pub Assumes : List ℕ → Assumption → Change → Type 0
 Assumes text assumption change = assumed text (seen change) ≡ Some assumption
 
--- if a change makes an assumption, this is said in words
+-- if a change makes an assumption, it is stated in words
 abbrev pub IsSaid : List ℕ → List ℕ → Assumption → Change → Type 0
 IsSaid text said assumption change = Assumes text assumption change → Has said (words_of assumption)
 
@@ -33,7 +33,7 @@ abbrev pub AreSaid : List ℕ → List Change → List ℕ → Type 0
 AreSaid text changes said =
     All (λ change. (assumption : Assumption) → IsSaid text said assumption change) changes
 
--- with a reading that is suggested, it is said what it assumes: with the only one that the text has
+-- a suggested reading is the only one of its text, and its assumptions are stated with it
 pub record IsTold (text said : List ℕ) : Type 0 where
   pub reading : Reading
   pub only : AreReadings text (reading ∷ [])

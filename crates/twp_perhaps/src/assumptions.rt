@@ -88,7 +88,8 @@ fn write_phrases(
     Ok(())
 }
 
-/// What is before the next phrase of an assumption, of which some are said: a separator, and how they are said.
+/// What to write before the next phrase of an assumption, after `count` others: a separator, and before the first one
+/// `without`, if the phrases are left out.
 fn before_phrase(count: usize, is_first: bool, assumption: Assumption) -> &'static str {
     match (count, is_first, assumption.is_of_left_out()) {
         (0, true, true) => "without ",

@@ -1,4 +1,5 @@
--- What changes keep apart: what is between two parts in the text is between them in what is made of it.
+-- What changes keep apart: whatever is between two parts in the text is also between them in the changed
+-- text.
 use Rattle.std.specs.Prelude.{◌==◌, ◌||◌, ◌&&◌, ℕ, suc, Bool, false, List, [], ◌∷◌, if◌then◌else◌}
 use Rattle.std.specs.Prelude.{codes, drop, not, slice_index, slice_range, take}
 use Rattle.twp_grammar.specs.Tokens.{same_bytes, is_white}
@@ -96,9 +97,8 @@ parts_run text seam change =
     seam.ends_step && inserts_comma change change.rule && not (is_white (byte_before text change.start))
     && begins_with_step (drop change.start text)
 
--- PARTS ARE KEPT APART, from a place on: two steps that are written beside each other have nothing between
--- them in the text that was left out, but words and marks within a part; and those of a run stay beside each
--- other
+-- PARTS ARE KEPT APART, from a place on: if two steps are written next to each other, nothing was left out
+-- between them except words and marks within a part; and the steps of a run stay next to each other
 abbrev pub keep_apart : List ℕ → ℕ → Seam → List Change → Bool
 keep_apart text at seam [] = is_apart_at seam (drop at text)
 keep_apart text at seam (change ∷ changes) =

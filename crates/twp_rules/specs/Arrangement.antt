@@ -1,6 +1,6 @@
--- Where land lies: with the section that the text gives it to. Between them no other section is, but those of
--- the same list; and where land that is before its section follows land that is after its own, or other
--- sections, a semicolon or a line end tells them apart.
+-- Where land lies: with the section to which the text assigns it. No other section is between them, except
+-- those of the same list; and if land before its section follows land after its own section, or follows other
+-- sections, a semicolon or a line end separates them.
 use Rattle.std.specs.Prelude.{◌==◌, ◌||◌, ◌&&◌, ℕ, suc, Bool, true, false, List, [], ◌∷◌, Option, Some, None}
 use Rattle.std.specs.Prelude.{if◌then◌else◌, length, nat_le, nat_lt, not, slice_range}
 use Rattle.twp_grammar.specs.declared.item.Item.{Item}
@@ -52,8 +52,9 @@ has_no_other text it from to (mark ∷ marks) =
 abbrev pub is_after : Lying → Bool
 is_after it = nat_le it.section it.land
 
--- land that is after its section: so is the land before it; or a break is between their sections, or between
--- its section and itself, if that has land on both sides, and isn't the only one
+-- land that is after its section: the land before it is, too; or a break is between the two sections; or, if
+-- one section has land on both sides, a break is between the section and the land after it, or no other
+-- section is named
 abbrev pub lies_after : List ℕ → List Mark → Option Lying → Lying → Bool
 lies_after text marks None it = true
 lies_after text marks (Some last) it =
@@ -62,8 +63,8 @@ lies_after text marks (Some last) it =
     then has_break (slice_range text it.section it.land) || has_no_other text it 0 (length text) marks
     else has_break (slice_range text last.section it.section))
 
--- land that is before its section: so is the land before it; or the only break from the section of that to
--- its own is between the two
+-- land that is before its section: the land before it is, too; or the only break between the two sections is
+-- between the two pieces of land. If there is no land before it, no other section is before it, or a break is
 abbrev pub lies_before : List ℕ → List Mark → Option Lying → Lying → Bool
 lies_before text marks None it =
     has_no_other text it 0 it.land marks || has_break (slice_range text 0 it.land)

@@ -20,8 +20,8 @@ use crate::same::{are_same, begins_with, is_text};
 use crate::seam::Seam;
 use crate::words::land::*;
 
-/// Whether the text before a change, and what it writes, are apart from what was written before each of them, and no run
-/// of steps is parted.
+/// Whether the text before a change, and the text that the change writes, are each kept apart from what was written
+/// before them, and no run of steps is split.
 pub(crate) fn is_apart(text: &[u8], seam: Seam, near: Seam, gap: &[u8], change: &Change<'_>) -> bool
     requires { change.now.start ≤ length text.now }
     ensures { result ≡ (is_apart_at seam gap.now && is_apart_at near change.now.written.now
@@ -51,7 +51,7 @@ fn inserts_comma(change: &Change<'_>) -> bool
     }
 }
 
-/// Whether no step is joined at a seam to one that something was between.
+/// Whether no step at a seam is joined to one that something separated from it.
 pub(crate) fn is_apart_at(seam: Seam, bytes: &[u8]) -> bool
     ensures { result ≡ is_apart_at seam bytes.now }
 {
@@ -122,7 +122,7 @@ fn is_article(text: &[u8], start: usize, left_out: &[u8]) -> bool
         && (is_after_mark(text, start) || has_before_articles(before(text, start)))
 }
 
-/// Whether a mark that sets a number apart is before a place, or nothing is.
+/// Whether a mark that sets a number apart is before a place, or nothing is before it.
 fn is_after_mark(text: &[u8], at: usize) -> bool
     requires { at ≤ length text.now }
     ensures { result ≡ is_one_of (solid_before text.now at ∷ []) ((0 ∷ []) ∷ apart_marks) }

@@ -41,7 +41,7 @@ pub fn changed(alloc: Global, text: &[u8], changes: &[Change<'_>]) -> Result<Vec
     Ok(made)
 }
 
-/// Appends bytes to a text. Mostly there are none: changes touch each other, or leave something out.
+/// Appends bytes to a text. Usually there are none, since changes touch each other, or only leave something out.
 fn append(made: &mut Vec<u8>, bytes: &[u8]) -> Result<(), AllocError>
     ensures { OnOk result (made.new.items ≡ made.old.items ++ bytes.now) }
 {

@@ -19,8 +19,8 @@ use crate::same::begins_with;
 use crate::words::numbers::*;
 use crate::words::sections::*;
 
-/// Whether what is left out where it is written elsewhere is written. In most texts each number of it is copied, or
-/// nothing is moved, and then it doesn't matter what was named last.
+/// Whether each number of the text that is moved is written elsewhere. In most texts, each is copied, or nothing is
+/// moved, and then it doesn't matter what was named last.
 #[tactic(auto, using(crate::proofs::ChangeFacts::next_moved, crate::proofs::ChangeFacts::not_written, crate::proofs::ChangeFacts::start_within, crate::proofs::ChangeFacts::end_within, crate::proofs::MoveFacts::all_are_copied))]
 pub(crate) fn is_moved_text_written(text: &[u8], changes: &[Change<'_>]) -> bool
     requires { AreChangesFrom 0 text.now (map seen changes.now) }

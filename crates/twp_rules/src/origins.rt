@@ -127,8 +127,7 @@ fn found(changes: &[Change<'_>], base: usize, at: u32, from: Cursor) -> Option<S
     Some(Spot { place, cursor })
 }
 
-/// A cursor moved on, up to the change that writes the byte at an offset, or that is after it.
-
+/// A cursor advanced to the change that writes the byte at an offset, or to the first one after that byte.
 fn advanced(changes: &[Change<'_>], from: Cursor, offset: usize) -> Cursor
     requires followed { IsFollowed changes.now from }
     requires order { from.offset ≤ offset }
@@ -155,7 +154,6 @@ fn advanced(changes: &[Change<'_>], from: Cursor, offset: usize) -> Cursor
 }
 
 /// The origin of the byte at an offset, if that is before the end of what the next change writes, or after all changes.
-
 fn place_from(changes: &[Change<'_>], from: Cursor, offset: usize) -> Option<usize>
     requires followed { IsFollowed changes.now from }
     requires order { from.offset ≤ offset }

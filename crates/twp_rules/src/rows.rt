@@ -1,8 +1,8 @@
-//! Rows of the rules' tables, and what is in them. A table is an array of rows, and a row is an array of
-//! bytes, without a pointer, since each pointer of static data is set at every start of the program. All rows
-//! of a table have as many bytes, filled up with `_`. One function goes through the rows of all tables of a
-//! kind, so a row is data, and needs no proof of its own. The number with a table has a bit for the first byte of each
-//! row: a wrong one is refused.
+//! Rows of the rules' tables, and what is in them. A table is an array of rows, and a row is an array of bytes, without
+//! a pointer, since each pointer of static data is set at every start of the program. All rows of a table have as many
+//! bytes, filled up with `_`. One function goes through the rows of all tables of a kind, so a row is data, and needs
+//! no proof of its own. The number with a table has a bit for the first byte of each row: with a wrong number, the
+//! proof fails.
 ghost use Rattle.std.specs.Prelude.{◌≡◌, ◌-◌, true, drop, length, slice_index_or};
 ghost use Rattle.std.specs.List.{list_any};
 ghost use Rattle.std.specs.Char.{to_ascii_lowercase};
@@ -73,8 +73,8 @@ fn is_some_word<const N: usize>(word: &[u8], first: u8, rows: &[[u8; N]]) -> boo
     false
 }
 
-/// Whether a row of a table may begin with a byte: `heads` has a bit for the first byte of each row, which is that of
-/// the last five bits of the byte. Most texts are ruled out by it before any row is looked at.
+/// Whether a row of a table may begin with a byte: `heads` has a bit for the first byte of each row, whose index is the
+/// low five bits of that byte. This rules out most texts before any row is looked at.
 #[inline(always)]
 fn is_head(heads: u32, byte: u8) -> bool
     ensures { result ≡ is_head heads byte }

@@ -1,6 +1,5 @@
--- What a change of a reading assumes that its text doesn't say, and the phrase of the text that this is
--- about.
--- Letters of either case are the same.
+-- What a change of a reading assumes that its text doesn't state, and the phrase that the assumption is
+-- about. Letters of either case are the same.
 use Rattle.std.specs.Prelude.{◌==◌, ◌||◌, ◌&&◌, ◌+◌, ◌-◌, ℕ, zero, suc, Bool, true, List, [], ◌∷◌}
 use Rattle.std.specs.Prelude.{Option, Some, None}
 use Rattle.std.specs.Prelude.{drop, if◌then◌else◌, codes, length, slice_index, slice_range, take, not}
@@ -82,7 +81,7 @@ is_between_steps text start end =
     not (is_one_of (last_before text start ∷ []) half_corner_ends)
     && begins_step (without_white (drop end text))
 
--- if a letter or a digit is wrong, this is assumed; otherwise that
+-- that a letter or a digit is wrong, if one is; otherwise the other assumption
 abbrev pub if_wrong : Bool → Option Assumption → Option Assumption
 if_wrong wrong other = if wrong then Some WrongLetter else other
 
@@ -132,7 +131,7 @@ abbrev pub word_start : List ℕ → ℕ → ℕ
 word_start text zero = 0
 word_start text (suc at) = if is_between_words (slice_index text at) then suc at else word_start text at
 
--- how long the word is with which a text begins
+-- the length of the word at the beginning of a text
 abbrev pub word_length : List ℕ → ℕ
 word_length [] = 0
 word_length (byte ∷ bytes) = if is_between_words byte then 0 else suc (word_length bytes)

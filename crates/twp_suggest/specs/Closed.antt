@@ -1,5 +1,4 @@
--- What is ambiguous is never decided: the other way to read each place that can be read in two ways is given
--- as well.
+-- No ambiguity is resolved silently: if a place can be read in two ways, the other reading is given as well.
 use Rattle.std.specs.Prelude.{◌≡◌, ℕ, Bool, true, List, map}
 use Rattle.std.specs.Prelude.{All, Any}
 use Rattle.twp_grid.specs.Townships.{Designation}
@@ -23,14 +22,14 @@ abbrev pub IsLandOf : List Reading → List ℕ → Designation → Type 0
 IsLandOf readings text township = (others : ℕ → ℕ → ℕ → Bool) → IsLandOfText township text others
     → Any (NamesSame township others) readings
 
--- so in the township of a reading
+-- the same in the township of a reading
 pub record IsLandGiven (readings : List Reading) (own : Reading) (text : List ℕ) : Type 0 where
   pub township : Designation
   pub places : ℕ → ℕ → ℕ → Bool
   pub of_own : IsLandOfText township own.text.items places
   pub given : IsLandOf readings text township
 
--- a text is that of one of some readings, or has no other land
+-- a text is the text of one of some readings, or names no land that none of them names
 pub data IsGiven (readings : List Reading) (own : Reading) (text : List ℕ) : Type 0 where
   by_text : Any (λ reading. reading.text.items ≡ text) readings → IsGiven readings own text
   by_land : IsLandGiven readings own text → IsGiven readings own text

@@ -27,8 +27,8 @@ pub record LiesWithSections (text : List ℕ) (changes : List Change) : Type 0 w
   pub land : lie_with_sections text changes 0 items ≡ true
   pub other : LiesExcepted text changes excepted
 
--- A READING of a text: what comes of its changes, which say again what they leave out as repeated, and which
--- the reader accepts
+-- A READING of a text: the result of its changes, which the reader accepts; text left out as repeated repeats
+-- what is before it
 pub record IsReading (text : List ℕ) (reading : Reading) : Type 0 where
   pub made : MayBeMade text (map seen reading.changes.items)
   pub repeated : AreRepeated text [] 0 (map seen reading.changes.items)
@@ -64,7 +64,8 @@ pub record AreSomeReadings (text : List ℕ) (readings : List Reading) : Type 0 
   pub apart : AllPairs AreOther readings
   pub few : length readings ≤ READINGS_MOST
 
--- THE READINGS of a text: of one that is clear, the text itself; and of another, nothing ambiguous is decided
+-- THE READINGS of a text: a clear text has only itself; the readings of any other resolve no ambiguity
+-- silently
 pub record AreReadings (text : List ℕ) (readings : List Reading) : Type 0 where
   pub some : AreSomeReadings text readings
   pub closed : ¬ IsClear text → AreClosed text readings

@@ -1,5 +1,5 @@
--- What is left out since it repeats something, as in parentheses: a number, or a township and range, that is
--- written just before it, or land that is.
+-- Text that is left out because it repeats what is just before it, as in parentheses: a number, a township or
+-- range, or land.
 use Rattle.std.specs.Prelude.{◌≡◌, ◌==◌, ◌||◌, ◌&&◌, ℕ, suc, ◌+◌, Bool, true, false, List, [], ◌∷◌, ◌++◌}
 use Rattle.std.specs.Prelude.{codes, if◌then◌else◌, drop, length, nat_lt, not, slice_index, slice_range, take}
 use Rattle.std.specs.Char.{is_ascii_alphabetic, is_ascii_digit, to_ascii_lowercase}
@@ -83,7 +83,7 @@ pub record NameLastLand (before parts : List ℕ) : Type 0 where
 abbrev pub says_nothing : List ℕ → Bool
 says_nothing seen = is_remark seen && is_without (codes "all") seen
 
--- a rule writes something instead of what is there: nothing is left out since it is said elsewhere, or copied
+-- a rule replaces what is there: it leaves nothing out because it is elsewhere, and copies nothing
 abbrev pub is_in_place : Rule → Bool
 is_in_place Repeated = false
 is_in_place (Copied from to) = false
@@ -97,8 +97,8 @@ abbrev pub are_in_place : List Change → Bool
 are_in_place [] = true
 are_in_place (change ∷ changes) = is_in_place change.rule && are_in_place changes
 
--- SAYS THE LAND AGAIN: some bytes of a phrase are changed by rules, where they are, into parts that name the
--- last land before it, and its other bytes name none
+-- REPEATS THE LAND: rules change some bytes of a phrase, in place, into parts that name the last land before
+-- it, and its other bytes name none
 pub record SaysLand (before phrase : List ℕ) : Type 0 where
   pub from : ℕ
   pub to : ℕ
@@ -135,8 +135,8 @@ is_township_said bytes =
     && (length bytes == length (digits_of (drop 1 bytes)) + 2)
     && is_side_letter (slice_index bytes (length (digits_of (drop 1 bytes)) + 1))
 
--- a number begins after a byte that is no digit, and no slash of a fraction; a township or range, after no
--- letter either
+-- a number begins only after a byte that is neither a digit nor a slash of a fraction; a township or range,
+-- only after one that isn't a letter, either
 abbrev pub may_begin_number : ℕ → Bool
 may_begin_number byte = not (is_ascii_digit byte) && not (byte == 47)
 
@@ -174,7 +174,7 @@ abbrev pub has_repeated : List Change → Bool
 has_repeated [] = false
 has_repeated (change ∷ changes) = is_for_repeated change.rule || has_repeated changes
 
--- WHAT IS REPEATED IS SAID AGAIN, from a change on, after what was made of the text before it
+-- REPETITIONS REPEAT what is before them, from a change on, after the changed text so far
 abbrev pub AreRepeated : List ℕ → List ℕ → ℕ → List Change → Type 0
 AreRepeated text made at [] = Unit {0}
 AreRepeated text made at (change ∷ changes) =

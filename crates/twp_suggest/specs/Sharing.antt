@@ -1,6 +1,6 @@
--- Two parts with `and` between them, of which one has an `of` that the other hasn't: it may be for both. And
--- two steps with white space between them may be one part, or two. The other way is found in the tokens of a
--- text.
+-- Two parts with `and` between them, only one of which has an `of`: it may apply to both. And two steps with
+-- white space between them, which may be one part or two. The other way to read them is found in the tokens
+-- of a text.
 use Rattle.std.specs.Prelude.{◌≡◌, ◌==◌, ◌||◌, ◌&&◌, ℕ, ◌+◌, ◌-◌, Bool, true, false, List, [], ◌∷◌}
 use Rattle.std.specs.Prelude.{if◌then◌else◌, length, map, nat_le, nat_lt, not, Option, None}
 use Rattle.std.specs.Prelude.{slice_index}
@@ -47,7 +47,7 @@ abbrev pub without_the : List Token → List Token
 without_the [] = []
 without_the (token ∷ more) = if is_the token.kind then more else token ∷ more
 
--- the tokens after the `of` of a part that so many others are before, or nothing
+-- the tokens after the `of` of a part that follows `count` others, or nothing
 abbrev pub after_of : ℕ → List Token → List Token
 after_of count [] = []
 after_of count (token ∷ more) =
@@ -98,12 +98,12 @@ is_within sought from to at place (change ∷ changes) =
     && nat_lt (place + (change.start - at)) to
     || is_within sought from to change.end (place + (change.start - at) + length change.written) changes
 
--- between a part and another is no phrase that is left out, and the steps of one of them are all of the text
+-- no phrase is left out between two parts, and all steps of one of them are from the text
 abbrev pub are_as_written : List Change → ℕ → ℕ → ℕ → ℕ → Bool
 are_as_written changes from to first end =
     not (is_within Phrases from to 0 0 changes) && not (is_within Copies first end 0 0 changes)
 
--- what is after the further `of` of another part is written again after a part, before other tokens
+-- the tokens after the additional `of` of another part, repeated after a part, before other tokens
 abbrev pub tail_by : List Change → ℕ → ℕ → ℕ → ℕ → List Token → Option Way
 tail_by changes end count first next [] = None
 tail_by changes end count first next (token ∷ more) =
@@ -121,7 +121,7 @@ abbrev pub part_after_and : List Token → List Token
 part_after_and [] = []
 part_after_and (token ∷ more) = if is_and token.kind && begins_part more then more else []
 
--- what is before the further `of` of a part is written again before another part
+-- the tokens before the additional `of` of a part, repeated before another part
 abbrev pub head_by : List Change → ℕ → List Token → List Token → Option Way
 head_by changes end part [] = None
 head_by changes end part (token ∷ more) =
@@ -149,7 +149,7 @@ is_fraction Half = true
 is_fraction Quarter = true
 is_fraction kind = false
 
--- A STEP AND ANOTHER WITH WHITE SPACE BETWEEN THEM MAY BE TWO PARTS, if the first one is of the text
+-- TWO STEPS WITH WHITE SPACE BETWEEN THEM MAY BE TWO PARTS, if the first one is from the text
 abbrev pub apart_after : List Change → Token → List Token → Option Way
 apart_after changes token [] = None
 apart_after changes token (next ∷ more) =

@@ -10,7 +10,7 @@ use Rattle.twp_rules.specs.Edges.{without_white}
 use Rattle.twp_suggest.specs.declared.way.Way.{Way}
 use Rattle.twp_suggest.specs.declared.way.Way.TheVariants.{Again, Apart, LeftOut}
 
--- a text with this written instead of its bytes from one place up to another
+-- a text in which other bytes replace those from one place up to another
 abbrev pub text_with : List ℕ → ℕ → List ℕ → ℕ → List ℕ
 text_with made from written to = take from made ++ written ++ drop to made
 
@@ -70,7 +70,7 @@ abbrev pub copies_at : Rule → ℕ → ℕ → Bool
 copies_at (CopiedStep from to) start place = start == place
 copies_at rule start place = false
 
--- how many bytes the steps are that are written again at a place
+-- the number of bytes of the steps that are repeated at a place
 abbrev pub copied_length : ℕ → List Change → ℕ
 copied_length place [] = 0
 copied_length place (change ∷ changes) =
@@ -121,8 +121,8 @@ abbrev pub IfWay : (Way → Type 0) → Option Way → Type 0
 IfWay IsGiven None = Unit {0}
 IfWay IsGiven (Some way) = IsGiven way
 
--- THE OTHER WAYS AT CHANGES ARE GIVEN, from a change on, after one by a rule that ends at a place of the
--- text; what it makes ends at another
+-- THE OTHER WAYS AT CHANGES ARE GIVEN, from a change on; the change before it is by a rule, and ends at one
+-- place of the text and at another of the changed text
 abbrev pub AreTurned : (Way → Type 0) → List ℕ → List ℕ → Rule → ℕ → ℕ → List Change → Type 0
 AreTurned IsGiven text made before at place [] = Unit {0}
 AreTurned IsGiven text made before at place (change ∷ changes) =

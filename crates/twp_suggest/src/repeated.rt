@@ -1,4 +1,5 @@
-//! What a text says again, as in parentheses, and what is left out for that: it has to be what is written just before it.
+//! Text that is left out because it repeats something, as in parentheses: it has to repeat what is written just before
+//! it.
 ghost use Rattle.std.specs.Prelude.{◌≡◌, ◌≤◌, ◌++◌, true, [], IfOk, length, drop, map, slice_range, take};
 ghost use Rattle.twp_rules.specs.Changes.{AreChangesFrom, seen};
 ghost use Rattle.twp_suggest.specs.Repeats.{AreRepeated, SaysAgain, SaysAgainBy, SaysLand, SaysNumber, has_repeated};

@@ -1,4 +1,5 @@
-//! The other ways to read two parts with `and` between them, of which one has an `of` that the other hasn't.
+//! The other ways to read two parts with `and` between them, only one of which has an `of`, and two steps with white
+//! space between them.
 ghost use Rattle.std.specs.Prelude.{◌≡◌, ◌+◌, ◌-◌, IfOk, IfSome, map};
 ghost use Rattle.twp_grammar.specs.Tokens.{seen as token};
 ghost use Rattle.twp_read.specs.Doubts.{after_part, is_and, is_of, is_of_part, is_of_step};

@@ -4,8 +4,8 @@
 
 use crate::same::is_among;
 
-/// Words by which land isn't meant any more, or other land is, or a part of it, or it isn't sure: no remark, label, or
-/// term has them.
+/// Words that say that land is no longer meant, that other land or a part of it is meant, or that this is uncertain: no
+/// remark, label, or term contains them.
 pub fn alters_land(word: &[u8]) -> bool {
     match word.len() {
         2 => is_among(word, "vs"),
@@ -67,8 +67,8 @@ pub fn alters_land(word: &[u8]) -> bool {
     }
 }
 
-/// Words for sizes, places, and parts, and that the text goes on: after land, no remark has them, and no limit to
-/// depths.
+/// Words for sizes, places, and parts, and words that say that the text continues: no remark after land contains them,
+/// and no limit on depths.
 pub fn limits_land(word: &[u8]) -> bool {
     match word.len() {
         2 => is_among(word, "fr rr tx"),

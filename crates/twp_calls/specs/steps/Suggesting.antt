@@ -32,7 +32,7 @@ suggestion_of found =
       beyond_end = found.reason.end;
     }
 
--- the data of a change of a text, of which the bytes that are written begin at a place
+-- the data of a change of a text, whose written bytes begin at a place
 abbrev pub change_data : List ℕ → Change → ℕ → TownshipChange
 change_data text change written =
     record {

@@ -22,7 +22,7 @@ front_of row = before 95 row
 abbrev pub end_of : List ℕ → List ℕ
 end_of row = without 95 row
 
--- a number has the bit of a byte, which is that of the last five bits of it
+-- a number has the bit of a byte: the index of the bit is the low five bits of the byte
 abbrev pub is_head : ℕ → ℕ → Bool
 is_head heads byte = bit_and (heads / 2 ^ (byte % 32)) 1 == 1
 

@@ -83,7 +83,7 @@ pub(crate) fn is_in_first_words(word: &[u8]) -> bool
 /// The texts `cell_marks` of the specification.
 static CELL_MARKS: [[u8; 1]; 2] = [*b"|", *b"\t"];
 
-/// Whether a word is one of them.
+/// Whether a text is one of them.
 pub(crate) fn is_in_cell_marks(word: &[u8]) -> bool
     ensures { result ≡ is_one_of word.now cell_marks }
 {
