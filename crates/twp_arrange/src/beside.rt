@@ -73,18 +73,42 @@ impl<'a> Plan<'a> {
         }
     }
 
-    /// Whether a bare `NE` may be Nebraska: after a meridian or a county and a comma, or after another name
-    /// and a comma, at the end of a line.
+    /// Whether a bare `NE` may be Nebraska: after a meridian or a county; after a comma and a name with another comma, or at
+    /// the end of the line; or after the word for a state.
     fn may_be_state(&self, before: &Phrase, part: &Phrase, rule: Rule) -> bool {
         let pieces = &self.draft.pieces;
         let is_after_comma = pieces.is(before.end, b",") && plus(before.end, 1) == part.first;
         let is_alone = part.end >= pieces.len() || pieces.begins_line(part.end);
         let follows = match rule {
-            Rule::Meridian => true,
-            Rule::Label => is_alone,
+            Rule::Meridian => {
+                is_after_comma
+                    || before.end == part.first
+                    || (pieces.is(before.end, b"|") && plus(before.end, 1) == part.first)
+            }
+            Rule::Label => {
+                (is_after_comma
+                    && (is_alone || self.has_word(before, b",") || self.is_after_comma(before)))
+                    || self.has_word(before, b"state")
+                    || self.has_word(before, b"st")
+            }
             _ => false,
         };
-        is_after_comma && follows && pieces.is(part.first, b"ne") && self.is_bare(part)
+        follows && pieces.is(part.first, b"ne") && self.is_bare(part)
+    }
+
+    /// Whether a comma is before a phrase.
+    fn is_after_comma(&self, phrase: &Phrase) -> bool {
+        phrase.first > 0 && self.draft.pieces.is(phrase.first.saturating_sub(1), b",")
+    }
+
+    /// Whether a word, or a mark, is in a phrase.
+    pub(crate) fn has_word(&self, phrase: &Phrase, word: &[u8]) -> bool {
+        for index in phrase.first..phrase.end {
+            if self.draft.pieces.is(index, word) {
+                return true;
+            }
+        }
+        false
     }
 
     /// Whether the word for a meridian is at an index without its number or name, so that the number before

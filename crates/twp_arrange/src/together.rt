@@ -16,6 +16,8 @@ impl<'a> Plan<'a> {
             || self.has_loose_section()
             || self.has_other_tract()
             || self.has_unsure_neighbors()
+            || self.has_part_of_part()
+            || self.has_section_aside()
         {
             self.draft.doubt();
         }
@@ -168,6 +170,75 @@ impl<'a> Plan<'a> {
         let pieces = &self.draft.pieces;
         let first = heading.first;
         first == 0 || pieces.has_before(first, b'\n') || pieces.is(first.saturating_sub(1), b";")
+    }
+
+    /// Whether a part is of another one that was named before, as in `the N/2 of said NW/4`, unless that is a quarter or a
+    /// half of the section, and no other part is before it.
+    fn has_part_of_part(&self) -> bool {
+        let mut parts: usize = 0;
+        let mut before: Option<&Phrase> = None;
+        for phrase in &self.draft.phrases {
+            if phrase.names != Names::Part {
+                continue;
+            }
+            let is_said = self.has_word(phrase, b"said")
+                || self
+                    .draft
+                    .pieces
+                    .is(phrase.first.saturating_sub(1), b"said");
+            if is_said && (parts != 1 || !self.is_of_whole(before, phrase)) {
+                return true;
+            }
+            parts = plus(parts, 1);
+            before = Some(phrase);
+        }
+        false
+    }
+
+    /// Whether the last step of a part is the only step of the one before it.
+    fn is_of_whole(&self, before: Option<&Phrase>, part: &Phrase) -> bool {
+        let Some(before) = before else {
+            return false;
+        };
+        match (
+            self.draft.steps_of(*before),
+            self.draft.steps_of(*part).last(),
+        ) {
+            ([only], Some(last)) => only.written == last.written,
+            _ => false,
+        }
+    }
+
+    /// Whether one of several sections is in parentheses, as in `Sec. 14 (Sec. 9): NE`; or land is before the first one,
+    /// and after a colon of another, as in `NE; Sec. 14: SW; Sec. 9`.
+    fn has_section_aside(&self) -> bool {
+        let pieces = &self.draft.pieces;
+        let mut sections: usize = 0;
+        let mut is_aside = false;
+        let mut is_land_first = false;
+        // The index after a section and its colon.
+        let mut colon: Option<usize> = None;
+        for phrase in &self.draft.phrases {
+            match phrase.names {
+                Names::Sections => {
+                    sections = plus(sections, 1);
+                    is_aside = is_aside
+                        || pieces.is(phrase.first.saturating_sub(1), b"(")
+                        || pieces.is(phrase.end, b")");
+                    colon = if matches!(pieces.kind(phrase.end), Kind::Colon) {
+                        Some(plus(phrase.end, 1))
+                    } else {
+                        None
+                    };
+                }
+                Names::Part | Names::Lots | Names::All => {
+                    is_land_first = is_land_first || sections == 0;
+                    is_aside = is_aside || (is_land_first && colon == Some(phrase.first));
+                }
+                _ => {}
+            }
+        }
+        is_aside && sections > 1
     }
 
     /// Whether a tract has a label, and no section of its own, though land before it has no label: it may be
