@@ -73,8 +73,8 @@ impl<'a> Plan<'a> {
         }
     }
 
-    /// Whether a bare `NE` may be Nebraska: after a meridian or a county; after a comma and a name with another comma, or at
-    /// the end of the line; or after the word for a state.
+    /// Whether a bare `NE` may be Nebraska: after a meridian or a county; after a comma and a name with
+    /// another comma, or at the end of the line; or after the word for a state.
     fn may_be_state(&self, before: &Phrase, part: &Phrase, rule: Rule) -> bool {
         let pieces = &self.draft.pieces;
         let is_after_comma = pieces.is(before.end, b",") && plus(before.end, 1) == part.first;

@@ -172,8 +172,8 @@ impl<'a> Plan<'a> {
         first == 0 || pieces.has_before(first, b'\n') || pieces.is(first.saturating_sub(1), b";")
     }
 
-    /// Whether a part is of another one that was named before, as in `the N/2 of said NW/4`, unless that is a quarter or a
-    /// half of the section, and no other part is before it.
+    /// Whether a part is of another one that was named before, as in `the N/2 of said NW/4`, unless that is a
+    /// quarter or a half of the section, and no other part is before it.
     fn has_part_of_part(&self) -> bool {
         let mut parts: usize = 0;
         let mut before: Option<&Phrase> = None;
@@ -209,8 +209,8 @@ impl<'a> Plan<'a> {
         }
     }
 
-    /// Whether one of several sections is in parentheses, as in `Sec. 14 (Sec. 9): NE`; or land is before the first one,
-    /// and after a colon of another, as in `NE; Sec. 14: SW; Sec. 9`.
+    /// Whether one of several sections is in parentheses, as in `Sec. 14 (Sec. 9): NE`; or land is before the
+    /// first one, and after a colon of another, as in `NE; Sec. 14: SW; Sec. 9`.
     fn has_section_aside(&self) -> bool {
         let pieces = &self.draft.pieces;
         let mut sections: usize = 0;

@@ -146,10 +146,11 @@ abbrev pub white_length : List ℕ → ℕ
 white_length [] = 0
 white_length (byte ∷ bytes) = if is_white byte then suc (white_length bytes) else 0
 
--- where the white space, or the word, after a place ends
+-- where the white space after a place ends
 abbrev pub white_end : List ℕ → ℕ → ℕ
 white_end text at = at + white_length (drop at text)
 
+-- where the word after a place ends
 abbrev pub word_end : List ℕ → ℕ → ℕ
 word_end text at = at + word_length (drop at text)
 

@@ -14,12 +14,12 @@ use Rattle.twp_suggest.specs.Closed.{AreClosed}
 use Rattle.twp_suggest.specs.Repeats.{AreRepeated}
 use Rattle.twp_suggest.specs.declared.reading.Reading.{Reading}
 
--- the land of the changed text lies with the sections that the text gives it to: that of its items, and that
--- of what is excepted
+-- the land that is excepted, if any is, lies with its sections
 abbrev pub LiesExcepted : List ℕ → List Change → Option Excepted → Type 0
 LiesExcepted text changes None = Unit {0}
 LiesExcepted text changes (Some part) = lie_with_sections text changes part.at part.items ≡ true
 
+-- LAND LIES WITH ITS SECTIONS: all land of the changed text is in the section to which the text assigns it
 pub record LiesWithSections (text : List ℕ) (changes : List Change) : Type 0 where
   pub items : List Item
   pub excepted : Option Excepted

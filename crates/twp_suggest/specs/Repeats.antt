@@ -34,6 +34,7 @@ section_name text section = take (name_end (drop section text)) (drop section te
 abbrev pub is_mark : ℕ → Bool
 is_mark byte = is_white byte || (byte == 44) || (byte == 59)
 
+-- nothing else is in a text
 abbrev pub are_marks : List ℕ → Bool
 are_marks [] = true
 are_marks (byte ∷ bytes) = is_mark byte && are_marks bytes
@@ -122,24 +123,26 @@ solid (byte ∷ bytes) = if is_loose byte then solid bytes else to_ascii_lowerca
 abbrev pub is_number_said : List ℕ → Bool
 is_number_said bytes = nat_lt 0 (length bytes) && (length (digits_of bytes) == length bytes)
 
--- the letter of a township or a range with its number and side, as t2n
+-- T or R, for a township or a range
 abbrev pub is_township_letter : ℕ → Bool
 is_township_letter byte = (byte == 116) || (byte == 114)
 
+-- N, S, E, or W
 abbrev pub is_side_letter : ℕ → Bool
 is_side_letter byte = (byte == 110) || (byte == 115) || (byte == 101) || (byte == 119)
 
+-- a township or a range: its letter, its number, and the letter of its side, as t2n
 abbrev pub is_township_said : List ℕ → Bool
 is_township_said bytes =
     is_township_letter (slice_index bytes 0) && nat_lt 0 (length (digits_of (drop 1 bytes)))
     && (length bytes == length (digits_of (drop 1 bytes)) + 2)
     && is_side_letter (slice_index bytes (length (digits_of (drop 1 bytes)) + 1))
 
--- a number begins only after a byte that is neither a digit nor a slash of a fraction; a township or range,
--- only after one that isn't a letter, either
+-- a number begins only after a byte that is neither a digit nor the slash of a fraction
 abbrev pub may_begin_number : ℕ → Bool
 may_begin_number byte = not (is_ascii_digit byte) && not (byte == 47)
 
+-- a township or a range, only after one that isn't a letter, either
 abbrev pub may_begin_township : ℕ → Bool
 may_begin_township byte = may_begin_number byte && not (is_ascii_alphabetic byte)
 

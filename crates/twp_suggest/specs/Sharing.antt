@@ -18,10 +18,12 @@ use Rattle.twp_suggest.specs.declared.way.Way.{Way}
 use Rattle.twp_suggest.specs.declared.way.Way.TheVariants.{Again, Apart}
 use Rattle.twp_suggest.specs.Ways.{IfWay, is_side, way_if}
 
+-- a comma
 abbrev pub is_comma : Kind → Bool
 is_comma Comma = true
 is_comma kind = false
 
+-- the word `the`
 abbrev pub is_the : Kind → Bool
 is_the The = true
 is_the kind = false
@@ -33,6 +35,7 @@ leads_part Colon = true
 leads_part And = true
 leads_part kind = is_number kind
 
+-- there are no tokens
 abbrev pub is_nothing : List Token → Bool
 is_nothing [] = true
 is_nothing (token ∷ more) = false
@@ -60,6 +63,7 @@ of_count part =
     if is_nothing (after_of 0 part) then 0
     else (if is_nothing (after_of 1 part) then 1 else (if is_nothing (after_of 2 part) then 2 else 3))
 
+-- the first token begins a step, and so a part
 abbrev pub begins_part : List Token → Bool
 begins_part [] = false
 begins_part (token ∷ more) = begins_step token.kind
@@ -135,15 +139,17 @@ head_by changes end part (token ∷ more) =
 abbrev pub head_of : List Change → ℕ → List Token → Option Way
 head_of changes end part = head_by changes end part (part_after_and (after_part part))
 
--- both, if a part follows a token
+-- the first of these, if a token before a part leads to it
 abbrev pub tail_after : List Change → ℕ → Kind → List Token → Option Way
 tail_after changes end kind more =
     if leads_part kind && begins_part more then tail_of changes end more else None
 
+-- and the second
 abbrev pub head_after : List Change → ℕ → Kind → List Token → Option Way
 head_after changes end kind more =
     if leads_part kind && begins_part more then head_of changes end more else None
 
+-- a fraction of a half or a quarter
 abbrev pub is_fraction : Kind → Bool
 is_fraction Half = true
 is_fraction Quarter = true
