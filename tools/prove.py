@@ -28,10 +28,8 @@ from kit import keep_proofs, loaded_rt
 ROOT = Path(__file__).resolve().parent.parent
 # What is used of the kit's rt.
 NEEDED = (
-    "ci_over",
     "edits_of",
     "run",
-    "set_aside",
     "in_lanes",
     "processors",
     "free",
@@ -216,25 +214,51 @@ def prove(rt, crates):
         rt.Crate.compile_by = lambda *words: both(*words)
     rt.edits_of, rt.run = lambda crate: ([], []), lambda crate, tests, ending="": True
     rt.in_lanes = lambda tasks: Lanes(tasks, rt.processors(), SHARE_OF_MEMORY * rt.free()).run()
-    # rt ci puts all that is in the crates' out/ aside; here, only what is built anew has to go.
-    rt.set_aside = lambda root, names, aside: [remove_built(it) for it in crates]
     threading.Thread(target=progress.show_each_minute, args=(ended,), daemon=True).start()
     os.chdir(ROOT)
     with contextlib.redirect_stdout(progress):
-        status = rt.ci_over(None, False, [it.name for it in crates])
+        status = ci_over(rt, crates)
     ended.set()
     return status == 0
+
+
+def ci_over(rt, crates):
+    """Runs rt ci over some crates, and returns its status. It puts all that is in the crates' out/ aside; here, only what is
+    built anew has to go."""
+
+    def remove(built):
+        for it in built:
+            remove_built(it)
+
+    if hasattr(rt, "ci_over"):
+        rt.set_aside = lambda root, names, aside: remove(crates)
+        return rt.ci_over(None, False, [it.name for it in crates])
+    # This kit's rt ci takes all crates of the repository, refuses files that are in none of its crates, and keeps nothing. A
+    # library fits only those that it was built over.
+    every, stop_on_unread, proved_by = rt.rtlib.crates_below(str(ROOT)), rt.rtlib.stop_on_unread, rt.Crate.ci
+    built = {it.name for it in crates if is_built(it)}
+    kept = {it.name for it in crates if all(each.name in built for each in (it, *it.below()))}
+    remove(it for it in crates if it.name not in kept)
+    rt.rtlib.stop_on_unread = lambda folder, _: stop_on_unread(folder, every)
+    # From the lowest crate to the highest.
+    rt.crates_of = lambda root, aside: sorted(crates, key=lambda it: len(it.below()))
+    rt.Crate.ci = lambda crate, *words: 0 if crate.name in kept else proved_by(crate, *words)
+    return rt.ci_from_nothing(None)
 
 
 def main():
     if len(sys.argv) != 2:
         sys.exit("usage: python3 tools/prove.py CRATE")
     rt = loaded_rt(*NEEDED)
+    if rt and not hasattr(rt, "ci_over"):
+        rt = loaded_rt(*NEEDED, "ci_from_nothing", "crates_of", "rtlib.stop_on_unread")
     if rt is None:
         print("this kit's rt can't be used for that, so one crate is proved after another", flush=True)
         return 3
     # Ctrl-C ends this process at once, and the kit's guard then ends the proofs.
     signal.signal(signal.SIGINT, signal.SIG_DFL)
+    if not hasattr(rt, "ci_over"):
+        rt.rtlib.Crate = rt.Crate
     *below, crate = rt.rtlib.crates_below(str(ROOT / "crates" / sys.argv[1]))
     # A static library is proved where it is built.
     crates = below if crate.is_static else [*below, crate]

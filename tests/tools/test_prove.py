@@ -13,7 +13,7 @@ sys.dont_write_bytecode = True
 sys.path.insert(0, str(pathlib.Path(__file__).resolve().parent.parent.parent / "tools"))
 
 from kit import below_each, keep_proofs  # noqa: E402
-from prove import Compilers, Lanes, Progress, is_built, remove_built  # noqa: E402
+from prove import Compilers, Lanes, Progress, ci_over, is_built, remove_built  # noqa: E402
 
 
 def crate(folder, name, is_program=False):
@@ -94,6 +94,42 @@ class Proving(unittest.TestCase):
             remove_built(it)
         self.assertFalse(is_built(self.library) or is_built(self.program))
         self.assertTrue(kept.is_dir())
+
+    def proved_by_older_kit(self):
+        """The crates that a kit proves whose rt ci takes all crates, in the order in which it is given them; and the files
+        that it looks for in crates."""
+        self.program.below, self.library.below = lambda: [self.library], lambda: []
+        proved, read = [], []
+
+        def prove(crate):
+            proved.append(crate)
+            return 0
+
+        def ci_from_nothing(aside):
+            rt.rtlib.stop_on_unread("tests", [])
+            return sum(rt.Crate.ci(it) for it in rt.crates_of("", aside))
+
+        every = [self.library, self.program, "another"]
+        rtlib = types.SimpleNamespace(
+            crates_below=lambda root: every, stop_on_unread=lambda folder, crates: read.append((folder, crates))
+        )
+        rt = types.SimpleNamespace(rtlib=rtlib, ci_from_nothing=ci_from_nothing, Crate=types.SimpleNamespace(ci=prove))
+        self.assertEqual(ci_over(rt, [self.program, self.library]), 0)
+        self.assertEqual(read, [("tests", every)])
+        return proved
+
+    def test_an_older_kit_is_given_these_crates_from_the_lowest(self):
+        self.assertEqual(self.proved_by_older_kit(), [self.library, self.program])
+
+    def test_it_proves_none_again_that_is_built(self):
+        self.shown("rt: twp_grid proved\n")
+        self.assertEqual(self.proved_by_older_kit(), [self.program])
+        self.assertTrue(is_built(self.library))
+
+    def test_it_proves_those_again_that_stand_on_another(self):
+        self.shown("rt: twp_cmd proved\n")
+        self.assertEqual(self.proved_by_older_kit(), [self.library, self.program])
+        self.assertFalse(is_built(self.program))
 
     def test_crates_come_by_the_longest_chain(self):
         begun = []
