@@ -1,10 +1,10 @@
 /*
  * township.h: the acreage of land in a township of the United States rectangular survey.
  *
- * Field notes (CSV) make a plat, which is plain data. On a plat, a description by lots and aliquot
- * parts gets its acres, its exact area, and its canonical text, and a list of tracts gets its
- * account. Otherwise the answer is the numbered refusal of the first fault, with its place. The
- * answers are proved for all bytes; docs/PROMISES.md states the promises in words.
+ * township_read makes a plat, which is plain data, from field notes (CSV). On a plat, other functions
+ * return the acres, the exact area, and the canonical text of a description by lots and aliquot parts,
+ * and the account of a list of tracts; or they refuse the input, with the number and the place of its
+ * first fault. The answers are proved for all bytes; docs/PROMISES.md states the promises in words.
  *
  *     township_plat plat;
  *     township_answer answer = township_read(notes, notes_length, &plat);
@@ -17,10 +17,10 @@
  *
  * examples/acres.c in the repository is a whole program, and says how to link it.
  *
- * No pointer may be NULL, even for zero bytes, and memory that a call writes must not overlap any
- * other argument's. There is nothing to free, and nothing is kept from one call to the next: call any
- * function from any thread at any time, but not from a signal handler. A call allocates memory with
- * `malloc` and frees it before it returns. The stack must have 256 KiB available.
+ * No pointer may be NULL, even for zero bytes, and memory that a call writes must not overlap the
+ * memory of any other argument. There is nothing to free, and nothing is kept from one call to the
+ * next: call any function from any thread at any time, but not from a signal handler. A call allocates
+ * memory with `malloc` and frees it before it returns. The stack must have 256 KiB available.
  */
 #ifndef TOWNSHIP_H
 #define TOWNSHIP_H
@@ -91,7 +91,7 @@ extern "C" {
 /* The number of section lines in a township. */
 #define TOWNSHIP_LINES 84
 
-/* The maximum sizes, in bytes, of field notes, of a description, of a list of tracts, and of a lot table: longer
+/* The maximum sizes, in bytes, of field notes, of a description, of a list of tracts, and of a lot table. Longer
    input is refused. */
 #define TOWNSHIP_NOTES_MOST 65536
 #define TOWNSHIP_DESCRIPTION_MOST 65536
@@ -99,26 +99,26 @@ extern "C" {
 #define TOWNSHIP_LOTS_TEXT_MOST 65536
 
 /* Verdicts. */
-#define TOWNSHIP_ACCEPTED 0u      /* the call succeeded, and here is the answer */
+#define TOWNSHIP_ACCEPTED 0u      /* the input is accepted, and the answer is valid */
 #define TOWNSHIP_REFUSED 1u       /* the input has the fault `number`, at the place `at` */
 #define TOWNSHIP_TRACT_REFUSED 2u /* a tract's description in the list has the fault `inner_number`, at the
                                      place `inner_at`; `number` is 83, and `at` is the tract's record */
 #define TOWNSHIP_NO_PLAT 3u       /* the plat you passed is not valid */
 #define TOWNSHIP_NO_ACCOUNT 4u    /* the account you passed is not valid */
 #define TOWNSHIP_NO_ROOM 5u       /* the text needs `length` bytes and `room` is smaller: nothing is written */
-#define TOWNSHIP_NO_MEMORY 6u     /* memory ran out, and nothing was written: every function may return this
+#define TOWNSHIP_NO_MEMORY 6u     /* memory ran out, and nothing was written. Every function may return this
                                      except township_version, township_figures, and those that take land
-                                     and write no text and no parts; township_acres_many and
-                                     township_answer_many, in their answers */
-#define TOWNSHIP_NO_RANGE 7u      /* township_acres_many, township_answer_many: no bytes are between these two
-                                     offsets */
+                                     and write neither text nor parts; township_acres_many and
+                                     township_answer_many report it in their answers */
+#define TOWNSHIP_NO_RANGE 7u      /* township_acres_many, township_answer_many: the two offsets of this
+                                     description do not enclose bytes */
 #define TOWNSHIP_NO_LAND 8u       /* the land you passed is not valid: it has no township, or contains part of a
                                      lot */
 #define TOWNSHIP_NO_LOTS 9u       /* the lot table you passed is not valid */
 #define TOWNSHIP_NO_TOWNSHIP 10u  /* the designation you passed is not valid */
 #define TOWNSHIP_NO_OPERATION 11u /* township_land_combine: the operation you passed is not valid */
-#define TOWNSHIP_OTHER_TOWNSHIP 12u /* what you passed is in two different townships: land and land, land and
-                                       plat, or land and lot table */
+#define TOWNSHIP_OTHER_TOWNSHIP 12u /* two arguments are in different townships: land and land, land and a plat,
+                                       or land and a lot table */
 
 /* Accounts: how whole lots count. */
 #define TOWNSHIP_EXACT 0u   /* at their exact area */
@@ -151,26 +151,27 @@ typedef struct township_answer {
     uint32_t at;           /* the refusal's place: a record, a section line, or a byte */
     uint32_t inner_number; /* the number and the place of the refusal of a tract's description */
     uint32_t inner_at;
-    uint32_t line;         /* of an explanation: the line and column of the fault, from 1, or both 0; for a
-                              refused description they are those of the byte `at` or, if only white space
-                              follows, of the end of the text before it; of a note: those of its place */
+    uint32_t line;         /* from a function that explains: the line and column of the fault, or of the
+                              place that a note is about, counted from 1, or both 0. A refused description
+                              has the line and column of the byte `at` or, if only white space follows, of
+                              the end of the text before it */
     uint32_t column;
     uint32_t reserved;     /* 0 */
     uint64_t hundredths;   /* of an acre, rounded once, half up */
     uint64_t length;       /* the number of bytes in the text, or of elements, written or not */
 } township_answer;
 
-/* The room for the canonical text of each description that township_answer_many answers. */
+/* The size of the array for the canonical text of each description, in bytes. */
 #define TOWNSHIP_TEXT_ROOM 256
 
-/* What township_answer_many answers about a description. Bytes of `text` after the text that was written are
+/* The answers of township_answer_many to one description. Bytes of `text` after the canonical text are
    unchanged. */
 typedef struct township_full_answer {
     township_answer acres;  /* the answer of township_acres */
     township_answer normal; /* the answer of township_normal, for room of TOWNSHIP_TEXT_ROOM bytes */
     township_answer note;   /* if `acres` accepts the description, the answer of township_explain_description
-                               without room, whose verdict is TOWNSHIP_NO_ROOM if there is a note; if not,
-                               the same answer */
+                               with no room: its verdict is TOWNSHIP_NO_ROOM if there is a note. Otherwise
+                               the same answer as `acres` */
     uint8_t text[TOWNSHIP_TEXT_ROOM]; /* the canonical text */
 } township_full_answer;
 
@@ -184,14 +185,14 @@ typedef struct township_fraction {
     uint64_t over;
 } township_fraction;
 
-/* The most lots of a section (section 6 has lots 1 to 7), and the number of sections. */
+/* The maximum number of lots in a section (section 6 has lots 1 to 7), and the number of sections. */
 #define TOWNSHIP_LOTS_MOST 7
 #define TOWNSHIP_SECTIONS 36
 
 /*
  * The figures of a printed plat, in hundredths of an acre. Each is an exact area, rounded once, half up.
- * `lots[section - 1][lot - 1]` is that of a lot, and 0 if the section has no such lot;
- * `sections[section - 1]` is that of a section.
+ * `lots[section - 1][lot - 1]` is the figure of a lot, or 0 if the section has no such lot;
+ * `sections[section - 1]` is the figure of a section.
  */
 typedef struct township_plat_figures {
     uint64_t lots[TOWNSHIP_SECTIONS][TOWNSHIP_LOTS_MOST];
@@ -199,12 +200,13 @@ typedef struct township_plat_figures {
     uint64_t township;
 } township_plat_figures;
 
-/* The most tracts of a list, the most bytes of a tract's name, and the room for a name. */
+/* The maximum number of tracts in a list, the maximum length of a tract's name, and the size of the array for a
+   name, both in bytes. */
 #define TOWNSHIP_TRACTS_MOST 1000
 #define TOWNSHIP_NAME_MOST 64
 #define TOWNSHIP_NAME_ROOM 68
 
-/* A tract in an account. Its name is printable ASCII, without the quotation marks that it may have in the
+/* A tract in an account. Its name is printable ASCII, without the quotation marks that may surround it in the
    list; all bytes after it are 0, so it is also a C string. */
 typedef struct township_tract {
     uint64_t hundredths;  /* of an acre: the tract's exact area, rounded once, half up */
@@ -219,8 +221,9 @@ typedef struct township_totals {
     uint64_t remaining; /* of all other land in the township */
 } township_totals;
 
-/* The answer to a tract of a list: its acres, or its first refusal apart from overlaps (81 or 82, or 83 with that
-   of its description). Its name is as in `township_tract`, but empty for 81: the record is not a tract's. */
+/* The answer to a tract of a list: its acres, or its first refusal apart from overlaps (81 or 82, or 83 with the
+   refusal of its description). Its name is as in `township_tract`, but empty for 81, since the record is not a
+   tract. */
 typedef struct township_tract_answer {
     township_answer answer;
     uint32_t name_length; /* 0 to TOWNSHIP_NAME_MOST */
@@ -230,7 +233,7 @@ typedef struct township_tract_answer {
 /* Two tracts of a list that overlap, by their records. */
 typedef struct township_overlap {
     uint32_t first;      /* the record of the earlier tract: 2 for the first tract of the list */
-    uint32_t second;     /* that of the later one */
+    uint32_t second;     /* the record of the later tract */
     uint64_t hundredths; /* of an acre: the land in both, rounded once, half up */
 } township_overlap;
 
@@ -238,7 +241,7 @@ typedef struct township_overlap {
 #define TOWNSHIP_PLACES_ACROSS 32
 #define TOWNSHIP_LOTS 47
 
-/* The designation of a township: its fields are those of a plat. */
+/* The designation of a township, with the same fields as in a plat. */
 typedef struct township_designation {
     uint8_t number;      /* the township number, 1 to 99 */
     uint8_t north_south; /* TOWNSHIP_NORTH or TOWNSHIP_SOUTH */
@@ -248,11 +251,10 @@ typedef struct township_designation {
 
 /*
  * Land: a set of places in a township. A place is a square of 5/8 of an acre, 1/32 of a section's side wide.
- * `rows[section - 1][row]` is a row of places, counted from 0 in the south of the section; in it, bit `k`,
- * from the lowest, is the place in column `k`, counted from 0 in the east. Each bit is a place. You may copy
- * land, store it, compare it byte by byte, or fill it in by hand: each function that takes land checks that it
- * contains each lot wholly or not at all. It needs no plat: only its area depends on the plat, or on a lot
- * table.
+ * `rows[section - 1][row]` is a row of places, counted from 0 in the south of the section; its bit `k`, counted
+ * from the lowest, is the place in column `k`, counted from 0 in the east. You may copy land, store it, compare
+ * it byte by byte, or fill it in by hand: each function that takes land checks that it contains each lot wholly
+ * or not at all. Land needs no plat; only its area depends on a plat or a lot table.
  */
 typedef struct township_land {
     uint32_t rows[TOWNSHIP_SECTIONS][TOWNSHIP_PLACES_ACROSS];
@@ -261,8 +263,7 @@ typedef struct township_land {
 
 /*
  * A lot table: the acreage that the approved plat returns for each lot, in hundredths of an acre: 1 to 99,999,
- * or 0 if the table lacks the lot. The lots are in the order of their sections' numbers, and in each section
- * in that of their own.
+ * or 0 if the table lacks the lot. The lots are sorted by section number and then by lot number.
  */
 typedef struct township_lots {
     uint32_t figures[TOWNSHIP_LOTS];
@@ -271,8 +272,8 @@ typedef struct township_lots {
 
 /*
  * A written part of land: an entry of its canonical text. `lot` is the lot's number, or 0 for a block of land that is
- * in no lot. The block, which a lot has too, begins in column `column`, from the east, and row `row`, from the south,
- * both counted from 0, and is `columns` wide and `rows` high, in places.
+ * in no lot. The block (lots have one, too) is `columns` by `rows` places; its southeast corner is at column `column`,
+ * counted from 0 in the east, and row `row`, counted from 0 in the south.
  */
 typedef struct township_part {
     uint8_t section;
@@ -283,19 +284,20 @@ typedef struct township_part {
     uint8_t rows;
 } township_part;
 
-/* The most readings that a text has. */
+/* The maximum number of readings of a text. */
 #define TOWNSHIP_READINGS_MOST 8
 
-/* Rules: why a reading changes a text. docs/DESCRIPTIONS.md shows what people write, and what is done with it. */
+/* Rules: the reasons why a reading changes a text. docs/DESCRIPTIONS.md shows what people write, and how it is
+   changed. */
 #define TOWNSHIP_RULE_HALF 1u            /* a half is written `1/2` */
 #define TOWNSHIP_RULE_QUARTER 2u         /* a quarter is written `1/4` */
 #define TOWNSHIP_RULE_DIRECTION 3u       /* a word for a side or a corner is written as its letters */
 #define TOWNSHIP_RULE_NUMERAL 4u         /* a word for a number is written in digits */
 #define TOWNSHIP_RULE_COPIED 5u          /* a number that the text contains elsewhere is written where it belongs */
-#define TOWNSHIP_RULE_COPIED_STEP 6u     /* a step of an aliquot part is written again where it belongs, too */
-#define TOWNSHIP_RULE_DAMAGE 7u          /* a digit is written for a letter that scanning made of it, or a letter for
-                                            a digit */
-#define TOWNSHIP_RULE_EXCEPTION 8u       /* what follows is what the land is without */
+#define TOWNSHIP_RULE_COPIED_STEP 6u     /* a step of an aliquot part is repeated where it also applies */
+#define TOWNSHIP_RULE_DAMAGE 7u          /* a letter that scanning made of a digit is written as the digit, or the
+                                            other way around */
+#define TOWNSHIP_RULE_EXCEPTION 8u       /* what follows is excluded from the land */
 #define TOWNSHIP_RULE_ZEROS 9u           /* the zeros before a number are left out */
 #define TOWNSHIP_RULE_FRACTION_DIGIT 10u /* the fraction digit of a register is left out: a 0 after the number of a
                                             township or a range */
@@ -305,54 +307,54 @@ typedef struct township_part {
 #define TOWNSHIP_RULE_THROUGH 14u        /* a hyphen or a dash between numbers is written `thru` */
 #define TOWNSHIP_RULE_AND 15u            /* an ampersand is written `and` */
 #define TOWNSHIP_RULE_COMMA 16u          /* a comma is written between parts, before them, or after a heading */
-#define TOWNSHIP_RULE_SEMICOLON 17u      /* a semicolon is written between one section, with its parts, and another */
+#define TOWNSHIP_RULE_SEMICOLON 17u      /* a semicolon is written between one section with its parts and the next */
 #define TOWNSHIP_RULE_ONE_PART 18u       /* white space within a part is left out */
 #define TOWNSHIP_RULE_MARK 19u           /* a mark that means nothing is left out */
 #define TOWNSHIP_RULE_WORD 20u           /* a word that means nothing is left out */
-#define TOWNSHIP_RULE_REPEATED 21u       /* parentheses that repeat what is before them are left out */
-#define TOWNSHIP_RULE_MOVED_SECTION 22u  /* a section is left out where it follows its land, and written before it */
-#define TOWNSHIP_RULE_MOVED_HEADING 23u  /* a township and range are left out, and written at the beginning */
+#define TOWNSHIP_RULE_REPEATED 21u       /* parentheses that repeat the text before them are left out */
+#define TOWNSHIP_RULE_MOVED_SECTION 22u  /* a section that follows its land is written before it instead */
+#define TOWNSHIP_RULE_MOVED_HEADING 23u  /* a township and range are written at the beginning instead */
 #define TOWNSHIP_RULE_MERIDIAN 24u       /* the meridian, the state, or the county is left out */
 #define TOWNSHIP_RULE_ACREAGE 25u        /* stated acreage is left out */
 #define TOWNSHIP_RULE_LABEL 26u          /* a label, which is not land, is left out */
 
-/* Assumptions: what a change assumes that the text does not state. The words around a change extend to white space, a
-   comma, a semicolon, a colon, or a vertical bar. */
-#define TOWNSHIP_ASSUMES_SAME_MERIDIAN 1u    /* what is left out is the meridian, state, or county of the field notes */
-#define TOWNSHIP_ASSUMES_SAME_ACREAGE 2u     /* the acreage that is left out is right: it is not compared */
-#define TOWNSHIP_ASSUMES_NOT_LAND 3u         /* what is left out is not land */
-#define TOWNSHIP_ASSUMES_SAID_BEFORE 4u      /* what is left out repeats what is before it */
-#define TOWNSHIP_ASSUMES_WRONG_LETTER 5u     /* a letter or a digit in the words around the change, or around what it
-                                                copies, is wrong: it was misread, or there is a slip of the pen */
+/* Assumptions: what a change assumes, although the text does not state it. The words around a change extend to white
+   space, a comma, a semicolon, a colon, or a vertical bar. */
+#define TOWNSHIP_ASSUMES_SAME_MERIDIAN 1u    /* the text left out is the field notes' meridian, state, or county */
+#define TOWNSHIP_ASSUMES_SAME_ACREAGE 2u     /* the acreage left out is right; it is not compared */
+#define TOWNSHIP_ASSUMES_NOT_LAND 3u         /* the text left out is not land */
+#define TOWNSHIP_ASSUMES_SAID_BEFORE 4u      /* the text left out repeats the text before it */
+#define TOWNSHIP_ASSUMES_WRONG_LETTER 5u     /* a letter or a digit in the words around the change, or around the text
+                                                that it copies, is wrong: it was misread, or is a slip of the pen */
 #define TOWNSHIP_ASSUMES_NO_MISSING_COMMA 6u /* no comma is missing in the words around the change, and around the white
                                                 space that it leaves out: they are one part */
 
-/* Manners: how the text of a reading comes of the changed text. */
+/* Manners: how the text of a reading was derived from the changed text. */
 #define TOWNSHIP_CHANGED 0u    /* it is the changed text */
 #define TOWNSHIP_LOTS_NAMED 1u /* it is the canonical description of the land of the changed text, in which an aliquot
                                   part includes lots: they are named in its place */
-#define TOWNSHIP_REMAINDER 2u  /* it is the canonical description of the land before `except`, without the land after
-                                  it */
+#define TOWNSHIP_REMAINDER 2u  /* it is the canonical description of the remaining land: the land before `except`
+                                  minus the land after it */
 
 /*
- * A change that a reading makes: it leaves out the bytes of the text from `start` to before `end`, of which there may
- * be none, and writes in their place `written_length` bytes, which begin at bytes[written].
+ * A change that a reading makes: it replaces the bytes of the text from `start` to before `end`, possibly none, by the
+ * `written_length` bytes that begin at bytes[written].
  */
 typedef struct township_change {
     uint64_t start;
     uint64_t end;
     uint64_t written;
     uint64_t written_length;
-    uint64_t copied;     /* what rule 5 or 6 copies is in the text from here to before `copied_end` */
-    uint64_t copied_end; /* with other rules, both are 0 */
+    uint64_t copied;     /* the text that rule 5 or 6 copies begins here, and ends before `copied_end` */
+    uint64_t copied_end; /* for all other rules, both are 0 */
     uint32_t rule;       /* such as TOWNSHIP_RULE_QUARTER */
     uint32_t assumes;    /* what the change assumes, such as TOWNSHIP_ASSUMES_NOT_LAND, or 0 */
 } township_change;
 
 /*
- * A reading of a text: a description that township_acres and the other functions accept, or refuse for its land. It
- * has `text_length` bytes, which begin at bytes[text], and comes of `changes_length` changes, from left to right,
- * which begin at changes[changes].
+ * A reading of a text: a description that township_acres and the other functions accept, or refuse for its land. Its
+ * text is the `text_length` bytes that begin at bytes[text]. Its changes, from left to right, are the `changes_length`
+ * elements that begin at changes[changes].
  */
 typedef struct township_reading {
     uint64_t text;
@@ -364,15 +366,15 @@ typedef struct township_reading {
 } township_reading;
 
 /*
- * How much township_suggest has to write, written or not. If there are no readings because lots and aliquot parts
- * can't describe the land, the reason, such as `a portion needs a survey`, has `reason_length` bytes, which begin at
- * bytes[reason], and the phrase that says so is in the text from `beyond` to before `beyond_end`. Otherwise these four
- * are 0.
+ * The sizes of the output of township_suggest, whether or not it was written. If there are no readings because lots
+ * and aliquot parts can't describe the land, the reason, such as `a portion needs a survey`, is the `reason_length`
+ * bytes that begin at bytes[reason], and the phrase that it is about is in the text from `beyond` to before
+ * `beyond_end`. Otherwise these four are 0.
  */
 typedef struct township_suggestion {
     uint64_t readings; /* the number of readings: at most TOWNSHIP_READINGS_MOST */
-    uint64_t changes;  /* the number of changes, of all readings */
-    uint64_t bytes;    /* the number of bytes of all texts */
+    uint64_t changes;  /* the number of changes in all readings */
+    uint64_t bytes;    /* the number of bytes in all texts */
     uint64_t reason;
     uint64_t reason_length;
     uint64_t beyond;
@@ -382,11 +384,11 @@ typedef struct township_suggestion {
 /* Makes a plat from field notes. On any verdict other than TOWNSHIP_ACCEPTED, `plat` is unchanged. */
 township_answer township_read(const uint8_t *notes, size_t notes_length, township_plat *plat);
 
-/* Writes field notes (CSV) from which township_read makes this plat again. Each half mile in them is 40 chains
-   long, except for the second ones of closing lines. */
+/* Writes field notes (CSV) from which township_read makes this plat again. In them, each half mile is 40 chains
+   long, except for the second half miles of closing lines. */
 township_answer township_write_notes(const township_plat *plat, uint8_t *text, size_t room);
 
-/* Returns the acres of the land described on a plat, by an account, in `hundredths`. */
+/* Returns the acres of the land described in `hundredths`, on a plat and by an account. */
 township_answer township_acres(const township_plat *plat, const uint8_t *description,
                                size_t description_length, uint32_t account);
 
@@ -418,17 +420,16 @@ township_answer township_account(const township_plat *plat, const uint8_t *list,
 /*
  * Answers each tract of a list, whatever is wrong with the others: writes to `answers` an answer for each record
  * after the heading. A refusal does not end the call: check the verdict of each answer. The list as a whole is
- * refused if it is too large (80), has no heading (81 at 1), or has too many tracts (85). That tracts overlap is
- * no part of their answers: see township_overlaps. `length`, `room`, and other verdicts are as in
- * township_account.
+ * refused if it is too large (80), has no heading (81 at 1), or has too many tracts (85). Overlaps are reported
+ * separately: see township_overlaps. `length`, `room`, and other verdicts are as in township_account.
  */
 township_answer township_report_each(const township_plat *plat, const uint8_t *list, size_t list_length,
                                      township_tract_answer *answers, size_t room);
 
 /*
  * Finds all overlaps in a list of tracts, whatever else is wrong with it: writes to `overlaps` each pair of tracts
- * that share land, in the order of the later tract, and then of the earlier one. Records that are not a tract's, and
- * tracts whose description is refused, overlap none. `length` is the number of overlaps; if `room`, the number of
+ * that share land, sorted by the later tract and then by the earlier one. Records that are not tracts, and tracts whose
+ * description is refused, overlap nothing. `length` is the number of overlaps; if `room`, the number of
  * elements of `overlaps`, is smaller, the verdict is TOWNSHIP_NO_ROOM. The list as a whole is refused as in
  * township_report_each. On any verdict other than TOWNSHIP_ACCEPTED, `overlaps` is unchanged.
  */
@@ -440,10 +441,10 @@ township_answer township_overlaps(const township_plat *plat, const uint8_t *list
 township_answer township_figures(const township_plat *plat, township_plat_figures *figures);
 
 /*
- * Answers many descriptions, which are bytes in a row: the first description begins at offsets[0] and ends
+ * Answers many descriptions, stored one after another: the first description begins at offsets[0] and ends
  * before offsets[1], the next one begins there and ends before offsets[2], and so on, so there is one more
- * offset than descriptions. Each answer is that of township_acres, or TOWNSHIP_NO_RANGE if its second offset
- * is less than its first one or more than `descriptions_length`. A refusal does not end the call: check the
+ * offset than descriptions. Each is answered as by township_acres, or with TOWNSHIP_NO_RANGE if its second
+ * offset is less than its first one or more than `descriptions_length`. A refusal does not end the call: check the
  * verdict of each answer. `length` is the number of descriptions; if `room`, the number of elements of
  * `answers`, is smaller, the verdict is TOWNSHIP_NO_ROOM, and nothing is written.
  */
@@ -468,7 +469,7 @@ township_answer township_answer_many(const township_plat *plat, const uint8_t *d
 township_answer township_land_read(const township_designation *township, const uint8_t *description,
                                    size_t description_length, township_land *land);
 
-/* Returns the acres of land on a plat of its township, by an account, in `hundredths`. */
+/* Returns the acres of land in `hundredths`, on a plat of its township and by an account. */
 township_answer township_land_acres(const township_plat *plat, const township_land *land, uint32_t account);
 
 /* Writes to `area` the exact area, which township_land_acres rounds. On any verdict other than
@@ -476,13 +477,13 @@ township_answer township_land_acres(const township_plat *plat, const township_la
 township_answer township_land_area(const township_plat *plat, const township_land *land, uint32_t account,
                                    township_fraction *area);
 
-/* Writes the canonical text of land, which is a description of it, if it is no longer than descriptions can be.
-   The text of empty land is empty. */
+/* Writes the canonical text of land, which is a description of that land unless it exceeds the maximum size of a
+   description. The text of empty land is empty. */
 township_answer township_land_text(const township_land *land, uint8_t *text, size_t room);
 
-/* Writes the written parts of land, in the order of its canonical text: a section that the land contains wholly is one
-   block; of other sections, first the lots and then the blocks. `length` is the number of parts; if `room`, the
-   number of elements of `parts`, is smaller, the verdict is TOWNSHIP_NO_ROOM, and nothing is written. */
+/* Writes the written parts of land, in the order of its canonical text. A section that the land contains wholly is one
+   block; of any other section, the lots come first, and then the blocks. `length` is the number of parts; if `room`,
+   the number of elements of `parts`, is smaller, the verdict is TOWNSHIP_NO_ROOM, and nothing is written. */
 township_answer township_land_parts(const township_land *land, township_part *parts, size_t room);
 
 /* Operations: the land in either, the land in both, and the land in the first that is not in the second. */
@@ -512,11 +513,11 @@ township_answer township_land_compare(const township_land *first, const township
 township_answer township_lots_read(const uint8_t *table, size_t table_length, township_lots *lots);
 
 /*
- * Return the acres of the land described, or of land, by a lot table of its township, in `hundredths`; and write to
- * `area` the exact area, which is rounded for that. Each whole lot counts at its returned acreage, and other land at
- * its nominal area. If the table lacks a lot of the land, the refusal is TOWNSHIP_REFUSAL_LOTS_LACKING, and its place
- * is the first such lot: 100 times the section's number, plus the lot's number. On any verdict other than
- * TOWNSHIP_ACCEPTED, `area` is unchanged.
+ * Return the acres of the land described, or of land, in `hundredths`, by a lot table of its township; or write the
+ * exact area, before rounding, to `area`. Each whole lot counts at its returned acreage, and other land at its nominal
+ * area. If the table lacks a lot of the land, the refusal is TOWNSHIP_REFUSAL_LOTS_LACKING, and its place is the first
+ * such lot: 100 times the section's number, plus the lot's number. On any verdict other than TOWNSHIP_ACCEPTED, `area`
+ * is unchanged.
  */
 township_answer township_lots_acres(const township_lots *lots, const uint8_t *description,
                                     size_t description_length);
@@ -538,15 +539,15 @@ township_answer township_lots_report(const township_lots *lots, const uint8_t *l
                                      township_tract *tracts, size_t room);
 
 /*
- * Explain why field notes, a description, or a list is refused: each returns the same verdict, with the
- * line and column of the fault, and writes some lines of text, as the program shows them; or the verdict
- * is TOWNSHIP_NO_ROOM. `name` is the file name that the text shows, in UTF-8; if it is empty or not valid
- * UTF-8, the text shows `input`. A text is at most 8 lines long, and a line at most 100 columns wide, not
- * counting a name that is too long for the first line.
+ * Explain why field notes, a description, or a list is refused. Each function returns the same verdict,
+ * with the line and column of the fault, and writes the lines of text that the program would show; or the
+ * verdict is TOWNSHIP_NO_ROOM. `name` is the file name that the text shows, in UTF-8; if it is empty or not
+ * valid UTF-8, the text shows `input`. A text is at most 8 lines long, and a line at most 100 columns wide,
+ * not counting a name that is too long for the first line.
  *
  * If a description, or a list, is accepted, but a place in it can be read in two ways, the text is a note
- * on the first such place, with its line and column, and `number` is 0. Otherwise an accepted input has no
- * text: `length` is 0. The acres in a note are those of TOWNSHIP_EXACT.
+ * on the first such place, with its line and column, and `number` is 0. For any other accepted input, there
+ * is no text, and `length` is 0. Notes give acres by TOWNSHIP_EXACT.
  */
 township_answer township_explain_notes(const uint8_t *notes, size_t notes_length, const uint8_t *name,
                                        size_t name_length, uint8_t *text, size_t room);
@@ -564,32 +565,32 @@ township_answer township_explain_list(const township_plat *plat, const uint8_t *
 
 /*
  * The parts of an explanation or of a note, in bytes: offsets in the input, and offsets and lengths in the text. A part
- * that the text does not have has length 0.
+ * that is missing from the text has length 0.
  */
 typedef struct township_explanation {
     uint32_t shown;           /* TOWNSHIP_SHOWN_NOTHING, _LINE, or _BYTES */
-    uint32_t has_other;       /* 1 if there is another place, where the same land, name, or line was given before, or 0 */
+    uint32_t has_other;       /* 1 if the same land, name, or line was given before, at the other place; otherwise 0 */
     uint32_t other_record;    /* its record in a list or in field notes, counted from 1; 0 in a description */
     uint32_t continued;       /* which lines of the hints continue the line before: bit 1 is for the second line, bit 2
                                  for the third */
-    uint64_t start;           /* what is shown of the input */
+    uint64_t start;           /* the bytes of the input that are shown */
     uint64_t end;
     uint64_t other_start;     /* the bytes of the other place in the input */
     uint64_t other_end;
-    uint64_t sentence;        /* what is wrong or noted, without the location; a line feed in it, and the two spaces after
-                                 it, are to be read as one space */
+    uint64_t sentence;        /* the fault or the note in words, without the location; read a line feed in it, with the
+                                 two spaces after it, as one space */
     uint64_t sentence_length;
     uint64_t excerpt;         /* the lines that show the input, each with its line feed */
     uint64_t excerpt_length;
     uint64_t hints;           /* the lines that say how to correct it, or give related facts */
     uint64_t hints_length;
-    uint64_t repair;          /* the only reading of the text, with which the hints end; none if it was escaped there */
+    uint64_t repair;          /* the only reading of the text, at the end of the hints; missing if escaped there */
     uint64_t repair_length;
 } township_explanation;
 
 /*
- * The same as the functions above, with the parts of the text in `explanation`, so that nothing has to be read out of
- * the text. If no text is written, `explanation` is unchanged.
+ * The same as the functions above, with the parts of the text in `explanation`, so that callers need not parse the
+ * text. If no text is written, `explanation` is unchanged.
  */
 township_answer township_explain_notes_parts(const uint8_t *notes, size_t notes_length, const uint8_t *name,
                                              size_t name_length, uint8_t *text, size_t room,
@@ -604,13 +605,13 @@ township_answer township_explain_list_parts(const township_plat *plat, const uin
 
 /*
  * Suggests how a text would be written as a description, without a plat: writes its readings, in a fixed order, their
- * changes, and their texts. A text that can't be read in two ways has one reading. It has several if it can, and none
- * if nothing is certain, or if lots and aliquot parts can't describe the land. An accepted description in which no
- * place can be read in two ways is its own and only reading, without changes.
+ * changes, and their texts. A text that can be read in several ways has several readings. It has none if nothing is
+ * certain, or if lots and aliquot parts can't describe the land. An accepted description in which no place can be read
+ * in two ways is its own and only reading, without changes.
  *
- * If one of the three rooms is too small, the verdict is TOWNSHIP_NO_ROOM, and only `suggestion` is written: it says how
- * much room is needed. With TOWNSHIP_NO_MEMORY, nothing is written. To find out what a reading comes to on a plat, pass
- * its text to township_acres, township_normal, or township_explain_description.
+ * If one of the three arrays is too small, the verdict is TOWNSHIP_NO_ROOM, and only `suggestion` is written, with the
+ * sizes that are needed. With TOWNSHIP_NO_MEMORY, nothing is written. To measure a reading on a plat, pass its text to
+ * township_acres, township_normal, or township_explain_description.
  */
 township_answer township_suggest(const uint8_t *description, size_t description_length,
                                  township_reading *readings, size_t readings_room, township_change *changes,
