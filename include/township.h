@@ -318,7 +318,7 @@ typedef struct township_part {
 #define TOWNSHIP_RULE_ACREAGE 25u        /* stated acreage is left out */
 #define TOWNSHIP_RULE_LABEL 26u          /* a label, which is not land, is left out */
 
-/* Assumptions: what a change assumes, although the text does not state it. The words around a change extend to white
+/* Assumptions that a change makes, although the text does not state them. The words around a change extend to white
    space, a comma, a semicolon, a colon, or a vertical bar. */
 #define TOWNSHIP_ASSUMES_SAME_MERIDIAN 1u    /* the text left out is the field notes' meridian, state, or county */
 #define TOWNSHIP_ASSUMES_SAME_ACREAGE 2u     /* the acreage left out is right; it is not compared */
@@ -348,7 +348,7 @@ typedef struct township_change {
     uint64_t copied;     /* the text that rule 5 or 6 copies begins here, and ends before `copied_end` */
     uint64_t copied_end; /* for all other rules, both are 0 */
     uint32_t rule;       /* such as TOWNSHIP_RULE_QUARTER */
-    uint32_t assumes;    /* what the change assumes, such as TOWNSHIP_ASSUMES_NOT_LAND, or 0 */
+    uint32_t assumes;    /* its assumption, such as TOWNSHIP_ASSUMES_NOT_LAND, or 0 */
 } township_change;
 
 /*
@@ -558,7 +558,7 @@ township_answer township_explain_list(const township_plat *plat, const uint8_t *
                                       size_t list_length, const uint8_t *name, size_t name_length,
                                       uint8_t *text, size_t room);
 
-/* What an explanation shows of the input. */
+/* The part of the input that an explanation shows. */
 #define TOWNSHIP_SHOWN_NOTHING 0u /* nothing: the fault is not at one place */
 #define TOWNSHIP_SHOWN_LINE 1u    /* a line, whose number is in the text; it contains the byte `start` */
 #define TOWNSHIP_SHOWN_BYTES 2u   /* the bytes from `start` to before `end`, which are underlined */
