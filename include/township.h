@@ -158,7 +158,7 @@ typedef struct township_answer {
     uint32_t column;
     uint32_t reserved;     /* 0 */
     uint64_t hundredths;   /* of an acre, rounded once, half up */
-    uint64_t length;       /* the number of bytes in the text, or of elements, written or not */
+    uint64_t length;       /* the number of bytes in the text, or of elements, even if none is written */
 } township_answer;
 
 /* The size of the array for the canonical text of each description, in bytes. */
@@ -168,7 +168,7 @@ typedef struct township_answer {
    unchanged. */
 typedef struct township_full_answer {
     township_answer acres;  /* the answer of township_acres */
-    township_answer normal; /* the answer of township_normal, for room of TOWNSHIP_TEXT_ROOM bytes */
+    township_answer normal; /* the answer of township_normal, with a buffer of TOWNSHIP_TEXT_ROOM bytes */
     township_answer note;   /* if `acres` accepts the description, the answer of township_explain_description
                                with no room: its verdict is TOWNSHIP_NO_ROOM if there is a note. Otherwise
                                the same answer as `acres` */
@@ -250,7 +250,7 @@ typedef struct township_designation {
 } township_designation;
 
 /*
- * Land: a set of places in a township. A place is a square of 5/8 of an acre, 1/32 of a section's side wide.
+ * Land: a set of places in a township. A place is a square of 5/8 of an acre; its side is 1/32 of a section's.
  * `rows[section - 1][row]` is a row of places, counted from 0 in the south of the section; its bit `k`, counted
  * from the lowest, is the place in column `k`, counted from 0 in the east. You may copy land, store it, compare
  * it byte by byte, or fill it in by hand: each function that takes land checks that it contains each lot wholly
