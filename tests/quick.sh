@@ -16,6 +16,7 @@ if python=$(python_with argparse); then
     try 'the signatures of the calls' "$python" tools/signatures.py
     try 'the constants of township.h' "$python" tools/header_names.py --check
     try 'what several files repeat' "$python" -B tools/repeated
+    try 'how tools/reading_list finds definitions' "$python" -B tests/tools/test_reading_list.py
 else
     skip 'the checks of the sources, since there is no Python here'
 fi

@@ -15,7 +15,7 @@ NAMED = (
     "tests/library/c/many.c tests/library/c/explanations.c tests/library/c/readings.c",
     "tests/library/c/threads.c",
     "tests/library/c/growth_test.c",
-    "tools/reading_list/subjects.py",
+    "tools/reading_list/promises.txt",
 )
 
 #: Calls that take no memory, which none can be refused.
