@@ -104,21 +104,26 @@ gather() {
     wait
     for name in $begun; do
         sed '$d' "$work/$name.counted"
-        add "$name" "$(tail -n 1 "$work/$name.counted")"
+        add "$name" "$work/$name.counted"
     done
     begun=
 }
 
-# Adds the count of a script: its name, and its last line.
+# Adds the count of a script: its name, and the file with its output. A script none of whose tests passed has failed, if
+# it doesn't say that it skipped them.
 add() {
-    echo "$1: $2"
-    if ! echo "$2" | grep -qx '[0-9][0-9]* passed, [0-9][0-9]* failed'; then
+    last=$(tail -n 1 "$2")
+    echo "$1: $last"
+    if ! echo "$last" | grep -qx '[0-9][0-9]* passed, [0-9][0-9]* failed'; then
         fail "$1: no count"
         return
     fi
-    passed=$((passed + ${2%% *}))
-    set -- "${2#*, }"
-    failed=$((failed + ${1%% *}))
+    if [ "$last" = '0 passed, 0 failed' ] && ! grep -q '^skipped: ' "$2"; then
+        fail "$1: no test passed"
+    fi
+    passed=$((passed + ${last%% *}))
+    last=${last#*, }
+    failed=$((failed + ${last%% *}))
 }
 
 # Whether a command is here, and the first Python that has these modules.

@@ -5,6 +5,7 @@
 . "$(dirname "$0")/lib.sh"
 cd "$root" || exit 1
 try 'the layout of sources' sh tools/formatted.sh
+try 'how tests are counted' sh tests/tools/counting.sh
 if python=$(python_with argparse); then
     try 'the layout of definitions and proofs' "$python" tools/wrap_proofs.py --check
     try 'the wrong bodies for releases fit the code' "$python" tools/bugs.py --check

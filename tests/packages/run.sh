@@ -1,20 +1,20 @@
 #!/bin/sh
 # Tests the packages in a folder as their users would: on a minimal Debian, without the proof kit. It must be run by
-# root, and the first run makes the images, which takes some minutes and needs Debian's archive. If they cannot be made
-# here, a line 'left out: ..' says so. The last line is 'N passed, M failed'.
+# root, and the first run makes the images, which takes some minutes and needs Debian's archive. If one cannot be made
+# here, its tests are skipped, and a line 'skipped: ..' says so. The last line is 'N passed, M failed'.
 #
 #     sh tests/packages/run.sh dist
 . "$(dirname "$0")/../lib.sh"
 dist=$(readlink -f "$1")
 here=$root/tests/packages
 
-leave_out() {
-    echo "left out: the packages on a minimal Debian: $1"
+skip_all() {
+    skip "the packages on a minimal Debian: $1"
     ended
 }
-[ "$(id -u)" = 0 ] || leave_out 'only root can make one'
-has debootstrap || leave_out 'there is no debootstrap here'
-unshare --mount --net --pid --fork true 2> "$work/lost" || leave_out 'no namespaces can be made here'
+[ "$(id -u)" = 0 ] || skip_all 'only root can make one'
+has debootstrap || skip_all 'there is no debootstrap here'
+unshare --mount --net --pid --fork true 2> "$work/lost" || skip_all 'no namespaces can be made here'
 
 # Each image, and the tests that are run in it.
 rows='
@@ -28,7 +28,7 @@ rows='
 images=$(echo "$rows" | sed -n 's/^ *\([a-z][a-z]*\) .*/\1/p')
 for image in $images; do
     sh "$here/image.sh" "$image" > "$work/lost" 2> "$work/errors" || {
-        echo "left out: the packages on the image $image, which can't be made here: $(tail -n 1 "$work/errors")"
+        skip "the packages on the image $image, which can't be made here: $(tail -n 1 "$work/errors")"
         continue
     }
     for test in $(echo "$rows" | sed -n "s/^ *$image  *//p"); do

@@ -6,6 +6,10 @@ from pathlib import Path
 from typing import Tuple
 
 
+# The most times as long that something may take: on a machine that is busier, a test that measures times fails.
+MOST = 6.0
+
+
 class Strain:
     """Other work on this machine, and that of others on its host, since the object was made."""
 
@@ -19,12 +23,12 @@ class Strain:
         self._running = max(self._running, int(running))
 
     def factor(self) -> float:
-        """Return how many times as long something may take: by the processes for each processor, and by the share of the
-        processors' time that the host gave to others."""
+        """Return how many times as long something may take, at most MOST: by the processes for each processor, and by
+        the share of the processors' time that the host gave to others."""
         processes = max(os.getloadavg()[0], self._running) / (os.cpu_count() or 1)
         busy, stolen = (now - begin for now, begin in zip(times(), self._begin))
         share = stolen / (busy + stolen) if stolen else 0.0
-        return max(1.0, processes) / (1 - min(share, 0.9))
+        return min(MOST, max(1.0, processes) / (1 - min(share, 0.9)))
 
 
 def times() -> Tuple[int, int]:

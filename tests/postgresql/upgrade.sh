@@ -23,6 +23,14 @@ CREATE VIEW measured AS SELECT lands.id, acres_or_null(plat, description) AS acr
 FROM plats, lands, LATERAL (SELECT 'sec. 14.'::text AS description) AS described WHERE lands.id < 10;
 END
 tables=$(sql -d first -c "SELECT tablename FROM pg_tables WHERE schemaname = 'public' ORDER BY 1")
+# How many rows each table has, since comparing empty ones would show nothing: dumps.sql makes 500 lands and 5 more, of
+# which the view has the first 9.
+rows_in() { for table in $tables measured; do echo "$table $(sql -d "$1" -c "SELECT count(*) FROM $table")"; done; }
+shows 'the rows of the first version' 'lands 505
+leases 2
+lot_tables 2
+plats 1
+measured 9' rows_in first
 contents() { for table in $tables measured; do sql -d "$1" -c "COPY (SELECT * FROM $table ORDER BY 1) TO STDOUT"; done; }
 contents first > "$work/before"
 shows 'the first version' 1.0.0 version_in first
@@ -77,4 +85,5 @@ overlaps='SELECT count(*), sum(a.id::int8 * b.id) FROM lands a JOIN lands b ON a
 there sql -d first -c 'SET enable_indexscan = off; SET enable_bitmapscan = off' -c "$overlaps" > "$work/wanted"
 there sql -d first -c 'SET enable_seqscan = off' -c "$overlaps" > "$work/found"
 same 'the index after pg_upgrade'
+try 'lands overlap in the new server' grep -q '^[1-9][0-9]*|' "$work/wanted"
 try 'the new server stops' moving "$installed$postgres/bin/pg_ctl" -D "$work/moved/new" -m fast -w stop
