@@ -1,14 +1,15 @@
 #!/bin/sh
-# Checks that need no proofs and take seconds: the layout of sources, definitions, and proofs, that each wrong body kept
-# for releases still fits the code, and that what several files repeat is the same in all of them. `make test` begins
-# with them, so that they don't fail after an hour of proofs. The last line is 'N passed, M failed'.
+# Checks that need no proofs and take seconds: the layout of sources, definitions, and proofs, that each wrong body still
+# fits the code, and that what several files repeat is the same in all of them. `make test` begins with them, so that
+# they don't fail after an hour of proofs. The last line is 'N passed, M failed'.
 . "$(dirname "$0")/lib.sh"
 cd "$root" || exit 1
 try 'the layout of sources' sh tools/formatted.sh
 try 'how tests are counted' sh tests/tools/counting.sh
 if python=$(python_with argparse); then
     try 'the layout of definitions and proofs' "$python" tools/wrap_proofs.py --check
-    try 'the wrong bodies for releases fit the code' "$python" tools/bugs.py --check
+    try 'each wrong body fits the code, and the named ones are tried' "$python" tools/edits.py
+    try 'what is said of a wrong body that does not fit' "$python" tests/tools/test_edits.py
     try 'how wrong bodies are tried together' "$python" tests/tools/test_wrong_bodies.py
     try 'how the progress of proofs is shown' "$python" tests/tools/test_prove.py
     try 'what the gate shows' "$python" tests/tools/test_gate.py

@@ -14,8 +14,7 @@ listed one is refused, or if one could not be tried.
 
 At most N checks run at a time; without --lanes, as many as there are processors and memory for.
 
-With --check nothing is tried: it names the edits that don't fit the code any more, whose old text isn't found
-exactly once in its file.
+tools/edits.py names the edits that don't fit the code any more.
 """
 import argparse
 import concurrent.futures
@@ -70,24 +69,6 @@ def listed():
     return found
 
 
-def misfit(crate, edit):
-    """Why the edit can't be applied, or None."""
-    folder = ROOT / "crates" / crate
-
-    def text_of(path):
-        return (folder / path).read_text() if (folder / path).is_file() else ""
-
-    return wrong_bodies.Edit(folder / FOLDER / f"{edit}.edit").misfit(text_of)
-
-
-def check(edits):
-    found = {f"{crate}/{edit}": misfit(crate, edit) for crate, names in edits.items() for edit in names}
-    for edit, why in found.items():
-        if why:
-            print(f"{edit}: {why}")
-    return 1 if any(found.values()) else 0
-
-
 def prove(names):
     """Proves crates, and the libraries that they depend on."""
     for name in names:
@@ -135,8 +116,7 @@ def tried(edits, known, many):
 
 def given(words):
     """The command line's options and names."""
-    parser = argparse.ArgumentParser(prog="bugs.py", usage="%(prog)s [--check] [--lanes N] [NAME ...]")
-    parser.add_argument("--check", action="store_true")
+    parser = argparse.ArgumentParser(prog="bugs.py", usage="%(prog)s [--lanes N] [NAME ...]")
     parser.add_argument("--lanes", type=int, metavar="N")
     parser.add_argument("names", nargs="*", metavar="NAME")
     options = parser.parse_args(words)
@@ -148,8 +128,6 @@ def given(words):
 def main(words):
     options = given(words)
     edits, known = chosen(options.names), listed()
-    if options.check:
-        return check(edits)
     prove(edits)
     results = tried(edits, known, options.lanes or lanes())
     every = [f"{crate}/{edit}" for crate, names in edits.items() for edit in names]

@@ -184,12 +184,9 @@ class Edit:
             elif word == "new":
                 self.pairs.append((path, old, text))
 
-    def misfit(self, text_of):
-        """Why it can't be applied to files, given the text of each; None if it can."""
-        return self.made(text_of)[1]
-
     def made(self, text_of):
-        """The texts of the files that it changes, by their paths, and why it can't be applied."""
+        """The texts of the files that it changes, by their paths, given the text of each file; and why it can't be applied,
+        or None if it can."""
         texts = {}
         for path, old, new in self.pairs:
             text = texts[path] if path in texts else text_of(path)

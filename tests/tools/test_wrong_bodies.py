@@ -105,8 +105,8 @@ class Functions(unittest.TestCase):
 
     def test_a_text_that_is_not_there_once_does_not_fit(self):
         self.assertEqual(edit("self", "other").functions(text_of), set())
-        self.assertIsNotNone(edit("self", "other").misfit(text_of))
-        self.assertIsNone(edit("return 1;", "return 2;").misfit(text_of))
+        self.assertIsNotNone(edit("self", "other").made(text_of)[1])
+        self.assertIsNone(edit("return 1;", "return 2;").made(text_of)[1])
 
 
 class Goals(unittest.TestCase):
