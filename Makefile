@@ -50,8 +50,7 @@ e2e: township
 # Last, that none of them is read as other land if it is damaged.
 descriptions: township
 	@cd crates/twp_readings && rt run > /dev/null
-	@python3 tests/descriptions/suggested.py
-	@for author in practice landman recorder clerk paralegal analyst examiner abstractor counsel advisor broker traps; do \
+	@for author in $$(sed '1d; s/\t.*//' tests/descriptions/floors.tsv); do \
 		python3 tests/descriptions/suggested.py ./township crates/twp_readings/out/twp_readings \
 			tests/descriptions/$$author.tsv || exit 1; \
 	done

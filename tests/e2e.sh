@@ -14,18 +14,15 @@ begin growths sh "$tests/growths.sh" "$program" "$calls"
 # Descriptions as people write them: the land that is accepted, where the advice leads, and how they are read.
 if python=$(sh "$root/tools/python_with.sh" argparse); then
     begin descriptions "$python" "$root/tests/descriptions/check.py" "$program"
-    begin readings "$python" "$root/tests/descriptions/suggested.py" "$program"
-    # The descriptions of other authors.
     reader=$root/crates/twp_readings/out/twp_readings
-    for author in practice landman recorder clerk paralegal analyst examiner abstractor counsel advisor broker traps; do
-        begin "$author" "$python" "$root/tests/descriptions/suggested.py" "$program" "$reader" \
-            "$root/tests/descriptions/$author.tsv"
+    # How the descriptions of each author are read, and where the advice on the refused ones leads: it must never lead to
+    # wrong land.
+    for author in $(sed '1d; s/\t.*//' "$root/tests/descriptions/floors.tsv"); do
+        rows=$root/tests/descriptions/$author.tsv
+        begin "$author" "$python" "$root/tests/descriptions/suggested.py" "$program" "$reader" "$rows"
+        begin "followed-$author" "$python" "$root/tests/descriptions/follow.py" "$program" "$rows"
     done
     begin mutated "$python" "$root/tests/descriptions/mutated.py" "$program" "$reader"
-    # Where the advice on each refused one leads: it must never lead to wrong land.
-    for rows in "$root"/tests/descriptions/*.tsv; do
-        begin "followed-$(basename "$rows" .tsv)" "$python" "$root/tests/descriptions/follow.py" "$program" "$rows"
-    done
 else
     skip 'the descriptions, since there is no Python here'
 fi

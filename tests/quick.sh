@@ -15,6 +15,7 @@ if python=$(python_with argparse); then
     try 'what the gate shows' "$python" tests/tools/test_gate.py
     try 'the table of words, and what is made of it' "$python" tools/words.py --check
     try 'how lists of words are compared' "$python" tests/tools/test_words.py
+    try 'that descriptions without readings fail' "$python" tests/tools/test_floors.py
     try 'the signatures of the calls' "$python" tools/signatures.py
     try 'the constants of township.h' "$python" tools/header_names.py --check
     try 'what several files repeat' "$python" -B tools/repeated

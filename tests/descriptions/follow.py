@@ -10,9 +10,10 @@ delete is written or deleted. This is repeated for the message of the text that 
 Advice that names several readings, or only says what is wrong, is not followed, since it doesn't decide.
 
 A row passes if the land that this ends in is the land understood, or if it ends in no land. A row that is
-ambiguous, or not expressible by lots and aliquot parts, passes only if it ends in no land. The script prints the
-share of the refused descriptions, by weight, that is cured in one round. The last line is `N passed, M failed`,
-and the status is 0 where nothing failed.
+ambiguous, or not expressible by lots and aliquot parts, passes only if it ends in no land. A file in which fewer rows
+end in the land understood than floors.tsv asks for fails (floors.py). The script prints the share of the refused
+descriptions, by weight, that is cured in one round. The last line is `N passed, M failed`, and the status is 0 where
+nothing failed.
 """
 
 import pathlib
@@ -24,6 +25,7 @@ import tempfile
 sys.dont_write_bytecode = True
 
 from check import NOTES, ROWS, Program, Row  # noqa: E402
+from floors import floor_faults  # noqa: E402
 
 ROUNDS = 12
 
@@ -142,9 +144,11 @@ def main():
     if len(sys.argv) > 3:
         raise SystemExit("usage: follow.py [PROGRAM [ROWS]]")
     path = sys.argv[1] if len(sys.argv) > 1 else "./township"
-    rows = rows_in(sys.argv[2] if len(sys.argv) > 2 else ROWS)
+    file = sys.argv[2] if len(sys.argv) > 2 else ROWS
+    rows = rows_in(file)
     failures = []
     refused = cured = cured_at_last = 0.0
+    cured_rows = 0
     with tempfile.TemporaryDirectory() as folder:
         program = Follower(path, folder)
         for row in rows:
@@ -160,12 +164,16 @@ def main():
                 if end is not None and not fault and program.normal(end)[0] is not None:
                     cured += weight if rounds == 1 else 0
                     cured_at_last += weight
+                    cured_rows += 1
     print(f"expressible and refused: {refused:.1f} percent of all, by weight")
     print(f"cured in one round: {100 * cured / refused:.1f} percent of these; in {ROUNDS}: "
           f"{100 * cured_at_last / refused:.1f}")
+    print(f"rows that end in the land understood: {cured_rows}")
+    passed = len(rows) - len(failures)
+    failures += floor_faults(file, cured=cured_rows)
     for failure in failures:
         print(failure)
-    print(f"{len(rows) - len(failures)} passed, {len(failures)} failed")
+    print(f"{passed} passed, {len(failures)} failed")
     return 1 if failures else 0
 
 

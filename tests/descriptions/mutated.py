@@ -70,9 +70,10 @@ import tempfile
 sys.dont_write_bytecode = True
 
 from check import FOLDER, Program  # noqa: E402
+from floors import floors  # noqa: E402
 from follow import rows_in  # noqa: E402
 from lands import LOTS, WHOLE, Refused, land_of, square  # noqa: E402
-from suggested import READER, RECORD, with_usual_heading  # noqa: E402
+from suggested import READER, with_usual_heading  # noqa: E402
 
 SEED = 20261129
 # At most so many mutants of one kind are drawn for each row, and more of the kinds that keep the land.
@@ -487,7 +488,7 @@ def model_faults(texts, path):
 
 def rows_read_right(reader):
     """Each row that has one reading, which is the land understood: a name, the row, and the reading."""
-    paths = [path for path in sorted(FOLDER.glob("*.tsv")) if path != RECORD]
+    paths = [FOLDER / f"{name}.tsv" for name in sorted(floors())]
     rows = [(f"{path.stem} {row.id}", row) for path in paths for row in rows_in(path)]
     for (name, row), readings in zip(rows, all_readings([row.description for _, row in rows], reader)):
         if row.kind() == "expressible" and len(readings) == 1:

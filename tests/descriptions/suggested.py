@@ -15,8 +15,8 @@ A row fails, as wrong,
 A row without a reading doesn't fail, nor one all of whose readings the program refuses, which is counted as refused.
 But outcomes.tsv has, for each file in this folder, how many rows of each kind have which outcome, and how many readings
 those with several have. If that has changed, the file fails, so that neither a lost nor a new reading goes unnoticed.
-`--record` writes what it is now; look at the difference before it is committed. A file in which fewer than FLOOR
-percent of the expressible rows have the right reading fails, too, and isn't recorded.
+`--record` writes what it is now; look at the difference before it is committed. A file in which fewer rows end well than
+floors.tsv asks for fails, too, and isn't recorded (floors.py).
 
 The last line is `N passed, M failed`, and the status is 0 where nothing failed.
 """
@@ -31,6 +31,7 @@ import tempfile
 sys.dont_write_bytecode = True
 
 from check import FOLDER, ROWS, Program  # noqa: E402
+from floors import floor_faults  # noqa: E402
 from follow import rows_in  # noqa: E402
 
 READER = FOLDER.parent.parent / "crates" / "twp_readings" / "out" / "twp_readings"
@@ -38,10 +39,6 @@ RECORD = FOLDER / "outcomes.tsv"
 OUTCOMES = ["as written", "one", "several", "refused", "none", "wrong"]
 KINDS = ["expressible", "ambiguous", "not expressible"]
 COLUMNS = ["file", "kind", "rows"] + OUTCOMES + ["readings of several"]
-# The percentage of the expressible rows of a file that have to have the right reading, alone or among several.
-FLOOR = 40
-# traps.tsv asks for wrong readings. Most of its expressible rows have slips.
-FLOORS = {"traps": 10}
 
 
 def readings_of(rows, reader):
@@ -131,15 +128,6 @@ def record_faults(name, lines, command):
             yield f"{name}.tsv, {key[1]}: {', '.join(changes)}; to record it: {command}"
 
 
-def floor_faults(name, counts):
-    """What is wrong if too few expressible rows are read."""
-    right = counts["as written"] + counts["one"] + counts["several"]
-    floor = FLOORS.get(name, FLOOR)
-    if sum(counts.values()) and 100 * right < floor * sum(counts.values()):
-        yield (f"{name}.tsv: only {right} of {sum(counts.values())} expressible rows have the right reading, fewer "
-               f"than {floor} percent")
-
-
 def main():
     words = sys.argv[1:]
     is_recording = words[:1] == ["--record"]
@@ -185,7 +173,8 @@ def main():
     if path.parent == FOLDER:
         lines = {(path.stem, kind): [sum(number_of[kind].values()), *(number_of[kind][name] for name in OUTCOMES),
                                      sum(count * number for count, number in several[kind].items())] for kind in KINDS}
-        faults = list(floor_faults(path.stem, number_of["expressible"]))
+        read = sum(number_of["expressible"][name] for name in ("as written", "one", "several"))
+        faults = floor_faults(path, read=read, asked=number_of["ambiguous"]["several"])
         if is_recording and not faults:
             record(path.stem, lines)
         command = " ".join(["python3 tests/descriptions/suggested.py --record", *words])
