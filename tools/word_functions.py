@@ -2,7 +2,7 @@
 
 import textwrap
 from collections import defaultdict
-from typing import Dict, List, NamedTuple, Tuple
+from typing import Dict, Iterable, List, NamedTuple, Tuple
 
 #: The first line of each file that is written.
 MADE = "// Made by tools/words.py from words.tsv and classes.tsv. To change a word, change its row there."
@@ -67,18 +67,24 @@ def function_of(it: Class, words: Dict[str, List[str]]) -> str:
 
 def arm_of_words(length: int, words: Dict[str, List[str]]) -> List[str]:
     """The arm for words of one length."""
-    return call_lines(f"        {length} => ", "is_among", " ".join(words), "", ",")
+    return call_lines(f"        {length} => ", "is_among", words, "", ",")
 
 
-def call_lines(before: str, function: str, text: str, more: str, after: str) -> List[str]:
-    """A call with a word and a text, as `rt fmt` lays it out."""
-    arguments = f'word, "{text}"' + (f", {more}" if more else "")
+def heads_of(words: Iterable[str]) -> str:
+    """The number that has a bit for the first byte of each word: that of its low five bits."""
+    return f"0x{sum(1 << bit for bit in {word.encode()[0] % 32 for word in words}):x}"
+
+
+def call_lines(before: str, function: str, words: Iterable[str], more: str, after: str) -> List[str]:
+    """A call with a word, and with words of one length, as `rt fmt` lays it out."""
+    heads, text = heads_of(words), " ".join(words)
+    arguments = f'word, {heads}, "{text}"' + (f", {more}" if more else "")
     if len(arguments) <= ARGUMENTS:
         return [f"{before}{function}({arguments}){after}"]
     indent = " " * (len(before) - len(before.lstrip()) + 4)
     wrapped = textwrap.wrap(text, COLUMNS - len(indent) - 3, break_on_hyphens=False)
     literal = (" \\\n" + indent + " ").join(wrapped)
-    lines = [f"{before}{function}(", f"{indent}word,", *f'{indent}"{literal}",'.split("\n")]
+    lines = [f"{before}{function}(", f"{indent}word,", f"{indent}{heads},", *f'{indent}"{literal}",'.split("\n")]
     lines += [f"{indent}{more},"] if more else []
     return [*lines, f"{indent[4:]}){after}"]
 
@@ -104,7 +110,7 @@ def arm_of_texts(length: int, words: Dict[str, List[str]]) -> List[str]:
 
 def condition_of(words: List[str]) -> str:
     """The condition that a word is one of these."""
-    return f'is_same(word, b"{words[0]}")' if len(words) == 1 else f'is_among(word, "{" ".join(words)}")'
+    return f'is_same(word, b"{words[0]}")' if len(words) == 1 else f'is_among(word, {heads_of(words)}, "{" ".join(words)}")'
 
 
 def returning_lines(length: int, cases: List[Tuple[str, str]], otherwise: str) -> List[str]:
@@ -118,6 +124,6 @@ def returning_lines(length: int, cases: List[Tuple[str, str]], otherwise: str) -
 def arm_of_numbers(length: int, words: Dict[str, List[str]]) -> List[str]:
     """The arm for words of one length that have values."""
     values = ", ".join(value for [value] in words.values())
-    return call_lines(f"        {length} => ", "value_among", " ".join(words), f"&[{values}]", ",")
+    return call_lines(f"        {length} => ", "value_among", words, f"&[{values}]", ",")
 
 

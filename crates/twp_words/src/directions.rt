@@ -26,28 +26,28 @@ pub fn letters_of(word: &[u8]) -> Option<&'static [u8]> {
             None
         }
         8 => {
-            if is_among(word, "norteast northeat notheast") {
+            if is_among(word, 0x4000, "norteast northeat notheast") {
                 return Some(b"NE");
             }
-            if is_among(word, "norhwest nortwest nothwest") {
+            if is_among(word, 0x4000, "norhwest nortwest nothwest") {
                 return Some(b"NW");
             }
-            if is_among(word, "sotheast souteast") {
+            if is_among(word, 0x80000, "sotheast souteast") {
                 return Some(b"SE");
             }
-            if is_among(word, "sothwest souhwest soutwest") {
+            if is_among(word, 0x80000, "sothwest souhwest soutwest") {
                 return Some(b"SW");
             }
             None
         }
         9 => {
-            if is_among(word, "norhteast northeast") {
+            if is_among(word, 0x4000, "norhteast northeast") {
                 return Some(b"NE");
             }
-            if is_among(word, "northwest northwset") {
+            if is_among(word, 0x4000, "northwest northwset") {
                 return Some(b"NW");
             }
-            if is_among(word, "souhteast southeast") {
+            if is_among(word, 0x80000, "souhteast southeast") {
                 return Some(b"SE");
             }
             if is_same(word, b"southwest") {
@@ -64,10 +64,11 @@ pub fn is_worn_corner(word: &[u8]) -> bool {
     match word.len() {
         8 => is_among(
             word,
+            0x84000,
             "norhwest norteast northeat nortwest notheast nothwest sotheast sothwest \
              souhwest souteast soutwest",
         ),
-        9 => is_among(word, "norhteast northwset souhteast"),
+        9 => is_among(word, 0x84000, "norhteast northwset souhteast"),
         _ => false,
     }
 }
@@ -75,16 +76,18 @@ pub fn is_worn_corner(word: &[u8]) -> bool {
 /// Words with which a step of a part begins, or which it has: sides, corners, halves, and quarters, also with a slip.
 pub fn is_step_word(word: &[u8]) -> bool {
     match word.len() {
-        4 => is_among(word, "east half west"),
-        5 => is_among(word, "north south"),
-        7 => is_among(word, "quarter"),
+        4 => is_among(word, 0x800120, "east half west"),
+        5 => is_among(word, 0x84000, "north south"),
+        7 => is_among(word, 0x20000, "quarter"),
         8 => is_among(
             word,
+            0x84000,
             "norhwest norteast northeat nortwest notheast nothwest sotheast sothwest \
              souhwest souteast soutwest",
         ),
         9 => is_among(
             word,
+            0x84000,
             "norhteast northeast northwest northwset souhteast southeast southwest",
         ),
         _ => false,
@@ -94,9 +97,9 @@ pub fn is_step_word(word: &[u8]) -> bool {
 /// Words for a half, and abbreviations.
 pub fn is_half(word: &[u8]) -> bool {
     match word.len() {
-        1 => is_among(word, "h"),
-        2 => is_among(word, "hf"),
-        4 => is_among(word, "half"),
+        1 => is_among(word, 0x100, "h"),
+        2 => is_among(word, 0x100, "hf"),
+        4 => is_among(word, 0x100, "half"),
         _ => false,
     }
 }
@@ -104,7 +107,7 @@ pub fn is_half(word: &[u8]) -> bool {
 /// Words for a half, and no abbreviations.
 pub fn is_half_name(word: &[u8]) -> bool {
     match word.len() {
-        4 => is_among(word, "half"),
+        4 => is_among(word, 0x100, "half"),
         _ => false,
     }
 }
@@ -112,11 +115,11 @@ pub fn is_half_name(word: &[u8]) -> bool {
 /// Words for a quarter, and abbreviations.
 pub fn is_quarter(word: &[u8]) -> bool {
     match word.len() {
-        2 => is_among(word, "qr"),
-        3 => is_among(word, "qtr"),
-        4 => is_among(word, "quar"),
-        6 => is_among(word, "quater"),
-        7 => is_among(word, "quarter"),
+        2 => is_among(word, 0x20000, "qr"),
+        3 => is_among(word, 0x20000, "qtr"),
+        4 => is_among(word, 0x20000, "quar"),
+        6 => is_among(word, 0x20000, "quater"),
+        7 => is_among(word, 0x20000, "quarter"),
         _ => false,
     }
 }
@@ -124,8 +127,8 @@ pub fn is_quarter(word: &[u8]) -> bool {
 /// The word for a quarter, and the abbreviation that everybody writes.
 pub fn is_quarter_name(word: &[u8]) -> bool {
     match word.len() {
-        3 => is_among(word, "qtr"),
-        7 => is_among(word, "quarter"),
+        3 => is_among(word, 0x20000, "qtr"),
+        7 => is_among(word, 0x20000, "quarter"),
         _ => false,
     }
 }
@@ -133,9 +136,10 @@ pub fn is_quarter_name(word: &[u8]) -> bool {
 /// Words for a section with a slip, or as scanning leaves them.
 pub fn is_worn_section(word: &[u8]) -> bool {
     match word.len() {
-        6 => is_among(word, "secton"),
+        6 => is_among(word, 0x80000, "secton"),
         7 => is_among(
             word,
+            0x80000,
             "seciton seclion sectior sectiou sectlon sectoin seotion",
         ),
         _ => false,

@@ -5,10 +5,14 @@ use crate::same::is_same;
 
 /// Words for a part of the land, for other land, or for a correction: no remark has them.
 pub fn is_partial(word: &[u8]) -> bool {
-    is_side_with_more(word)
-        || is_like_exception(word)
-        || is_like_section(word)
+    (may_be_like_one(word)
+        && (is_side_with_more(word) || is_like_exception(word) || is_like_section(word)))
         || says_partial(word)
+}
+
+/// Whether a word begins as a side, an exception, or a section does.
+fn may_be_like_one(word: &[u8]) -> bool {
+    matches!(word, [b'e' | b'n' | b's' | b'w' | b'x', ..])
 }
 
 /// Whether a word is made of that for a side, as `northerly`, `eastern`, or `Southhalf`.
@@ -45,7 +49,7 @@ fn is_like_section(word: &[u8]) -> bool {
 pub fn has_side(word: &[u8]) -> bool {
     for start in 0..word.len() {
         let rest = word.get(start..).unwrap_or(b"");
-        if begins_side(rest) {
+        if matches!(rest, [b'e' | b'h' | b'n' | b'q' | b's' | b'w', ..]) && begins_side(rest) {
             return true;
         }
     }

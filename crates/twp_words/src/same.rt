@@ -8,17 +8,28 @@ pub fn is_same(word: &[u8], text: &[u8]) -> bool {
 /// Whether a word is one of these words, which all have as many bytes as it has, and a space between them. A list in
 /// code calls this with a row of words for each length: so only the few words of this length are compared, and they are
 /// proved at once, not one by one. Rows that a `match` returned would become a table of pointers, each of which is set at
-/// every start of the program.
-#[inline(never)]
-pub(crate) fn is_among(word: &[u8], words: &str) -> bool {
-    index_among(word, words).is_some()
+/// every start of the program. The number before the words has a bit for the first byte of each of them, which rules out
+/// most words before any is compared.
+#[inline(always)]
+pub(crate) fn is_among(word: &[u8], heads: u32, words: &str) -> bool {
+    is_head(word, heads) && index_among(word, words).is_some()
+}
+
+/// Whether a number has the bit of a word's first byte: that of the byte's low five bits.
+#[inline(always)]
+fn is_head(word: &[u8], heads: u32) -> bool {
+    match word {
+        [first, ..] => heads >> (*first % 32) & 1 == 1,
+        [] => false,
+    }
 }
 
 /// Which of these words a word is, counted from 0.
+#[inline(never)]
 fn index_among(word: &[u8], words: &str) -> Option<usize> {
     let mut index: usize = 0;
-    for one in words.as_bytes().chunks(word.len().saturating_add(1)) {
-        if one.first() == word.first() && one.starts_with(word) {
+    for row in words.as_bytes().chunks(word.len().saturating_add(1)) {
+        if is_row(row, word) {
             return Some(index);
         }
         index = index.saturating_add(1);
@@ -26,8 +37,22 @@ fn index_among(word: &[u8], words: &str) -> Option<usize> {
     None
 }
 
+/// Whether a row is a word, with or without a space after it. Both are short, so they are compared byte by byte.
+fn is_row(row: &[u8], word: &[u8]) -> bool {
+    for (one, other) in row.iter().zip(word) {
+        if one != other {
+            return false;
+        }
+    }
+    true
+}
+
 /// The value of a word, if it is one of these words, which have these values.
-pub(crate) fn value_among(word: &[u8], words: &str, values: &[u8]) -> Option<u64> {
+#[inline(always)]
+pub(crate) fn value_among(word: &[u8], heads: u32, words: &str, values: &[u8]) -> Option<u64> {
+    if !is_head(word, heads) {
+        return None;
+    }
     let at = index_among(word, words)?;
     Some(u64::from(*values.get(at)?))
 }
