@@ -73,10 +73,10 @@ impl<'a> Pieces<'a> {
 
     /// The index after `the fractional` at an index, before a corner or a side.
     pub fn after_fractional(&self, index: usize) -> usize {
-        let word = if matches!(self.kind(index), Kind::The) {
-            plus(index, 1)
-        } else {
-            index
+        let word = match self.kind(index) {
+            Kind::The => plus(index, 1),
+            Kind::Other => index,
+            _ => return index,
         };
         let next = plus(word, 1);
         if self.is(word, b"fractional") && self.begins_land(next) {
@@ -169,10 +169,12 @@ impl<'a> Pieces<'a> {
 
     /// The index after words for the township that was named before, as `said Township and Range`.
     pub fn after_same_township(&self, index: usize) -> Option<usize> {
+        if !self.is(index, b"said") && !self.is(index, b"same") {
+            return None;
+        }
         let next = plus(index, 1);
         let after = plus(index, 2);
-        let is_again = self.is(index, b"said") || self.is(index, b"same");
-        if !is_again || !(self.is(next, b"township") || self.is(next, b"twp")) {
+        if !(self.is(next, b"township") || self.is(next, b"twp")) {
             return None;
         }
         let range = plus(after, 1);

@@ -4,6 +4,7 @@
 
 mod acreage;
 mod beyond;
+mod cutting;
 mod figures;
 mod interests;
 mod joints;

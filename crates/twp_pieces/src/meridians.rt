@@ -103,6 +103,10 @@ impl<'a> Pieces<'a> {
     /// Where a meridian with a number at an index ends, as `6th P.M.`, `08 MER`, or `6th Principal Meridian`.
     fn end_of_numbered(&self, index: usize) -> Option<usize> {
         let second = plus(index, 1);
+        // Most numbers are before a mark.
+        if !self.begins_with_letter(second) {
+            return None;
+        }
         let is_ordinal = self.is_ordinal(index) && self.is_joined(second);
         let word = if is_ordinal { plus(second, 1) } else { second };
         if let Some(end) = self.end_of_meridian_word(word) {

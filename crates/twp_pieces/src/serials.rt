@@ -8,9 +8,12 @@ impl<'a> Pieces<'a> {
     /// Where the serial number first on its line ends, whose letters may be those of a state: after a hyphen,
     /// or in a cell of its own. No township of a register follows the letters.
     pub fn end_of_first_serial(&self, index: usize) -> Option<usize> {
+        if !self.begins_line(index) {
+            return None;
+        }
         let next = plus(index, 1);
         let is_joined = self.is_joined(next) && !self.begins_register(next);
-        if !self.begins_line(index) || !(is_joined || self.is_dash(next)) {
+        if !is_joined && !self.is_dash(next) {
             return None;
         }
         let end = self.end_of_serial(index)?;
@@ -57,10 +60,12 @@ impl<'a> Pieces<'a> {
 
     /// Where the number of a file at an index ends, as `#30988`: a shorter one may be of a lot.
     pub fn end_of_file_number(&self, index: usize) -> Option<usize> {
+        if !self.is(index, b"#") {
+            return None;
+        }
         let number = plus(index, 1);
         let is_number = matches!(self.kind(number), Kind::Number(_) | Kind::BadNumber);
-        let is_long = is_number && self.bytes(number).len() >= 4 && self.is_joined(number);
-        if self.is(index, b"#") && is_long {
+        if is_number && self.size(number) >= 4 && self.is_joined(number) {
             Some(plus(number, 1))
         } else {
             None

@@ -1,0 +1,211 @@
+//! How a text is cut into pieces.
+
+use crate::pieces::plus;
+use std::alloc::{AllocError, Global};
+use twp_grammar::{Kind, Lexeme, Tokens, after_white, lexeme_at};
+use twp_words::{is_damaged_corner, is_damaged_half, is_same, size_of_character};
+
+/// The most characters, one after another, that begin no token: a text with more has no reading, and isn't
+/// cut further.
+const UNKNOWN_MOST: usize = 1_000;
+
+/// There is room from the start for this many pieces, and one more for each two bytes.
+const PIECES_FIRST: usize = 8;
+
+/// A piece: what it is, and where it begins and ends.
+#[derive(Clone, Copy)]
+pub(crate) struct Piece {
+    pub(crate) kind: Kind,
+    /// How many bytes it has, up to the most that a `u16` can hold: words of another length are ruled out by
+    /// it.
+    pub(crate) size: u16,
+    pub(crate) gap: Gap,
+    /// Its first byte, in lowercase: most words with as many bytes are ruled out by it.
+    pub(crate) first: u8,
+    pub(crate) start: usize,
+    pub(crate) end: usize,
+}
+
+/// What is between a piece and the one before it, or before the first piece.
+#[derive(Clone, Copy, PartialEq, Eq)]
+pub(crate) enum Gap {
+    Nothing,
+    /// White space that ends neither a line nor a cell.
+    Space,
+    /// White space with a line feed or a tab.
+    Break,
+}
+
+impl Gap {
+    /// The gap from one place up to another. Most are a space, or nothing.
+    #[inline(always)]
+    fn between(text: &[u8], from: usize, to: usize) -> Gap {
+        if from == to {
+            return Gap::Nothing;
+        }
+        if plus(from, 1) == to && text.get(from) == Some(&b' ') {
+            return Gap::Space;
+        }
+        Gap::of_white(text.get(from..to).unwrap_or(b""))
+    }
+
+    /// The gap that some white space is.
+    #[inline(never)]
+    fn of_white(white: &[u8]) -> Gap {
+        if has_break(white) {
+            Gap::Break
+        } else {
+            Gap::Space
+        }
+    }
+}
+
+impl Piece {
+    /// A piece of a text in lowercase from one place up to another, after a gap.
+    #[inline(always)]
+    fn between(lower: &[u8], start: usize, end: usize, kind: Kind, gap: Gap) -> Piece {
+        Piece {
+            kind,
+            size: u16::try_from(end.saturating_sub(start)).unwrap_or(u16::MAX),
+            gap,
+            first: lower.get(start).copied().unwrap_or(0),
+            start,
+            end,
+        }
+    }
+
+    /// Whether it has as many bytes as a text, and begins with the same one.
+    #[inline(always)]
+    pub(crate) fn begins_as(&self, text: &[u8]) -> bool {
+        match text {
+            [first, ..] => usize::from(self.size) == text.len() && *first == self.first,
+            [] => false,
+        }
+    }
+}
+
+/// Whether a line feed or a tab is among some bytes.
+pub(crate) fn has_break(white: &[u8]) -> bool {
+    for byte in white {
+        if matches!(*byte, b'\n' | b'\t') {
+            return true;
+        }
+    }
+    false
+}
+
+/// The pieces of a text, whose letters are given in lowercase, too.
+pub(crate) fn cut(alloc: Global, text: &[u8], lower: &[u8]) -> Result<Vec<Piece>, AllocError> {
+    // Most pieces have two bytes or more.
+    let mut list = Vec::with_capacity(alloc, plus(text.len() / 2, PIECES_FIRST))?;
+    let mut at: usize = 0;
+    let mut end: usize = 0;
+    let mut unknown: usize = 0;
+    for _ in 0..text.len() {
+        let start = after_white(text, at.min(text.len()));
+        if start >= text.len() {
+            break;
+        }
+        let Lexeme { kind, size } = lexeme_at(text, start);
+        at = plus(start, size);
+        // Within a character that begins no token.
+        if start < end {
+            continue;
+        }
+        let gap = Gap::between(text, end, start);
+        end = at;
+        if matches!(kind, Kind::BadByte) {
+            unknown = plus(unknown, 1);
+            if unknown > UNKNOWN_MOST {
+                break;
+            }
+            end = end_of_character(text, start);
+        } else {
+            unknown = 0;
+        }
+        if may_be_two(kind, text, start, size) {
+            push_token(
+                &mut list,
+                text,
+                lower,
+                Piece::between(lower, start, end, kind, gap),
+            )?;
+            continue;
+        }
+        list.push(Piece::between(lower, start, end, kind, gap))?;
+    }
+    Ok(list)
+}
+
+/// Where the character ends that begins no token, at a place of a text.
+fn end_of_character(text: &[u8], start: usize) -> usize {
+    let rest = text.get(start..).unwrap_or(b"");
+    plus(start, size_of_character(rest, rest.len()))
+}
+
+/// Whether a token at a place of a text may be two pieces: most aren't, by their kind or their size.
+#[inline(always)]
+fn may_be_two(kind: Kind, text: &[u8], start: usize, size: usize) -> bool {
+    match kind {
+        Kind::BadNumber => size == 6,
+        Kind::Other => size <= 3 || text.get(start) == Some(&b'A'),
+        _ => false,
+    }
+}
+
+/// Adds a token as one piece, or as two.
+#[inline(never)]
+fn push_token(
+    list: &mut Vec<Piece>,
+    text: &[u8],
+    lower: &[u8],
+    token: Piece,
+) -> Result<(), AllocError> {
+    let Piece {
+        kind,
+        gap,
+        start,
+        end,
+        ..
+    } = token;
+    let bytes = text.get(start..end).unwrap_or(b"");
+    let Some(first) = size_of_first(token, bytes, lower, list.as_slice()) else {
+        list.push(token)?;
+        return Ok(());
+    };
+    let (front, rest) = bytes.split_at(first.min(bytes.len()));
+    let middle = plus(start, front.len());
+    list.push(Piece::between(lower, start, middle, kind_of(front, kind), gap))?;
+    list.push(Piece::between(lower, middle, end, kind_of(rest, kind), Gap::Nothing))?;
+    Ok(())
+}
+
+/// How many bytes of a token are its first piece, if there are two: those of the meridian in the six digits
+/// that a register begins with, the A before aliquot parts after a section of a register, and a corner with a
+/// damaged `1` after it.
+fn size_of_first(token: Piece, bytes: &[u8], lower: &[u8], before: &[Piece]) -> Option<usize> {
+    match token.kind {
+        Kind::BadNumber if bytes.len() == 6 => Some(2),
+        Kind::Other if matches!(bytes, [b'A', _, ..]) && is_after_section(lower, before) => Some(1),
+        Kind::Other if is_damaged_corner(bytes) => Some(2),
+        Kind::Other if is_damaged_half(bytes, lower.get(plus(token.start, 2)..)) => Some(1),
+        _ => None,
+    }
+}
+
+/// Whether pieces of a text in lowercase end with a section of a register: SN, and its number.
+fn is_after_section(lower: &[u8], before: &[Piece]) -> bool {
+    match before {
+        [.., word, _] => is_same(lower.get(word.start..word.end).unwrap_or(b""), b"sn"),
+        _ => false,
+    }
+}
+
+/// What a part of a token is: the token that it begins with, if that is all of it, and else what the token
+/// is.
+fn kind_of(bytes: &[u8], kind: Kind) -> Kind {
+    match Tokens::new(bytes).next() {
+        Some(token) if token.text.len() == bytes.len() => token.kind,
+        _ => kind,
+    }
+}
