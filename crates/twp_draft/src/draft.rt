@@ -127,7 +127,7 @@ pub struct Draft<'a> {
     /// The last section that was found.
     pub last_section: Option<Phrase>,
     /// Whether memory was refused for something, which is then missing.
-    lacks_memory: bool,
+    pub(crate) lacks_memory: bool,
 }
 
 /// There is room from the start for this many phrases, changes, steps, and numbers: most texts have fewer.
@@ -142,9 +142,9 @@ const NUMBERS_FIRST: usize = 8;
 /// How much of a draft there is.
 #[derive(Clone, Copy)]
 pub struct Extent {
-    changes: usize,
-    steps: usize,
-    numbers: usize,
+    pub(crate) changes: usize,
+    pub(crate) steps: usize,
+    pub(crate) numbers: usize,
 }
 
 impl Extent {
@@ -196,36 +196,6 @@ impl<'a> Draft<'a> {
         self.changes.truncate(extent.changes);
     }
 
-    /// A phrase of some pieces, with what was added after an extent.
-    pub fn phrase(&self, names: Names, first: usize, end: usize, from: Extent) -> Phrase {
-        Phrase {
-            names,
-            first,
-            end,
-            changes: Span {
-                first: from.changes,
-                end: self.changes.len(),
-            },
-            steps: Span {
-                first: from.steps,
-                end: self.steps.len(),
-            },
-            numbers: Span {
-                first: from.numbers,
-                end: self.numbers.len(),
-            },
-            form: Form::Plain,
-        }
-    }
-
-    /// The phrase before.
-    pub fn last_names(&self) -> Option<Names> {
-        match self.phrases.last() {
-            Some(phrase) => Some(phrase.names),
-            None => None,
-        }
-    }
-
     /// Fails if memory was refused for something that was to be added. A single addition doesn't fail: the
     /// search for phrases continues without what is missing, and its caller checks once at the end.
     pub fn all_added(&self) -> Result<(), AllocError> {
@@ -233,13 +203,6 @@ impl<'a> Draft<'a> {
             return Err(AllocError);
         }
         Ok(())
-    }
-
-    /// Adds a phrase.
-    pub fn add_phrase(&mut self, phrase: Phrase) {
-        if self.phrases.push(phrase).is_err() {
-            self.lacks_memory = true;
-        }
     }
 
     /// Adds a change.

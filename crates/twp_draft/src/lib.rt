@@ -7,6 +7,7 @@ mod draft;
 mod finds_phrases;
 mod headings;
 mod numerals;
+mod phrases;
 mod steps;
 
 pub use draft::{Again, Draft, Extent, Form, Names, Numeral, Phrase, PlacedStep, Said, Span};

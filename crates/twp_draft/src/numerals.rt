@@ -11,6 +11,16 @@ const ONE_DIGIT: &[u8] = b"123456789";
 /// The numbers from ten to twenty.
 const TWO_DIGITS: &[u8] = b"1011121314151617181920";
 
+/// The number that one piece at an index is.
+fn one_piece(index: usize, value: u16) -> Numeral {
+    Numeral {
+        value,
+        first: index,
+        last: index,
+        end: plus(index, 1),
+    }
+}
+
 /// The digits of a word for a number up to twenty, or for thirty, in lowercase.
 fn digits_of(word: &[u8]) -> Option<&'static [u8]> {
     let value = value_of_count(word)? as usize;
@@ -27,19 +37,9 @@ impl<'a> Draft<'a> {
     pub fn numeral(&self, index: usize) -> Option<Numeral> {
         let pieces = &self.pieces;
         let found = match pieces.kind(index) {
-            Kind::Number(value) if pieces.bytes(index).len() <= 3 => Numeral {
-                value,
-                first: index,
-                last: index,
-                end: plus(index, 1),
-            },
+            Kind::Number(value) if pieces.size(index) <= 3 => one_piece(index, value),
             Kind::Other => match self.damaged_digit(index) {
-                Some(digit) => Numeral {
-                    value: digit,
-                    first: index,
-                    last: index,
-                    end: plus(index, 1),
-                },
+                Some(digit) => one_piece(index, digit),
                 None => self.numeral_in_words(index)?,
             },
             _ => return None,
@@ -57,6 +57,9 @@ impl<'a> Draft<'a> {
 
     /// The digit that scanning makes a letter of, at an index: `l` and `I` are 1, and `O` is 0.
     fn damaged_digit(&self, index: usize) -> Option<u16> {
+        if self.pieces.size(index) != 1 {
+            return None;
+        }
         match self.pieces.bytes(index) {
             b"l" | b"I" => Some(1),
             b"O" => Some(0),
@@ -68,7 +71,7 @@ impl<'a> Draft<'a> {
     fn with_damaged_digit(&self, number: Numeral) -> Numeral {
         let pieces = &self.pieces;
         let next = number.end;
-        if number.value > 9 || pieces.bytes(number.first).len() != 1 || !pieces.is_joined(next) {
+        if number.value > 9 || pieces.size(number.first) != 1 || !pieces.is_joined(next) {
             return number;
         }
         let digit = match pieces.number(next) {
@@ -92,12 +95,7 @@ impl<'a> Draft<'a> {
         let pieces = &self.pieces;
         let word = pieces.lower(index);
         let value = value_of(digits_of(word)?);
-        let alone = Numeral {
-            value,
-            first: index,
-            last: index,
-            end: plus(index, 1),
-        };
+        let alone = one_piece(index, value);
         if tens_of(word).is_none() {
             return Some(alone);
         }
@@ -120,6 +118,9 @@ impl<'a> Draft<'a> {
     fn without_zeros(&self, index: usize) -> usize {
         let pieces = &self.pieces;
         let digits = pieces.bytes(index);
+        if digits.first() != Some(&b'0') {
+            return pieces.start(index);
+        }
         let zeros = digits.iter().take_while(|digit| **digit == b'0').count();
         let zeros = zeros.min(digits.len().saturating_sub(1));
         plus(pieces.start(index), zeros)
@@ -162,7 +163,9 @@ impl<'a> Draft<'a> {
 
     /// Whether a digit of a number is a letter.
     fn is_damaged(&self, number: Numeral) -> bool {
-        self.damaged_digit(number.first).is_some() || self.damaged_digit(number.last).is_some()
+        let Numeral { first, last, .. } = number;
+        let is_one = first == last && matches!(self.pieces.kind(first), Kind::Number(_));
+        !is_one && (self.damaged_digit(first).is_some() || self.damaged_digit(last).is_some())
     }
 
     /// Writes the digits that are letters, from one index up to another.

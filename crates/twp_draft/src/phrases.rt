@@ -1,0 +1,63 @@
+//! The phrases of a draft.
+
+use crate::draft::{Draft, Extent, Form, Names, Phrase, Span};
+
+impl<'a> Draft<'a> {
+    /// A phrase of some pieces, with what was added after an extent.
+    pub fn phrase(&self, names: Names, first: usize, end: usize, from: Extent) -> Phrase {
+        Phrase {
+            names,
+            first,
+            end,
+            changes: Span {
+                first: from.changes,
+                end: self.changes.len(),
+            },
+            steps: Span {
+                first: from.steps,
+                end: self.steps.len(),
+            },
+            numbers: Span {
+                first: from.numbers,
+                end: self.numbers.len(),
+            },
+            form: Form::Plain,
+        }
+    }
+
+    /// The phrase before.
+    pub fn last_names(&self) -> Option<Names> {
+        match self.phrases.last() {
+            Some(phrase) => Some(phrase.names),
+            None => None,
+        }
+    }
+
+    /// Adds a phrase.
+    pub fn add_phrase(&mut self, phrase: Phrase) {
+        if self.phrases.push(phrase).is_err() {
+            self.lacks_memory = true;
+        }
+    }
+
+    /// Adds a phrase of some pieces, with what was added after an extent: the index after it. The search returns only
+    /// this index, since each function that passed a phrase on would clear room for it, and copy it.
+    pub fn add(&mut self, names: Names, first: usize, end: usize, from: Extent) -> usize {
+        let phrase = self.phrase(names, first, end, from);
+        self.add_phrase(phrase);
+        end
+    }
+
+    /// Forgets the phrase that was added last.
+    pub fn drop_phrase(&mut self) {
+        let count = self.phrases.len().saturating_sub(1);
+        self.phrases.truncate(count);
+    }
+
+    /// Notes how the phrase that was added last is written.
+    pub fn note_form(&mut self, form: Form) {
+        if let Some(phrase) = self.phrases.last_mut() {
+            phrase.form = form;
+        }
+    }
+}
