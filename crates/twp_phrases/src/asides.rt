@@ -1,7 +1,7 @@
 //! What is left out: the meridian, acreage, labels, and land that is repeated in parentheses.
 
 use crate::finder::Finder;
-use twp_draft::{Names, Phrase, Span};
+use twp_draft::Names;
 use twp_grammar::Kind;
 use twp_pieces::plus;
 use twp_remarks::end_of_trailer;
@@ -12,18 +12,18 @@ const SECTIONS: u16 = 36;
 
 impl<'a> Finder<'a> {
     /// What is left out at an index.
-    pub(crate) fn aside(&mut self, index: usize) -> Option<Phrase> {
+    pub(crate) fn aside(&mut self, index: usize) -> Option<usize> {
         let from = self.draft.extent();
         let pieces = &self.draft.pieces;
         if let Some((rule, end)) = self.end_of_aside(index) {
-            return Some(self.draft.phrase(Names::Nothing(rule), index, end, from));
+            return Some(self.draft.add(Names::Nothing(rule), index, end, from));
         }
         if matches!(pieces.kind(index), Kind::Number(_)) {
             return None;
         }
         if pieces.is(index, b"(") || pieces.is(index, b"[") {
-            if let Some(phrase) = self.repeated(index) {
-                return Some(phrase);
+            if let Some(end) = self.repeated(index) {
+                return Some(end);
             }
             self.draft.shrink(from);
         }
@@ -32,7 +32,7 @@ impl<'a> Finder<'a> {
 
     /// `being` at an index, also in parentheses, with all land that was named before it, as in
     /// `All, being Lots 1 thru 7, ..`
-    fn being(&mut self, index: usize) -> Option<Phrase> {
+    fn being(&mut self, index: usize) -> Option<usize> {
         let from = self.draft.extent();
         let pieces = &self.draft.pieces;
         let is_in_parentheses = pieces.is(index, b"(");
@@ -51,26 +51,30 @@ impl<'a> Finder<'a> {
             if !has_more {
                 break;
             }
-            let land = match self.lots(end) {
-                Some(lots) => Some(lots),
-                None => self.part(end),
-            };
-            let Some(land) = land else {
-                return None;
-            };
-            has_more = self.is_before_more_land(land.end);
-            end = plus(land.end, usize::from(has_more));
+            let land = self.end_of_land(end)?;
+            has_more = self.is_before_more_land(land);
+            end = plus(land, usize::from(has_more));
         }
         let is_closed = self.draft.pieces.is(end, b")");
         if is_closed != is_in_parentheses || !(is_closed || self.is_last_of_item(end)) {
             return None;
         }
         let last = plus(end, usize::from(is_closed));
-        let land = self
-            .draft
-            .phrase(Names::Nothing(Rule::Repeated), index, last, from);
+        self.draft
+            .add(Names::Nothing(Rule::Repeated), index, last, from);
         self.draft.add_said(first, end, from);
-        Some(land)
+        Some(last)
+    }
+
+    /// Where the lots or the aliquot part at an index end, which aren't added as a phrase.
+    fn end_of_land(&mut self, index: usize) -> Option<usize> {
+        match self.lots(index) {
+            Some(end) => {
+                self.draft.drop_phrase();
+                Some(end)
+            }
+            None => Some(self.part(index)?.end),
+        }
     }
 
     /// Whether a comma, or `and`, is at an index, and more land after it.
@@ -105,17 +109,10 @@ impl<'a> Finder<'a> {
                 return Some(found);
             }
         }
-        let before = index.saturating_sub(1);
-        let is_after_dash = pieces.is_dash(before) && is_figure;
-        // After `also`, it may be of other land.
-        let is_added = is_figure
-            && (pieces.is(before, b"also")
-                || pieces.is(before, b"and")
-                || pieces.is(before, b"&")
-                || pieces.is(before, b"+")
-                || pieces.is(before, b"plus"));
         if let Some(end) = pieces.end_of_acreage(index) {
-            return if is_added || (may_be_minus && is_after_dash) {
+            let is_after_dash = pieces.is_dash(index.saturating_sub(1));
+            let is_other = self.is_added(index) || (may_be_minus && is_after_dash);
+            return if is_figure && is_other {
                 None
             } else {
                 Some((Rule::Acreage, end))
@@ -156,6 +153,17 @@ impl<'a> Finder<'a> {
         Some((Rule::Label, end))
     }
 
+    /// Whether a word or a mark before an index adds what follows, which may then be of other land.
+    fn is_added(&self, index: usize) -> bool {
+        let pieces = &self.draft.pieces;
+        let before = index.saturating_sub(1);
+        pieces.is(before, b"also")
+            || pieces.is(before, b"and")
+            || pieces.is(before, b"&")
+            || pieces.is(before, b"+")
+            || pieces.is(before, b"plus")
+    }
+
     /// The same, of what begins with a word for a column, or with a mark.
     fn end_of_marked(&self, index: usize, may_be_minus: bool) -> Option<(Rule, usize)> {
         let pieces = &self.draft.pieces;
@@ -194,7 +202,7 @@ impl<'a> Finder<'a> {
     }
 
     /// The parentheses at an index with the land before them again.
-    fn repeated(&mut self, index: usize) -> Option<Phrase> {
+    fn repeated(&mut self, index: usize) -> Option<usize> {
         let from = self.draft.extent();
         let first = self.draft.pieces.after_being(plus(index, 1));
         let Some(before) = self.draft.phrases.last().copied() else {
@@ -203,7 +211,7 @@ impl<'a> Finder<'a> {
         let land = if matches!(self.draft.pieces.kind(first), Kind::All) {
             plus(first, 1)
         } else {
-            self.part_in_pieces(first)?.end
+            self.part_in_pieces(first)?
         };
         let acreage = if self.draft.pieces.is(land, b",") {
             self.draft.pieces.end_of_acreage(plus(land, 1))
@@ -225,24 +233,16 @@ impl<'a> Finder<'a> {
         self.draft.shrink_changes(from);
         Some(
             self.draft
-                .phrase(Names::Nothing(Rule::Repeated), index, end, from),
+                .add(Names::Nothing(Rule::Repeated), index, end, from),
         )
     }
 
-    /// The aliquot part at an index, of which white space may be between two steps, as in `(N 1/2 NE 1/4)`.
-    fn part_in_pieces(&mut self, index: usize) -> Option<Phrase> {
-        let Some(first) = self.part(index) else {
-            return None;
-        };
-        match self.part(first.end) {
-            Some(second) => Some(Phrase {
-                end: second.end,
-                steps: Span {
-                    first: first.steps.first,
-                    end: second.steps.end,
-                },
-                ..first
-            }),
+    /// Where the aliquot part at an index ends, of which white space may be between two steps, as in
+    /// `(N 1/2 NE 1/4)`.
+    fn part_in_pieces(&mut self, index: usize) -> Option<usize> {
+        let first = self.part(index)?.end;
+        match self.part(first) {
+            Some(second) => Some(second.end),
             None => Some(first),
         }
     }

@@ -1,7 +1,7 @@
 //! Sections without a word for them: `S14 T2N R3W`, `14-2N-3W`, `14: NENE`.
 
 use crate::finder::Finder;
-use twp_draft::{Form, Names, Numeral, Phrase};
+use twp_draft::{Form, Names, Numeral};
 use twp_grammar::Kind;
 use twp_pieces::plus;
 use twp_rules::Rule;
@@ -11,7 +11,7 @@ const PHRASES_MOST: usize = 8;
 
 impl<'a> Finder<'a> {
     /// The section of a location, as in `S14 T2N R3W`.
-    pub(crate) fn section_of_letter(&mut self, index: usize) -> Option<Phrase> {
+    pub(crate) fn section_of_letter(&mut self, index: usize) -> Option<usize> {
         let from = self.draft.extent();
         let Some(number) = self.number_of_letter(index) else {
             return None;
@@ -37,7 +37,7 @@ impl<'a> Finder<'a> {
         }
         self.draft.replace(index, b"sec. ", Rule::SectionWord);
         self.draft.write_numeral(number);
-        Some(self.draft.phrase(Names::Sections, index, next, from))
+        Some(self.draft.add(Names::Sections, index, next, from))
     }
 
     /// The number of a section after the letter for it at an index.
@@ -83,7 +83,7 @@ impl<'a> Finder<'a> {
     }
 
     /// The number of a section without a word for it.
-    pub(crate) fn bare_section(&mut self, index: usize) -> Option<Phrase> {
+    pub(crate) fn bare_section(&mut self, index: usize) -> Option<usize> {
         let from = self.draft.extent();
         let last = self.draft.last_names();
         let pieces = &self.draft.pieces;
@@ -113,9 +113,11 @@ impl<'a> Finder<'a> {
         } else {
             number.end
         };
-        let phrase = self.draft.phrase(Names::Sections, index, end, from);
-        let form = if is_list { Form::Plural } else { Form::Plain };
-        Some(Phrase { form, ..phrase })
+        self.draft.add(Names::Sections, index, end, from);
+        if is_list {
+            self.draft.note_form(Form::Plural);
+        }
+        Some(end)
     }
 
     /// Whether one of the last phrases is the label of a tract, so that a number may be one, too.

@@ -1,7 +1,7 @@
 //! `except`, and words like it: `less and except`, `save and except`, `L&E`.
 
 use crate::finder::Finder;
-use twp_draft::{Names, Phrase, Span};
+use twp_draft::{Extent, Names, Phrase};
 use twp_grammar::Kind;
 use twp_pieces::plus;
 use twp_rules::Rule;
@@ -9,7 +9,7 @@ use twp_words::excepts_land;
 
 impl<'a> Finder<'a> {
     /// `except`, or words like it, at an index.
-    pub(crate) fn except(&mut self, index: usize) -> Option<Phrase> {
+    pub(crate) fn except(&mut self, index: usize) -> Option<usize> {
         let from = self.draft.extent();
         let pieces = &self.draft.pieces;
         let Some(end) = self.after_except(index) else {
@@ -27,7 +27,7 @@ impl<'a> Finder<'a> {
                 self.draft.leave_out(place, plus(place, 1), rule);
             }
         }
-        Some(self.draft.phrase(Names::Except, index, end, from))
+        Some(self.draft.add(Names::Except, index, end, from))
     }
 
     /// The index after words for an exception at an index.
@@ -88,44 +88,28 @@ impl<'a> Finder<'a> {
             && (pieces.begins_part(land) || matches!(pieces.kind(land), Kind::Lot))
     }
 
-    /// An excepted part with `thereof` after it, to which the steps of the part are added from which it is
-    /// excepted, as in `NW1/4, except the SW1/4 thereof`. It is doubted if that may be another.
-    pub(crate) fn part_thereof(&mut self, part: Phrase) -> Phrase {
+    /// Adds to an excepted part with `thereof` after it the steps of the part from which it is excepted, as in
+    /// `NW1/4, except the SW1/4 thereof`. It is doubted if that may be another.
+    pub(crate) fn add_steps_of_whole(&mut self, first: usize, end: usize, from: Extent) {
+        let part = self.draft.phrase(Names::Part, first, end, from);
         let whole = match self.whole_before_except() {
-            Whole::Section => return part,
+            Whole::Section => return,
             Whole::Part(whole) => whole,
-            Whole::Unsure => {
-                self.draft.doubt();
-                return part;
-            }
+            Whole::Unsure => return self.draft.doubt(),
         };
         if self.draft.ends_with_steps_of(part, whole) {
-            return part;
+            return;
         }
         if !self.is_surely_of(part, whole) {
-            self.draft.doubt();
-            return part;
+            return self.draft.doubt();
         }
-        let place = self.draft.pieces.end_before(part.end);
+        let place = self.draft.pieces.end_before(end);
         for index in whole.steps.first..whole.steps.end {
             if let Some(step) = self.draft.steps.get(index).copied() {
                 let rule = Rule::CopiedStep(step.start, step.end);
                 self.draft.write(place, place, step.written, rule);
                 self.draft.add_step(step);
             }
-        }
-        let changes = Span {
-            end: self.draft.changes.len(),
-            ..part.changes
-        };
-        let steps = Span {
-            end: self.draft.steps.len(),
-            ..part.steps
-        };
-        Phrase {
-            changes,
-            steps,
-            ..part
         }
     }
 

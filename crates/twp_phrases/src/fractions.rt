@@ -10,45 +10,51 @@ impl<'a> Finder<'a> {
     /// The fraction at an index, after letters: the index after it.
     pub(crate) fn fraction(&mut self, index: usize, size: Size) -> Option<usize> {
         let pieces = &self.draft.pieces;
-        let next = plus(index, 1);
         let kind = pieces.kind(index);
         if is_written(size, kind) {
-            return Some(next);
+            return Some(plus(index, 1));
         }
-        if !matches!(
-            kind,
-            Kind::Stop | Kind::BadByte | Kind::Number(_) | Kind::Other
-        ) {
+        let after = match kind {
+            Kind::Stop => return self.fraction_after(index, size, Rule::OnePart),
+            Kind::BadByte if pieces.is(index, b"\\") => {
+                return self.fraction_after(index, size, Rule::Mark);
+            }
+            Kind::BadByte => self.end_of_mark(index, size)?,
+            Kind::Number(_) => {
+                if let Some(after) = self.spaced_fraction(index, size) {
+                    return Some(after);
+                }
+                self.end_of_number(index, size)?
+            }
+            Kind::Other => self.end_of_word(index, size)?,
+            _ => return None,
+        };
+        self.write_fraction(index, after, size);
+        Some(after)
+    }
+
+    /// The fraction after a mark at an index, which is left out: the index after the fraction, if it is as in a
+    /// description.
+    fn fraction_after(&mut self, index: usize, size: Size, rule: Rule) -> Option<usize> {
+        let pieces = &self.draft.pieces;
+        let next = plus(index, 1);
+        if !pieces.is_joined(index) || !is_written(size, pieces.kind(next)) {
             return None;
         }
-        if matches!(kind, Kind::Stop)
-            && pieces.is_joined(index)
-            && is_written(size, pieces.kind(next))
-        {
-            self.draft.leave_out(index, next, Rule::OnePart);
-            return Some(plus(index, 2));
-        }
-        if self.draft.pieces.is(index, b"\\")
-            && self.draft.pieces.is_joined(index)
-            && is_written(size, self.draft.pieces.kind(next))
-        {
-            self.draft.leave_out(index, next, Rule::Mark);
-            return Some(plus(index, 2));
-        }
-        if let Some(after) = self.spaced_fraction(index, size) {
-            return Some(after);
-        }
-        if let Some(after) = self.end_of_fraction(index, size) {
-            let start = if self.draft.pieces.is_joined(index) {
-                self.draft.pieces.start(index)
-            } else {
-                self.draft.pieces.end_before(index)
-            };
-            let end = self.draft.pieces.end_before(after);
-            self.draft.write(start, end, size.fraction(), rule_of(size));
-            return Some(after);
-        }
-        None
+        self.draft.leave_out(index, next, rule);
+        Some(plus(next, 1))
+    }
+
+    /// Writes a fraction for the pieces from one index up to another.
+    fn write_fraction(&mut self, index: usize, after: usize, size: Size) {
+        let pieces = &self.draft.pieces;
+        let start = if pieces.is_joined(index) {
+            pieces.start(index)
+        } else {
+            pieces.end_before(index)
+        };
+        let end = pieces.end_before(after);
+        self.draft.write(start, end, size.fraction(), rule_of(size));
     }
 
     /// The fraction at an index with a space before its slash, or after it, as in `W1 /2`, which is left out:
@@ -76,44 +82,68 @@ impl<'a> Finder<'a> {
         Some(plus(digit, 1))
     }
 
-    /// Where the fraction at an index ends that isn't written as in a description: a digit, a slash and a
-    /// digit, a word for a part, or what scanning makes of it.
-    fn end_of_fraction(&self, index: usize, size: Size) -> Option<usize> {
+    /// Where the fraction ends that a number at an index begins, and that isn't written as in a description: a
+    /// digit, or a digit, a slash, and a digit.
+    fn end_of_number(&self, index: usize, size: Size) -> Option<usize> {
         let pieces = &self.draft.pieces;
         let next = plus(index, 1);
-        let is_joined = pieces.is_joined(index);
         if self.is_digit(index, size) && !self.goes_on(next) {
-            return Some(next);
-        }
-        if is_joined && pieces.is(index, b"/") && self.is_digit(next, size) {
-            return Some(plus(next, 1));
-        }
-        if pieces.is_spaced_slash(index)
-            && pieces.number(next) == Some(size.digit())
-            && pieces.has_digits(next, 1)
-        {
-            return Some(plus(next, 1));
-        }
-        if is_joined && pieces.is(index, b"^") && size == Size::Quarter {
             return Some(next);
         }
         if self.is_hyphenated(index, size) {
             return Some(plus(index, 3));
         }
+        if !self.is_before_slash(index) {
+            return None;
+        }
+        if self.is_slashed(index, size) {
+            return Some(plus(index, 3));
+        }
+        if pieces.is_joined(index) && pieces.is(index, b"1") && self.is_end(plus(index, 2)) {
+            return Some(plus(index, 2));
+        }
+        None
+    }
+
+    /// Where the fraction ends that a word at an index begins: a word for a part, or what scanning makes of a `1`.
+    fn end_of_word(&self, index: usize, size: Size) -> Option<usize> {
+        let pieces = &self.draft.pieces;
+        let next = plus(index, 1);
         if size.is_whole_word(pieces.lower(index)) {
             return Some(next);
         }
-        if self.is_before_slash(index) {
-            if self.is_slashed(index, size) {
-                return Some(plus(index, 3));
-            }
-            if is_joined && pieces.is(index, b"1") && self.is_end(plus(index, 2)) {
-                return Some(plus(index, 2));
-            }
+        if self.is_before_slash(index) && self.is_slashed(index, size) {
+            return Some(plus(index, 3));
         }
         let is_worn = pieces.is(index, b"v") || pieces.is(index, b"y");
-        if is_joined && is_worn && self.is_digit(next, size) {
+        if is_worn && pieces.is_joined(index) && self.is_digit(next, size) {
             return Some(plus(next, 1));
+        }
+        None
+    }
+
+    /// Where the fraction ends that a mark at an index begins: a slash and a digit, or what scanning makes of a
+    /// fraction.
+    fn end_of_mark(&self, index: usize, size: Size) -> Option<usize> {
+        let pieces = &self.draft.pieces;
+        let next = plus(index, 1);
+        let is_joined = pieces.is_joined(index);
+        if pieces.is(index, b"/") {
+            let is_fraction = (is_joined && self.is_digit(next, size))
+                || (pieces.is_spaced_slash(index)
+                    && pieces.number(next) == Some(size.digit())
+                    && pieces.has_digits(next, 1));
+            return if is_fraction {
+                Some(plus(next, 1))
+            } else {
+                None
+            };
+        }
+        if is_joined && pieces.is(index, b"^") && size == Size::Quarter {
+            return Some(next);
+        }
+        if self.is_before_slash(index) && self.is_slashed(index, size) {
+            return Some(plus(index, 3));
         }
         if is_joined && pieces.is(index, b"%") {
             return Some(next);

@@ -2,7 +2,7 @@
 //! `Township Two North, Range Three West`.
 
 use crate::finder::Finder;
-use twp_draft::{Names, Numeral, Phrase};
+use twp_draft::{Names, Numeral};
 use twp_grammar::Kind;
 use twp_pieces::plus;
 use twp_rules::Rule;
@@ -10,13 +10,13 @@ use twp_words::{is_range_name, is_township_name};
 
 impl<'a> Finder<'a> {
     /// The township and range at an index.
-    pub(crate) fn heading(&mut self, index: usize) -> Option<Phrase> {
+    pub(crate) fn heading(&mut self, index: usize) -> Option<usize> {
         let from = self.draft.extent();
         let next = self.after_words_for_heading(index);
         if let Some(end) = self.draft.pieces.after_same_township(next) {
             self.draft.shrink(from);
             let names = Names::Nothing(Rule::MovedHeading);
-            return Some(self.draft.phrase(names, index, end, from));
+            return Some(self.draft.add(names, index, end, from));
         }
         let has_word = self.has_township_word(next);
         // Without a word for it, its side is beside its number.
@@ -35,12 +35,15 @@ impl<'a> Finder<'a> {
             self.draft.doubt();
         }
         let end = self.after_same_tier(end);
-        Some(self.draft.phrase(Names::Heading, index, end, from))
+        Some(self.draft.add(Names::Heading, index, end, from))
     }
 
     /// Leaves out words before a heading, as in `all in T. 2 N.`, and returns where it begins.
     fn after_words_for_heading(&mut self, index: usize) -> usize {
         let pieces = &self.draft.pieces;
+        if !matches!(pieces.kind(index), Kind::All | Kind::Of | Kind::Other) {
+            return index;
+        }
         let second = plus(index, 1);
         let is_all = pieces.is(index, b"all")
             && (pieces.is(second, b"in") || pieces.is(second, b"of"));
@@ -123,12 +126,14 @@ impl<'a> Finder<'a> {
 
     /// Whether a word for a township is at an index.
     fn has_township_word(&self, index: usize) -> bool {
-        is_township_name(self.draft.pieces.lower(index))
+        let pieces = &self.draft.pieces;
+        !matches!(pieces.kind(index), Kind::Number(_)) && is_township_name(pieces.lower(index))
     }
 
     /// Whether a word for a range is at an index.
     fn has_range_word(&self, index: usize) -> bool {
-        is_range_name(self.draft.pieces.lower(index))
+        let pieces = &self.draft.pieces;
+        !matches!(pieces.kind(index), Kind::Number(_)) && is_range_name(pieces.lower(index))
     }
 
     /// Whether the word for a side at one index, and the letter at another, are of the same side.
@@ -311,6 +316,9 @@ impl<'a> Finder<'a> {
         let found = self.heading(index);
         self.draft.shrink(from);
         self.draft.is_unsure = is_unsure;
-        found.map(|heading| heading.end)
+        if found.is_some() {
+            self.draft.drop_phrase();
+        }
+        found
     }
 }

@@ -2,7 +2,7 @@
 
 use crate::finder::Finder;
 use crate::numbered::{Join, Joined};
-use twp_draft::{Names, Numeral, Phrase};
+use twp_draft::{Names, Numeral};
 use twp_grammar::Kind;
 use twp_pieces::plus;
 use twp_rules::Rule;
@@ -12,7 +12,7 @@ const LEAST: u16 = 2;
 
 impl<'a> Finder<'a> {
     /// The lots at an index.
-    pub(crate) fn lots(&mut self, index: usize) -> Option<Phrase> {
+    pub(crate) fn lots(&mut self, index: usize) -> Option<usize> {
         let from = self.draft.extent();
         let Some(next) = self.lot_word(index) else {
             return None;
@@ -32,7 +32,7 @@ impl<'a> Finder<'a> {
             || self.draft.pieces.is(before, b"lts")
             || self.draft.pieces.is(before, b"iots");
         let end = self.numbers_after(number, Names::Lots, is_plural);
-        Some(self.draft.phrase(Names::Lots, index, end, from))
+        Some(self.draft.add(Names::Lots, index, end, from))
     }
 
     /// Writes the word for lots at an index: the index after it.

@@ -1,7 +1,7 @@
 //! Aliquot parts: `NE1/4`, `S2NE4`, `N/2`, `NENE`, `the North Half of the Southwest Quarter`.
 
 use crate::finder::Finder;
-use twp_draft::{Form, Names, Phrase, PlacedStep};
+use twp_draft::{Form, PlacedStep};
 use twp_grammar::Kind;
 use twp_pieces::{are_corners, plus};
 use twp_rules::Rule;
@@ -10,9 +10,16 @@ use twp_words::{Size, written_step};
 /// The most steps of a part: each halves a side of the section, which can be halved five times each way.
 const STEPS_MOST: usize = 10;
 
+/// An aliquot part that was read, and isn't added yet: the index after it, and how it is written.
+#[derive(Clone, Copy)]
+pub(crate) struct Part {
+    pub(crate) end: usize,
+    pub(crate) form: Form,
+}
+
 impl<'a> Finder<'a> {
     /// The aliquot part at an index: steps joined without white space, or by `of`.
-    pub(crate) fn part(&mut self, index: usize) -> Option<Phrase> {
+    pub(crate) fn part(&mut self, index: usize) -> Option<Part> {
         let from = self.draft.extent();
         let mut first = self.draft.pieces.after_fractional(index);
         self.draft.leave_out_each(index, first, Rule::Word);
@@ -20,9 +27,7 @@ impl<'a> Finder<'a> {
             self.draft.leave_out(index, plus(index, 1), Rule::Word);
             first = plus(index, 1);
         }
-        let Some(mut end) = self.step(first) else {
-            return None;
-        };
+        let mut end = self.step(first)?;
         let mut form = Form::Plain;
         for _ in 0..self.draft.pieces.len() {
             if self.draft.extent().steps_after(from) > STEPS_MOST {
@@ -50,8 +55,7 @@ impl<'a> Finder<'a> {
             form = Form::WithOf;
             end = after;
         }
-        let phrase = self.draft.phrase(Names::Part, index, end, from);
-        Some(Phrase { form, ..phrase })
+        Some(Part { end, form })
     }
 
     /// The index after the step before an index in parentheses, if `of` follows them, as in

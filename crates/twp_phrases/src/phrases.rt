@@ -1,8 +1,9 @@
 //! The phrases of a text, from left to right.
 
 use crate::finder::Finder;
-use crate::sought::{OF_NUMBERS, OF_WORDS};
-use twp_draft::{Names, Phrase};
+use crate::parts::Part;
+use crate::sought::{OF_NUMBERS, OF_WORDS, Sought};
+use twp_draft::Names;
 use twp_grammar::Kind;
 use twp_pieces::plus;
 
@@ -21,32 +22,53 @@ impl<'a> Finder<'a> {
             if self.draft.is_unsure {
                 return;
             }
+            if self.begins_none(here) {
+                self.join(here, index);
+                continue;
+            }
             match self.phrase_at(here) {
-                Some(phrase) => {
-                    index = phrase.end;
-                    // Land at some depths, and other land.
-                    if self.has_depths && !matches!(phrase.names, Names::Nothing(_)) {
-                        self.draft.doubt();
-                    }
-                    self.names_land = self.names_land
-                        || !matches!(phrase.names, Names::Nothing(_) | Names::Heading);
-                    if phrase.names == Names::Sections {
-                        self.draft.last_section = Some(phrase);
-                    }
-                    self.draft.add_phrase(phrase);
+                Some(end) => {
+                    index = end;
+                    self.note_phrase();
                 }
-                None if self.joins_phrases(here) && here < plus(index, JOINING_MOST) => {
-                    if self.is_empty_slot(here) {
-                        self.draft.doubt();
-                    }
-                    self.has_open = self.draft.pieces.is(here, b"(")
-                        || (self.has_open && !self.draft.pieces.is(here, b")"));
-                }
-                None => self.draft.doubt(),
+                None => self.join(here, index),
             }
         }
         if self.has_open {
             self.draft.doubt();
+        }
+    }
+
+    /// Notes what the phrase that was added last names.
+    fn note_phrase(&mut self) {
+        let Some(phrase) = self.draft.phrases.last() else {
+            return;
+        };
+        if matches!(phrase.names, Names::Nothing(_)) {
+            return;
+        }
+        self.names_land = self.names_land || !matches!(phrase.names, Names::Heading);
+        if matches!(phrase.names, Names::Sections) {
+            self.draft.last_section = Some(*phrase);
+        }
+        // Land at some depths, and other land.
+        if self.has_depths {
+            self.draft.doubt();
+        }
+    }
+
+    /// Takes a piece as what joins phrases, the last of which ended before an index. If it doesn't, the text isn't
+    /// sure.
+    fn join(&mut self, here: usize, index: usize) {
+        if !self.joins_phrases(here)
+            || here >= plus(index, JOINING_MOST)
+            || self.is_empty_slot(here)
+        {
+            self.draft.doubt();
+        }
+        if matches!(self.draft.pieces.kind(here), Kind::BadByte) {
+            self.has_open = self.draft.pieces.is(here, b"(")
+                || (self.has_open && !self.draft.pieces.is(here, b")"));
         }
     }
 
@@ -105,13 +127,25 @@ impl<'a> Finder<'a> {
         }
     }
 
-    /// The phrase at an index.
-    fn phrase_at(&mut self, index: usize) -> Option<Phrase> {
-        match self.draft.pieces.kind(index) {
-            Kind::Number(_) => self.phrase_of_number(index),
-            _ if self.begins_none(index) => None,
-            _ => self.phrase_of_mark_or_word(index),
+    /// Adds the phrase at an index, which is looked for first as the kind that most such pieces begin, and then as the
+    /// others: the index after it.
+    fn phrase_at(&mut self, index: usize) -> Option<usize> {
+        let from = self.draft.extent();
+        let mut kind = self.likely_kind(index);
+        let kinds: &[Sought] = match self.draft.pieces.kind(index) {
+            Kind::Number(_) => &OF_NUMBERS,
+            _ => &OF_WORDS,
+        };
+        for next in 0..plus(kinds.len(), 1) {
+            if let Some(sought) = kind {
+                if let Some(end) = self.phrase_of_kind(sought, index) {
+                    return Some(end);
+                }
+                self.draft.shrink(from);
+            }
+            kind = kinds.get(next).copied();
         }
+        None
     }
 
     /// Whether the piece at an index begins no phrase: most marks, and words that only join two of them.
@@ -128,47 +162,41 @@ impl<'a> Finder<'a> {
         }
     }
 
-    /// The phrase at an index that a word or a mark begins: the kind of phrase that most such pieces begin,
-    /// before the others are looked for.
-    fn phrase_of_mark_or_word(&mut self, index: usize) -> Option<Phrase> {
-        let from = self.draft.extent();
-        if let Some(phrase) = self.likely_phrase(index) {
-            return Some(phrase);
-        }
-        self.draft.shrink(from);
-        self.phrase_of_word(index)
-    }
-
-    /// The phrase at an index of the kind that most such pieces begin. The results are handed on as they are,
-    /// since a place for each of them would be cleared at each piece.
-    fn likely_phrase(&mut self, index: usize) -> Option<Phrase> {
-        match self.draft.pieces.kind(index) {
-            Kind::Sec => self.sections(index),
-            Kind::Lot => self.lots(index),
-            Kind::All if self.is_after_all(plus(index, 1)) => self.all(index),
-            Kind::T => self.heading(index),
-            Kind::Corner(_) => self.sure_part(index),
-            Kind::NorthSouth(_) | Kind::EastWest(_)
-                if !self.draft.pieces.is(plus(index, 1), b".") => { self.half_or_section(index) }
-            Kind::Other => self.likely_phrase_of_word(index),
-            Kind::The if self.draft.pieces.begins_land(plus(index, 1)) => self.sure_part(index),
+    /// The kind of phrase that most pieces like the one at an index begin.
+    fn likely_kind(&self, index: usize) -> Option<Sought> {
+        let pieces = &self.draft.pieces;
+        match pieces.kind(index) {
+            Kind::Sec => Some(Sought::Sections),
+            Kind::Lot => Some(Sought::Lots),
+            Kind::All if self.is_after_all(plus(index, 1)) => Some(Sought::All),
+            Kind::T => Some(Sought::Heading),
+            Kind::Corner(_) => Some(Sought::Part),
+            Kind::NorthSouth(_) | Kind::EastWest(_) if !pieces.is(plus(index, 1), b".") => {
+                Some(Sought::HalfOrSection)
+            }
+            Kind::Other => self.likely_kind_of_word(index),
+            Kind::The if pieces.begins_land(plus(index, 1)) => Some(Sought::Part),
+            Kind::Number(_) if self.begins_tier_or_register(index) => {
+                Some(Sought::RegisterOrHeading)
+            }
             _ => None,
         }
     }
 
     /// The same, of a word that no description has.
-    fn likely_phrase_of_word(&mut self, index: usize) -> Option<Phrase> {
-        if self.draft.pieces.begins_step(index) {
-            return self.sure_part(index);
+    fn likely_kind_of_word(&self, index: usize) -> Option<Sought> {
+        let pieces = &self.draft.pieces;
+        if pieces.begins_step(index) {
+            return Some(Sought::Part);
         }
-        if self.draft.pieces.is_township_word(index) {
-            return self.heading(index);
+        if pieces.is_township_word(index) {
+            return Some(Sought::Heading);
         }
         if self.may_be_lots(index) {
-            return self.lots(index);
+            return Some(Sought::Lots);
         }
-        if self.draft.pieces.is(index, b"less") || self.draft.pieces.is(index, b"except") {
-            return self.except(index);
+        if pieces.is(index, b"less") || pieces.is(index, b"except") {
+            return Some(Sought::Except);
         }
         None
     }
@@ -199,19 +227,6 @@ impl<'a> Finder<'a> {
             || self.after_government(index) > index
     }
 
-    /// The phrase at an index that a number begins: a township and range, if a side is joined to the number,
-    /// or what else it may begin.
-    fn phrase_of_number(&mut self, index: usize) -> Option<Phrase> {
-        if self.begins_tier_or_register(index) {
-            let from = self.draft.extent();
-            if let Some(phrase) = self.register_or_heading(index) {
-                return Some(phrase);
-            }
-            self.draft.shrink(from);
-        }
-        self.first_of(&OF_NUMBERS, index)
-    }
-
     /// Whether the number at an index is surely that of a township, or begins a row of a register.
     fn begins_tier_or_register(&self, index: usize) -> bool {
         let pieces = &self.draft.pieces;
@@ -222,56 +237,50 @@ impl<'a> Finder<'a> {
 
     /// The row of a register, or the township and range, at an index. If a digit follows them at once, they are
     /// part of a parcel's code.
-    fn register_or_heading(&mut self, index: usize) -> Option<Phrase> {
+    pub(crate) fn register_or_heading(&mut self, index: usize) -> Option<usize> {
         let from = self.draft.extent();
-        if let Some(phrase) = self.of_register(index) {
-            return Some(phrase);
+        if let Some(end) = self.of_register(index) {
+            return Some(end);
         }
         self.draft.shrink(from);
         let is_unsure = self.draft.is_unsure;
-        let phrase = self.heading(index)?;
+        let end = self.heading(index)?;
         let pieces = &self.draft.pieces;
-        if pieces.is_joined(phrase.end) && pieces.number(phrase.end).is_some() {
+        if pieces.is_joined(end) && pieces.number(end).is_some() {
+            self.draft.drop_phrase();
             self.draft.is_unsure = is_unsure;
             return None;
         }
-        Some(phrase)
-    }
-
-    /// The phrase at an index that a word or a mark begins.
-    fn phrase_of_word(&mut self, index: usize) -> Option<Phrase> {
-        self.first_of(&OF_WORDS, index)
+        Some(end)
     }
 
     /// The section of a location, or the aliquot part, at an index.
-    fn half_or_section(&mut self, index: usize) -> Option<Phrase> {
+    pub(crate) fn half_or_section(&mut self, index: usize) -> Option<usize> {
         let from = self.draft.extent();
-        if let Some(phrase) = self.section_of_letter(index) {
-            return Some(phrase);
+        if let Some(end) = self.section_of_letter(index) {
+            return Some(end);
         }
         self.draft.shrink(from);
         self.sure_part(index)
     }
 
     /// The aliquot part at an index, which is doubted if it may be something else.
-    pub(crate) fn sure_part(&mut self, index: usize) -> Option<Phrase> {
-        let Some(part) = self.part(index) else {
-            return None;
-        };
-        self.doubt_part(part);
+    pub(crate) fn sure_part(&mut self, index: usize) -> Option<usize> {
+        let from = self.draft.extent();
+        let Part { end, form } = self.part(index)?;
+        self.doubt_part(index, end);
         if self.draft.pieces.after_fractional(index) > index {
-            self.draft.add_fractional(part.end);
+            self.draft.add_fractional(end);
         }
-        if !self.draft.pieces.is(part.end, b"thereof") {
-            return Some(part);
-        }
-        match self.draft.last_names() {
-            Some(Names::Except) => Some(self.part_thereof(part)),
-            Some(Names::Part | Names::Lots) => {
-                self.draft.doubt();
-                Some(part)
+        if self.draft.pieces.is(end, b"thereof") {
+            match self.draft.last_names() {
+                Some(Names::Except) => self.add_steps_of_whole(index, end, from),
+                Some(Names::Part | Names::Lots) => self.draft.doubt(),
+                _ => {}
             }
-            _ => Some(part),
         }
+        self.draft.add(Names::Part, index, end, from);
+        self.draft.note_form(form);
+        Some(end)
     }
 }

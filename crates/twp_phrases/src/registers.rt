@@ -1,7 +1,7 @@
 //! Rows of registers: `08 0020N 0030W 014 ALIQ NENE`, `ID 8 2N 3W 14 A NENE`, `ID080020N0030W0SN140 ANENE`.
 
 use crate::finder::Finder;
-use twp_draft::{Names, Numeral, Phrase};
+use twp_draft::{Names, Numeral};
 use twp_grammar::Kind;
 use twp_pieces::plus;
 use twp_rules::Rule;
@@ -9,18 +9,18 @@ use twp_rules::Rule;
 impl<'a> Finder<'a> {
     /// What only a register has, at an index: the code of the meridian, a section after SN, the A of aliquot
     /// parts.
-    pub(crate) fn of_register(&mut self, index: usize) -> Option<Phrase> {
-        if let Some(phrase) = self.meridian_of_register(index) {
-            return Some(phrase);
+    pub(crate) fn of_register(&mut self, index: usize) -> Option<usize> {
+        if let Some(end) = self.meridian_of_register(index) {
+            return Some(end);
         }
-        if let Some(phrase) = self.letter_of_register(index) {
-            return Some(phrase);
+        if let Some(end) = self.letter_of_register(index) {
+            return Some(end);
         }
         self.section_of_register(index)
     }
 
     /// The code of the meridian, before a township and range.
-    fn meridian_of_register(&mut self, index: usize) -> Option<Phrase> {
+    fn meridian_of_register(&mut self, index: usize) -> Option<usize> {
         let from = self.draft.extent();
         let last = self.draft.last_names();
         let pieces = &self.draft.pieces;
@@ -40,11 +40,11 @@ impl<'a> Finder<'a> {
             return None;
         }
         let names = Names::Nothing(Rule::Meridian);
-        Some(self.draft.phrase(names, index, next, from))
+        Some(self.draft.add(names, index, next, from))
     }
 
     /// The A before aliquot parts, after a section.
-    pub(crate) fn letter_of_register(&self, index: usize) -> Option<Phrase> {
+    pub(crate) fn letter_of_register(&mut self, index: usize) -> Option<usize> {
         let pieces = &self.draft.pieces;
         let next = plus(index, 1);
         let is_before_part = match pieces.kind(next) {
@@ -58,18 +58,15 @@ impl<'a> Finder<'a> {
         {
             return None;
         }
+        let from = self.draft.extent();
         Some(
-            self.draft.phrase(
-                Names::Nothing(Rule::Heading),
-                index,
-                next,
-                self.draft.extent(),
-            ),
+            self.draft
+                .add(Names::Nothing(Rule::Heading), index, next, from),
         )
     }
 
     /// The section after SN, whose number has a digit more.
-    fn section_of_register(&mut self, index: usize) -> Option<Phrase> {
+    fn section_of_register(&mut self, index: usize) -> Option<usize> {
         let from = self.draft.extent();
         let last = self.draft.last_names();
         let pieces = &self.draft.pieces;
@@ -99,6 +96,6 @@ impl<'a> Finder<'a> {
             last: digits,
             end: next,
         });
-        Some(self.draft.phrase(Names::Sections, index, next, from))
+        Some(self.draft.add(Names::Sections, index, next, from))
     }
 }

@@ -12,7 +12,7 @@ pub(crate) const SECTIONS: u16 = 36;
 
 impl<'a> Finder<'a> {
     /// The section or sections at an index, after the word for them.
-    pub(crate) fn sections(&mut self, index: usize) -> Option<Phrase> {
+    pub(crate) fn sections(&mut self, index: usize) -> Option<usize> {
         let from = self.draft.extent();
         let word = self.place_of_section_word(index);
         if self.draft.pieces.is_damaged_section_word(word) {
@@ -24,8 +24,8 @@ impl<'a> Finder<'a> {
         }
         if word > index {
             if self.is_said(index) {
-                if let Some(phrase) = self.section_again(index, word) {
-                    return Some(phrase);
+                if let Some(end) = self.section_again(index, word) {
+                    return Some(end);
                 }
             }
             if self.draft.pieces.is(index, b"both") && self.count_of_parts() != 2 {
@@ -42,9 +42,11 @@ impl<'a> Finder<'a> {
         };
         let is_plural = self.is_plural_word(word);
         let end = self.section_list(word, number, is_plural);
-        let phrase = self.draft.phrase(Names::Sections, index, end, from);
-        let form = if is_plural { Form::Plural } else { Form::Plain };
-        Some(Phrase { form, ..phrase })
+        self.draft.add(Names::Sections, index, end, from);
+        if is_plural {
+            self.draft.note_form(Form::Plural);
+        }
+        Some(end)
     }
 
     /// Where the word for sections has to be, if words for them begin at an index.
@@ -112,7 +114,7 @@ impl<'a> Finder<'a> {
     }
 
     /// The section that was named before, if words for it at an index have no number.
-    fn section_again(&self, index: usize, word: usize) -> Option<Phrase> {
+    fn section_again(&mut self, index: usize, word: usize) -> Option<usize> {
         let pieces = &self.draft.pieces;
         let next = plus(word, 1);
         let end = if pieces.is(next, b".") && pieces.is_joined(next) {
@@ -124,14 +126,14 @@ impl<'a> Finder<'a> {
             return None;
         }
         let numbers = self.draft.last_section?.numbers;
-        let again = self
-            .draft
-            .phrase(Names::Sections, index, end, self.draft.extent());
-        Some(Phrase { numbers, ..again })
+        let from = self.draft.extent();
+        let again = self.draft.phrase(Names::Sections, index, end, from);
+        self.draft.add_phrase(Phrase { numbers, ..again });
+        Some(end)
     }
 
     /// The section at an index whose word begins with such a digit.
-    fn damaged_section(&mut self, index: usize) -> Option<Phrase> {
+    fn damaged_section(&mut self, index: usize) -> Option<usize> {
         let from = self.draft.extent();
         self.draft.replace(index, b"S", Rule::Damage);
         let next = self.after_section_word(plus(index, 1));
@@ -139,7 +141,7 @@ impl<'a> Finder<'a> {
             return None;
         };
         self.draft.write_numeral(number);
-        Some(self.draft.phrase(Names::Sections, index, number.end, from))
+        Some(self.draft.add(Names::Sections, index, number.end, from))
     }
 
     /// The index after what follows the word for sections at an index: `numbered`, a period, a second one, or
@@ -190,24 +192,31 @@ impl<'a> Finder<'a> {
 
     /// Writes the word at an index, a section's number, and those that follow it: the index after them.
     fn section_list(&mut self, word: usize, number: Numeral, is_plural: bool) -> usize {
-        if let Some(written) = self.written_word(word, self.has_more(number, is_plural)) {
+        if let Some(written) = self.written_word(word, number, is_plural) {
             self.draft.replace(word, written, Rule::SectionWord);
         }
         self.draft.write_numeral(number);
         self.numbers_after(number, Names::Sections, is_plural)
     }
 
-    /// What is written for the word for sections at an index, if it isn't written so: there are several, or one.
-    fn written_word(&self, index: usize, has_more: bool) -> Option<&'static [u8]> {
+    /// What is written for the word for sections at an index, before a number, if it isn't written so: there are
+    /// several, or one.
+    fn written_word(
+        &self,
+        index: usize,
+        number: Numeral,
+        is_plural: bool,
+    ) -> Option<&'static [u8]> {
         let pieces = &self.draft.pieces;
-        if has_more {
-            let is_single = self.is_short_word(index)
-                || pieces.is(index, b"sec")
-                || pieces.is(index, b"section")
-                || pieces.is(index, b"sects");
-            return if is_single { Some(b"secs") } else { None };
+        let is_short = !matches!(pieces.kind(index), Kind::Sec) && self.is_short_word(index);
+        let is_single = is_short
+            || pieces.is(index, b"sec")
+            || pieces.is(index, b"section")
+            || pieces.is(index, b"sects");
+        if is_single && self.has_more(number, is_plural) {
+            return Some(b"secs");
         }
-        if self.is_short_word(index) || pieces.is(index, b"seo") {
+        if is_short || (pieces.is(index, b"seo") && !self.has_more(number, is_plural)) {
             return Some(b"sec");
         }
         None

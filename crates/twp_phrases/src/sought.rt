@@ -1,7 +1,6 @@
 //! The kinds of phrases that are looked for one after another.
 
 use crate::finder::Finder;
-use twp_draft::Phrase;
 use twp_grammar::Kind;
 use twp_pieces::plus;
 
@@ -23,6 +22,8 @@ pub(crate) enum Sought {
     DamagedPart,
     Except,
     Remark,
+    RegisterOrHeading,
+    HalfOrSection,
 }
 
 /// What a number may begin, in the order in which it is looked for.
@@ -52,20 +53,9 @@ pub(crate) const OF_WORDS: [Sought; 10] = [
 ];
 
 impl<'a> Finder<'a> {
-    /// The first phrase at an index of some kinds, in their order.
-    pub(crate) fn first_of(&mut self, kinds: &[Sought], index: usize) -> Option<Phrase> {
-        let from = self.draft.extent();
-        for kind in kinds {
-            if let Some(phrase) = self.phrase_of_kind(*kind, index) {
-                return Some(phrase);
-            }
-            self.draft.shrink(from);
-        }
-        None
-    }
-
-    /// The phrase of a kind at an index.
-    fn phrase_of_kind(&mut self, kind: Sought, index: usize) -> Option<Phrase> {
+    /// Adds the phrase of a kind at an index: the index after it.
+    #[inline(never)]
+    pub(crate) fn phrase_of_kind(&mut self, kind: Sought, index: usize) -> Option<usize> {
         match kind {
             Sought::Aside => self.aside(index),
             Sought::Register => self.of_register(index),
@@ -82,11 +72,13 @@ impl<'a> Finder<'a> {
             Sought::DamagedPart => self.damaged_part(index),
             Sought::Except => self.except(index),
             Sought::Remark => self.remark(index),
+            Sought::RegisterOrHeading => self.register_or_heading(index),
+            Sought::HalfOrSection => self.half_or_section(index),
         }
     }
 
     /// The section at an index that has no word for it, and a colon after it.
-    fn section_before_colon(&mut self, index: usize) -> Option<Phrase> {
+    fn section_before_colon(&mut self, index: usize) -> Option<usize> {
         if !matches!(self.draft.pieces.kind(plus(index, 1)), Kind::Colon) {
             return None;
         }
@@ -95,7 +87,7 @@ impl<'a> Finder<'a> {
     }
 
     /// The sections at an index whose word begins with a digit for an `S`.
-    fn damaged_sections(&mut self, index: usize) -> Option<Phrase> {
+    fn damaged_sections(&mut self, index: usize) -> Option<usize> {
         if !self.draft.pieces.is_damaged_section_word(index) {
             return None;
         }
@@ -103,7 +95,7 @@ impl<'a> Finder<'a> {
     }
 
     /// The aliquot part at an index that begins with a 5 or an 8 for an `S`.
-    fn damaged_part(&mut self, index: usize) -> Option<Phrase> {
+    fn damaged_part(&mut self, index: usize) -> Option<usize> {
         if !matches!(self.draft.pieces.kind(index), Kind::Number(5 | 8)) {
             return None;
         }

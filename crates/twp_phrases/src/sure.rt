@@ -1,7 +1,7 @@
 //! Remarks, and what makes a phrase unsure: an empty place in a list, and parts that may be something else.
 
 use crate::finder::Finder;
-use twp_draft::{Names, Phrase};
+use twp_draft::Names;
 use twp_grammar::Kind;
 use twp_pieces::plus;
 use twp_remarks::{Position, begins_depths, end_of_remark};
@@ -44,7 +44,7 @@ impl<'a> Finder<'a> {
     }
 
     /// The remark at an index.
-    pub(crate) fn remark(&mut self, index: usize) -> Option<Phrase> {
+    pub(crate) fn remark(&mut self, index: usize) -> Option<usize> {
         let position = if self.names_land {
             Position::AfterLand
         } else {
@@ -63,7 +63,11 @@ impl<'a> Finder<'a> {
         self.has_depths = self.has_depths
             || (self.draft.pieces.is(index, b"(")
                 && begins_depths(&self.draft.pieces, plus(index, 1)));
-        Some(self.draft.phrase(Names::Nothing(Rule::Label), index, end, self.draft.extent()))
+        let from = self.draft.extent();
+        Some(
+            self.draft
+                .add(Names::Nothing(Rule::Label), index, end, from),
+        )
     }
 
     /// Whether a label before lots may be the name of a town's plat: it has no number, and no word for a
@@ -82,27 +86,28 @@ impl<'a> Finder<'a> {
             && !pieces.has_long_number(first, end)
     }
 
-    /// Doubts a part that may be something else: `S2` before any other land, a half after lots, a corner, a
-    /// part with a slash.
-    pub(crate) fn doubt_part(&mut self, part: Phrase) {
-        if self.may_be_section(part)
-            || (part.end == self.draft.pieces.len() && self.may_be_cut_section(part))
-            || (self.is_short(part) && self.may_be_of_lots(part))
-            || self.is_before_corner(part.end)
+    /// Doubts a part from one index up to another that may be something else: `S2` before any other land, a half
+    /// after lots, a corner, a part with a slash.
+    pub(crate) fn doubt_part(&mut self, first: usize, end: usize) {
+        let is_short = self.is_short(first, end);
+        if (is_short && (self.may_be_section(first, end) || self.may_be_of_lots(first)))
+            || (end == self.draft.pieces.len() && self.may_be_cut_section(first, end))
+            || self.is_before_corner(end)
         {
             self.draft.doubt();
         }
     }
 
     /// Whether a part is a letter and a digit, as `N2`.
-    fn is_short(&self, part: Phrase) -> bool {
-        part.end == plus(part.first, 2) && self.draft.pieces.has_digits(plus(part.first, 1), 1)
+    fn is_short(&self, first: usize, end: usize) -> bool {
+        end == plus(first, 2) && self.draft.pieces.has_digits(plus(first, 1), 1)
     }
 
-    /// Whether a part, as `S2`, may be a section: before any other land, or after a section such as `S3:`.
-    fn may_be_section(&self, part: Phrase) -> bool {
+    /// Whether a letter and a digit, as `S2`, may be a section: before any other land, or after a section such as
+    /// `S3:`.
+    fn may_be_section(&self, first: usize, end: usize) -> bool {
         let pieces = &self.draft.pieces;
-        if !self.is_short(part) || !pieces.is(part.first, b"s") {
+        if !pieces.is(first, b"s") {
             return false;
         }
         let is_after_letter = match self.draft.last_section {
@@ -110,13 +115,13 @@ impl<'a> Finder<'a> {
             None => false,
         };
         let is_more = self.draft.last_names() != Some(Names::Sections)
-            || pieces.is(part.first.saturating_sub(1), b",");
-        (!self.names_land && !self.is_before_section(part.end)) || (is_after_letter && is_more)
+            || pieces.is(first.saturating_sub(1), b",");
+        (!self.names_land && !self.is_before_section(end)) || (is_after_letter && is_more)
     }
 
     /// Whether the digit of a part, as `N2`, may be the number of one more lot.
-    fn may_be_of_lots(&self, part: Phrase) -> bool {
-        self.draft.pieces.number(plus(part.first, 1)) == Some(2) && self.is_after_one_lot()
+    fn may_be_of_lots(&self, first: usize) -> bool {
+        self.draft.pieces.number(plus(first, 1)) == Some(2) && self.is_after_one_lot()
     }
 
     /// Whether a word for a corner is at an index, or a slash that is joined to a part, or to what follows.
@@ -137,9 +142,9 @@ impl<'a> Finder<'a> {
 
     /// Whether the last part of a text may be the beginning of a word for a section: `Se`, or `se` after a
     /// part in capitals.
-    pub(crate) fn may_be_cut_section(&self, part: Phrase) -> bool {
+    pub(crate) fn may_be_cut_section(&self, first: usize, end: usize) -> bool {
         let pieces = &self.draft.pieces;
-        let letters = pieces.bytes(part.first);
+        let letters = pieces.bytes(first);
         let is_after_capital = match self.draft.phrases.last() {
             Some(before) => {
                 before.names == Names::Part
@@ -147,7 +152,7 @@ impl<'a> Finder<'a> {
             }
             None => false,
         };
-        part.end == plus(part.first, 1)
+        end == plus(first, 1)
             && matches!(letters, [b'S' | b's', b'e'])
             && (matches!(letters, [b'S', _]) || is_after_capital)
     }

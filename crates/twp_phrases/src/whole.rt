@@ -1,7 +1,8 @@
 //! All of a section: `ALL`, `all public domain lands in`, `entire section`.
 
 use crate::finder::Finder;
-use twp_draft::{Names, Phrase};
+use crate::parts::Part;
+use twp_draft::Names;
 use twp_grammar::Kind;
 use twp_pieces::plus;
 use twp_rules::Rule;
@@ -9,7 +10,7 @@ use twp_words::is_of_domain;
 
 impl<'a> Finder<'a> {
     /// All of a section, at an index.
-    pub(crate) fn all(&mut self, index: usize) -> Option<Phrase> {
+    pub(crate) fn all(&mut self, index: usize) -> Option<usize> {
         let from = self.draft.extent();
         let mut next = index;
         if self.draft.pieces.is(next, b"the") {
@@ -22,17 +23,17 @@ impl<'a> Finder<'a> {
             self.draft.replace(next, b"all", Rule::Word);
             self.draft
                 .leave_out(plus(next, 1), plus(next, 2), Rule::Word);
-            return Some(self.draft.phrase(Names::All, index, plus(next, 2), from));
+            return Some(self.draft.add(Names::All, index, plus(next, 2), from));
         }
         if (self.draft.pieces.is(next, b"whole") || self.draft.pieces.is(next, b"entirety"))
             && self.draft.pieces.is(plus(next, 1), b"of")
         {
             self.draft.replace(next, b"all", Rule::Word);
-            return Some(self.draft.phrase(Names::All, index, plus(next, 1), from));
+            return Some(self.draft.add(Names::All, index, plus(next, 1), from));
         }
         if self.draft.pieces.is(next, b"everything") && self.after_except(plus(next, 1)).is_some() {
             self.draft.replace(next, b"all", Rule::Word);
-            return Some(self.draft.phrase(Names::All, index, plus(next, 1), from));
+            return Some(self.draft.add(Names::All, index, plus(next, 1), from));
         }
         if !matches!(self.draft.pieces.kind(next), Kind::All)
             || !self.draft.pieces.may_be_land(next)
@@ -42,11 +43,10 @@ impl<'a> Finder<'a> {
         next = plus(next, 1);
         if self.draft.pieces.is(next, b"of") && self.draft.pieces.begins_part(plus(next, 1)) {
             self.draft.leave_out_each(index, plus(next, 1), Rule::Word);
-            let part = self.part(plus(next, 1));
-            return part.map(|part| Phrase {
-                form: part.form,
-                ..self.draft.phrase(Names::Part, index, part.end, from)
-            });
+            let Part { end, form } = self.part(plus(next, 1))?;
+            self.draft.add(Names::Part, index, end, from);
+            self.draft.note_form(form);
+            return Some(end);
         }
         if self.draft.pieces.is(next, b"entire")
             && self.draft.pieces.is(plus(next, 1), b"section")
@@ -61,7 +61,7 @@ impl<'a> Finder<'a> {
         } else {
             Names::All
         };
-        Some(self.draft.phrase(names, index, next, from))
+        Some(self.draft.add(names, index, next, from))
     }
 
     /// The index after `public domain lands`, or words like it, before `in` or `of`, which are left out.
