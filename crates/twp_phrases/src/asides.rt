@@ -12,6 +12,7 @@ const SECTIONS: u16 = 36;
 
 impl<'a> Finder<'a> {
     /// What is left out at an index.
+    #[inline(never)]
     pub(crate) fn aside(&mut self, index: usize) -> Option<usize> {
         let from = self.draft.extent();
         let pieces = &self.draft.pieces;

@@ -11,6 +11,7 @@ const PHRASES_MOST: usize = 8;
 
 impl<'a> Finder<'a> {
     /// The section of a location, as in `S14 T2N R3W`.
+    #[inline(never)]
     pub(crate) fn section_of_letter(&mut self, index: usize) -> Option<usize> {
         let from = self.draft.extent();
         let Some(number) = self.number_of_letter(index) else {
@@ -83,6 +84,7 @@ impl<'a> Finder<'a> {
     }
 
     /// The number of a section without a word for it.
+    #[inline(never)]
     pub(crate) fn bare_section(&mut self, index: usize) -> Option<usize> {
         let from = self.draft.extent();
         let last = self.draft.last_names();

@@ -9,6 +9,7 @@ use twp_words::excepts_land;
 
 impl<'a> Finder<'a> {
     /// `except`, or words like it, at an index.
+    #[inline(never)]
     pub(crate) fn except(&mut self, index: usize) -> Option<usize> {
         let from = self.draft.extent();
         let pieces = &self.draft.pieces;

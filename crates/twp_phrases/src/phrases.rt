@@ -237,6 +237,7 @@ impl<'a> Finder<'a> {
 
     /// The row of a register, or the township and range, at an index. If a digit follows them at once, they are
     /// part of a parcel's code.
+    #[inline(never)]
     pub(crate) fn register_or_heading(&mut self, index: usize) -> Option<usize> {
         let from = self.draft.extent();
         if let Some(end) = self.of_register(index) {
@@ -255,6 +256,7 @@ impl<'a> Finder<'a> {
     }
 
     /// The section of a location, or the aliquot part, at an index.
+    #[inline(never)]
     pub(crate) fn half_or_section(&mut self, index: usize) -> Option<usize> {
         let from = self.draft.extent();
         if let Some(end) = self.section_of_letter(index) {
@@ -265,6 +267,7 @@ impl<'a> Finder<'a> {
     }
 
     /// The aliquot part at an index, which is doubted if it may be something else.
+    #[inline(never)]
     pub(crate) fn sure_part(&mut self, index: usize) -> Option<usize> {
         let from = self.draft.extent();
         let Part { end, form } = self.part(index)?;

@@ -9,6 +9,7 @@ use twp_rules::Rule;
 impl<'a> Finder<'a> {
     /// What only a register has, at an index: the code of the meridian, a section after SN, the A of aliquot
     /// parts.
+    #[inline(never)]
     pub(crate) fn of_register(&mut self, index: usize) -> Option<usize> {
         if let Some(end) = self.meridian_of_register(index) {
             return Some(end);
@@ -44,6 +45,7 @@ impl<'a> Finder<'a> {
     }
 
     /// The A before aliquot parts, after a section.
+    #[inline(never)]
     pub(crate) fn letter_of_register(&mut self, index: usize) -> Option<usize> {
         let pieces = &self.draft.pieces;
         let next = plus(index, 1);

@@ -53,7 +53,8 @@ pub(crate) const OF_WORDS: [Sought; 10] = [
 ];
 
 impl<'a> Finder<'a> {
-    /// Adds the phrase of a kind at an index: the index after it.
+    /// Adds the phrase of a kind at an index: the index after it. None of these calls is inlined, so that this only
+    /// jumps to one of them, and needs no room for what they do.
     #[inline(never)]
     pub(crate) fn phrase_of_kind(&mut self, kind: Sought, index: usize) -> Option<usize> {
         match kind {
@@ -78,6 +79,7 @@ impl<'a> Finder<'a> {
     }
 
     /// The section at an index that has no word for it, and a colon after it.
+    #[inline(never)]
     fn section_before_colon(&mut self, index: usize) -> Option<usize> {
         if !matches!(self.draft.pieces.kind(plus(index, 1)), Kind::Colon) {
             return None;
@@ -87,6 +89,7 @@ impl<'a> Finder<'a> {
     }
 
     /// The sections at an index whose word begins with a digit for an `S`.
+    #[inline(never)]
     fn damaged_sections(&mut self, index: usize) -> Option<usize> {
         if !self.draft.pieces.is_damaged_section_word(index) {
             return None;
@@ -95,6 +98,7 @@ impl<'a> Finder<'a> {
     }
 
     /// The aliquot part at an index that begins with a 5 or an 8 for an `S`.
+    #[inline(never)]
     fn damaged_part(&mut self, index: usize) -> Option<usize> {
         if !matches!(self.draft.pieces.kind(index), Kind::Number(5 | 8)) {
             return None;

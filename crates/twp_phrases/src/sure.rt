@@ -44,6 +44,7 @@ impl<'a> Finder<'a> {
     }
 
     /// The remark at an index.
+    #[inline(never)]
     pub(crate) fn remark(&mut self, index: usize) -> Option<usize> {
         let position = if self.names_land {
             Position::AfterLand

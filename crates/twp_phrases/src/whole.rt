@@ -10,6 +10,7 @@ use twp_words::is_of_domain;
 
 impl<'a> Finder<'a> {
     /// All of a section, at an index.
+    #[inline(never)]
     pub(crate) fn all(&mut self, index: usize) -> Option<usize> {
         let from = self.draft.extent();
         let mut next = index;
