@@ -160,15 +160,16 @@ impl<'a> Plan<'a> {
         });
     }
 
-    /// Whether `of` or `in` is before a section, or `said` is in it, as in `the NW1/4 of said Section 9`.
+    /// Whether `of` or `in` is before a section, or `said` is in it, as in `the NW1/4 of said Section 9`,
+    /// without a semicolon before it.
     fn is_after_of(&self, section: Phrase) -> bool {
         let pieces = &self.draft.pieces;
         let before = section.first.saturating_sub(1);
         pieces.is(before, b"of")
             || pieces.is(before, b"in")
             || pieces.is(before, b"said")
-            || pieces.is(section.first, b"said")
-            || pieces.is(section.first, b"same")
+            || ((pieces.is(section.first, b"said") || pieces.is(section.first, b"same"))
+                && !pieces.is(before, b";"))
     }
 
     /// Whether an exception is set apart from the land before it: it may be from the land of each section.
@@ -177,6 +178,7 @@ impl<'a> Plan<'a> {
         let before = exception.first.saturating_sub(1);
         pieces.is(before, b";")
             || pieces.is(before, b",")
+            || matches!(pieces.kind(before), Kind::Stop)
             || pieces.has_before(exception.first, b'\n')
     }
 
@@ -196,10 +198,13 @@ impl<'a> Plan<'a> {
     fn are_set_apart(&self, list: &[Placed]) -> bool {
         let mut end: Option<usize> = None;
         for placed in list {
-            let Role::Kept(_) = placed.role else {
+            let is_section = placed.phrase.names == Names::Sections;
+            // Several sections that share parts are left out where they are.
+            let is_shared = is_section && self.count_of(placed.phrase) > 1;
+            if placed.role == Role::LeftOut && !is_shared {
                 continue;
-            };
-            if placed.phrase.names == Names::Sections {
+            }
+            if is_section {
                 if let Some(end) = end {
                     if !self.has_kind(end, placed.phrase.first, Kind::Semicolon) {
                         return false;

@@ -18,6 +18,7 @@ impl<'a> Plan<'a> {
             || self.has_unsure_neighbors()
             || self.has_part_of_part()
             || self.has_section_aside()
+            || self.has_closer_land()
         {
             self.draft.doubt();
         }
