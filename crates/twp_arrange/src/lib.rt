@@ -7,6 +7,7 @@ mod after_sections;
 mod arranging;
 mod before_sections;
 mod beside;
+mod corners;
 mod distances;
 mod exceptions;
 mod joining;

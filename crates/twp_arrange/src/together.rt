@@ -19,6 +19,7 @@ impl<'a> Plan<'a> {
             || self.has_part_of_part()
             || self.has_section_aside()
             || self.has_closer_land()
+            || self.has_corner_without_fraction()
         {
             self.draft.doubt();
         }
