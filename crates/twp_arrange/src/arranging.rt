@@ -35,6 +35,9 @@ impl<'a> Plan<'a> {
             Some(_) => self.place_land_before(&mut list),
             None => self.draft.doubt(),
         }
+        if has_except(list.as_slice()) {
+            self.doubt_whole_exceptions(list.as_slice());
+        }
         Ok(list)
     }
 

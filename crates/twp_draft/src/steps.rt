@@ -26,6 +26,20 @@ impl<'a> Draft<'a> {
         true
     }
 
+    /// Whether two aliquot parts of a section have land in common.
+    pub fn do_overlap(&self, one: Phrase, other: Phrase) -> bool {
+        let (first, second) = (self.steps_of(one), self.steps_of(other));
+        do_agree(first, second, b"NS") && do_agree(first, second, b"EW")
+    }
+
+    /// Whether an aliquot part of a section includes another.
+    pub fn does_hold(&self, whole: Phrase, part: Phrase) -> bool {
+        let (all, steps) = (self.steps_of(whole), self.steps_of(part));
+        self.do_overlap(whole, part)
+            && count_of(all, b"NS") <= count_of(steps, b"NS")
+            && count_of(all, b"EW") <= count_of(steps, b"EW")
+    }
+
     /// Whether a part is written with all steps of another, and more before them, as in
     /// `the NW1/4, except the SW1/4 of the NW1/4 thereof`: it is of the section.
     pub fn ends_with_steps_of(&self, part: Phrase, whole: Phrase) -> bool {
@@ -42,6 +56,44 @@ impl<'a> Draft<'a> {
         }
         more > 0
     }
+}
+
+/// Whether the steps of two parts choose the same sides, of two that are opposite, as far as both choose one.
+fn do_agree(one: &[PlacedStep], other: &[PlacedStep], sides: &[u8]) -> bool {
+    for number in 0..one.len() {
+        match (side_at(one, sides, number), side_at(other, sides, number)) {
+            (Some(side), Some(opposite)) if side != opposite => return false,
+            _ => {}
+        }
+    }
+    true
+}
+
+/// The side, of two that are opposite, which a part chooses after so many others, from its last step on.
+fn side_at(steps: &[PlacedStep], sides: &[u8], number: usize) -> Option<u8> {
+    let mut before: usize = 0;
+    for step in steps.iter().rev() {
+        for letter in step.written {
+            if sides.contains(letter) {
+                if before == number {
+                    return Some(*letter);
+                }
+                before = plus(before, 1);
+            }
+        }
+    }
+    None
+}
+
+/// How often a part chooses one of two sides that are opposite.
+fn count_of(steps: &[PlacedStep], sides: &[u8]) -> usize {
+    let mut count: usize = 0;
+    for step in steps {
+        for letter in step.written {
+            count = plus(count, usize::from(sides.contains(letter)));
+        }
+    }
+    count
 }
 
 /// How the step at an index is written.
