@@ -51,6 +51,7 @@ impl<'a> Plan<'a> {
                 } else {
                     land / 4
                 };
+                self.acreage = Some(acreage);
                 let all = self.land_before(list, index);
                 if acreage <= least || acreage <= all / 4 {
                     return false;

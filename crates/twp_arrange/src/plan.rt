@@ -8,6 +8,8 @@ pub struct Plan<'a> {
     pub draft: Draft<'a>,
     /// Whether an acreage that the text states is exactly that of all land before it.
     pub has_exact_acreage: bool,
+    /// The last acreage that the text states, in hundredths of an acre.
+    pub acreage: Option<u64>,
 }
 
 impl<'a> Plan<'a> {
@@ -16,6 +18,7 @@ impl<'a> Plan<'a> {
         let mut plan = Plan {
             draft,
             has_exact_acreage: false,
+            acreage: None,
         };
         plan.doubt_together();
         plan

@@ -29,7 +29,8 @@ impl<'a> Writer<'a> {
                 return self.write_pieces(gap, left_out, Some(gap.end), false, out);
             }
             let shared = self.shared_of(one, other, joining, out);
-            if self.is_unsure_of_three(one, other, shared, out) {
+            let is_apart = matches!(joining, Joining::Nothing | Joining::Stop);
+            if self.is_unsure_of(one, other, shared, is_apart, out) {
                 self.plan.draft.doubt();
             }
             match shared {
@@ -43,12 +44,50 @@ impl<'a> Writer<'a> {
                 }
                 _ => {}
             }
-            let is_apart = matches!(joining, Joining::Nothing | Joining::Stop);
             if is_joint(one, other) && is_apart && left_out.is_empty() {
                 return self.write_joint(gap, &one.phrase, &other.phrase, out);
             }
         }
         self.write_between(before, after, gap, left_out, joining, out)
+    }
+
+    /// Whether it isn't sure for which of two parts, and those beside them, an `of` is: also where only white
+    /// space or a period is between them, after a part whose `of` may be for the one before it.
+    fn is_unsure_of(
+        &mut self,
+        one: &Placed,
+        other: &Placed,
+        shared: Shared,
+        is_apart: bool,
+        out: &mut Outline<'a>,
+    ) -> bool {
+        let is_after_tail = is_apart && out.has_tail && is_joint(one, other);
+        is_after_tail
+            || self.does_overlap_bare(one, other, shared, out)
+            || self.is_forced(&one.phrase, &other.phrase, shared)
+            || self.is_unsure_of_three(one, other, shared, out)
+    }
+
+    /// Whether a part has land in common with one before it for which an `of` may be, so that it has to be
+    /// for that. Notes what the next part has to know.
+    fn does_overlap_bare(
+        &self,
+        one: &Placed,
+        other: &Placed,
+        shared: Shared,
+        out: &mut Outline<'a>,
+    ) -> bool {
+        let does_overlap = match out.bare {
+            Some(bare) => is_joint(one, other) && self.plan.draft.do_overlap(bare, other.phrase),
+            None => false,
+        };
+        match shared {
+            Shared::Tail => out.bare = Some(one.phrase),
+            Shared::Head => out.bare = Some(other.phrase),
+            Shared::Nothing if !is_joint(one, other) => out.bare = None,
+            Shared::Nothing => {}
+        }
+        does_overlap
     }
 
     /// Whether an `of` of the last of three parts may be for the first one too, or one of the first for the last:
@@ -65,6 +104,7 @@ impl<'a> Writer<'a> {
         out.parts = if are_parts { plus(out.parts, 1) } else { 0 };
         let is_after_part = out.parts > 1 && shared == Shared::Tail;
         out.has_head = shared == Shared::Head;
+        out.has_tail = shared == Shared::Tail;
         is_after_head || is_after_part
     }
 

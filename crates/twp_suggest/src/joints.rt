@@ -64,8 +64,32 @@ impl<'a> Writer<'a> {
             && part.get(..2).unwrap_or(b"").contains(&side);
         let is_twice = part.ends_with(b"2") && draft.have_same_steps(one, other);
         is_quarter_of_half
+            || self.is_odd_part(gap, one, other)
             || (is_twice && !(self.is_spaced(one) && self.is_spaced(other)))
             || self.may_be_again(gap, one, other)
+    }
+
+    /// Whether two parts have land in common, but would make a part as nobody writes it: each has several
+    /// steps; or the first one ends with a quarter of the half with which the second one begins; or an `of`
+    /// is in the second one, which is set apart.
+    fn is_odd_part(&self, gap: Gap, one: Phrase, other: Phrase) -> bool {
+        let draft = &self.plan.draft;
+        let (first, second) = (draft.steps_of(one), draft.steps_of(other));
+        let is_odd = match (first, second) {
+            ([_, _, ..], [_, _, ..]) => true,
+            ([.., part], [half, ..]) => {
+                let side = half.written.first().copied().unwrap_or(0);
+                half.written.ends_with(b"2")
+                    && part.written.ends_with(b"4")
+                    && part.written.get(..2).unwrap_or(b"").contains(&side)
+            }
+            _ => false,
+        };
+        // A period, a line end, or `the` sets it apart.
+        let is_apart = gap.end > gap.first
+            || draft.pieces.has_break_before(gap.end)
+            || draft.pieces.is(other.first, b"the");
+        (is_odd || (is_apart && other.form == Form::WithOf)) && draft.do_overlap(one, other)
     }
 
     /// Whether one of two parts may be the other again, or a part of it, in a cell of its own: `SWSE SWSE`,
@@ -115,6 +139,20 @@ impl<'a> Writer<'a> {
         out.add_joint(joint);
     }
 
+    /// Whether two parts, as they are written, have land in common, so that steps have to be for both. But
+    /// then something may be wrong, unless the text states the acreage of both parts with these steps.
+    pub(crate) fn is_forced(&self, one: &Phrase, other: &Phrase, shared: Shared) -> bool {
+        let draft = &self.plan.draft;
+        let (first, second) = (draft.steps_of(*one), draft.steps_of(*other));
+        let both = match shared {
+            Shared::Nothing => return false,
+            Shared::Tail => share_of(first, tail_of(second)).saturating_add(share_of(second, &[])),
+            Shared::Head => share_of(first, &[]).saturating_add(share_of(second, head_of(first))),
+        };
+        (draft.do_overlap(*one, *other) && self.plan.acreage != Some(both))
+            || (shared == Shared::Tail && do_cross(first, second))
+    }
+
     /// Which steps of one of two parts with `and` between them may be for both.
     pub(crate) fn shared_of(
         &self,
@@ -144,12 +182,8 @@ impl<'a> Writer<'a> {
     pub(crate) fn write_tail(&mut self, one: &Phrase, other: &Phrase, out: &mut Outline<'a>) {
         let begin = out.options.len();
         let place = self.plan.draft.pieces.end_before(one.end);
-        let mut is_after = false;
-        for step in self.plan.draft.steps_of(*other) {
-            is_after = is_after || step.is_after_of;
-            if is_after {
-                out.add_option(copied(step, place));
-            }
+        for step in tail_of(self.plan.draft.steps_of(*other)) {
+            out.add_option(copied(step, place));
         }
         self.note_joint(begin, begin, out)
     }
@@ -158,13 +192,44 @@ impl<'a> Writer<'a> {
     pub(crate) fn write_head(&mut self, one: &Phrase, other: &Phrase, out: &mut Outline<'a>) {
         let begin = out.options.len();
         let place = self.plan.draft.pieces.start(other.first);
-        let steps = self.plan.draft.steps_of(*one);
-        let last = steps.iter().rposition(|step| step.is_after_of);
-        for step in steps.get(..last.unwrap_or(0)).unwrap_or(&[]) {
+        for step in head_of(self.plan.draft.steps_of(*one)) {
             out.add_option(copied(step, place));
         }
         self.note_joint(begin, begin, out)
     }
+}
+
+/// The steps after the first `of` of a part.
+fn tail_of(steps: &[PlacedStep]) -> &[PlacedStep] {
+    let first = steps.iter().position(|step| step.is_after_of);
+    steps.get(first.unwrap_or(steps.len())..).unwrap_or(&[])
+}
+
+/// The steps before the last `of` of a part.
+fn head_of(steps: &[PlacedStep]) -> &[PlacedStep] {
+    let last = steps.iter().rposition(|step| step.is_after_of);
+    steps.get(..last.unwrap_or(0)).unwrap_or(&[])
+}
+
+/// The nominal area of a part with some steps, and with more after them, in hundredths of an acre.
+fn share_of(steps: &[PlacedStep], more: &[PlacedStep]) -> u64 {
+    let mut area: u64 = 64_000;
+    for step in steps.iter().chain(more) {
+        area /= if step.written.ends_with(b"2") { 2 } else { 4 };
+    }
+    area
+}
+
+/// Whether a half, and the half that is the first step of another part, lie across each other, as in
+/// `N½ and E½ of SW¼`. If the `of` is for both, they have some land in common.
+fn do_cross(one: &[PlacedStep], other: &[PlacedStep]) -> bool {
+    let (half, first) = (
+        only_step(one),
+        other.first().map_or(b"" as &[u8], |step| step.written),
+    );
+    let is_north = half.starts_with(b"N") || half.starts_with(b"S");
+    let is_other = first.starts_with(b"N") || first.starts_with(b"S");
+    half.ends_with(b"2") && first.ends_with(b"2") && is_north != is_other
 }
 
 /// How the only step of a part is written. Nothing, if it has more.

@@ -37,6 +37,10 @@ pub(crate) struct Outline<'a> {
     pub(crate) parts: usize,
     /// Whether the steps before the last `of` of a part may be for the one after it.
     pub(crate) has_head: bool,
+    /// Whether those after the first `of` of a part may be for the one before it.
+    pub(crate) has_tail: bool,
+    /// The last part of a list for which an `of` of the part beside it may be, too.
+    pub(crate) bare: Option<Phrase>,
     /// Whether memory was refused for something, which is then missing.
     lacks_memory: bool,
 }
@@ -104,6 +108,8 @@ impl<'a> Writer<'a> {
             has_except: has_except(list),
             parts: 0,
             has_head: false,
+            has_tail: false,
+            bare: None,
             lacks_memory: false,
         };
         let written = self.write_kept(alloc, list, &mut out)?;
