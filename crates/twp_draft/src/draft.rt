@@ -1,5 +1,6 @@
 //! A draft: the phrases that were found in a text so far, and the changes in them.
 
+use crate::steps::Thereof;
 use std::alloc::{AllocError, Global};
 use std::mem;
 use twp_pieces::{Pieces, plus};
@@ -120,6 +121,8 @@ pub struct Draft<'a> {
     pub again: Again<'a>,
     /// For each part that is called fractional, and so has to include lots, the index after it.
     pub fractional: Vec<usize>,
+    /// An excepted part that may be of the section, or of the part before it.
+    pub thereof: Option<Thereof>,
     /// Whether text was left out as a remark.
     pub has_remark: bool,
     /// Whether something was found that makes the text unsure, or that isn't land.
@@ -168,6 +171,7 @@ impl<'a> Draft<'a> {
                 changes: Vec::new(alloc),
             },
             fractional: Vec::new(alloc),
+            thereof: None,
             has_remark: false,
             is_unsure: false,
             last_section: None,

@@ -12,3 +12,4 @@ mod steps;
 
 pub use draft::{Again, Draft, Extent, Form, Names, Numeral, Phrase, PlacedStep, Said, Span};
 pub use finds_phrases::FindsPhrases;
+pub use steps::Thereof;

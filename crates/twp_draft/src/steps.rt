@@ -1,7 +1,17 @@
 //! The steps of aliquot parts, and whether those of two parts are the same.
 
-use crate::draft::{Draft, Phrase, PlacedStep};
+use crate::draft::{Draft, Phrase, PlacedStep, Span};
 use twp_pieces::plus;
+
+/// An excepted part with `thereof` that ends with the steps of the part before it, as in
+/// `the SW1/4, except the N1/2 of the SW1/4 thereof`: it may be of the section, or of that part.
+#[derive(Clone, Copy)]
+pub struct Thereof {
+    /// The index after it.
+    pub end: usize,
+    /// The steps of the part before it.
+    pub steps: Span,
+}
 
 impl<'a> Draft<'a> {
     /// The steps of an aliquot part.

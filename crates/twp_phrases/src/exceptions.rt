@@ -1,7 +1,7 @@
 //! `except`, and words like it: `less and except`, `save and except`, `L&E`.
 
 use crate::finder::Finder;
-use twp_draft::{Extent, Names, Phrase};
+use twp_draft::{Extent, Names, Phrase, Thereof};
 use twp_grammar::Kind;
 use twp_pieces::plus;
 use twp_rules::Rule;
@@ -99,7 +99,7 @@ impl<'a> Finder<'a> {
             Whole::Unsure => return self.draft.doubt(),
         };
         if self.draft.ends_with_steps_of(part, whole) {
-            return;
+            return self.note_thereof(part, whole);
         }
         if !self.is_surely_of(part, whole) {
             return self.draft.doubt();
@@ -112,6 +112,18 @@ impl<'a> Finder<'a> {
                 self.draft.add_step(step);
             }
         }
+    }
+
+    /// Notes that a part with `thereof` may be of the section, or of the part before it. Only one such part
+    /// is sure.
+    fn note_thereof(&mut self, part: Phrase, whole: Phrase) {
+        if self.draft.thereof.is_some() {
+            self.draft.doubt();
+        }
+        self.draft.thereof = Some(Thereof {
+            end: part.end,
+            steps: whole.steps,
+        });
     }
 
     /// The land before an exception, which is the last phrase: the only part of its section.

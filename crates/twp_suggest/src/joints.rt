@@ -139,6 +139,27 @@ impl<'a> Writer<'a> {
         out.add_joint(joint);
     }
 
+    /// Notes that an excepted part may be of the section, or of the part before it.
+    pub(crate) fn write_thereof(&mut self, part: &Phrase, out: &mut Outline<'a>) {
+        let Some(thereof) = self.plan.draft.thereof else {
+            return;
+        };
+        if thereof.end != part.end {
+            return;
+        }
+        let begin = out.options.len();
+        let place = self.plan.draft.pieces.end_before(part.end);
+        let steps = self
+            .plan
+            .draft
+            .steps
+            .get(thereof.steps.first..thereof.steps.end);
+        for step in steps.unwrap_or(&[]) {
+            out.add_option(copied(step, place));
+        }
+        self.note_joint(begin, begin, out)
+    }
+
     /// Whether two parts, as they are written, have land in common, so that steps have to be for both. But
     /// then something may be wrong, unless the text states the acreage of both parts with these steps.
     pub(crate) fn is_forced(&self, one: &Phrase, other: &Phrase, shared: Shared) -> bool {

@@ -156,6 +156,7 @@ impl<'a> Writer<'a> {
             }
             self.write_section(alloc, placed, rest, out)?;
             self.copy_changes(&placed.phrase, out);
+            self.write_thereof(&placed.phrase, out);
             last = Some(placed);
             next = plus(index, 1);
         }
