@@ -111,6 +111,10 @@ impl<'a> Finder<'a> {
                 Kind::Corner(_)
             )
             && matches!(self.draft.pieces.kind(plus(index, 1)), Kind::Corner(_));
+        // Two parts may be meant, unless they would be the same.
+        if is_slash && self.is_between_corners(index) {
+            return None;
+        }
         if self.draft.pieces.is(index, b"\\") || is_slash {
             self.draft.leave_out(index, plus(index, 1), Rule::Mark);
             let next = plus(index, 1);
@@ -122,6 +126,16 @@ impl<'a> Finder<'a> {
             return Some(next);
         }
         self.step(index)
+    }
+
+    /// Whether a slash is at an index between two corners without a fraction, which aren't the same: `NE/SE`.
+    pub(crate) fn is_between_corners(&self, index: usize) -> bool {
+        let pieces = &self.draft.pieces;
+        let (before, after) = (index.saturating_sub(1), plus(index, 1));
+        pieces.is(index, b"/")
+            && matches!(pieces.kind(before), Kind::Corner(_))
+            && matches!(pieces.kind(after), Kind::Corner(_))
+            && pieces.lower(before) != pieces.lower(after)
     }
 
     /// The step after an `of`, and `the`, if that is there.

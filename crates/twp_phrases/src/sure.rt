@@ -131,7 +131,8 @@ impl<'a> Finder<'a> {
         pieces.is(index, b"corner")
             || pieces.is(index, b"cor")
             || (pieces.is(index, b"/")
-                && (pieces.is_joined(index) || pieces.is_joined(plus(index, 1))))
+                && (pieces.is_joined(index) || pieces.is_joined(plus(index, 1)))
+                && !self.is_between_corners(index))
     }
 
     /// Whether what is after a part at an index says that it is one: an `of`, or the section of a location.

@@ -34,6 +34,9 @@ impl<'a> Writer<'a> {
                 self.plan.draft.doubt();
             }
             match shared {
+                Shared::Nothing if self.is_slash(gap, one, other) => {
+                    return self.write_slash(gap, out);
+                }
                 Shared::Nothing if self.plan.is_unsure_gap(one, other, joining, left_out) => {
                     self.plan.draft.doubt();
                 }

@@ -174,6 +174,30 @@ impl<'a> Writer<'a> {
             || (shared == Shared::Tail && do_cross(first, second))
     }
 
+    /// Whether only a slash is between two parts, both of which it is joined to.
+    pub(crate) fn is_slash(&self, gap: Gap, one: &Placed, other: &Placed) -> bool {
+        let pieces = &self.plan.draft.pieces;
+        is_joint(one, other)
+            && plus(gap.first, 1) == gap.end
+            && pieces.is(gap.first, b"/")
+            && pieces.is_joined(gap.first)
+            && pieces.is_joined(gap.end)
+    }
+
+    /// Notes a joint at a slash between two parts: a comma takes its place, or nothing.
+    pub(crate) fn write_slash(&mut self, gap: Gap, out: &mut Outline<'a>) {
+        let (start, end) = (
+            self.plan.draft.pieces.start(gap.first),
+            self.plan.draft.pieces.end(gap.first),
+        );
+        let begin = out.options.len();
+        out.add_option(change(start, start, b", ", Rule::Comma));
+        out.add_option(change(start, end, b"", Rule::Mark));
+        let middle = out.options.len();
+        out.add_option(change(start, end, b"", Rule::Mark));
+        self.note_joint(begin, middle, out)
+    }
+
     /// Which steps of one of two parts with `and` between them may be for both.
     pub(crate) fn shared_of(
         &self,
