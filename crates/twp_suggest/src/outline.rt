@@ -172,16 +172,21 @@ impl<'a> Writer<'a> {
         out: &mut Outline<'a>,
     ) {
         let end = list.last().map_or(0, |placed| placed.phrase.end);
-        if (left_out.is_empty() && self.may_be_cut_off(last)) || self.leads_nowhere(end) {
+        if (left_out.is_empty() && self.may_be_cut_off(last))
+            || self.may_be_cut_off(moved_section(left_out))
+            || self.leads_nowhere(end)
+            || self.ends_with_label(list)
+        {
             self.plan.draft.doubt();
         }
         self.write_gap(last, None, left_out, out);
     }
 
-    /// Whether a mark after the last phrase says that more follows, which may have been cut off.
+    /// Whether a mark after a phrase, which is the last one, says that more follows, which may have been cut
+    /// off.
     fn may_be_cut_off(&self, last: Option<&Placed>) -> bool {
         let pieces = &self.plan.draft.pieces;
-        let first = last.map_or(0, |placed| placed.phrase.end);
+        let first = last.map_or(pieces.len(), |placed| placed.phrase.end);
         for index in first..pieces.len() {
             if matches!(pieces.kind(index), Kind::Comma | Kind::Colon)
                 || pieces.is(index, b"&")
@@ -191,6 +196,21 @@ impl<'a> Writer<'a> {
             }
         }
         false
+    }
+
+    /// Whether the last phrase is the name of a column for land, which is missing.
+    fn ends_with_label(&self, list: &[Placed]) -> bool {
+        match list.last() {
+            Some(placed) => {
+                let label = self
+                    .plan
+                    .draft
+                    .pieces
+                    .end_of_column_label(placed.phrase.first);
+                label == Some(placed.phrase.end)
+            }
+            None => false,
+        }
     }
 
     /// Whether a word or a mark after the last phrase leads to more, which is missing.
@@ -223,6 +243,14 @@ impl<'a> Writer<'a> {
                 .get(span.first..span.end)
                 .unwrap_or(&[]),
         );
+    }
+}
+
+/// The last of the phrases that are left out, if it is a section, which is written before its land.
+fn moved_section(left_out: &[Placed]) -> Option<&Placed> {
+    match left_out.last() {
+        Some(placed) if placed.phrase.names == Names::Sections => Some(placed),
+        _ => None,
     }
 }
 
