@@ -78,9 +78,7 @@ impl<'a> Finder<'a> {
             if names == Names::Sections && !is_plural && join == Join::Comma {
                 self.draft.doubt();
             }
-            // `thirty and one` may be 31.
-            let is_tens = tens_of(self.draft.pieces.lower(last.first)).is_some();
-            if join == Join::And && is_tens && more.value < 10 {
+            if self.may_be_unit(last, more, join) || self.may_number_row(next) {
                 self.draft.doubt();
             }
             self.write_join(end, next, join);
@@ -90,6 +88,24 @@ impl<'a> Finder<'a> {
             end = self.after_inclusive(end, join);
         }
         end
+    }
+
+    /// Whether a number may be the unit of the one before it, as in `thirty and one`, or `twenty, one`.
+    fn may_be_unit(&self, last: Numeral, more: Numeral, join: Join) -> bool {
+        let pieces = &self.draft.pieces;
+        let is_word = matches!(pieces.kind(more.first), Kind::Other);
+        let is_joined = join == Join::And || (join == Join::Comma && is_word);
+        is_joined && more.value < 10 && tens_of(pieces.lower(last.first)).is_some()
+    }
+
+    /// Whether a number at the beginning of a line may be that of a row: it is in a cell of its own, or a
+    /// section follows it, and another one is before it.
+    fn may_number_row(&self, index: usize) -> bool {
+        let pieces = &self.draft.pieces;
+        let next = plus(index, 1);
+        let is_before_section = matches!(pieces.kind(next), Kind::Sec)
+            && self.draft.last_section.is_some();
+        pieces.begins_line(index) && (pieces.has_before(next, b'\t') || is_before_section)
     }
 
     /// What joins the numbers before an index and after it.
