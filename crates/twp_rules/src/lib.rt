@@ -34,7 +34,7 @@ mod words;
 
 pub use arrangement::lie_with_sections;
 pub use change::{Change, are_changes, changed};
-pub use naming::{byte_at, byte_before, digits_of};
+pub use naming::{byte_at, byte_before, digits_of, is_side, word_of};
 pub use rule::Rule;
 pub use same::{are_same, begins_with, ends_with};
 pub use sayings::is_remark;

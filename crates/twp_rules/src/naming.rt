@@ -118,8 +118,8 @@ fn number_names_township(digits: &[u8], after: &[u8]) -> bool
     digits.len() <= 4 && is_side(byte_at(after, 0)) && !byte_at(after, 1).is_ascii_alphanumeric()
 }
 
-/// Whether a byte is N, S, E, or W.
-pub(crate) fn is_side(byte: u8) -> bool
+/// Whether a byte is N, S, E, or W, in either case.
+pub fn is_side(byte: u8) -> bool
     ensures { result ≡ is_side byte }
 {
     is_in_north_south(&[byte]) || is_in_east_west(&[byte])
@@ -216,7 +216,7 @@ pub(crate) fn rest_after(text: &[u8]) -> &[u8]
 }
 
 /// The letters with which a text begins.
-pub(crate) fn word_of(seen: &[u8]) -> &[u8]
+pub fn word_of(seen: &[u8]) -> &[u8]
     ensures word { result.now ≡ word_of seen.now }
     ensures within { length result.now ≤ length seen.now }
 {

@@ -12,7 +12,7 @@ use Rattle.twp_rules.specs.declared.rule.Rule.TheVariants.{MovedSection, MovedHe
 use Rattle.twp_rules.specs.Changes.{Change, changed_from}
 use Rattle.twp_rules.specs.Edges.{begins_with, byte_before, ends_with}
 use Rattle.twp_rules.specs.Moves.{MayBeMade}
-use Rattle.twp_rules.specs.Naming.{digits_of}
+use Rattle.twp_rules.specs.Naming.{digits_of, is_side}
 use Rattle.twp_rules.specs.Sayings.{is_remark}
 
 -- a word begins nowhere in a text
@@ -127,16 +127,12 @@ is_number_said bytes = nat_lt 0 (length bytes) && (length (digits_of bytes) == l
 abbrev pub is_township_letter : ℕ → Bool
 is_township_letter byte = (byte == 116) || (byte == 114)
 
--- N, S, E, or W
-abbrev pub is_side_letter : ℕ → Bool
-is_side_letter byte = (byte == 110) || (byte == 115) || (byte == 101) || (byte == 119)
-
 -- a township or a range: its letter, its number, and the letter of its side, as t2n
 abbrev pub is_township_said : List ℕ → Bool
 is_township_said bytes =
     is_township_letter (slice_index bytes 0) && nat_lt 0 (length (digits_of (drop 1 bytes)))
     && (length bytes == length (digits_of (drop 1 bytes)) + 2)
-    && is_side_letter (slice_index bytes (length (digits_of (drop 1 bytes)) + 1))
+    && is_side (slice_index bytes (length (digits_of (drop 1 bytes)) + 1))
 
 -- a number begins only after a byte that is neither a digit nor the slash of a fraction
 abbrev pub may_begin_number : ℕ → Bool

@@ -12,11 +12,12 @@ use Rattle.twp_read.specs.Doubts.{is_of_step}
 use Rattle.twp_rules.specs.declared.rule.Rule.{Rule}
 use Rattle.twp_rules.specs.declared.rule.Rule.TheVariants as rule
 use Rattle.twp_rules.specs.Changes.{Change}
+use Rattle.twp_rules.specs.Naming.{is_side}
 use Rattle.twp_suggest.specs.declared.sharing.Sought.{Sought}
 use Rattle.twp_suggest.specs.declared.sharing.Sought.TheVariants.{Copies, Phrases}
 use Rattle.twp_suggest.specs.declared.way.Way.{Way}
 use Rattle.twp_suggest.specs.declared.way.Way.TheVariants.{Again, Apart}
-use Rattle.twp_suggest.specs.Ways.{IfWay, is_side, way_if}
+use Rattle.twp_suggest.specs.Ways.{IfWay, way_if}
 
 -- a comma
 abbrev pub is_comma : Kind → Bool

@@ -7,6 +7,7 @@ use Rattle.twp_rules.specs.declared.rule.Rule.{Rule}
 use Rattle.twp_rules.specs.declared.rule.Rule.TheVariants.{Comma, CopiedStep, OnePart}
 use Rattle.twp_rules.specs.Changes.{Change}
 use Rattle.twp_rules.specs.Edges.{without_white}
+use Rattle.twp_rules.specs.Naming.{is_side}
 use Rattle.twp_suggest.specs.declared.way.Way.{Way}
 use Rattle.twp_suggest.specs.declared.way.Way.TheVariants.{Again, Apart, LeftOut}
 
@@ -28,12 +29,6 @@ ends_fraction before last =
 -- a step ends at a place
 abbrev pub ends_step_at : List ℕ → ℕ → Bool
 ends_step_at made at = nat_le 2 at && ends_fraction (slice_index made (at - 2)) (slice_index made (at - 1))
-
--- N, S, E, or W, with which a step begins
-abbrev pub is_side : ℕ → Bool
-is_side byte =
-    (byte == 78) || (byte == 83) || (byte == 69) || (byte == 87)
-    || (byte == 110) || (byte == 115) || (byte == 101) || (byte == 119)
 
 -- a step begins at a place
 abbrev pub begins_step_at : List ℕ → ℕ → Bool

@@ -2,14 +2,13 @@
 ghost use Rattle.std.specs.Prelude.{◌≡◌, [], ◌∷◌};
 ghost use Rattle.twp_rules.specs.Changes.{seen};
 ghost use Rattle.twp_rules.specs.Edges.{is_one_of};
-ghost use Rattle.twp_rules.specs.Naming.{is_side, word_of};
 ghost use Rattle.twp_suggest.specs.Assumptions.{are_sides, assumed, assumed_by, begins_step, half_corner_ends};
 ghost use Rattle.twp_suggest.specs.Assumptions.{if_joined, if_wrong, is_between_steps, last_before, side_words};
 ghost use Rattle.twp_suggest.specs.Assumptions.{wrong_corners, wrong_digits, wrong_halves, wrong_lots};
 ghost use Rattle.twp_suggest.specs.Assumptions.{words_of, wrong_quarters, wrong_sections};
 
-use crate::bytes::{between, byte_at, from, is_text, is_white, without_white};
-use twp_rules::{Change, Rule};
+use crate::bytes::{after, between, byte_at, is_text, is_white, without_white};
+use twp_rules::{Change, Rule, is_side, word_of};
 
 /// What a change of a reading assumes that the text doesn't say.
 #[derive(Clone, Copy, PartialEq, Eq)]
@@ -68,11 +67,11 @@ fn assumed_by(rule: Rule, text: &[u8], start: usize, end: usize) -> Option<Assum
         Rule::Damage => Some(Assumption::WrongLetter),
         Rule::Half => if_wrong(
             is_wrong_half(without_white(between(text, start, end))),
-            if_joined(begins_step(from(text, end))),
+            if_joined(begins_step(after(text, end))),
         ),
         Rule::Quarter => if_wrong(
             is_wrong_quarter(without_white(between(text, start, end))),
-            if_joined(begins_step(from(text, end))),
+            if_joined(begins_step(after(text, end))),
         ),
         Rule::Direction => if_wrong(is_wrong_corner(between(text, start, end)), None),
         Rule::SectionWord => if_wrong(is_wrong_section(between(text, start, end)), None),
@@ -109,7 +108,7 @@ fn if_joined(joined: bool) -> Option<Assumption>
 fn is_between_steps(text: &[u8], start: usize, end: usize) -> bool
     ensures { result ≡ is_between_steps text.now start end }
 {
-    !is_half_corner_end(last_before(text, start)) && begins_step(without_white(from(text, end)))
+    !is_half_corner_end(last_before(text, start)) && begins_step(without_white(after(text, end)))
 }
 
 /// Whether a text begins with a step of a part.
@@ -130,27 +129,6 @@ fn are_sides(word: &[u8]) -> bool
         }
     }
     true
-}
-
-/// Whether a byte is N, S, E, or W, in either case.
-fn is_side(byte: u8) -> bool
-    ensures { result ≡ is_side byte }
-{
-    let letter: &[u8] = &[byte];
-    is_text(letter, b"n") || is_text(letter, b"s") || is_text(letter, b"e") || is_text(letter, b"w")
-}
-
-/// The letters with which a text begins.
-fn word_of(rest: &[u8]) -> &[u8]
-    ensures { result.now ≡ word_of rest.now }
-{
-    for index in 0..rest.len() {
-        if !rest[index].is_ascii_alphabetic() {
-            let (word, _) = rest.split_at(index);
-            return word;
-        }
-    }
-    rest
 }
 
 /// The last byte before a place that is neither white space nor a period, or 0.

@@ -1,5 +1,5 @@
 //! Bytes of a text, at any place and from one up to another.
-ghost use Rattle.std.specs.Prelude.{◌≡◌, drop, length, slice_index, slice_range, take};
+ghost use Rattle.std.specs.Prelude.{◌≡◌, ◌≤◌, drop, length, slice_index, slice_range, take};
 ghost use Rattle.std.specs.Str.{str_to_ascii_lowercase};
 ghost use Rattle.twp_grammar.specs.Tokens.{is_white, same_bytes};
 ghost use Rattle.twp_rules.specs.Edges.{without_white};
@@ -12,7 +12,7 @@ pub(crate) fn byte_at(text: &[u8], at: usize) -> u8
 }
 
 /// The bytes of a text from a place on, if there are any.
-pub(crate) fn from(text: &[u8], at: usize) -> &[u8]
+pub(crate) fn after(text: &[u8], at: usize) -> &[u8]
     ensures { result.now ≡ drop at text.now }
 {
     if at > text.len() {
@@ -23,7 +23,7 @@ pub(crate) fn from(text: &[u8], at: usize) -> &[u8]
 }
 
 /// The bytes of a text before a place, or all of them.
-pub(crate) fn before(text: &[u8], at: usize) -> &[u8]
+pub(crate) fn front(text: &[u8], at: usize) -> &[u8]
     ensures { result.now ≡ take at text.now }
 {
     if at > text.len() {
@@ -37,19 +37,20 @@ pub(crate) fn before(text: &[u8], at: usize) -> &[u8]
 pub(crate) fn between(text: &[u8], start: usize, end: usize) -> &[u8]
     ensures { result.now ≡ slice_range text.now start end }
 {
-    before(from(text, start), end.saturating_sub(start))
+    front(after(text, start), end.saturating_sub(start))
 }
 
 /// A text without the white space before it.
 pub(crate) fn without_white(text: &[u8]) -> &[u8]
-    ensures { result.now ≡ without_white text.now }
+    ensures rest { result.now ≡ without_white text.now }
+    ensures within { length result.now ≤ length text.now }
 {
     for index in 0..text.len() {
         if !is_white(text[index]) {
-            return from(text, index);
+            return after(text, index);
         }
     }
-    from(text, text.len())
+    after(text, text.len())
 }
 
 /// Whether a byte is white space.

@@ -3,7 +3,7 @@ ghost use Rattle.std.specs.Prelude.{◌≡◌, ◌≤◌, ◌+◌, true, IfOk, l
 ghost use Rattle.twp_suggest.specs.Repeats.{IsLastLand, NameLastLand, are_marks, begins_parts, is_before_part, is_last_land, is_last_section, is_mark};
 ghost use Rattle.twp_suggest.specs.Repeats.{is_without, name_end, of_section, section_name};
 
-use crate::slices::{after, between, front};
+use crate::bytes::{after, between, front};
 use std::alloc::{AllocError, Global};
 use twp_described::land_in;
 use twp_land::{Land, Lanes};

@@ -17,7 +17,6 @@ mod reading;
 mod repeated;
 mod said;
 mod sharing;
-mod slices;
 mod turned;
 mod way;
 mod writer;

@@ -4,7 +4,7 @@ ghost use Rattle.twp_rules.specs.Changes.{seen};
 ghost use Rattle.twp_suggest.specs.Assumptions.{is_between_words, phrase, phrase_by, white_end, white_length};
 ghost use Rattle.twp_suggest.specs.Assumptions.{white_start, without_period, word_end, word_length, word_start, words_around};
 
-use crate::bytes::{before, between, byte_at, from, is_white};
+use crate::bytes::{after, between, byte_at, front, is_white};
 use twp_rules::{Change, Rule};
 
 /// The phrase of a text that a change is about: what it leaves out; and where it assumes that a letter is wrong, or that
@@ -40,7 +40,7 @@ fn without_period(bytes: &[u8]) -> &[u8]
 {
     let last = bytes.len().saturating_sub(1);
     if byte_at(bytes, last) == b'.' {
-        return before(bytes, last);
+        return front(bytes, last);
     }
     bytes
 }
@@ -75,14 +75,14 @@ fn white_start(text: &[u8], at: usize) -> usize
 fn word_end(text: &[u8], at: usize) -> usize
     ensures { result ≡ word_end text.now at }
 {
-    at + word_length(from(text, at))
+    at + word_length(after(text, at))
 }
 
 /// Where the white space after a place ends.
 fn white_end(text: &[u8], at: usize) -> usize
     ensures { result ≡ white_end text.now at }
 {
-    at + white_length(from(text, at))
+    at + white_length(after(text, at))
 }
 
 /// How long the word is with which a text begins.

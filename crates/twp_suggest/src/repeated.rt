@@ -5,11 +5,11 @@ ghost use Rattle.twp_rules.specs.Changes.{AreChangesFrom, seen};
 ghost use Rattle.twp_suggest.specs.Repeats.{AreRepeated, SaysAgain, SaysAgainBy, SaysLand, SaysNumber, has_repeated};
 ghost use Rattle.twp_suggest.specs.Repeats.{are_in_place, is_for_repeated, is_in_place, is_said_from, says_nothing};
 
+use crate::bytes::{after, between, front};
 use crate::last_land::{is_without, names_last_land};
 use crate::said::{
     is_loose, is_number_said, is_township_said, may_begin_number, may_begin_township, solid,
 };
-use crate::slices::{after, between, front};
 use std::alloc::{AllocError, Global};
 use twp_draft::Again;
 use twp_rules::{Change, Rule, are_changes, are_same, byte_before, changed, is_remark};

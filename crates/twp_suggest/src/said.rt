@@ -1,10 +1,10 @@
 //! Numbers, townships, and ranges that are said again.
 ghost use Rattle.std.specs.Prelude.{◌≡◌, IfOk, drop};
-ghost use Rattle.twp_suggest.specs.Repeats.{is_loose, is_number_said, is_side_letter, is_township_letter, is_township_said, solid};
+ghost use Rattle.twp_suggest.specs.Repeats.{is_loose, is_number_said, is_township_letter, is_township_said, solid};
 ghost use Rattle.twp_suggest.specs.Repeats.{may_begin_number, may_begin_township};
 
 use std::alloc::{AllocError, Global};
-use twp_rules::{byte_at, digits_of};
+use twp_rules::{byte_at, digits_of, is_side};
 
 /// Whether a byte is white space, a period, or a parenthesis.
 pub(crate) fn is_loose(byte: u8) -> bool
@@ -47,7 +47,7 @@ pub(crate) fn is_township_said(bytes: &[u8]) -> bool
         return false;
     }
     let digits = digits_of(after_first(bytes)).len();
-    digits > 0 && bytes.len() == digits + 2 && is_side_letter(byte_at(bytes, digits + 1))
+    digits > 0 && bytes.len() == digits + 2 && is_side(byte_at(bytes, digits + 1))
 }
 
 /// Bytes without the first one.
@@ -65,13 +65,6 @@ fn is_township_letter(byte: u8) -> bool
     ensures { result ≡ is_township_letter byte }
 {
     byte == b't' || byte == b'r'
-}
-
-/// Whether a byte is the letter of a side.
-fn is_side_letter(byte: u8) -> bool
-    ensures { result ≡ is_side_letter byte }
-{
-    byte == b'n' || byte == b's' || byte == b'e' || byte == b'w'
 }
 
 /// Whether a number may begin after a byte.

@@ -11,12 +11,13 @@ ghost use Rattle.twp_suggest.specs.Sharing.{is_for_and, is_listed, is_nothing, i
 ghost use Rattle.twp_suggest.specs.Sharing.{last_part, leads_part, of_count, part_after_and, tail_after, tail_of};
 ghost use Rattle.twp_suggest.specs.Sharing.{without_the};
 
-use crate::turned::{byte_at, is_side, is_white, way_if};
+use crate::bytes::{byte_at, is_white};
+use crate::turned::way_if;
 use crate::way::Way;
 use std::alloc::{AllocError, Global};
 use twp_grammar::{Kind, Token, Tokens};
 use twp_read::begins_step;
-use twp_rules::{Change, Rule};
+use twp_rules::{Change, Rule, is_side};
 
 /// There is room from the start for one token for each of this many bytes: most texts have fewer.
 const BYTES_TO_TOKEN: usize = 2;

@@ -1,16 +1,15 @@
 //! The other ways to read the places that changes decide: steps that are written again, and white space between two
 //! steps, which is left out, or becomes a comma.
-ghost use Rattle.std.specs.Prelude.{◌≡◌, ◌+◌, ◌-◌, ◌≤◌, IfSome, drop, length, map, slice_index};
-ghost use Rattle.twp_grammar.specs.Tokens.{is_white};
+ghost use Rattle.std.specs.Prelude.{◌≡◌, ◌+◌, ◌≤◌, IfSome, length, map};
 ghost use Rattle.twp_rules.specs.Changes.{seen};
-ghost use Rattle.twp_rules.specs.Edges.{without_white};
 ghost use Rattle.twp_suggest.specs.Ways.{are_shared, begins_step_at, copied_length, copies_at, ends_fraction};
-ghost use Rattle.twp_suggest.specs.Ways.{ends_step_at, goes_on, is_beside_step, is_no_mark, is_side, leave_out};
+ghost use Rattle.twp_suggest.specs.Ways.{ends_step_at, goes_on, is_beside_step, is_no_mark, leave_out};
 ghost use Rattle.twp_suggest.specs.Ways.{parts_steps, solid_at, way_after, way_by, way_if, without_comma};
 ghost use Rattle.twp_suggest.specs.Ways.{without_copies};
 
+use crate::bytes::{after, byte_at, without_white};
 use crate::way::Way;
-use twp_rules::{Change, Rule};
+use twp_rules::{Change, Rule, is_side};
 
 /// What was before a change.
 #[derive(Clone, Copy)]
@@ -212,60 +211,10 @@ fn begins_step_at(made: &[u8], at: usize) -> bool
     is_side(byte_at(made, at))
 }
 
-/// Whether a byte is N, S, E, or W.
-pub(crate) fn is_side(byte: u8) -> bool
-    ensures { result ≡ is_side byte }
-{
-    byte == 78
-        || byte == 83
-        || byte == 69
-        || byte == 87
-        || byte == 110
-        || byte == 115
-        || byte == 101
-        || byte == 119
-}
-
-/// The byte at a place, or 0 at the end and after it.
-pub(crate) fn byte_at(text: &[u8], at: usize) -> u8
-    ensures { result ≡ slice_index text.now at }
-{
-    if at < text.len() { text[at] } else { 0 }
-}
-
 /// The place of the next byte that isn't white space.
 fn solid_at(bytes: &[u8], at: usize) -> usize
     requires { at ≤ length bytes.now }
     ensures { result ≡ solid_at bytes.now at }
 {
-    let left = without_white(from(bytes, at)).len();
-    bytes.len().saturating_sub(left)
-}
-
-/// A text without the white space before it.
-fn without_white(bytes: &[u8]) -> &[u8]
-    ensures { result.now ≡ without_white bytes.now }
-{
-    for index in 0..bytes.len() {
-        if !is_white(bytes[index]) {
-            return from(bytes, index);
-        }
-    }
-    from(bytes, bytes.len())
-}
-
-/// Whether a byte is white space.
-pub(crate) fn is_white(byte: u8) -> bool
-    ensures { result ≡ is_white byte }
-{
-    byte == b' ' || byte == b'\t' || byte == b'\n' || byte == b'\r'
-}
-
-/// The bytes of a text from a place on.
-fn from(bytes: &[u8], at: usize) -> &[u8]
-    requires { at ≤ length bytes.now }
-    ensures { result.now ≡ drop at bytes.now }
-{
-    let (_, rest) = bytes.split_at(at);
-    rest
+    bytes.len() - without_white(after(bytes, at)).len()
 }

@@ -1,11 +1,5 @@
-use Rattle.twp_rules.proofs.ChangeFacts.{start_within}
 use Rattle.twp_suggest.proofs.RepeatFacts.{next_changes, next_repeated}
 use Rattle.twp_suggest.proofs.repeated.all_say_again.Goals as goal
-
-pub between-requires-clause-within : goal.between-requires-clause-within
-between-requires-clause-within c =
-    start_within c.args.text.now c.loop-change.at c.args.changes.now c.loop-change.change-index _
-    c.loop-change-test.true c.loop-change.invariant.0
 
 pub loop-change-preserved : goal.loop-change-preserved
 loop-change-preserved c =
