@@ -20,7 +20,8 @@ use Rattle.twp_rules.specs.Tables.{heading_words, heading_marks, section_words, 
 use Rattle.twp_rules.specs.Tables.{ampersands, commas, semicolons, marks, more_marks, little_words}
 use Rattle.twp_rules.specs.Tables.{more_little_words, joining_words, zeros}
 use Rattle.twp_rules.specs.Tables.{fraction_digits, joints}
-use Rattle.twp_rules.specs.Tables.{quarter_abbreviations, worn_directions, worn_section_words}
+use Rattle.twp_rules.specs.Tables.{quarter_abbreviations, worn_directions, worn_lot_words}
+use Rattle.twp_rules.specs.Tables.{worn_section_words}
 use Rattle.twp_rules.specs.Endings.{acreage_ends, acreage_fronts, being_fronts, corners, digits}
 use Rattle.twp_rules.specs.Endings.{half_texts, heading_ends, meridian_ends, meridian_fronts, meridian_labels}
 use Rattle.twp_rules.specs.Endings.{more_states, parenthesis_ends, quarter_texts, section_again, section_ends}
@@ -302,7 +303,8 @@ allows SectionWord text start end seen written =
     (is_among seen written section_words || is_among seen written worn_section_words)
     && (same_bytes seen [] || same_bytes seen (codes ",") || is_whole_word text start end)
 allows LotWord text start end seen written =
-    is_among seen written lot_words && is_whole_word text start end || is_among seen written lot_marks
+    (is_among seen written lot_words || is_among seen written worn_lot_words) && is_whole_word text start end
+    || is_among seen written lot_marks
 allows Through text start end seen written = is_among seen written dashes
 allows And text start end seen written = is_among seen written ampersands
 allows Comma text start end seen written =
@@ -317,3 +319,14 @@ allows Word text start end seen written =
     && is_whole_word text start end && is_no_exception (take start text) seen
 allows rule text start end seen written =
     same_bytes written [] && may_be_left_out rule seen (drop end text)
+
+-- WHAT IS WORN: a rule reads, or copies, what scanning or a slip of the pen left of what it writes
+abbrev pub is_worn : Rule → List ℕ → List ℕ → Bool
+is_worn Half seen written = is_among (without_white seen) written worn_halves
+is_worn Quarter seen written = is_among (without_white seen) written worn_quarters
+is_worn Direction seen written = is_among seen written worn_directions
+is_worn SectionWord seen written = is_among seen written worn_section_words
+is_worn LotWord seen written = is_among seen written worn_lot_words
+is_worn (Copied from to) seen written = is_among seen written damages
+is_worn Damage seen written = true
+is_worn rule seen written = false

@@ -78,28 +78,28 @@ section_sign = 194 ∷ 167 ∷ []
 -- HALF: after N, S, E, or W, and white space, if any
 abbrev pub halves : List Entry
 halves = all_as (texts (codes "2|/2|half|one-half|one half")) (codes "1/2")
-    ++ all_as ((49 ∷ fraction_slash ++ 50 ∷ []) ∷ texts (codes "/ 2|1-2")) (codes "1/2")
+    ++ all_as ((49 ∷ fraction_slash ++ 50 ∷ []) ∷ texts (codes "/ 2|1-2|h.")) (codes "1/2")
+    ++ all_as ((raised_one ++ fraction_slash ++ lowered_two) ∷ []) (codes "1/2")
 
--- and what is left of a half after scanning, and old abbreviations
+-- and what scanning, or a slip of the pen, leaves of a half
 abbrev pub worn_halves : List Entry
 worn_halves = all_as (words (codes "l/2 i/2 '/2") ++ (right_quote ++ codes "/2") ∷ []) (codes "1/2")
-    ++ all_as (words (codes "]/2 !/2 |/2 1/ 2/2 1/z")) (codes "1/2")
-    ++ all_as ((raised_one ++ fraction_slash ++ lowered_two) ∷ words (codes "h. v2 y2 %")) (codes "1/2")
+    ++ all_as (words (codes "]/2 !/2 |/2 1/ 2/2 1/z v2 y2 %")) (codes "1/2")
 
 -- QUARTER: after NE, NW, SW, or SE, and white space, if any
 abbrev pub quarters : List Entry
 quarters = all_as (texts (codes "|4|/4|quarter|one-quarter|one quarter")) (codes "1/4")
-    ++ all_as ((49 ∷ fraction_slash ++ 52 ∷ []) ∷ []) (codes "1/4")
-
--- and what is left of a quarter after scanning, and old abbreviations
-abbrev pub worn_quarters : List Entry
-worn_quarters = all_as (texts (codes "/ 4|1-4|^|l/4|i/4|'/4")) (codes "1/4")
-    ++ all_as ((right_quote ++ codes "/4") ∷ words (codes "]/4 !/4 |/4 1/ v4 y4 %")) (codes "1/4")
+    ++ all_as ((49 ∷ fraction_slash ++ 52 ∷ []) ∷ texts (codes "/ 4|1-4")) (codes "1/4")
     ++ all_as ((raised_one ++ fraction_slash ++ lowered_four) ∷ []) (codes "1/4")
+
+-- and what scanning, or a slip of the pen, leaves of a quarter
+abbrev pub worn_quarters : List Entry
+worn_quarters = all_as (words (codes "^ l/4 i/4 '/4") ++ (right_quote ++ codes "/4") ∷ []) (codes "1/4")
+    ++ all_as (words (codes "]/4 !/4 |/4 1/ v4 y4 % quater")) (codes "1/4")
 
 -- or abbreviated
 abbrev pub quarter_abbreviations : List Entry
-quarter_abbreviations = all_as (words (codes "qr. . qtr qtr. quater")) (codes "1/4")
+quarter_abbreviations = all_as (words (codes "qr. . qtr qtr.")) (codes "1/4")
 
 -- DAMAGE: letters that scanning makes of digits, and digits of letters
 abbrev pub damages : List Entry
@@ -153,19 +153,23 @@ heading_marks = all_left_out (words (codes ". , :")) ++ all_as (words (codes "- 
 abbrev pub section_words : List Entry
 section_words = pairs (texts (codes "=sec. |=secs. |s=sec. |sect=sec"))
     ++ all_as (words (codes "sect sects sec section")) (codes "secs") ++ pairs (codes ",=." ∷ [])
-    ++ all_as (words (codes "scc sce") ++ section_sign ∷ []) (codes "sec")
-    ++ (section_sign ⇒ codes "secs") ∷ pairs (codes "seo=sec" ∷ [])
+    ++ (section_sign ⇒ codes "sec") ∷ (section_sign ⇒ codes "secs") ∷ []
 
 -- and what a slip of the pen, or scanning, leaves of them
 abbrev pub worn_section_words : List Entry
 worn_section_words =
-    all_as (words (codes "secton sectlon sectoin seciton sectiou seclion seotion sectior")) (codes "sec")
+    all_as (words (codes "scc sce seo secton sectlon sectoin seciton sectiou seclion seotion sectior"))
+    (codes "sec")
 
 -- LOT: the words for lots
 abbrev pub lot_words : List Entry
 lot_words = pairs (texts (codes "l=lot |lt=lot |lts=lots "))
     ++ all_left_out (words (codes "government govt gov t u s the numbered no nos"))
-    ++ pairs (texts (codes "gl=lot |iot=lot|iots=lots"))
+    ++ pairs (codes "gl=lot " ∷ [])
+
+-- and what scanning leaves of them
+abbrev pub worn_lot_words : List Entry
+worn_lot_words = pairs (words (codes "iot=lot iots=lots"))
 
 -- and marks in them
 abbrev pub lot_marks : List Entry

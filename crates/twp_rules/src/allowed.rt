@@ -2,11 +2,12 @@
 ghost use Rattle.std.specs.Prelude.{◌≡◌, ◌≤◌, ◌||◌, length, slice_range};
 ghost use Rattle.twp_rules.specs.Edges.{without_white};
 ghost use Rattle.twp_rules.specs.Rules.{allows, are_digits, begins_exception, is_among, is_copied, is_no_exception};
-ghost use Rattle.twp_rules.specs.Rules.{is_number, is_numeral};
+ghost use Rattle.twp_rules.specs.Rules.{is_number, is_numeral, is_worn};
 ghost use Rattle.twp_rules.specs.Tables.{halves, worn_halves, quarters, quarter_abbreviations, worn_quarters};
 ghost use Rattle.twp_rules.specs.Tables.{little_words};
 ghost use Rattle.twp_rules.specs.Tables.{marks, more_marks, more_little_words, joining_words};
 ghost use Rattle.twp_rules.specs.Tables.{directions, worn_directions, section_words, worn_section_words};
+ghost use Rattle.twp_rules.specs.Tables.{lot_words, worn_lot_words};
 
 use crate::change::Change;
 use crate::context::*;
@@ -83,7 +84,7 @@ fn allows(rule: Rule, text: &[u8], start: usize, end: usize, seen: &[u8], writte
                 && (are_same(seen, b"") || are_same(seen, b",") || is_whole_word(text, start, end))
         }
         Rule::LotWord => {
-            (is_in_lot_words(seen, written) && is_whole_word(text, start, end))
+            (is_lot_word(seen, written) && is_whole_word(text, start, end))
                 || is_in_lot_marks(seen, written)
         }
         Rule::Through => is_in_dashes(seen, written),
@@ -102,6 +103,22 @@ fn allows(rule: Rule, text: &[u8], start: usize, end: usize, seen: &[u8], writte
                 && is_no_exception(before(text, start), seen)
         }
         _ => are_same(written, b"") && may_be_left_out(rule, seen, after(text, end)),
+    }
+}
+
+/// Whether what a rule reads, or copies, is what scanning or a slip of the pen left of what it writes.
+pub fn is_worn(rule: Rule, seen: &[u8], written: &[u8]) -> bool
+    ensures { result ≡ is_worn rule seen.now written.now }
+{
+    match rule {
+        Rule::Half => is_in_worn_halves(without_white(seen), written),
+        Rule::Quarter => is_in_worn_quarters(without_white(seen), written),
+        Rule::Direction => is_in_worn_directions(seen, written),
+        Rule::SectionWord => is_in_worn_section_words(seen, written),
+        Rule::LotWord => is_in_worn_lot_words(seen, written),
+        Rule::Copied(_, _) => is_in_damages(seen, written),
+        Rule::Damage => true,
+        _ => false,
     }
 }
 
@@ -160,6 +177,14 @@ fn is_section_word(seen: &[u8], written: &[u8]) -> bool
         || is_among seen.now written.now worn_section_words) }
 {
     is_in_section_words(seen, written) || is_in_worn_section_words(seen, written)
+}
+
+/// Whether a text is a word for lots.
+fn is_lot_word(seen: &[u8], written: &[u8]) -> bool
+    ensures { result ≡ (is_among seen.now written.now lot_words
+        || is_among seen.now written.now worn_lot_words) }
+{
+    is_in_lot_words(seen, written) || is_in_worn_lot_words(seen, written)
 }
 
 /// Whether a text is a mark that means nothing.

@@ -32,6 +32,7 @@ mod steps;
 mod tables;
 mod words;
 
+pub use allowed::is_worn;
 pub use arrangement::lie_with_sections;
 pub use change::{Change, are_changes, changed};
 pub use naming::{byte_at, byte_before, digits_of, is_side, word_of};

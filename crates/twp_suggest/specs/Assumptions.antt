@@ -8,46 +8,13 @@ use Rattle.twp_rules.specs.Changes.{Change}
 use Rattle.twp_rules.specs.Edges.{is_one_of, without_white}
 use Rattle.twp_rules.specs.Naming.{is_side, word_of}
 use Rattle.twp_rules.specs.declared.rule.Rule.{Rule}
-use Rattle.twp_rules.specs.declared.rule.Rule.TheVariants.{Half, Quarter, Direction, Copied, Damage}
-use Rattle.twp_rules.specs.declared.rule.Rule.TheVariants.{SectionWord}
-use Rattle.twp_rules.specs.declared.rule.Rule.TheVariants.{LotWord, OnePart, Repeated, Meridian, Acreage}
-use Rattle.twp_rules.specs.declared.rule.Rule.TheVariants.{Label}
+use Rattle.twp_rules.specs.Rules.{is_worn}
+use Rattle.twp_rules.specs.declared.rule.Rule.TheVariants.{Half, Quarter, Copied, OnePart, Repeated}
+use Rattle.twp_rules.specs.declared.rule.Rule.TheVariants.{Meridian, Acreage, Label}
 use Rattle.twp_suggest.specs.declared.assumptions.Assumption.{Assumption}
 use Rattle.twp_suggest.specs.declared.assumptions.Assumption.TheVariants.{SameMeridian, SameAcreage, NotLand}
 use Rattle.twp_suggest.specs.declared.assumptions.Assumption.TheVariants.{SaidBefore, WrongLetter}
 use Rattle.twp_suggest.specs.declared.assumptions.Assumption.TheVariants.{NoMissingComma}
-
--- what scanning, or a slip of the pen, leaves of a half
-abbrev pub wrong_halves : List (List ℕ)
-wrong_halves = codes "l/2" ∷ codes "i/2" ∷ codes "'/2" ∷ (226 ∷ 128 ∷ 153 ∷ codes "/2") ∷ codes "]/2"
-    ∷ codes "!/2" ∷ codes "|/2" ∷ codes "1/" ∷ codes "2/2" ∷ codes "1/z" ∷ codes "v2" ∷ codes "y2"
-    ∷ codes "%" ∷ []
-
--- and of a quarter
-abbrev pub wrong_quarters : List (List ℕ)
-wrong_quarters = codes "l/4" ∷ codes "i/4" ∷ codes "'/4" ∷ (226 ∷ 128 ∷ 153 ∷ codes "/4") ∷ codes "]/4"
-    ∷ codes "!/4" ∷ codes "|/4" ∷ codes "1/" ∷ codes "v4" ∷ codes "y4" ∷ codes "%" ∷ codes "^"
-    ∷ codes "quater" ∷ []
-
--- of a word for a corner
-abbrev pub wrong_corners : List (List ℕ)
-wrong_corners = codes "nothwest" ∷ codes "norhwest" ∷ codes "nortwest" ∷ codes "northwset"
-    ∷ codes "notheast" ∷ codes "norhteast" ∷ codes "norteast" ∷ codes "northeat" ∷ codes "sothwest"
-    ∷ codes "souhwest" ∷ codes "soutwest" ∷ codes "sotheast" ∷ codes "souhteast" ∷ codes "souteast" ∷ []
-
--- of the word for a section
-abbrev pub wrong_sections : List (List ℕ)
-wrong_sections = codes "scc" ∷ codes "sce" ∷ codes "seo" ∷ codes "secton" ∷ codes "sectlon"
-    ∷ codes "sectoin" ∷ codes "seciton" ∷ codes "sectiou" ∷ codes "seclion" ∷ codes "seotion"
-    ∷ codes "sectior" ∷ []
-
--- of the word for a lot
-abbrev pub wrong_lots : List (List ℕ)
-wrong_lots = codes "iot" ∷ codes "iots" ∷ []
-
--- and of a digit
-abbrev pub wrong_digits : List (List ℕ)
-wrong_digits = codes "l" ∷ codes "i" ∷ codes "o" ∷ []
 
 -- words for sides and corners
 abbrev pub side_words : List (List ℕ)
@@ -81,37 +48,32 @@ is_between_steps text start end =
     not (is_one_of (last_before text start ∷ []) half_corner_ends)
     && begins_step (without_white (drop end text))
 
--- that a letter or a digit is wrong, if one is; otherwise the other assumption
-abbrev pub if_wrong : Bool → Option Assumption → Option Assumption
-if_wrong wrong other = if wrong then Some WrongLetter else other
-
 -- if a step follows another without a mark, no comma is missing there
 abbrev pub if_joined : Bool → Option Assumption
 if_joined joined = if joined then Some NoMissingComma else None
 
--- WHAT A RULE ASSUMES where it changes a text from one place up to another
+-- what a rule assumes where it changes a text from one place up to another, and where nothing is worn
 abbrev pub assumed_by : Rule → List ℕ → ℕ → ℕ → Option Assumption
 assumed_by Meridian text start end = Some SameMeridian
 assumed_by Acreage text start end = Some SameAcreage
 assumed_by Label text start end = Some NotLand
 assumed_by Repeated text start end = Some SaidBefore
-assumed_by Damage text start end = Some WrongLetter
-assumed_by Half text start end =
-    if_wrong (is_one_of (without_white (slice_range text start end)) wrong_halves)
-    (if_joined (begins_step (drop end text)))
-assumed_by Quarter text start end =
-    if_wrong (is_one_of (without_white (slice_range text start end)) wrong_quarters)
-    (if_joined (begins_step (drop end text)))
-assumed_by Direction text start end = if_wrong (is_one_of (slice_range text start end) wrong_corners) None
-assumed_by SectionWord text start end = if_wrong (is_one_of (slice_range text start end) wrong_sections) None
-assumed_by LotWord text start end = if_wrong (is_one_of (slice_range text start end) wrong_lots) None
-assumed_by (Copied from to) text start end = if_wrong (is_one_of (slice_range text from to) wrong_digits) None
+assumed_by Half text start end = if_joined (begins_step (drop end text))
+assumed_by Quarter text start end = if_joined (begins_step (drop end text))
 assumed_by OnePart text start end = if_joined (is_between_steps text start end)
 assumed_by rule text start end = None
 
+-- what a rule reads of a text: what it copies, or what it looks at
+abbrev pub read_by : Rule → List ℕ → ℕ → ℕ → List ℕ
+read_by (Copied from to) text start end = slice_range text from to
+read_by rule text start end = slice_range text start end
+
 -- WHAT A CHANGE ASSUMES that its text doesn't say, if it assumes anything
 abbrev pub assumed : List ℕ → Change → Option Assumption
-assumed text change = assumed_by change.rule text change.start change.end
+assumed text change =
+    if is_worn change.rule (read_by change.rule text change.start change.end) change.written
+    then Some WrongLetter
+    else assumed_by change.rule text change.start change.end
 
 -- an assumption in words
 abbrev pub words_of : Assumption → List ℕ

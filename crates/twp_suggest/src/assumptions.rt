@@ -3,12 +3,11 @@ ghost use Rattle.std.specs.Prelude.{◌≡◌, [], ◌∷◌};
 ghost use Rattle.twp_rules.specs.Changes.{seen};
 ghost use Rattle.twp_rules.specs.Edges.{is_one_of};
 ghost use Rattle.twp_suggest.specs.Assumptions.{are_sides, assumed, assumed_by, begins_step, half_corner_ends};
-ghost use Rattle.twp_suggest.specs.Assumptions.{if_joined, if_wrong, is_between_steps, last_before, side_words};
-ghost use Rattle.twp_suggest.specs.Assumptions.{wrong_corners, wrong_digits, wrong_halves, wrong_lots};
-ghost use Rattle.twp_suggest.specs.Assumptions.{words_of, wrong_quarters, wrong_sections};
+ghost use Rattle.twp_suggest.specs.Assumptions.{if_joined, is_between_steps, last_before, read_by, side_words};
+ghost use Rattle.twp_suggest.specs.Assumptions.{words_of};
 
 use crate::bytes::{after, between, byte_at, is_text, is_white, without_white};
-use twp_rules::{Change, Rule, is_side, word_of};
+use twp_rules::{Change, Rule, is_side, is_worn, word_of};
 
 /// What a change of a reading assumes that the text doesn't say.
 #[derive(Clone, Copy, PartialEq, Eq)]
@@ -52,10 +51,24 @@ impl Assumption {
 pub fn assumption_of(text: &[u8], change: &Change<'_>) -> Option<Assumption>
     ensures { result ≡ assumed text.now (seen change.now) }
 {
+    let read = read_by(change.rule, text, change.start, change.end);
+    if is_worn(change.rule, read, change.written) {
+        return Some(Assumption::WrongLetter);
+    }
     assumed_by(change.rule, text, change.start, change.end)
 }
 
-/// What a rule assumes where it changes a text from one place up to another.
+/// What a rule reads of a text: what it copies, or what it looks at.
+fn read_by(rule: Rule, text: &[u8], start: usize, end: usize) -> &[u8]
+    ensures { result.now ≡ read_by rule text.now start end }
+{
+    match rule {
+        Rule::Copied(first, last) => between(text, first, last),
+        _ => between(text, start, end),
+    }
+}
+
+/// What a rule assumes where it changes a text from one place up to another, and where nothing is worn.
 fn assumed_by(rule: Rule, text: &[u8], start: usize, end: usize) -> Option<Assumption>
     ensures { result ≡ assumed_by rule text.now start end }
 {
@@ -64,32 +77,10 @@ fn assumed_by(rule: Rule, text: &[u8], start: usize, end: usize) -> Option<Assum
         Rule::Acreage => Some(Assumption::SameAcreage),
         Rule::Label => Some(Assumption::NotLand),
         Rule::Repeated => Some(Assumption::SaidBefore),
-        Rule::Damage => Some(Assumption::WrongLetter),
-        Rule::Half => if_wrong(
-            is_wrong_half(without_white(between(text, start, end))),
-            if_joined(begins_step(after(text, end))),
-        ),
-        Rule::Quarter => if_wrong(
-            is_wrong_quarter(without_white(between(text, start, end))),
-            if_joined(begins_step(after(text, end))),
-        ),
-        Rule::Direction => if_wrong(is_wrong_corner(between(text, start, end)), None),
-        Rule::SectionWord => if_wrong(is_wrong_section(between(text, start, end)), None),
-        Rule::LotWord => if_wrong(is_wrong_lot(between(text, start, end)), None),
-        Rule::Copied(first, last) => if_wrong(is_wrong_digit(between(text, first, last)), None),
+        Rule::Half => if_joined(begins_step(after(text, end))),
+        Rule::Quarter => if_joined(begins_step(after(text, end))),
         Rule::OnePart => if_joined(is_between_steps(text, start, end)),
         _ => None,
-    }
-}
-
-/// That a letter is wrong, if it is; or another assumption.
-fn if_wrong(wrong: bool, other: Option<Assumption>) -> Option<Assumption>
-    ensures { result ≡ if_wrong wrong other }
-{
-    if wrong {
-        Some(Assumption::WrongLetter)
-    } else {
-        other
     }
 }
 
@@ -165,93 +156,4 @@ fn is_side_word(word: &[u8]) -> bool
         || is_text(word, b"northwest")
         || is_text(word, b"southeast")
         || is_text(word, b"southwest")
-}
-
-/// The table `wrong_halves` of the specification.
-fn is_wrong_half(mark: &[u8]) -> bool
-    ensures { result ≡ is_one_of mark.now wrong_halves }
-{
-    is_text(mark, b"l/2")
-        || is_text(mark, b"i/2")
-        || is_text(mark, b"'/2")
-        || is_text(mark, b"\xE2\x80\x99/2")
-        || is_text(mark, b"]/2")
-        || is_text(mark, b"!/2")
-        || is_text(mark, b"|/2")
-        || is_text(mark, b"1/")
-        || is_text(mark, b"2/2")
-        || is_text(mark, b"1/z")
-        || is_text(mark, b"v2")
-        || is_text(mark, b"y2")
-        || is_text(mark, b"%")
-}
-
-/// The table `wrong_quarters` of the specification.
-fn is_wrong_quarter(mark: &[u8]) -> bool
-    ensures { result ≡ is_one_of mark.now wrong_quarters }
-{
-    is_text(mark, b"l/4")
-        || is_text(mark, b"i/4")
-        || is_text(mark, b"'/4")
-        || is_text(mark, b"\xE2\x80\x99/4")
-        || is_text(mark, b"]/4")
-        || is_text(mark, b"!/4")
-        || is_text(mark, b"|/4")
-        || is_text(mark, b"1/")
-        || is_text(mark, b"v4")
-        || is_text(mark, b"y4")
-        || is_text(mark, b"%")
-        || is_text(mark, b"^")
-        || is_text(mark, b"quater")
-}
-
-/// The table `wrong_corners` of the specification.
-fn is_wrong_corner(word: &[u8]) -> bool
-    ensures { result ≡ is_one_of word.now wrong_corners }
-{
-    is_text(word, b"nothwest")
-        || is_text(word, b"norhwest")
-        || is_text(word, b"nortwest")
-        || is_text(word, b"northwset")
-        || is_text(word, b"notheast")
-        || is_text(word, b"norhteast")
-        || is_text(word, b"norteast")
-        || is_text(word, b"northeat")
-        || is_text(word, b"sothwest")
-        || is_text(word, b"souhwest")
-        || is_text(word, b"soutwest")
-        || is_text(word, b"sotheast")
-        || is_text(word, b"souhteast")
-        || is_text(word, b"souteast")
-}
-
-/// The table `wrong_sections` of the specification.
-fn is_wrong_section(word: &[u8]) -> bool
-    ensures { result ≡ is_one_of word.now wrong_sections }
-{
-    is_text(word, b"scc")
-        || is_text(word, b"sce")
-        || is_text(word, b"seo")
-        || is_text(word, b"secton")
-        || is_text(word, b"sectlon")
-        || is_text(word, b"sectoin")
-        || is_text(word, b"seciton")
-        || is_text(word, b"sectiou")
-        || is_text(word, b"seclion")
-        || is_text(word, b"seotion")
-        || is_text(word, b"sectior")
-}
-
-/// The table `wrong_lots` of the specification.
-fn is_wrong_lot(word: &[u8]) -> bool
-    ensures { result ≡ is_one_of word.now wrong_lots }
-{
-    is_text(word, b"iot") || is_text(word, b"iots")
-}
-
-/// The table `wrong_digits` of the specification.
-fn is_wrong_digit(letter: &[u8]) -> bool
-    ensures { result ≡ is_one_of letter.now wrong_digits }
-{
-    is_text(letter, b"l") || is_text(letter, b"i") || is_text(letter, b"o")
 }

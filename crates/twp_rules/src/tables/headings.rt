@@ -3,7 +3,7 @@ ghost use Rattle.std.specs.Prelude.{◌≡◌};
 ghost use Rattle.twp_rules.specs.Rules.{is_among};
 ghost use Rattle.twp_rules.specs.Tables.{fraction_digits, heading_marks, heading_words, headings, lot_marks};
 ghost use Rattle.twp_rules.specs.Tables.{lot_words, more_numerals, numerals, section_words};
-ghost use Rattle.twp_rules.specs.Tables.{worn_section_words, zeros};
+ghost use Rattle.twp_rules.specs.Tables.{worn_lot_words, worn_section_words, zeros};
 
 use crate::rows::is_among;
 
@@ -64,7 +64,7 @@ pub(crate) fn is_in_heading_marks(seen: &[u8], written: &[u8]) -> bool
 }
 
 /// The table `section_words` of the specification.
-static SECTION_WORDS: [[u8; 12]; 14] = [
+static SECTION_WORDS: [[u8; 12]; 11] = [
     *b"=sec. ______",
     *b"=secs. _____",
     *b"s=sec. _____",
@@ -74,11 +74,8 @@ static SECTION_WORDS: [[u8; 12]; 14] = [
     *b"sec=secs____",
     *b"section=secs",
     *b",=._________",
-    *b"scc=sec_____",
-    *b"sce=sec_____",
     *b"\xC2\xA7=sec______",
     *b"\xC2\xA7=secs_____",
-    *b"seo=sec_____",
 ];
 
 /// Whether this is a row of it: what it looks at, and what it writes.
@@ -89,7 +86,10 @@ pub(crate) fn is_in_section_words(seen: &[u8], written: &[u8]) -> bool
 }
 
 /// The table `worn_section_words` of the specification.
-static WORN_SECTION_WORDS: [[u8; 11]; 8] = [
+static WORN_SECTION_WORDS: [[u8; 11]; 11] = [
+    *b"scc=sec____",
+    *b"sce=sec____",
+    *b"seo=sec____",
     *b"secton=sec_",
     *b"sectlon=sec",
     *b"sectoin=sec",
@@ -108,7 +108,7 @@ pub(crate) fn is_in_worn_section_words(seen: &[u8], written: &[u8]) -> bool
 }
 
 /// The table `lot_words` of the specification.
-static LOT_WORDS: [[u8; 11]; 16] = [
+static LOT_WORDS: [[u8; 11]; 14] = [
     *b"l=lot _____",
     *b"lt=lot ____",
     *b"lts=lots __",
@@ -123,15 +123,23 @@ static LOT_WORDS: [[u8; 11]; 16] = [
     *b"no=________",
     *b"nos=_______",
     *b"gl=lot ____",
-    *b"iot=lot____",
-    *b"iots=lots__",
 ];
 
 /// Whether this is a row of it: what it looks at, and what it writes.
 pub(crate) fn is_in_lot_words(seen: &[u8], written: &[u8]) -> bool
     ensures { result ≡ is_among seen.now written.now lot_words }
 {
-    is_among(seen, written, 0x0038_5280, &LOT_WORDS)
+    is_among(seen, written, 0x0038_5080, &LOT_WORDS)
+}
+
+/// The table `worn_lot_words` of the specification.
+static WORN_LOT_WORDS: [[u8; 9]; 2] = [*b"iot=lot__", *b"iots=lots"];
+
+/// Whether this is a row of it: what it looks at, and what it writes.
+pub(crate) fn is_in_worn_lot_words(seen: &[u8], written: &[u8]) -> bool
+    ensures { result ≡ is_among seen.now written.now worn_lot_words }
+{
+    is_among(seen, written, 0x0000_0200, &WORN_LOT_WORDS)
 }
 
 /// The table `lot_marks` of the specification.

@@ -7,7 +7,7 @@ ghost use Rattle.twp_rules.specs.Tables.{quarters, worn_directions, worn_halves,
 use crate::rows::is_among;
 
 /// The table `halves` of the specification.
-static HALVES: [[u8; 12]; 8] = [
+static HALVES: [[u8; 12]; 10] = [
     *b"2=1/2_______",
     *b"/2=1/2______",
     *b"half=1/2____",
@@ -16,17 +16,19 @@ static HALVES: [[u8; 12]; 8] = [
     *b"1\xE2\x81\x842=1/2___",
     *b"/ 2=1/2_____",
     *b"1-2=1/2_____",
+    *b"h.=1/2______",
+    *b"\xC2\xB9\xE2\x81\x84\xE2\x82\x82=1/2",
 ];
 
 /// Whether this is a row of it: what it looks at, and what it writes.
 pub(crate) fn is_in_halves(seen: &[u8], written: &[u8]) -> bool
     ensures { result ≡ is_among seen.now written.now halves }
 {
-    is_among(seen, written, 0x0006_8100, &HALVES)
+    is_among(seen, written, 0x0006_8104, &HALVES)
 }
 
 /// The table `worn_halves` of the specification.
-static WORN_HALVES: [[u8; 12]; 15] = [
+static WORN_HALVES: [[u8; 12]; 13] = [
     *b"l/2=1/2_____",
     *b"i/2=1/2_____",
     *b"'/2=1/2_____",
@@ -37,8 +39,6 @@ static WORN_HALVES: [[u8; 12]; 15] = [
     *b"1/=1/2______",
     *b"2/2=1/2_____",
     *b"1/z=1/2_____",
-    *b"\xC2\xB9\xE2\x81\x84\xE2\x82\x82=1/2",
-    *b"h.=1/2______",
     *b"v2=1/2______",
     *b"y2=1/2______",
     *b"%=1/2_______",
@@ -48,11 +48,11 @@ static WORN_HALVES: [[u8; 12]; 15] = [
 pub(crate) fn is_in_worn_halves(seen: &[u8], written: &[u8]) -> bool
     ensures { result ≡ is_among seen.now written.now worn_halves }
 {
-    is_among(seen, written, 0x3246_13a6, &WORN_HALVES)
+    is_among(seen, written, 0x3246_12a6, &WORN_HALVES)
 }
 
 /// The table `quarters` of the specification.
-static QUARTERS: [[u8; 15]; 7] = [
+static QUARTERS: [[u8; 15]; 10] = [
     *b"=1/4___________",
     *b"4=1/4__________",
     *b"/4=1/4_________",
@@ -60,22 +60,24 @@ static QUARTERS: [[u8; 15]; 7] = [
     *b"one-quarter=1/4",
     *b"one quarter=1/4",
     *b"1\xE2\x81\x844=1/4______",
+    *b"/ 4=1/4________",
+    *b"1-4=1/4________",
+    *b"\xC2\xB9\xE2\x81\x84\xE2\x82\x84=1/4___",
 ];
 
 /// Whether this is a row of it: what it looks at, and what it writes.
 pub(crate) fn is_in_quarters(seen: &[u8], written: &[u8]) -> bool
     ensures { result ≡ is_among seen.now written.now quarters }
 {
-    is_among(seen, written, 0x2012_8000, &QUARTERS)
+    is_among(seen, written, 0x2012_8004, &QUARTERS)
 }
 
 /// The table `quarter_abbreviations` of the specification.
-static QUARTER_ABBREVIATIONS: [[u8; 10]; 5] = [
-    *b"qr.=1/4___",
-    *b".=1/4_____",
-    *b"qtr=1/4___",
-    *b"qtr.=1/4__",
-    *b"quater=1/4",
+static QUARTER_ABBREVIATIONS: [[u8; 8]; 4] = [
+    *b"qr.=1/4_",
+    *b".=1/4___",
+    *b"qtr=1/4_",
+    *b"qtr.=1/4",
 ];
 
 /// Whether this is a row of it: what it looks at, and what it writes.
@@ -86,9 +88,7 @@ pub(crate) fn is_in_quarter_abbreviations(seen: &[u8], written: &[u8]) -> bool
 }
 
 /// The table `worn_quarters` of the specification.
-static WORN_QUARTERS: [[u8; 12]; 15] = [
-    *b"/ 4=1/4_____",
-    *b"1-4=1/4_____",
+static WORN_QUARTERS: [[u8; 12]; 13] = [
     *b"^=1/4_______",
     *b"l/4=1/4_____",
     *b"i/4=1/4_____",
@@ -101,14 +101,14 @@ static WORN_QUARTERS: [[u8; 12]; 15] = [
     *b"v4=1/4______",
     *b"y4=1/4______",
     *b"%=1/4_______",
-    *b"\xC2\xB9\xE2\x81\x84\xE2\x82\x84=1/4",
+    *b"quater=1/4__",
 ];
 
 /// Whether this is a row of it: what it looks at, and what it writes.
 pub(crate) fn is_in_worn_quarters(seen: &[u8], written: &[u8]) -> bool
     ensures { result ≡ is_among seen.now written.now worn_quarters }
 {
-    is_among(seen, written, 0x7242_92a6, &WORN_QUARTERS)
+    is_among(seen, written, 0x7242_12a6, &WORN_QUARTERS)
 }
 
 /// The table `directions` of the specification.
