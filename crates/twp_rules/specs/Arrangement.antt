@@ -1,12 +1,13 @@
 -- Where land lies: with the section to which the text assigns it. No other section is between them, except
--- those of the same list; and if land before its section follows land after its own section, or follows other
--- sections, a semicolon or a line end separates them.
+-- those of the same list; no other section leads to the land by a colon; and if land before its section
+-- follows land after its own section, or follows other sections, a semicolon or a line end separates them.
 use Rattle.std.specs.Prelude.{◌==◌, ◌||◌, ◌&&◌, ℕ, suc, Bool, true, false, List, [], ◌∷◌, Option, Some, None}
-use Rattle.std.specs.Prelude.{if◌then◌else◌, length, nat_le, nat_lt, not, slice_range}
+use Rattle.std.specs.Prelude.{drop, if◌then◌else◌, length, nat_le, nat_lt, not, slice_index, slice_range}
 use Rattle.twp_grammar.specs.declared.item.Item.{Item}
 use Rattle.twp_rules.specs.Changes.{Change}
-use Rattle.twp_rules.specs.Edges.{is_one_of}
-use Rattle.twp_rules.specs.Naming.{begins_word, word_of}
+use Rattle.twp_rules.specs.Apart.{is_blank}
+use Rattle.twp_rules.specs.Edges.{is_one_of, without_white}
+use Rattle.twp_rules.specs.Naming.{begins_word, digits_of, word_of}
 use Rattle.twp_rules.specs.Origins.{marks_of}
 use Rattle.twp_rules.specs.Roles.{goes_on_with_list}
 use Rattle.twp_rules.specs.Words.{section_names}
@@ -36,13 +37,28 @@ is_one_list text one other =
     if nat_le one other then is_list_from (slice_range text one other) 0 (slice_range text one other)
     else is_list_from (slice_range text other one) 0 (slice_range text other one)
 
--- a mark is no other section from one place up to another, or one in the same list
+-- a colon, with white space, is all of a text
+abbrev pub is_colon : List ℕ → Bool
+is_colon seen = (slice_index (without_white seen) 0 == 58) && is_blank (drop 1 (without_white seen))
+
+-- the digits of a number, and a colon, are all of a text
+abbrev pub is_number_with_colon : List ℕ → Bool
+is_number_with_colon seen = is_colon (drop (length (digits_of seen)) seen)
+
+-- the number of a section leads to land: only a colon is between them
+abbrev pub leads_to : List ℕ → ℕ → ℕ → Bool
+leads_to text section land = is_number_with_colon (slice_range text section land)
+
+-- a mark is no other section, neither from one place up to another, nor where it leads to the land; or it is
+-- one of the same list
 abbrev pub is_no_other : List ℕ → Lying → ℕ → ℕ → Mark → Bool
 is_no_other text it from to (Land place) = true
 is_no_other text it from to (Section number place) =
-    (number == it.number) || nat_lt place from || nat_le to place || is_one_list text it.section place
+    (number == it.number)
+    || (nat_lt place from || nat_le to place) && not (leads_to text place it.land)
+    || is_one_list text it.section place
 
--- NO OTHER SECTION is from one place up to another, but those of the same list
+-- NO OTHER SECTION is from one place up to another, or leads to the land, but those of the same list
 abbrev pub has_no_other : List ℕ → Lying → ℕ → ℕ → List Mark → Bool
 has_no_other text it from to [] = true
 has_no_other text it from to (mark ∷ marks) =

@@ -142,7 +142,7 @@ fn loses_by(rule: Rule, seen: &[u8]) -> bool
 }
 
 /// Whether bytes are white space alone.
-fn is_blank(bytes: &[u8]) -> bool
+pub(crate) fn is_blank(bytes: &[u8]) -> bool
     ensures { result ≡ is_blank bytes.now }
 {
     for byte in bytes {

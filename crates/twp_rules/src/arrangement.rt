@@ -1,15 +1,17 @@
 //! Whether land lies with the section that the text gives it to.
 ghost use Rattle.std.specs.Prelude.{◌≡◌, true, IfOk, None, drop, map, slice_range};
 ghost use Rattle.twp_rules.specs.Arrangement.{has_break, has_no_other, is_after, is_list_from, is_listed_at};
-ghost use Rattle.twp_rules.specs.Arrangement.{is_no_other, is_one_list, lie_from, lie_with_sections, lies};
-ghost use Rattle.twp_rules.specs.Arrangement.{lies_after, lies_before};
+ghost use Rattle.twp_rules.specs.Arrangement.{is_colon, is_no_other, is_number_with_colon, is_one_list, leads_to};
+ghost use Rattle.twp_rules.specs.Arrangement.{lie_from, lie_with_sections, lies, lies_after, lies_before};
 ghost use Rattle.twp_rules.specs.Changes.{seen};
 
+use crate::apart::is_blank;
 use crate::change::Change;
+use crate::figures::without_white;
 use crate::keeping::rest_of;
 use crate::lying::Lying;
 use crate::mark::Mark;
-use crate::naming::{begins_word, word_of};
+use crate::naming::{begins_word, byte_at, digits_of, word_of};
 use crate::origins::marks_of;
 use crate::roles::goes_on_with_list;
 use crate::words::sections::is_in_section_names;
@@ -131,11 +133,32 @@ fn is_no_other(text: &[u8], it: Lying, from: usize, to: usize, mark: Mark) -> bo
         Mark::Land(_) => true,
         Mark::Section(number, place) => {
             number == it.number
-                || place < from
-                || to <= place
+                || ((place < from || to <= place) && !leads_to(text, place, it.land))
                 || is_one_list(text, it.section, place)
         }
     }
+}
+
+/// Whether only a colon is between the number of a section and land.
+fn leads_to(text: &[u8], section: usize, land: usize) -> bool
+    ensures { result ≡ leads_to text.now section land }
+{
+    is_number_with_colon(part(text, section, land))
+}
+
+/// Whether the digits of a number, and a colon, are all of a text.
+fn is_number_with_colon(seen: &[u8]) -> bool
+    ensures { result ≡ is_number_with_colon seen.now }
+{
+    is_colon(rest_of(seen, digits_of(seen).len()))
+}
+
+/// Whether a colon, with white space, is all of a text.
+fn is_colon(seen: &[u8]) -> bool
+    ensures { result ≡ is_colon seen.now }
+{
+    let rest = without_white(seen);
+    byte_at(rest, 0) == b':' && is_blank(rest_of(rest, 1))
 }
 
 /// Whether only words of a list of sections are between two places.

@@ -55,7 +55,7 @@ only_itself text readings reading clear unchanged same manner one =
       repeated = rw unchanged tt;
       described = rw (unchanged, manner) same;
       accepted = rw same clear.accepted;
-      lies = λ changed. absurd (changed unchanged);
+      lies = λ doubtful. absurd (doubtful unchanged clear);
     } in
     subst (AreReadings text) (sym one) (record {
       some = record {

@@ -28,14 +28,15 @@ pub record LiesWithSections (text : List ℕ) (changes : List Change) : Type 0 w
   pub other : LiesExcepted text changes excepted
 
 -- A READING of a text: the result of its changes, which the reader accepts; text left out as repeated repeats
--- what is before it
+-- what is before it; and land lies with its sections, unless the text is clear and stays as it is
 pub record IsReading (text : List ℕ) (reading : Reading) : Type 0 where
   pub made : MayBeMade text (map seen reading.changes.items)
   pub repeated : AreRepeated text [] 0 (map seen reading.changes.items)
   pub described : IsDescribed reading.manner (changed_from 0 text (map seen reading.changes.items))
       reading.text.items
   pub accepted : IsAccepted reading.text.items
-  pub lies : (reading.changes.items ≡ [] → ⊥) → LiesWithSections text (map seen reading.changes.items)
+  pub lies : (reading.changes.items ≡ [] → ¬ IsClear text)
+      → LiesWithSections text (map seen reading.changes.items)
 
 -- the most readings
 abbrev pub READINGS_MOST : ℕ
