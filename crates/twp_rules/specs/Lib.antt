@@ -14,4 +14,5 @@ pub mod Apart
 pub mod Moves
 pub mod Origins
 pub mod Arrangement
+pub mod Copying
 pub mod steps

@@ -154,7 +154,7 @@ pub(crate) fn is_blank(bytes: &[u8]) -> bool
 }
 
 /// Whether bytes begin with a step of a part.
-fn begins_with_step(bytes: &[u8]) -> bool
+pub(crate) fn begins_with_step(bytes: &[u8]) -> bool
     ensures { result ≡ begins_with_step bytes.now }
 {
     (begins_with(bytes, b"n")
@@ -167,7 +167,7 @@ fn begins_with_step(bytes: &[u8]) -> bool
 
 /// Whether bytes end with a step, if what is before them did: the last one that isn't white space decides.
 #[tactic(auto, using(crate::proofs::SeamFacts::white_is_passed, crate::proofs::SeamFacts::last_decides, crate::proofs::SeamFacts::none_decides))]
-fn ends_after(ends: bool, bytes: &[u8]) -> bool
+pub(crate) fn ends_after(ends: bool, bytes: &[u8]) -> bool
     ensures { result ≡ ends_after ends bytes.now 0 bytes.now }
 {
     for count in 0..bytes.len() {

@@ -207,7 +207,7 @@ fn has_break(seen: &[u8]) -> bool
 }
 
 /// The bytes of a text from one place up to another, as far as there are any.
-fn part(text: &[u8], from: usize, to: usize) -> &[u8]
+pub(crate) fn part(text: &[u8], from: usize, to: usize) -> &[u8]
     ensures { result.now ≡ slice_range text.now from to }
 {
     let rest = rest_of(text, from);

@@ -52,6 +52,7 @@ pub only_itself : (text : List ℕ) (readings : List Reading) (reading : Reading
 only_itself text readings reading clear unchanged same manner one =
     let is : IsReading text reading = record {
       made = rw unchanged (record { allowed = omega arith; numbers = refl; apart = refl; moved = refl });
+      copies = rw unchanged refl;
       repeated = rw unchanged tt;
       described = rw (unchanged, manner) same;
       accepted = rw same clear.accepted;

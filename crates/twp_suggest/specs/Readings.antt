@@ -9,6 +9,7 @@ use Rattle.twp_described.specs.declared.wording.Excepted.{Excepted}
 use Rattle.twp_grammar.specs.declared.item.Item.{Item}
 use Rattle.twp_rules.specs.Arrangement.{lie_with_sections}
 use Rattle.twp_rules.specs.Changes.{Change, changed_from, seen}
+use Rattle.twp_rules.specs.Copying.{copy_whole}
 use Rattle.twp_rules.specs.Moves.{MayBeMade}
 use Rattle.twp_suggest.specs.Closed.{AreClosed}
 use Rattle.twp_suggest.specs.Repeats.{AreRepeated}
@@ -27,10 +28,12 @@ pub record LiesWithSections (text : List ℕ) (changes : List Change) : Type 0 w
   pub land : lie_with_sections text changes 0 items ≡ true
   pub other : LiesExcepted text changes excepted
 
--- A READING of a text: the result of its changes, which the reader accepts; text left out as repeated repeats
--- what is before it; and land lies with its sections, unless the text is clear and stays as it is
+-- A READING of a text: the result of its changes, which the reader accepts; steps are copied whole; text left
+-- out as repeated repeats what is before it; and land lies with its sections, unless the text is clear and
+-- stays as it is
 pub record IsReading (text : List ℕ) (reading : Reading) : Type 0 where
   pub made : MayBeMade text (map seen reading.changes.items)
+  pub copies : copy_whole text (map seen reading.changes.items) ≡ true
   pub repeated : AreRepeated text [] 0 (map seen reading.changes.items)
   pub described : IsDescribed reading.manner (changed_from 0 text (map seen reading.changes.items))
       reading.text.items

@@ -14,7 +14,7 @@ use std::alloc::{AllocError, Global};
 use twp_described::{Manner, Unread, Wording, described, find_land, is_clear, township_of};
 use twp_draft::{Again, FindsPhrases};
 use twp_land::{Land, Lanes};
-use twp_rules::{Change, are_changes, changed, lie_with_sections};
+use twp_rules::{Change, are_changes, changed, copy_whole, lie_with_sections};
 
 /// A reading of a text: the changes, from left to right, and the description that comes of them.
 #[derive(Drop)]
@@ -142,6 +142,9 @@ fn reading_with<'a>(
         return Ok(None);
     }
     let made = changed(alloc, text, changes.as_slice())?;
+    if !copy_whole(text, made.as_slice(), changes.as_slice()) {
+        return Ok(None);
+    }
     let Some(wording) = described(alloc, made, has_except, land)? else {
         return Ok(None);
     };
