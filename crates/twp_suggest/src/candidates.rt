@@ -1,17 +1,16 @@
 //! The candidates for readings: the changes of the whole text, with each joint read in one of its two ways.
 
-use crate::outline::{Outline, change};
+use crate::outline::{Choice, JointWay, Outline, change};
 use crate::writer::Writer;
 use std::alloc::{AllocError, Global};
 use std::mem;
 use twp_arrange::Plan;
 use twp_draft::FindsPhrases;
-use twp_pieces::plus;
 use twp_read::TEXT_LIMIT;
 use twp_rules::{Change, Rule};
 
-/// The most joints of a text whose readings are given: each doubles their number.
-pub(crate) const JOINTS_MOST: usize = 3;
+/// The most candidates of a text whose readings are given: those of three joints.
+pub(crate) const CANDIDATES_MOST: usize = 8;
 
 /// The changes of a text, and its joints, by the phrases that are found in it. None where nothing is sure.
 pub(crate) fn outline_of<'a, F: FindsPhrases>(
@@ -43,12 +42,6 @@ pub(crate) fn outline_of<'a, F: FindsPhrases>(
 }
 
 impl<'a> Outline<'a> {
-    /// How many candidates there are.
-    pub(crate) fn candidates(&self) -> usize {
-        let choices: [usize; 4] = [1, 2, 4, 8];
-        choices.get(self.joints.len()).copied().unwrap_or(0)
-    }
-
     /// The changes of the candidate with a number, whose binary digits are the ways of the joints. The first
     /// way of each joint comes before the second. Without joints, there is one candidate, which takes the
     /// changes.
@@ -57,71 +50,89 @@ impl<'a> Outline<'a> {
         alloc: Global,
         number: usize,
     ) -> Result<Vec<Change<'a>>, AllocError> {
-        if self.joints.is_empty() && !has_white_space(self.changes.as_slice()) {
+        if self.candidates == 1 && !has_white_space(self.changes.as_slice()) {
             return Ok(mem::replace(&mut self.changes, Vec::new(alloc)));
         }
         let mut changes = Vec::with_capacity(alloc, self.changes.len())?;
-        let mut from: usize = 0;
-        let mut digits = number;
-        for joint in &self.joints {
-            add_changes(
-                &mut changes,
-                self.changes.get(from..joint.changes).unwrap_or(&[]),
-            )?;
-            let way = if digits % 2 == 0 {
-                joint.first
-            } else {
-                joint.second
-            };
-            add_changes(
-                &mut changes,
-                self.options.get(way.first..way.end).unwrap_or(&[]),
-            )?;
-            from = joint.changes;
-            digits /= 2;
+        for (before, new) in self.changes.iter().enumerate() {
+            self.add_choices(number, before, &mut changes)?;
+            add_change(&mut changes, *new)?;
         }
-        add_changes(&mut changes, self.changes.get(from..).unwrap_or(&[]))?;
+        self.add_choices(number, self.changes.len(), &mut changes)?;
         Ok(changes)
     }
+
+    /// Adds the changes that a candidate takes at the joints that so many changes are before.
+    fn add_choices(
+        &self,
+        number: usize,
+        before: usize,
+        changes: &mut Vec<Change<'a>>,
+    ) -> Result<(), AllocError> {
+        for choice in &self.choices {
+            if choice.before == before && is_taken(choice, number) {
+                add_change(changes, choice.change)?;
+            }
+        }
+        Ok(())
+    }
+}
+
+/// Whether the candidate with a number takes a change at a joint.
+fn is_taken(choice: &Choice<'_>, number: usize) -> bool {
+    let way = if number & choice.digit == 0 {
+        JointWay::First
+    } else {
+        JointWay::Second
+    };
+    choice.way == way
 }
 
 /// Whether several bytes of white space are left out within a part.
 fn has_white_space(changes: &[Change<'_>]) -> bool {
     for change in changes {
-        if change.rule == Rule::OnePart && change.end > plus(change.start, 1) {
+        if change.rule == Rule::OnePart
+            && change.start < change.end
+            && change.end - change.start > 1
+        {
             return true;
         }
     }
     false
 }
 
-/// Adds changes to others. Each byte of white space within a part is left out by a change of its own.
-fn add_changes<'a>(changes: &mut Vec<Change<'a>>, more: &[Change<'a>]) -> Result<(), AllocError> {
-    for new in more {
-        if new.rule != Rule::OnePart {
-            changes.push(*new)?;
-            continue;
-        }
-        for place in new.start..new.end {
-            changes.push(change(place, plus(place, 1), b"", Rule::OnePart))?;
-        }
+/// Adds a change to others. Each byte of white space within a part is left out by a change of its own.
+fn add_change<'a>(changes: &mut Vec<Change<'a>>, new: Change<'a>) -> Result<(), AllocError> {
+    if new.rule != Rule::OnePart {
+        changes.push(new)?;
+        return Ok(());
+    }
+    for place in new.start..new.end {
+        changes.push(change(place, place + 1, b"", Rule::OnePart))?;
     }
     Ok(())
 }
 
-/// The text that changes make, whether or not their rules allow them.
+/// The text that changes make, whether or not their rules allow them. None if they overlap, or don't lie in the text
+/// from left to right.
 pub(crate) fn made_by(
     alloc: Global,
     text: &[u8],
     changes: &[Change<'_>],
-) -> Result<Vec<u8>, AllocError> {
+) -> Result<Option<Vec<u8>>, AllocError> {
     let mut made = Vec::new(alloc);
     let mut at: usize = 0;
     for change in changes {
-        made.extend_from_slice(text.get(at..change.start).unwrap_or(b""))?;
+        let Some(kept) = text.get(at..change.start) else {
+            return Ok(None);
+        };
+        made.extend_from_slice(kept)?;
         made.extend_from_slice(change.written)?;
         at = change.end;
     }
-    made.extend_from_slice(text.get(at..).unwrap_or(b""))?;
-    Ok(made)
+    let Some(rest) = text.get(at..) else {
+        return Ok(None);
+    };
+    made.extend_from_slice(rest)?;
+    Ok(Some(made))
 }

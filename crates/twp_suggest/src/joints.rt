@@ -1,10 +1,10 @@
 //! Joints: places that can be read in two ways, and steps that may be for two parts.
 
-use crate::candidates::JOINTS_MOST;
-use crate::outline::{Joint, Outline, change};
+use crate::candidates::CANDIDATES_MOST;
+use crate::outline::{JointWay, Outline, change};
 use crate::writer::Writer;
 use twp_arrange::{Gap, Joining, Placed, is_joint};
-use twp_draft::{Form, Phrase, PlacedStep, Span};
+use twp_draft::{Form, Phrase, PlacedStep};
 use twp_grammar::Kind;
 use twp_pieces::plus;
 use twp_rules::{Change, Rule};
@@ -36,7 +36,6 @@ impl<'a> Writer<'a> {
         }
         let start = self.plan.draft.pieces.end_before(gap.first);
         let end = self.plan.draft.pieces.start(gap.end);
-        let begin = out.options.len();
         // A mark between the parts becomes the comma.
         let (stop, stop_end) = if gap.end > gap.first {
             let stop = self.plan.draft.pieces.start(gap.first);
@@ -44,12 +43,11 @@ impl<'a> Writer<'a> {
         } else {
             (start, start)
         };
-        out.add_option(change(stop, stop_end, b",", Rule::Comma));
-        let middle = out.options.len();
+        out.add_choice(JointWay::First, change(stop, stop_end, b",", Rule::Comma));
         if start < end {
-            out.add_option(change(start, end, b"", Rule::OnePart));
+            out.add_choice(JointWay::Second, change(start, end, b"", Rule::OnePart));
         }
-        self.note_joint(begin, middle, out)
+        self.note_joint(out)
     }
 
     /// Whether two parts are so written that neither way of reading them is sure.
@@ -119,24 +117,13 @@ impl<'a> Writer<'a> {
         matches!(pieces.kind(fraction), Kind::Half) && !pieces.is_joined(fraction)
     }
 
-    /// Notes a joint whose options are from one index on, and those of the second way from another. A text
-    /// with too many isn't sure.
-    fn note_joint(&mut self, begin: usize, middle: usize, out: &mut Outline<'a>) {
-        if out.joints.len() >= JOINTS_MOST {
+    /// Notes a joint, whose changes were added. A text with too many isn't sure.
+    fn note_joint(&mut self, out: &mut Outline<'a>) {
+        if out.candidates >= CANDIDATES_MOST {
             self.plan.draft.doubt();
+            return;
         }
-        let joint = Joint {
-            changes: out.changes.len(),
-            first: Span {
-                first: begin,
-                end: middle,
-            },
-            second: Span {
-                first: middle,
-                end: out.options.len(),
-            },
-        };
-        out.add_joint(joint);
+        out.candidates *= 2;
     }
 
     /// Notes that an excepted part may be of the section, or of the part before it.
@@ -147,17 +134,19 @@ impl<'a> Writer<'a> {
         if thereof.end != part.end {
             return;
         }
-        let begin = out.options.len();
         let place = self.plan.draft.pieces.end_before(part.end);
-        let steps = self
+        let Some(steps) = self
             .plan
             .draft
             .steps
-            .get(thereof.steps.first..thereof.steps.end);
-        for step in steps.unwrap_or(&[]) {
-            out.add_option(copied(step, place));
+            .get(thereof.steps.first..thereof.steps.end)
+        else {
+            return self.plan.draft.doubt();
+        };
+        for step in steps {
+            out.add_choice(JointWay::Second, copied(step, place));
         }
-        self.note_joint(begin, begin, out)
+        self.note_joint(out)
     }
 
     /// Whether two parts, as they are written, have land in common, so that steps have to be for both. But
@@ -190,12 +179,10 @@ impl<'a> Writer<'a> {
             self.plan.draft.pieces.start(gap.first),
             self.plan.draft.pieces.end(gap.first),
         );
-        let begin = out.options.len();
-        out.add_option(change(start, start, b", ", Rule::Comma));
-        out.add_option(change(start, end, b"", Rule::Mark));
-        let middle = out.options.len();
-        out.add_option(change(start, end, b"", Rule::Mark));
-        self.note_joint(begin, middle, out)
+        out.add_choice(JointWay::First, change(start, start, b", ", Rule::Comma));
+        out.add_choice(JointWay::First, change(start, end, b"", Rule::Mark));
+        out.add_choice(JointWay::Second, change(start, end, b"", Rule::Mark));
+        self.note_joint(out)
     }
 
     /// Which steps of one of two parts with `and` between them may be for both.
@@ -212,7 +199,7 @@ impl<'a> Writer<'a> {
         let is_mark = pieces.is(before.end, b"&") || (pieces.is(before.end, b"and") && has_the);
         let is_and = joining == Joining::And || (joining == Joining::Other && is_mark);
         let is_close = after.first <= plus(before.end, plus(1, usize::from(has_the)))
-            && out.joints.len() <= 1;
+            && out.candidates <= 2;
         if !is_joint(one, other) || !is_and || !is_close || before.form == after.form {
             return Shared::Nothing;
         }
@@ -225,22 +212,20 @@ impl<'a> Writer<'a> {
 
     /// Notes that the `of` of a part may be for the one before it too.
     pub(crate) fn write_tail(&mut self, one: &Phrase, other: &Phrase, out: &mut Outline<'a>) {
-        let begin = out.options.len();
         let place = self.plan.draft.pieces.end_before(one.end);
         for step in tail_of(self.plan.draft.steps_of(*other)) {
-            out.add_option(copied(step, place));
+            out.add_choice(JointWay::Second, copied(step, place));
         }
-        self.note_joint(begin, begin, out)
+        self.note_joint(out)
     }
 
     /// Notes that the steps before the last `of` of a part may be for the one after it too.
     pub(crate) fn write_head(&mut self, one: &Phrase, other: &Phrase, out: &mut Outline<'a>) {
-        let begin = out.options.len();
         let place = self.plan.draft.pieces.start(other.first);
         for step in head_of(self.plan.draft.steps_of(*one)) {
-            out.add_option(copied(step, place));
+            out.add_choice(JointWay::Second, copied(step, place));
         }
-        self.note_joint(begin, begin, out)
+        self.note_joint(out)
     }
 }
 

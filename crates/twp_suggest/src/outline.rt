@@ -3,7 +3,7 @@
 use crate::writer::Writer;
 use std::alloc::{AllocError, Global};
 use twp_arrange::{Placed, Role, has_except};
-use twp_draft::{Again, Names, Phrase, Span};
+use twp_draft::{Again, Names, Phrase};
 use twp_grammar::Kind;
 use twp_pieces::plus;
 use twp_rules::{Change, Rule};
@@ -11,24 +11,33 @@ use twp_rules::{Change, Rule};
 /// There is room from the start for the changes in the phrases, one for each phrase, and so many more.
 const CHANGES_MORE: usize = 4;
 
-/// A place that can be read in two ways: between two parts, which are two, or one, and before or after an
-/// `of`.
+/// A way to read a joint, which is a place that can be read in two ways: between two parts, which are two, or one, and
+/// before or after an `of`.
+#[derive(Clone, Copy, PartialEq, Eq)]
+pub(crate) enum JointWay {
+    First,
+    Second,
+}
+
+/// A change at a joint, by one of its ways.
 #[derive(Clone, Copy)]
-pub(crate) struct Joint {
-    /// How many changes are before it.
-    pub(crate) changes: usize,
-    /// The changes by the first way, among the options.
-    pub(crate) first: Span,
-    /// The changes by the second way.
-    pub(crate) second: Span,
+pub(crate) struct Choice<'a> {
+    /// How many changes of the outline are before it.
+    pub(crate) before: usize,
+    /// The joint's binary digit, which is 1 in the numbers of the candidates that take its second way.
+    pub(crate) digit: usize,
+    pub(crate) way: JointWay,
+    pub(crate) change: Change<'a>,
 }
 
 /// The changes of a whole text, but for its joints, and those at its joints.
 #[derive(Drop)]
 pub(crate) struct Outline<'a> {
     pub(crate) changes: Vec<Change<'a>>,
-    pub(crate) joints: Vec<Joint>,
-    pub(crate) options: Vec<Change<'a>>,
+    /// The changes at joints, from left to right.
+    pub(crate) choices: Vec<Choice<'a>>,
+    /// How many candidates there are: each joint doubles their number.
+    pub(crate) candidates: usize,
     /// What phrases say again.
     pub(crate) again: Again<'a>,
     /// Whether there is an exception.
@@ -50,8 +59,8 @@ pub(crate) struct Outline<'a> {
 struct Written<'b> {
     /// The last phrase that stays.
     last: Option<&'b Placed>,
-    /// The index after it.
-    next: usize,
+    /// The phrases after it.
+    rest: &'b [Placed],
 }
 
 impl<'a> Outline<'a> {
@@ -69,9 +78,15 @@ impl<'a> Outline<'a> {
         }
     }
 
-    /// Adds a change of a joint.
-    pub(crate) fn add_option(&mut self, change: Change<'a>) {
-        if self.options.push(change).is_err() {
+    /// Adds a change of the next joint, by one of its ways.
+    pub(crate) fn add_choice(&mut self, way: JointWay, change: Change<'a>) {
+        let choice = Choice {
+            before: self.changes.len(),
+            digit: self.candidates,
+            way,
+            change,
+        };
+        if self.choices.push(choice).is_err() {
             self.lacks_memory = true;
         }
     }
@@ -82,13 +97,6 @@ impl<'a> Outline<'a> {
             return Err(AllocError);
         }
         Ok(())
-    }
-
-    /// Adds a joint.
-    pub(crate) fn add_joint(&mut self, joint: Joint) {
-        if self.joints.push(joint).is_err() {
-            self.lacks_memory = true;
-        }
     }
 }
 
@@ -102,8 +110,8 @@ impl<'a> Writer<'a> {
         let room = plus(self.plan.draft.changes.len(), list.len());
         let mut out = Outline {
             changes: Vec::with_capacity(alloc, plus(room, CHANGES_MORE))?,
-            joints: Vec::new(alloc),
-            options: Vec::new(alloc),
+            choices: Vec::new(alloc),
+            candidates: 1,
             again: self.plan.draft.take_again(alloc),
             has_except: has_except(list),
             parts: 0,
@@ -114,15 +122,10 @@ impl<'a> Writer<'a> {
         };
         let written = self.write_kept(alloc, list, &mut out)?;
         // A joint in the land of several sections would be read in both ways for each of them.
-        if !out.joints.is_empty() && has_several_sections(list) {
+        if out.candidates > 1 && has_several_sections(list) {
             self.plan.draft.doubt();
         }
-        self.write_end(
-            written.last,
-            list.get(written.next..).unwrap_or(&[]),
-            list,
-            &mut out,
-        );
+        self.write_end(written.last, written.rest, list, &mut out);
         self.plan.draft.all_added()?;
         out.all_added()?;
         Ok(out)
@@ -142,25 +145,24 @@ impl<'a> Writer<'a> {
             if self.plan.draft.is_unsure {
                 break;
             }
-            let rest = list.get(index..).unwrap_or(&[]);
-            let Some(placed) = rest.first() else {
-                break;
-            };
+            let placed = &list[index];
             if placed.role == Role::LeftOut {
                 continue;
             }
-            let left_out = list.get(next..index).unwrap_or(&[]);
-            self.write_gap(last, Some(placed), left_out, out);
+            self.write_gap(last, Some(placed), &list[next..index], out);
             if last.is_none() {
                 self.write_heading(heading, placed, out);
             }
-            self.write_section(alloc, placed, rest, out)?;
+            self.write_section(alloc, placed, &list[index..], out)?;
             self.copy_changes(&placed.phrase, out);
             self.write_thereof(&placed.phrase, out);
             last = Some(placed);
-            next = plus(index, 1);
+            next = index + 1;
         }
-        Ok(Written { last, next })
+        Ok(Written {
+            last,
+            rest: &list[next..],
+        })
     }
 
     /// Writes what follows the last phrase that stays: those that are left out, of all that there are.

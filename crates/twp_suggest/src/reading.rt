@@ -64,7 +64,7 @@ fn readings_by<'a>(
 {
     let mut land = Lanes::empty();
     let mut readings = Vec::new(alloc);
-    for number in 0..outline.candidates() {
+    for number in 0..outline.candidates {
         let changes = outline.changes_of(alloc, number)?;
         let again = &outline.again;
         let found = match reading_with(alloc, text, changes, outline.has_except, again, &mut land) {
@@ -131,7 +131,9 @@ fn reading_with<'a>(
     ensures { IfOk result (λ it. IfSome it (IsReading text.now)) }
 {
     if !are_changes(text, changes.as_slice()) {
-        let made = made_by(alloc, text, changes.as_slice())?;
+        let Some(made) = made_by(alloc, text, changes.as_slice())? else {
+            return Err(Unread::Refused);
+        };
         return match described(alloc, made, has_except, land)? {
             Some(_) => Err(Unread::Refused),
             None => Ok(None),

@@ -110,15 +110,13 @@ fn says_again(
         return Ok(true);
     }
     for said in again.said.as_slice() {
-        let from = said.start.saturating_sub(start);
-        let to = said.end.saturating_sub(start);
-        if said.start < start || to < from || phrase.len() < to {
+        if said.start < start || said.end < said.start || phrase.len() < said.end - start {
             continue;
         }
-        let changes = again
-            .changes
-            .get(said.changes.first..said.changes.end)
-            .unwrap_or(&[]);
+        let (from, to) = (said.start - start, said.end - start);
+        let Some(changes) = again.changes.get(said.changes.first..said.changes.end) else {
+            continue;
+        };
         let is_land = says_land(alloc, before, phrase, from, to, changes)?;
         if is_land {
             return Ok(true);
@@ -147,7 +145,7 @@ fn place_of_last(text: &[u8], count: usize) -> usize
             return text.len() - index;
         }
         if !is_loose(text[text.len() - 1 - index]) {
-            left = left.saturating_sub(1);
+            left -= 1;
         }
     }
     0
