@@ -7,3 +7,4 @@ pub mod NamingFacts
 pub mod RoleFacts
 pub mod MoveFacts
 pub mod SeamFacts
+pub mod AloneFacts

@@ -5,6 +5,7 @@ ghost use Rattle.twp_rules.specs.Arrangement.{is_colon, is_no_other, is_number_w
 ghost use Rattle.twp_rules.specs.Arrangement.{lie_from, lie_with_sections, lies, lies_after, lies_before};
 ghost use Rattle.twp_rules.specs.Changes.{seen};
 
+use crate::alone::is_alone;
 use crate::apart::is_blank;
 use crate::change::Change;
 use crate::figures::without_white;
@@ -20,6 +21,7 @@ use twp_grammar::Item;
 
 /// Whether all land of a changed text lies with the section that the text gives it to. The items are those of the changed
 /// text from an offset on.
+#[tactic(auto, using(crate::proofs::AloneFacts::alone_lies))]
 pub fn lie_with_sections(
     alloc: Global,
     text: &[u8],
@@ -30,6 +32,9 @@ pub fn lie_with_sections(
     ensures { IfOk result (λ it. it ≡ true →
         lie_with_sections text.now (map seen changes.now) base items.now ≡ true) }
 {
+    if is_alone(changes, base, items) {
+        return Ok(true);
+    }
     match marks_of(alloc, changes, base, items)? {
         Some(marks) => Ok(lie(text, marks.as_slice())),
         None => Ok(false),

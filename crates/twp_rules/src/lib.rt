@@ -3,6 +3,7 @@
 #![tactic(auto)]
 
 mod allowed;
+mod alone;
 mod apart;
 mod arrangement;
 mod change;

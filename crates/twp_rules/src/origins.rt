@@ -13,9 +13,9 @@ use twp_grammar::{Item, Numeral};
 
 /// A place in the text, and how far the changed text was followed for it.
 #[derive(Clone, Copy)]
-struct Spot {
-    place: usize,
-    cursor: Cursor,
+pub(crate) struct Spot {
+    pub(crate) place: usize,
+    pub(crate) cursor: Cursor,
 }
 
 /// What items name, with its places in the text. The items are those of the changed text from an offset on. None if they
@@ -113,7 +113,7 @@ fn add_land(
 
 /// The origin of the byte at an offset, and how far the changed text was followed for it. None if that offset is before
 /// what was followed.
-fn found(changes: &[Change<'_>], base: usize, at: u32, from: Cursor) -> Option<Spot>
+pub(crate) fn found(changes: &[Change<'_>], base: usize, at: u32, from: Cursor) -> Option<Spot>
     requires { IsFollowed changes.now from }
     ensures place { IfSome result (λ it. it.place ≡ origin 0 (map seen changes.now) (base + at)) }
     ensures followed { IfSome result (λ it. IsFollowed changes.now it.cursor) }
