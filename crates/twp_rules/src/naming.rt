@@ -1,5 +1,5 @@
 //! Whether a text names land, and whether a number in it may be that of a section or a lot.
-ghost use Rattle.std.specs.Prelude.{◌≡◌, ◌≤◌, [], ◌∷◌, if◌then◌else◌, true, drop, length, slice_index};
+ghost use Rattle.std.specs.Prelude.{◌≡◌, ◌≤◌, ◌&&◌, [], ◌∷◌, if◌then◌else◌, true, drop, length, not, slice_index};
 ghost use Rattle.twp_rules.specs.Edges.{byte_before, is_one_of};
 ghost use Rattle.twp_rules.specs.Naming.{are_corners_from, begins_number, begins_word, digits_of, goes_on, has_no_bare_number};
 ghost use Rattle.twp_rules.specs.Naming.{has_no_land, is_explained_at, is_no_section, is_of_something_else, is_side, makes_half};
@@ -25,11 +25,33 @@ static HALF_FRONTS: [[u8; 8]; 7] = [
     *b"one half",
 ];
 
-/// Whether a text names no land, and has no number that may be that of a section or a lot.
+/// Whether a text names no land, and has no number that may be that of a section or a lot. Both are looked for at once,
+/// where a word or a number begins.
+#[tactic(auto, using(crate::proofs::NamingFacts::nothing_here, crate::proofs::NamingFacts::none_here, crate::proofs::NamingFacts::land_here, crate::proofs::NamingFacts::bare_here))]
 pub(crate) fn names_no_land(seen: &[u8]) -> bool
     ensures { result ≡ names_no_land seen.now }
 {
-    has_no_land(seen) && has_no_bare_number(seen)
+    let mut named: &[u8] = b"";
+    for at in 0..seen.len() {
+        if begins_nothing(seen, at) {
+            continue;
+        }
+        if names_land_at(seen, at) {
+            return false;
+        }
+        if !is_explained_at(seen, at, named) {
+            return false;
+        }
+        named = named_after(seen, at, named);
+    }
+    true
+}
+
+/// Whether neither a word nor a number begins at a place.
+fn begins_nothing(seen: &[u8], at: usize) -> bool
+    ensures { result ≡ (not (begins_word seen.now at) && not (begins_number seen.now at)) }
+{
+    !begins_word(seen, at) && !begins_number(seen, at)
 }
 
 /// Whether no land is named in a text.
