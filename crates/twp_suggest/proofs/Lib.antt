@@ -5,3 +5,4 @@ pub mod CutFacts
 pub mod ClosedFacts
 pub mod RepeatFacts
 pub mod WordFacts
+mod PlainFacts

@@ -4,3 +4,4 @@ pub mod Ways
 pub mod Sharing
 pub mod Closed
 pub mod Repeats
+pub mod steps

@@ -9,6 +9,7 @@ ghost use Rattle.twp_suggest.specs.Readings.{IsReading};
 ghost use Rattle.twp_suggest.specs.Sharing.{AreShared, AtToken, IsShared};
 ghost use Rattle.twp_suggest.specs.Ways.{AreTurned, IfWay};
 
+use crate::plain::is_plain;
 use crate::reading::Reading;
 use crate::sharing::{apart_after, has_place, head_after, here, joined_tokens, tail_after};
 use crate::turned::{Before, way_after};
@@ -69,6 +70,9 @@ fn are_given(
     let is_turned = are_turned(alloc, text, made, readings, own)?;
     if !is_turned || !has_place(made) {
         return Ok(is_turned);
+    }
+    if is_plain(text, made, own.changes.as_slice()) {
+        return Ok(true);
     }
     is_shared(alloc, text, made, readings, own)
 }
@@ -194,6 +198,7 @@ fn are_at_token(
 }
 
 /// Whether there is no other way, or it is given.
+#[inline(always)]
 fn is_given(
     alloc: Global,
     made: &[u8],

@@ -13,6 +13,7 @@ mod last_land;
 mod moved;
 mod outline;
 mod phrases;
+mod plain;
 mod reading;
 mod repeated;
 mod said;

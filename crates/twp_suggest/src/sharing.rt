@@ -89,7 +89,7 @@ fn is_for_and(text: &[u8], seat: usize, changes: &[Change<'_>]) -> Option<bool>
 }
 
 /// Whether a comma is written for `&`.
-fn is_comma_by(rule: Rule, text: &[u8], start: usize, end: usize) -> bool
+pub(crate) fn is_comma_by(rule: Rule, text: &[u8], start: usize, end: usize) -> bool
     ensures { result ≡ is_comma_by rule text.now start end }
 {
     match rule {
@@ -170,7 +170,7 @@ pub(crate) fn apart_after(
 }
 
 /// Whether a token is a fraction.
-fn is_fraction(kind: Kind) -> bool
+pub(crate) fn is_fraction(kind: Kind) -> bool
     ensures { result ≡ is_fraction kind }
 {
     matches!(kind, Kind::Half | Kind::Quarter)
@@ -333,14 +333,14 @@ fn after_of<'a, 'b>(count: usize, part: &'b [Token<'a>]) -> &'b [Token<'a>]
 }
 
 /// Whether a token is `of`.
-fn is_of(kind: Kind) -> bool
+pub(crate) fn is_of(kind: Kind) -> bool
     ensures { result ≡ is_of kind }
 {
     matches!(kind, Kind::Of)
 }
 
 /// Whether a token is `and`.
-fn is_and(kind: Kind) -> bool
+pub(crate) fn is_and(kind: Kind) -> bool
     ensures { result ≡ is_and kind }
 {
     matches!(kind, Kind::And)
