@@ -1,6 +1,6 @@
 -- The land of items, added one after another.
 use Rattle.std.proofs.Common.{◌≡◌, ℕ, ◌+◌, ◌<◌, ◌≤◌, ◌||◌, Bool, List, length, take, drop, refl, sym, ap}
-use Rattle.std.proofs.Common.{◌∙◌, arith, IfOk, IfSome, Option, Some, None, Result, Ok, Err}
+use Rattle.std.proofs.Common.{◌∙◌, arith, IfOk, Result, Ok, Err}
 use Rattle.std.proofs.Math.Path.{fun_ext}
 use Rattle.std.proofs.Math.ListN.{get_or}
 use Rattle.std.proofs.lemmas.List.{take_all}
@@ -57,14 +57,11 @@ if_ok_at (Ok value) P at all = all at
 if_ok_at (Err fault) P at all = all
 
 -- the land of a text that is read
-pub are_named : {T : Type 0} (found : Option T) (places_of : T → ℕ → ℕ → ℕ → Bool) (text : List ℕ)
-    (items : List Item) → IsReadAs text items
-    → IfSome found (λ land. places_of land ≡ land_of PLACE_DIGITS (parts_of items))
-    → IfSome found (λ land. HasWholeLots PLACE_DIGITS (places_of land))
-    → IfSome found (λ land. AreNamed text (places_of land))
-are_named (Some land) places_of text items read named whole =
+pub are_named : (text : List ℕ) (items : List Item) (places : ℕ → ℕ → ℕ → Bool) → IsReadAs text items
+    → places ≡ land_of PLACE_DIGITS (parts_of items) → HasWholeLots PLACE_DIGITS places
+    → AreNamed text places
+are_named text items places read named whole =
     record { items = items; read = read; places_are = named; whole = whole }
-are_named None places_of text items read named whole = named
 
 pub are_lots_named : (made text full : List ℕ) (items : List Item) (township : Designation)
     (places : ℕ → ℕ → ℕ → Bool) → IsReadAs made items → NamesTownship items township

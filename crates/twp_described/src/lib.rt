@@ -11,7 +11,7 @@ mod wording;
 
 pub use clear::is_clear;
 pub use manner::Manner;
-pub use named::land_in;
-pub use on_plat::{find_land, first_township, township_of};
+pub use named::find_named_land;
+pub use on_plat::{find_land, find_own_land, first_township};
 pub use unread::Unread;
 pub use wording::{Excepted, Wording, described};

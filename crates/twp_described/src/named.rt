@@ -1,5 +1,5 @@
 //! The land that a text names, also by aliquot parts that include lots.
-ghost use Rattle.std.specs.Prelude.{◌≡◌, ℕ, ◌≤◌, IfOk, IfSome};
+ghost use Rattle.std.specs.Prelude.{◌≡◌, ℕ, ◌≤◌, true, IfOk};
 ghost use Rattle.twp_grid.specs.Places.{PLACE_DIGITS};
 ghost use Rattle.twp_grid.specs.Winding.{IsSection};
 ghost use Rattle.twp_grid.specs.Lands.{HasWholeLots, Meets, block_places, union};
@@ -22,57 +22,60 @@ use twp_resolve::chain_block;
 #[derive(Clone, Copy, PartialEq, Eq)]
 struct Unnamed;
 
-/// The land that a text names, also by aliquot parts that include lots. None if it names none, or land twice,
-/// or a part of a lot.
-pub fn land_in(alloc: Global, text: &[u8]) -> Result<Option<Lanes>, AllocError>
-    ensures { IfOk result (λ it. IfSome it (λ land.
-        AreNamed text.now (⟦<Lanes as Land>⟧.places land))) }
+/// Whether a text names land, also by aliquot parts that include lots, which `land` is then. It is filled in place, as in
+/// `find_land`. It names none if it names what no township has, land twice, or a part of a lot.
+pub fn find_named_land(alloc: Global, text: &[u8], land: &mut Lanes) -> Result<bool, AllocError>
+    ensures { IfOk result (λ it. it ≡ true →
+        AreNamed text.now (⟦<Lanes as Land>⟧.places land.new)) }
 {
     match read(alloc, text)? {
-        Some(description) => Ok(land_with_lots(&description)),
-        None => Ok(None),
+        Some(description) => Ok(find_with_lots(&description, land)),
+        None => Ok(false),
     }
 }
 
-/// The land that a description names, also by aliquot parts that include whole lots. None as for a text.
-pub(crate) fn land_with_lots(description: &Description) -> Option<Lanes>
-    ensures named { IfSome result (λ land.
-        ⟦<Lanes as Land>⟧.places land ≡ land_of PLACE_DIGITS (parts_of description.now)) }
-    ensures whole { IfSome result (λ land.
-        HasWholeLots PLACE_DIGITS (⟦<Lanes as Land>⟧.places land)) }
+/// Whether a description names land, also by aliquot parts that include whole lots, which `land` is then.
+pub(crate) fn find_with_lots(description: &Description, land: &mut Lanes) -> bool
+    ensures named { result ≡ true →
+        ⟦<Lanes as Land>⟧.places land.new ≡ land_of PLACE_DIGITS (parts_of description.now) }
+    ensures whole { result ≡ true → HasWholeLots PLACE_DIGITS (⟦<Lanes as Land>⟧.places land.new) }
 {
-    let land = land_named::<Lanes>(description)?;
-    if lots_whole(&land.rows()) {
-        return Some(land);
+    let is_named = find_items(description, land);
+    if !is_named {
+        return false;
     }
-    None
+    if lots_whole(&land.rows()) {
+        return true;
+    }
+    false
 }
 
 /// Why a description isn't read whose land isn't on the plat: it names some land twice, or a part of a lot.
+#[inline(never)]
 pub(crate) fn why_unread(description: &Description) -> Unread {
-    match land_named::<Lanes>(description) {
-        Some(_) => Unread::Refused,
-        None => Unread::Unfit,
+    let mut land = Lanes::empty();
+    if find_items(description, &mut land) {
+        return Unread::Refused;
     }
+    Unread::Unfit
 }
 
-/// The land of the items of a description: all places of its items, none of which is named twice. None if
-/// they name what no township has, or land twice.
+/// Whether the items of a description name land that a township has, and none of it twice; `land` is then all places of
+/// its items.
 #[tactic(auto, using(crate::proofs::NamedFacts::named_none, crate::proofs::NamedFacts::named_next, crate::proofs::NamedFacts::named_all))]
-fn land_named<L: Land>(description: &Description) -> Option<L>
-    ensures { IfSome result (λ land.
-        L.places land ≡ land_of PLACE_DIGITS (parts_of description.now)) }
+fn find_items<L: Land>(description: &Description, land: &mut L) -> bool
+    ensures { result ≡ true → L.places land.new ≡ land_of PLACE_DIGITS (parts_of description.now) }
 {
     let items = description.items();
-    let mut land = L::empty();
+    Land::clear(land);
     let mut section = None;
     for item in items {
-        let Ok(after) = add_item(&mut land, section, item) else {
-            return None;
+        let Ok(after) = add_item(land, section, item) else {
+            return false;
         };
         section = after;
     }
-    Some(land)
+    true
 }
 
 /// Adds an item to the land of the items before it, and returns the section of the next item.

@@ -73,11 +73,27 @@ pub fn first_township(items: &[Item]) -> Option<Township>
     }
 }
 
-/// The township that a text names, or any if it names none. None if there is no such township, or no such
-/// text.
-pub fn township_of(alloc: Global, text: &[u8]) -> Result<Option<Township>, AllocError> {
-    match read(alloc, text)? {
-        Some(description) => Ok(first_township(description.items())),
-        None => Ok(None),
+/// The township that a text names, or any if it names none, if the text names land on its plat, which `land` is then. It
+/// is filled in place, as in `find_land`. None if there is no such township, or no such text.
+#[tactic(auto, using(crate::proofs::LandFacts::is_land))]
+pub fn find_own_land(
+    alloc: Global,
+    text: &[u8],
+    land: &mut Lanes,
+) -> Result<Option<Township>, AllocError>
+    ensures land { IfOk result (λ it. IfSome it (λ township.
+        IsLandOfText township text.now (⟦<Lanes as Land>⟧.places land.new))) }
+    ensures only { IfOk result (λ it. IfSome it (λ _.
+        IsOnlyLandOfText text.now (⟦<Lanes as Land>⟧.places land.new))) }
+{
+    let Some(description) = read(alloc, text)? else {
+        return Ok(None);
+    };
+    let Some(township) = first_township(description.items()) else {
+        return Ok(None);
+    };
+    match resolve_into(land, &description, township) {
+        Ok(()) => Ok(Some(township)),
+        Err(_) => Ok(None),
     }
 }

@@ -7,14 +7,15 @@ ghost use Rattle.twp_described.specs.Descriptions.{as_written, except};
 ghost use Rattle.twp_described.specs.Descriptions.{without_first_line};
 
 use crate::manner::Manner;
-use crate::named::{land_with_lots, why_unread};
+use crate::named::{find_with_lots, why_unread};
 use crate::on_plat::{find_land, first_township, read};
 use crate::unread::Unread;
 use std::alloc::{AllocError, Global};
 use twp_grammar::Item;
-use twp_land::{Land, Lanes};
+use twp_grid::Township;
+use twp_land::{Land, Lanes, OneLanes};
 use twp_read::Description;
-use twp_resolve::{PlaceFault, resolve_into};
+use twp_resolve::{PlaceFault, names_one_section, resolve_if_room, resolve_into};
 use twp_spell::spell;
 
 /// What is between land and what it is without.
@@ -44,13 +45,8 @@ pub struct Wording {
 }
 
 /// The description that comes of a changed text in its township, or in any if it names none. None if it names
-/// some land twice, or a part that is too fine. The land is looked for in `land`.
-pub fn described(
-    alloc: Global,
-    made: Vec<u8>,
-    has_except: bool,
-    land: &mut Lanes,
-) -> Result<Option<Wording>, Unread>
+/// some land twice, or a part that is too fine.
+pub fn described(alloc: Global, made: Vec<u8>, has_except: bool) -> Result<Option<Wording>, Unread>
     ensures described { IfOk result (λ it. IfSome it (λ found.
         IsDescribed found.manner made.items found.text.items)) }
     ensures accepted { IfOk result (λ it. IfSome it (λ found. IsAccepted found.text.items)) }
@@ -68,7 +64,7 @@ pub fn described(
     let Some(township) = first_township(description.items()) else {
         return Err(Unread::Refused);
     };
-    match resolve_into(land, &description, township) {
+    match is_on_plat(&description, township) {
         Ok(()) => Ok(Some(Wording {
             text: made,
             manner: Manner::Changed,
@@ -88,6 +84,25 @@ pub fn described(
         }
         Err(_) => Err(Unread::Refused),
     }
+}
+
+/// Whether what a description names is on the plat of a township, or its first fault. Most descriptions name land in one
+/// section, for which a small set of places is enough.
+fn is_on_plat(description: &Description, township: Township) -> Result<(), PlaceFault> {
+    if names_one_section(description) {
+        let mut land = OneLanes::empty();
+        if resolve_if_room(&mut land, description, township)? {
+            return Ok(());
+        }
+    }
+    is_on_plat_in_all(description, township)
+}
+
+/// The same for land in any sections. Not inlined, since its set of land would be cleared for each text.
+#[inline(never)]
+fn is_on_plat_in_all(description: &Description, township: Township) -> Result<(), PlaceFault> {
+    let mut land = Lanes::empty();
+    resolve_into(&mut land, description, township)
 }
 
 /// Reads a canonical description.
@@ -112,9 +127,11 @@ fn with_lots_named(alloc: Global, made: &[u8]) -> Result<Vec<u8>, Unread>
     let Some(township) = first_township(description.items()) else {
         return Err(Unread::Refused);
     };
-    let Some(land) = land_with_lots(&description) else {
+    let mut land = Lanes::empty();
+    let is_named = find_with_lots(&description, &mut land);
+    if !is_named {
         return Err(why_unread(&description));
-    };
+    }
     let full = spell(alloc, &land, township)?;
     let text = as_written(alloc, &description, full.as_slice())?;
     Ok(text)

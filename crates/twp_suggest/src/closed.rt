@@ -15,7 +15,7 @@ use crate::sharing::{apart_after, has_place, head_after, here, joined_tokens, ta
 use crate::turned::{Before, way_after};
 use crate::way::{Way, text_by};
 use std::alloc::{AllocError, Global};
-use twp_described::{Manner, find_land, township_of};
+use twp_described::{Manner, find_land, find_own_land};
 use twp_grammar::Token;
 use twp_grid::Township;
 use twp_land::{Land, Lanes};
@@ -255,7 +255,9 @@ fn is_text(reading: &Reading<'_>, text: &[u8]) -> bool
     reading.text.as_slice() == text
 }
 
-/// Whether a text names no land in the township of a reading, or that of one of some readings.
+/// Whether a text names no land in the township of a reading, or that of one of some readings. Not inlined, since its
+/// set of land would be cleared for each way.
+#[inline(never)]
 #[tactic(auto, using(crate::proofs::ClosedFacts::is_land_given))]
 fn has_land_given(
     alloc: Global,
@@ -265,19 +267,16 @@ fn has_land_given(
 ) -> Result<bool, AllocError>
     ensures { IfOk result (λ it. it ≡ true → IsLandGiven readings.now own.now text.now) }
 {
-    let Some(township) = township_of(alloc, own.text.as_slice())? else {
+    let mut land = Lanes::empty();
+    let Some(township) = find_own_land(alloc, own.text.as_slice(), &mut land)? else {
         return Ok(false);
     };
-    let mut land = Lanes::empty();
-    let has_own = find_land(alloc, own.text.as_slice(), township, &mut land)?;
-    if !has_own {
-        return Ok(false);
-    }
     let is_given = is_land_given(alloc, text, readings, township)?;
     Ok(is_given)
 }
 
-/// Whether a text names no land in a township, or that of one of some readings.
+/// Whether a text names no land in a township, or that of one of some readings. Not inlined, as `has_land_given`.
+#[inline(never)]
 #[tactic(auto, using(crate::proofs::ClosedFacts::land_of_one))]
 fn is_land_given(
     alloc: Global,

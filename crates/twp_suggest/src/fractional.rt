@@ -3,7 +3,7 @@
 use crate::writer::Writer;
 use std::alloc::{AllocError, Global};
 use twp_arrange::{Placed, Role};
-use twp_described::{find_land, first_township, land_in};
+use twp_described::{find_land, find_named_land, first_township};
 use twp_draft::{Names, Phrase, Span};
 use twp_land::{Land, Lanes};
 use twp_pieces::plus;
@@ -172,13 +172,13 @@ fn section_text(alloc: Global, number: u16) -> Result<Vec<u8>, AllocError> {
 /// of land would be cleared for each text.
 #[inline(never)]
 fn includes_lots(alloc: Global, text: &[u8]) -> Result<bool, AllocError> {
-    if land_in(alloc, text)?.is_none() {
+    let mut land = Lanes::empty();
+    if !find_named_land(alloc, text, &mut land)? {
         return Ok(false);
     }
     let Some(township) = first_township(&[]) else {
         return Ok(false);
     };
-    let mut land = Lanes::empty();
     let is_on_plat = find_land(alloc, text, township, &mut land)?;
     Ok(!is_on_plat)
 }

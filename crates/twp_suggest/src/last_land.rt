@@ -5,7 +5,7 @@ ghost use Rattle.twp_suggest.specs.Repeats.{is_without, name_end, of_section, se
 
 use crate::bytes::{after, between, front};
 use std::alloc::{AllocError, Global};
-use twp_described::land_in;
+use twp_described::find_named_land;
 use twp_land::{Land, Lanes};
 use twp_rules::{begins_with, digits_of, ends_with};
 
@@ -18,7 +18,9 @@ const FIRST_MOST: usize = 2;
 /// There is room from the start for so many bytes of land.
 const ROOM: usize = 64;
 
-/// Whether parts name the same places as the last land before them, in the same section.
+/// Whether parts name the same places as the last land before them, in the same section. Not inlined, since its set of
+/// land would be cleared for each text.
+#[inline(never)]
 pub(crate) fn names_last_land(
     alloc: Global,
     before: &[u8],
@@ -32,9 +34,11 @@ pub(crate) fn names_last_land(
         return Ok(false);
     }
     let again = of_section(alloc, section_name(before, section), parts)?;
-    let Some(land) = land_in(alloc, again.as_slice())? else {
+    let mut land = Lanes::empty();
+    let is_named = find_named_land(alloc, again.as_slice(), &mut land)?;
+    if !is_named {
         return Ok(false);
-    };
+    }
     let is_last = is_last_land(alloc, before, section, end, &land)?;
     Ok(is_last)
 }
@@ -100,7 +104,9 @@ fn are_all_parts(
     Ok(false)
 }
 
-/// Whether land is the last of a text, from one place up to another.
+/// Whether land is the last of a text, from one place up to another. Not inlined, since its set of land would be cleared
+/// for places where there can be none.
+#[inline(never)]
 fn is_land_at(
     alloc: Global,
     text: &[u8],
@@ -117,9 +123,11 @@ fn is_land_at(
         return Ok(false);
     }
     let parts = of_section(alloc, section_name(text, section), between(text, at, end))?;
-    let Some(found) = land_in(alloc, parts.as_slice())? else {
+    let mut found = Lanes::empty();
+    let is_named = find_named_land(alloc, parts.as_slice(), &mut found)?;
+    if !is_named {
         return Ok(false);
-    };
+    }
     let is_same = found.same(land);
     Ok(is_same)
 }

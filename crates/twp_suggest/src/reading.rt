@@ -11,7 +11,7 @@ use crate::closed::are_closed;
 use crate::outline::Outline;
 use crate::repeated::are_repeated;
 use std::alloc::{AllocError, Global};
-use twp_described::{Manner, Unread, Wording, described, find_land, is_clear, township_of};
+use twp_described::{Manner, Unread, Wording, described, find_land, find_own_land, is_clear};
 use twp_draft::{Again, FindsPhrases};
 use twp_land::{Land, Lanes};
 use twp_rules::{Change, are_changes, changed, copy_whole, lie_with_sections};
@@ -51,10 +51,8 @@ pub fn readings_of<'a, F: FindsPhrases>(
     Ok(readings)
 }
 
-/// The readings that the candidates lead to, with one set of land for all of them. Not inlined, since that
-/// would be cleared for each text.
+/// The readings that the candidates lead to.
 #[tactic(auto, using(crate::proofs::ReadingFacts::no_readings))]
-#[inline(never)]
 fn readings_by<'a>(
     alloc: Global,
     text: &'a [u8],
@@ -62,12 +60,11 @@ fn readings_by<'a>(
 ) -> Result<Vec<Reading<'a>>, AllocError>
     ensures { IfOk result (λ readings. AreSomeReadings text.now readings.items) }
 {
-    let mut land = Lanes::empty();
     let mut readings = Vec::new(alloc);
     for number in 0..outline.candidates {
         let changes = outline.changes_of(alloc, number)?;
         let again = &outline.again;
-        let found = match reading_with(alloc, text, changes, outline.has_except, again, &mut land) {
+        let found = match reading_with(alloc, text, changes, outline.has_except, again) {
             Ok(found) => found,
             Err(Unread::Unfit) => continue,
             Err(Unread::Refused) => return Ok(Vec::new(alloc)),
@@ -126,7 +123,6 @@ fn reading_with<'a>(
     changes: Vec<Change<'a>>,
     has_except: bool,
     again: &Again<'_>,
-    land: &mut Lanes,
 ) -> Result<Option<Reading<'a>>, Unread>
     ensures { IfOk result (λ it. IfSome it (IsReading text.now)) }
 {
@@ -134,7 +130,7 @@ fn reading_with<'a>(
         let Some(made) = made_by(alloc, text, changes.as_slice())? else {
             return Err(Unread::Refused);
         };
-        return match described(alloc, made, has_except, land)? {
+        return match described(alloc, made, has_except)? {
             Some(_) => Err(Unread::Refused),
             None => Ok(None),
         };
@@ -147,7 +143,7 @@ fn reading_with<'a>(
     if !copy_whole(text, made.as_slice(), changes.as_slice()) {
         return Ok(None);
     }
-    let Some(wording) = described(alloc, made, has_except, land)? else {
+    let Some(wording) = described(alloc, made, has_except)? else {
         return Ok(None);
     };
     if !lies_with_sections(alloc, text, changes.as_slice(), &wording)? {
@@ -203,14 +199,10 @@ fn are_other(alloc: Global, one: &Reading<'_>, other: &Reading<'_>) -> Result<bo
     if are_texts {
         return Ok(false);
     }
-    let Some(township) = township_of(alloc, one.text.as_slice())? else {
+    let mut land = Lanes::empty();
+    let Some(township) = find_own_land(alloc, one.text.as_slice(), &mut land)? else {
         return Ok(false);
     };
-    let mut land = Lanes::empty();
-    let has_land = find_land(alloc, one.text.as_slice(), township, &mut land)?;
-    if !has_land {
-        return Ok(false);
-    }
     let mut more = Lanes::empty();
     let has_more = find_land(alloc, other.text.as_slice(), township, &mut more)?;
     if !has_more {

@@ -1,6 +1,6 @@
 use Rattle.twp_resolve.specs.steps.ResolvingSteps.{number_of_section}
 use Rattle.twp_described.proofs.NamedFacts.{AreNamedTo}
-use Rattle.twp_described.proofs.named.land_named.Given as goal
+use Rattle.twp_described.proofs.named.find_items.Given as goal
 
 -- the items so far are named
 abbrev pub invariant-loop-item : goal.invariant-loop-item

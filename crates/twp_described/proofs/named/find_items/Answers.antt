@@ -1,7 +1,7 @@
 use Rattle.std.proofs.Common.{sym}
 use Rattle.twp_resolve.specs.steps.ResolvingSteps.{number_of_section}
 use Rattle.twp_described.proofs.NamedFacts.{named_next}
-use Rattle.twp_described.proofs.named.land_named.Goals as goal
+use Rattle.twp_described.proofs.named.find_items.Goals as goal
 
 pub loop-item-preserved : goal.loop-item-preserved
 loop-item-preserved g c =
