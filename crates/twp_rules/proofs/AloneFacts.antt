@@ -1,6 +1,6 @@
 -- Land of the only section lies with it; over plain values.
 use Rattle.std.proofs.Common.{◌≡◌, ◌==◌, ◌||◌, ◌&&◌, ◌<◌, ◌+◌, Bool, true, false, List, [], ◌∷◌, ℕ, suc, refl}
-use Rattle.std.proofs.Common.{Option, None, Some, add-one, arith, drop, length, nat_le, not, slice_index_or}
+use Rattle.std.proofs.Common.{Option, None, Some, add-one, drop, length, nat_le, not, slice_index_or}
 use Rattle.std.proofs.Common.{slice_range}
 use Rattle.std.proofs.lemmas.Bool.{eqb-true, eq-eqb}
 use Rattle.std.proofs.Math.Seq.{drop-cons}

@@ -52,7 +52,7 @@ nothing_here seen at name within none =
     let e = drop-cons seen at 0 within in
     rw (add-one at, e, word, number) refl
 
--- so it does after what is neither
+-- so it does where a word or a number begins that is neither
 pub none_here : (seen : List ℕ) (at : ℕ) (name : List ℕ) → at < length seen
     → names_land_at seen at (drop at seen) ≡ false → is_explained_at seen at name (drop at seen) ≡ true
     → none_from seen at name ≡ none_from seen (at + 1) (name_after seen at name (drop at seen))
@@ -61,12 +61,14 @@ none_here seen at name within land number =
     let f = next_is_explained seen at name within number in
     rw (e, f) refl
 
+-- land decides
 pub land_here : (seen : List ℕ) (at : ℕ) (name : List ℕ) → at < length seen
     → names_land_at seen at (drop at seen) ≡ true → none_from seen at name ≡ false
 land_here seen at name within land =
     let e = drop-cons seen at 0 within in
     rw (e, rw e at land) refl
 
+-- and so does a bare number
 pub bare_here : (seen : List ℕ) (at : ℕ) (name : List ℕ) → at < length seen
     → is_explained_at seen at name (drop at seen) ≡ false → none_from seen at name ≡ false
 bare_here seen at name within bare =

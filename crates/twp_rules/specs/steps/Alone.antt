@@ -1,12 +1,8 @@
--- Land of the only section of a changed text: most texts have one, and then its land lies with it, unless land
--- before it follows land after it.
+-- Land of the only section of a changed text: most texts have one, and then its land lies with it, unless
+-- land before it follows land after it.
 use Rattle.std.specs.Prelude.{◌≡◌, ◌==◌, ◌||◌, ◌&&◌, ℕ, Bool, true, false, List, [], ◌∷◌, ◌++◌, Option}
-use Rattle.std.specs.Prelude.{Some, None, map, nat_le, not}
-use Rattle.twp_grammar.specs.declared.item.Item.{Item}
-use Rattle.twp_rules.specs.Changes.{seen}
-use Rattle.twp_rules.specs.Origins.{marks_of_item}
+use Rattle.std.specs.Prelude.{Some, None, nat_le, not}
 use Rattle.twp_rules.specs.declared.alone.Alone.{Alone}
-use Rattle.twp_rules.specs.declared.change.Change.{Change as Piece}
 use Rattle.twp_rules.specs.declared.mark.Mark.{Mark}
 use Rattle.twp_rules.specs.declared.mark.Mark.TheVariants.{Section, Land}
 
