@@ -1,7 +1,8 @@
 -- Steps of a part that are written again: all steps of the part, those after an `of`, or those before one;
 -- never one of them alone.
 use Rattle.std.specs.Prelude.{◌==◌, ◌||◌, ◌&&◌, ℕ, ◌+◌, ◌-◌, Bool, true, false, List, [], ◌∷◌, Option}
-use Rattle.std.specs.Prelude.{Some, None, if◌then◌else◌, codes, drop, length, nat_le, nat_lt, not, slice_range, take}
+use Rattle.std.specs.Prelude.{Some, None, if◌then◌else◌, codes, drop, length, nat_le, nat_lt, not}
+use Rattle.std.specs.Prelude.{slice_range, take}
 use Rattle.twp_grammar.specs.Tokens.{is_white}
 use Rattle.twp_rules.specs.Apart.{begins_with_step, ends_after}
 use Rattle.twp_rules.specs.Changes.{Change, changed_from}

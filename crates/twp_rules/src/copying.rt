@@ -42,13 +42,7 @@ fn keep_steps(made: &[u8], changes: &[Change<'_>]) -> bool
 }
 
 /// Whether the steps before a change are whole, unless it writes the next step of their part at the same place.
-fn fits_run(
-    made: &[u8],
-    changes: &[Change<'_>],
-    run: Option<Run>,
-    start: usize,
-    rule: Rule,
-) -> bool
+fn fits_run(made: &[u8], changes: &[Change<'_>], run: Option<Run>, start: usize, rule: Rule) -> bool
     ensures { result ≡ true →
         fits_run made.now (map seen changes.now) run start rule ≡ true }
 {
