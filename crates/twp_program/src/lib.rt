@@ -6,6 +6,7 @@
 
 mod files;
 mod program;
+mod run_end;
 mod showing;
 mod subcommand;
 

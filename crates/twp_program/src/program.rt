@@ -4,6 +4,7 @@ ghost use Rattle.twp_program.specs.Endings.{EndsAs, EndsProgram, IsJoinedVerdict
 ghost use Rattle.twp_program.specs.Endings.{IsRunFailure, IsWordsFault};
 ghost use Rattle.twp_task.specs.Statuses.{IsStatusOf, words_fault};
 
+use crate::run_end::RunEnd;
 use crate::showing::show_joined;
 use crate::subcommand::run_task;
 use std::env::Env;
@@ -13,8 +14,7 @@ use std::{env, io};
 use twp_acres::{RunFault, Verdict};
 use twp_explain_text::Suggests;
 use twp_grid::Device;
-use twp_read::Clarity;
-use twp_task::{Ended, Ending, Failure, Kept, NO_ANSWER, outcome_of, read_task, run_joined_noting};
+use twp_task::{Ended, Ending, Failure, Kept, NO_ANSWER, read_task, run_joined_noting};
 
 /// Runs the program, and reports on standard error why there is no answer. It returns the ending
 /// and its status together. `S` says what the explanation of a refused text may suggest at its end.
@@ -78,10 +78,9 @@ fn run_standard_input<S: Suggests, R: Input + Print + Eprint + AllocGlobal>(
 {
     let mut input = Kept::new(rt.alloc(), Device::new(rt.reader()));
     let mut out = Device::new(io::writer(rt));
-    let mut clarity = Clarity::Unclear;
-    let outcome = outcome_of(run_joined_noting(rt.alloc(), &mut input, &mut out, &mut clarity));
-    show_joined::<S, _, _>(rt, &outcome, clarity, &input);
-    outcome
+    let ended = RunEnd::of(run_joined_noting(rt.alloc(), &mut input, &mut out));
+    show_joined::<S, _, _>(rt, &ended, &input);
+    ended.outcome
 }
 
 /// Does the task that the words of a command line ask for, the first of which is the program's

@@ -10,6 +10,7 @@ ghost use Rattle.twp_program.specs.ShownExplanations.{IsJoinedDescription, Shows
 ghost use Rattle.twp_program.specs.ShownExplanations.{ShowsText};
 
 use crate::files::{OpenedNotes, OpenedText};
+use crate::run_end::RunEnd;
 use std::alloc::Global;
 use twp_acres::{Account, Verdict};
 use twp_diagnose::{Explanation, Given};
@@ -39,18 +40,17 @@ pub(crate) fn show_plat<R: Eprint + AllocGlobal, N>(
 #[inline(never)]
 pub(crate) fn show_land<S: Suggests, R: Eprint + AllocGlobal, N, D>(
     rt: &R,
-    outcome: &Result<Verdict, Failure>,
-    clarity: Clarity,
+    ended: &RunEnd,
     notes: &OpenedNotes<Kept<N>>,
     description: &OpenedText<Kept<D>>,
     account: Account,
 ) {
-    if let Some(verdict) = refused(outcome) {
+    if let Some(verdict) = refused(&ended.outcome) {
         explain(
             rt,
             of_land::<S, _, _>(rt.alloc(), notes, description, verdict),
         );
-    } else if may_be_noted(outcome, clarity) {
+    } else if may_be_noted(ended) {
         show_note(rt, note_of_land(rt.alloc(), notes, description, account));
     }
 }
@@ -60,14 +60,13 @@ pub(crate) fn show_land<S: Suggests, R: Eprint + AllocGlobal, N, D>(
 #[inline(never)]
 pub(crate) fn show_list<S: Suggests, R: Eprint + AllocGlobal, N, T>(
     rt: &R,
-    outcome: &Result<Verdict, Failure>,
-    clarity: Clarity,
+    ended: &RunEnd,
     notes: &OpenedNotes<Kept<N>>,
     tracts: &OpenedText<Kept<T>>,
 ) {
-    if let Some(verdict) = refused(outcome) {
+    if let Some(verdict) = refused(&ended.outcome) {
         explain(rt, of_list::<S, _, _>(rt.alloc(), notes, tracts, verdict));
-    } else if may_be_noted(outcome, clarity) {
+    } else if may_be_noted(ended) {
         show_note(rt, note_of_list(rt.alloc(), notes, tracts));
     }
 }
@@ -76,13 +75,12 @@ pub(crate) fn show_list<S: Suggests, R: Eprint + AllocGlobal, N, T>(
 #[inline(never)]
 pub(crate) fn show_joined<S: Suggests, R: Eprint + AllocGlobal, I>(
     rt: &R,
-    outcome: &Result<Verdict, Failure>,
-    clarity: Clarity,
+    ended: &RunEnd,
     input: &Kept<I>,
 ) {
-    if let Some(verdict) = refused(outcome) {
+    if let Some(verdict) = refused(&ended.outcome) {
         explain(rt, of_joined::<S, _>(rt.alloc(), input, verdict));
-    } else if may_be_noted(outcome, clarity) {
+    } else if may_be_noted(ended) {
         show_note(rt, note_of_joined(rt.alloc(), input));
     }
 }
@@ -98,10 +96,11 @@ fn refused(outcome: &Result<Verdict, Failure>) -> Option<Verdict>
 }
 
 /// Whether a run accepted its input, and a place in it may be doubtful.
-fn may_be_noted(outcome: &Result<Verdict, Failure>, clarity: Clarity) -> bool
-    ensures { IsTrue result ↔ ((outcome.now ≡ Ok Accepted) × (clarity ≡ Clarity.Unclear)) }
+fn may_be_noted(ended: &RunEnd) -> bool
+    ensures { IsTrue result ↔ ((ended.now.outcome ≡ Ok Accepted)
+        × (ended.now.clarity ≡ Clarity.Unclear)) }
 {
-    matches!(outcome, Ok(Verdict::Accepted)) && clarity == Clarity::Unclear
+    matches!(ended.outcome, Ok(Verdict::Accepted)) && ended.clarity == Clarity::Unclear
 }
 
 /// The note on a description.

@@ -12,6 +12,7 @@ ghost use Rattle.twp_answers.specs.Tracts.{TRACTS_LIMIT};
 ghost use Rattle.twp_program.specs.Endings.{EndsRun, FailsOn, IsVerdictOf, RunsOnNotes};
 
 use crate::files::{OpenedNotes, OpenedText, open_notes, open_text};
+use crate::run_end::RunEnd;
 use crate::showing::{show_land, show_list, show_plat};
 use std::alloc::Global;
 use std::io;
@@ -21,7 +22,6 @@ use twp_acres::{
 };
 use twp_explain_text::Suggests;
 use twp_grid::{Device, Sink, Source};
-use twp_read::Clarity;
 use twp_task::{Failure, Name, Task, outcome_of};
 
 /// Opens the files of a task, in order, and runs it.
@@ -74,17 +74,9 @@ fn open_acres<S: Suggests, R: Files + Print + Eprint + AllocGlobal>(
     let mut notes = open_notes(rt, notes)?;
     let mut description = open_text(rt, description)?;
     let mut out = Device::new(io::writer(rt));
-    let mut clarity = Clarity::Unclear;
-    let outcome = acres(
-        rt.alloc(),
-        &mut notes,
-        &mut description,
-        &mut out,
-        account,
-        &mut clarity,
-    );
-    show_land::<S, _, _, _>(rt, &outcome, clarity, &notes, &description, account);
-    outcome
+    let ended = acres(rt.alloc(), &mut notes, &mut description, &mut out, account);
+    show_land::<S, _, _, _>(rt, &ended, &notes, &description, account);
+    ended.outcome
 }
 
 /// `normal NOTES DESCRIPTION`
@@ -100,16 +92,9 @@ fn open_normal<S: Suggests, R: Files + Print + Eprint + AllocGlobal>(
     let mut notes = open_notes(rt, notes)?;
     let mut description = open_text(rt, description)?;
     let mut out = Device::new(io::writer(rt));
-    let mut clarity = Clarity::Unclear;
-    let outcome = normal(
-        rt.alloc(),
-        &mut notes,
-        &mut description,
-        &mut out,
-        &mut clarity,
-    );
-    show_land::<S, _, _, _>(rt, &outcome, clarity, &notes, &description, Account::Exact);
-    outcome
+    let ended = normal(rt.alloc(), &mut notes, &mut description, &mut out);
+    show_land::<S, _, _, _>(rt, &ended, &notes, &description, Account::Exact);
+    ended.outcome
 }
 
 /// `report NOTES TRACTS`
@@ -125,10 +110,9 @@ fn open_report<S: Suggests, R: Files + Print + Eprint + AllocGlobal>(
     let mut notes = open_notes(rt, notes)?;
     let mut tracts = open_text(rt, tracts)?;
     let mut out = Device::new(io::writer(rt));
-    let mut clarity = Clarity::Unclear;
-    let outcome = report(rt.alloc(), &mut notes, &mut tracts, &mut out, &mut clarity);
-    show_list::<S, _, _, _>(rt, &outcome, clarity, &notes, &tracts);
-    outcome
+    let ended = report(rt.alloc(), &mut notes, &mut tracts, &mut out);
+    show_list::<S, _, _, _>(rt, &ended, &notes, &tracts);
+    ended.outcome
 }
 
 /// Writes the plat of opened notes.
@@ -156,8 +140,7 @@ fn acres<N: Source, D: Source, W: Sink>(
     description: &mut OpenedText<D>,
     out: &mut W,
     account: Account,
-    clarity: &mut Clarity,
-) -> Result<Verdict, Failure>
+) -> RunEnd
     requires notes { N.has_failed notes.old.source ≡ false }
     requires description { D.has_failed description.old.source ≡ false }
     requires out { W.has_failed out.old ≡ false }
@@ -167,15 +150,14 @@ fn acres<N: Source, D: Source, W: Sink>(
         (used (D.remaining description.old.source) (D.remaining description.new.source)
         (D.has_failed description.new.source))
         (used (W.contents out.old) (W.contents out.new) (W.has_failed out.new))
-        (description.new.source ≡ description.old.source)) result }
+        (description.new.source ≡ description.old.source)) result.outcome }
 {
-    outcome_of(run_acres_noting(
+    RunEnd::of(run_acres_noting(
         alloc,
         &mut notes.source,
         &mut description.source,
         out,
         account,
-        clarity,
     ))
 }
 
@@ -186,8 +168,7 @@ fn normal<N: Source, D: Source, W: Sink>(
     notes: &mut OpenedNotes<N>,
     description: &mut OpenedText<D>,
     out: &mut W,
-    clarity: &mut Clarity,
-) -> Result<Verdict, Failure>
+) -> RunEnd
     requires notes { N.has_failed notes.old.source ≡ false }
     requires description { D.has_failed description.old.source ≡ false }
     requires out { W.has_failed out.old ≡ false }
@@ -197,10 +178,10 @@ fn normal<N: Source, D: Source, W: Sink>(
         (used (D.remaining description.old.source) (D.remaining description.new.source)
         (D.has_failed description.new.source))
         (used (W.contents out.old) (W.contents out.new) (W.has_failed out.new))
-        (description.new.source ≡ description.old.source)) result }
+        (description.new.source ≡ description.old.source)) result.outcome }
 {
     let (source, text) = (&mut notes.source, &mut description.source);
-    outcome_of(run_normal_noting(alloc, source, text, out, clarity))
+    RunEnd::of(run_normal_noting(alloc, source, text, out))
 }
 
 /// Writes the account of an opened list of tracts on the plat of opened notes.
@@ -210,8 +191,7 @@ fn report<N: Source, T: Source, W: Sink>(
     notes: &mut OpenedNotes<N>,
     tracts: &mut OpenedText<T>,
     out: &mut W,
-    clarity: &mut Clarity,
-) -> Result<Verdict, Failure>
+) -> RunEnd
     requires notes { N.has_failed notes.old.source ≡ false }
     requires tracts { T.has_failed tracts.old.source ≡ false }
     requires out { W.has_failed out.old ≡ false }
@@ -221,7 +201,7 @@ fn report<N: Source, T: Source, W: Sink>(
         (used (T.remaining tracts.old.source) (T.remaining tracts.new.source)
         (T.has_failed tracts.new.source))
         (used (W.contents out.old) (W.contents out.new) (W.has_failed out.new))
-        (tracts.new.source ≡ tracts.old.source)) result }
+        (tracts.new.source ≡ tracts.old.source)) result.outcome }
 {
-    outcome_of(run_report_noting(alloc, &mut notes.source, &mut tracts.source, out, clarity))
+    RunEnd::of(run_report_noting(alloc, &mut notes.source, &mut tracts.source, out))
 }

@@ -5,7 +5,7 @@ use Rattle.twp_program.proofs.subcommand.open_normal.Goals as goal
 
 pub returns-clause-answers : goal.returns-clause-answers
 returns-clause-answers g c =
-    task_answers (Normal c.args.notes c.args.description) _ _ _ _ _ _ c.normal-outcome.ensures
+    task_answers (Normal c.args.notes c.args.description) _ _ _ _ _ _ c.normal-ended.ensures
 
 pub returns-clause-fails : goal.returns-clause-fails
-returns-clause-fails g c = task_fails (Normal c.args.notes c.args.description) _ _ c.normal-outcome.ensures
+returns-clause-fails g c = task_fails (Normal c.args.notes c.args.description) _ _ c.normal-ended.ensures

@@ -5,7 +5,7 @@ use Rattle.twp_program.proofs.subcommand.open_report.Goals as goal
 
 pub returns-clause-answers : goal.returns-clause-answers
 returns-clause-answers g c =
-    task_answers (Report c.args.notes c.args.tracts) _ _ _ _ _ _ c.report-outcome.ensures
+    task_answers (Report c.args.notes c.args.tracts) _ _ _ _ _ _ c.report-ended.ensures
 
 pub returns-clause-fails : goal.returns-clause-fails
-returns-clause-fails g c = task_fails (Report c.args.notes c.args.tracts) _ _ c.report-outcome.ensures
+returns-clause-fails g c = task_fails (Report c.args.notes c.args.tracts) _ _ c.report-ended.ensures
