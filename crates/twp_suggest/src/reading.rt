@@ -1,8 +1,9 @@
 //! The readings of a text.
 ghost use Rattle.std.specs.Prelude.{◌≡◌, ◌↔◌, true, IsTrue, IfOk, IfSome, All, map};
 ghost use Rattle.twp_rules.specs.Arrangement.{lie_with_sections};
-ghost use Rattle.twp_rules.specs.Changes.{seen};
-ghost use Rattle.twp_described.specs.Descriptions.{IsClear};
+ghost use Rattle.twp_rules.specs.Changes.{AreChangesFrom, changed_from, seen};
+ghost use Rattle.twp_rules.specs.Copying.{copy_whole};
+ghost use Rattle.twp_described.specs.Descriptions.{IsClear, IsDescribed};
 ghost use Rattle.twp_suggest.specs.Readings.{AreReadings, IsReading, AreOther};
 ghost use Rattle.twp_suggest.specs.Readings.{AreSomeReadings, LiesExcepted, MayBeAdded};
 
@@ -140,12 +141,12 @@ fn reading_with<'a>(
         return Ok(None);
     }
     let made = changed(alloc, text, changes.as_slice())?;
-    if !copy_whole(text, made.as_slice(), changes.as_slice()) {
-        return Ok(None);
-    }
     let Some(wording) = described(alloc, made, has_except)? else {
         return Ok(None);
     };
+    if !are_copied_whole(alloc, text, changes.as_slice(), &wording)? {
+        return Ok(None);
+    }
     if !lies_with_sections(alloc, text, changes.as_slice(), &wording)? {
         return Ok(None);
     }
@@ -154,6 +155,26 @@ fn reading_with<'a>(
         text: wording.text,
         manner: wording.manner,
     }))
+}
+
+/// Whether the steps that changes of a text write again are all of their part. Only a text that is accepted is
+/// asked for it: one that names land twice may write thousands of them again.
+fn are_copied_whole(
+    alloc: Global,
+    text: &[u8],
+    changes: &[Change<'_>],
+    wording: &Wording,
+) -> Result<bool, AllocError>
+    requires allowed { AreChangesFrom 0 text.now (map seen changes.now) }
+    requires described { IsDescribed wording.now.manner
+        (changed_from 0 text.now (map seen changes.now)) wording.now.text.items }
+    ensures { IfOk result (λ it. it ≡ true → copy_whole text.now (map seen changes.now) ≡ true) }
+{
+    if let Manner::Changed = wording.manner {
+        return Ok(copy_whole(text, wording.text.as_slice(), changes));
+    }
+    let made = changed(alloc, text, changes)?;
+    Ok(copy_whole(text, made.as_slice(), changes))
 }
 
 /// Whether the land of a changed text lies with the sections that the text gives it to.
