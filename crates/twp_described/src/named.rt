@@ -22,8 +22,8 @@ use twp_resolve::chain_block;
 #[derive(Clone, Copy, PartialEq, Eq)]
 struct Unnamed;
 
-/// Whether a text names land, also by aliquot parts that include lots, which `land` is then. It is filled in place, as in
-/// `find_land`. It names none if it names what no township has, land twice, or a part of a lot.
+/// Whether a text names land, also by aliquot parts that include lots, which `land` is then. It is filled in
+/// place, as in `find_land`. It names none if it names what no township has, land twice, or a part of a lot.
 pub fn find_named_land(alloc: Global, text: &[u8], land: &mut Lanes) -> Result<bool, AllocError>
     ensures { IfOk result (λ it. it ≡ true →
         AreNamed text.now (⟦<Lanes as Land>⟧.places land.new)) }
@@ -60,8 +60,8 @@ pub(crate) fn why_unread(description: &Description) -> Unread {
     Unread::Unfit
 }
 
-/// Whether the items of a description name land that a township has, and none of it twice; `land` is then all places of
-/// its items.
+/// Whether the items of a description name land that a township has, and none of it twice; `land` is then all
+/// places of its items.
 #[tactic(auto, using(crate::proofs::NamedFacts::named_none, crate::proofs::NamedFacts::named_next, crate::proofs::NamedFacts::named_all))]
 fn find_items<L: Land>(description: &Description, land: &mut L) -> bool
     ensures { result ≡ true → L.places land.new ≡ land_of PLACE_DIGITS (parts_of description.now) }

@@ -73,8 +73,8 @@ pub fn first_township(items: &[Item]) -> Option<Township>
     }
 }
 
-/// The township that a text names, or any if it names none, if the text names land on its plat, which `land` is then. It
-/// is filled in place, as in `find_land`. None if there is no such township, or no such text.
+/// The township that a text names, or any if it names none, if the text names land on its plat, which `land`
+/// is then. It is filled in place, as in `find_land`. None if there is no such township, or no such text.
 #[tactic(auto, using(crate::proofs::LandFacts::is_land))]
 pub fn find_own_land(
     alloc: Global,

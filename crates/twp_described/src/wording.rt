@@ -86,8 +86,8 @@ pub fn described(alloc: Global, made: Vec<u8>, has_except: bool) -> Result<Optio
     }
 }
 
-/// Whether what a description names is on the plat of a township, or its first fault. Most descriptions name land in one
-/// section, for which a small set of places is enough.
+/// Whether what a description names is on the plat of a township, or its first fault. Most descriptions name
+/// land in one section, for which a small set of places is enough.
 fn is_on_plat(description: &Description, township: Township) -> Result<(), PlaceFault> {
     if names_one_section(description) {
         let mut land = OneLanes::empty();

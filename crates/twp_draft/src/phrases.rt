@@ -40,8 +40,9 @@ impl<'a> Draft<'a> {
         }
     }
 
-    /// Adds a phrase of some pieces, with what was added after an extent: the index after it. The search returns only
-    /// this index, since each function that passed a phrase on would clear room for it, and copy it.
+    /// Adds a phrase of some pieces, with what was added after an extent: the index after it. The search
+    /// returns only this index, since each function that passed a phrase on would clear room for it, and copy
+    /// it.
     pub fn add(&mut self, names: Names, first: usize, end: usize, from: Extent) -> usize {
         let phrase = self.phrase(names, first, end, from);
         self.add_phrase(phrase);

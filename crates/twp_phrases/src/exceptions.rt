@@ -89,8 +89,8 @@ impl<'a> Finder<'a> {
             && (pieces.begins_part(land) || matches!(pieces.kind(land), Kind::Lot))
     }
 
-    /// Adds to an excepted part with `thereof` after it the steps of the part from which it is excepted, as in
-    /// `NW1/4, except the SW1/4 thereof`. It is doubted if that may be another.
+    /// Adds to an excepted part with `thereof` after it the steps of the part from which it is excepted, as
+    /// in `NW1/4, except the SW1/4 thereof`. It is doubted if that may be another.
     pub(crate) fn add_steps_of_whole(&mut self, first: usize, end: usize, from: Extent) {
         let part = self.draft.phrase(Names::Part, first, end, from);
         let whole = match self.whole_before_except() {

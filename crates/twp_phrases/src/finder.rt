@@ -15,8 +15,8 @@ impl FindsPhrases for Phrases {
     }
 }
 
-/// A search for phrases. How phrases of one kind are found is in the module for that kind: the function for it adds
-/// the phrase at an index to the draft, and returns the index after it.
+/// A search for phrases. How phrases of one kind are found is in the module for that kind: the function for
+/// it adds the phrase at an index to the draft, and returns the index after it.
 #[derive(Drop)]
 pub(crate) struct Finder<'a> {
     /// What was found so far.

@@ -33,8 +33,8 @@ impl<'a> Finder<'a> {
         Some(after)
     }
 
-    /// The fraction after a mark at an index, which is left out: the index after the fraction, if it is as in a
-    /// description.
+    /// The fraction after a mark at an index, which is left out: the index after the fraction, if it is as in
+    /// a description.
     fn fraction_after(&mut self, index: usize, size: Size, rule: Rule) -> Option<usize> {
         let pieces = &self.draft.pieces;
         let next = plus(index, 1);
@@ -82,8 +82,8 @@ impl<'a> Finder<'a> {
         Some(plus(digit, 1))
     }
 
-    /// Where the fraction ends that a number at an index begins, and that isn't written as in a description: a
-    /// digit, or a digit, a slash, and a digit.
+    /// Where the fraction ends that a number at an index begins, and that isn't written as in a description:
+    /// a digit, or a digit, a slash, and a digit.
     fn end_of_number(&self, index: usize, size: Size) -> Option<usize> {
         let pieces = &self.draft.pieces;
         let next = plus(index, 1);
@@ -105,7 +105,8 @@ impl<'a> Finder<'a> {
         None
     }
 
-    /// Where the fraction ends that a word at an index begins: a word for a part, or what scanning makes of a `1`.
+    /// Where the fraction ends that a word at an index begins: a word for a part, or what scanning makes of a
+    /// `1`.
     fn end_of_word(&self, index: usize, size: Size) -> Option<usize> {
         let pieces = &self.draft.pieces;
         let next = plus(index, 1);
@@ -122,8 +123,8 @@ impl<'a> Finder<'a> {
         None
     }
 
-    /// Where the fraction ends that a mark at an index begins: a slash and a digit, or what scanning makes of a
-    /// fraction.
+    /// Where the fraction ends that a mark at an index begins: a slash and a digit, or what scanning makes of
+    /// a fraction.
     fn end_of_mark(&self, index: usize, size: Size) -> Option<usize> {
         let pieces = &self.draft.pieces;
         let next = plus(index, 1);

@@ -57,8 +57,8 @@ impl<'a> Finder<'a> {
         }
     }
 
-    /// Takes a piece as what joins phrases, the last of which ended before an index. If it doesn't, the text isn't
-    /// sure.
+    /// Takes a piece as what joins phrases, the last of which ended before an index. If it doesn't, the text
+    /// isn't sure.
     fn join(&mut self, here: usize, index: usize) {
         if !self.joins_phrases(here)
             || here >= plus(index, JOINING_MOST)
@@ -127,8 +127,8 @@ impl<'a> Finder<'a> {
         }
     }
 
-    /// Adds the phrase at an index, which is looked for first as the kind that most such pieces begin, and then as the
-    /// others: the index after it.
+    /// Adds the phrase at an index, which is looked for first as the kind that most such pieces begin, and
+    /// then as the others: the index after it.
     fn phrase_at(&mut self, index: usize) -> Option<usize> {
         let from = self.draft.extent();
         let mut kind = self.likely_kind(index);

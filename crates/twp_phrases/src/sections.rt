@@ -199,8 +199,8 @@ impl<'a> Finder<'a> {
         self.numbers_after(number, Names::Sections, is_plural)
     }
 
-    /// What is written for the word for sections at an index, before a number, if it isn't written so: there are
-    /// several, or one.
+    /// What is written for the word for sections at an index, before a number, if it isn't written so: there
+    /// are several, or one.
     fn written_word(
         &self,
         index: usize,

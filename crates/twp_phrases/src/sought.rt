@@ -53,8 +53,8 @@ pub(crate) const OF_WORDS: [Sought; 10] = [
 ];
 
 impl<'a> Finder<'a> {
-    /// Adds the phrase of a kind at an index: the index after it. None of these calls is inlined, so that this only
-    /// jumps to one of them, and needs no room for what they do.
+    /// Adds the phrase of a kind at an index: the index after it. None of these calls is inlined, so that
+    /// this only jumps to one of them, and needs no room for what they do.
     #[inline(never)]
     pub(crate) fn phrase_of_kind(&mut self, kind: Sought, index: usize) -> Option<usize> {
         match kind {

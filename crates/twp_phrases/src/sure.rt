@@ -87,8 +87,8 @@ impl<'a> Finder<'a> {
             && !pieces.has_long_number(first, end)
     }
 
-    /// Doubts a part from one index up to another that may be something else: `S2` before any other land, a half
-    /// after lots, a corner, a part with a slash.
+    /// Doubts a part from one index up to another that may be something else: `S2` before any other land, a
+    /// half after lots, a corner, a part with a slash.
     pub(crate) fn doubt_part(&mut self, first: usize, end: usize) {
         let is_short = self.is_short(first, end);
         if (is_short && (self.may_be_section(first, end) || self.may_be_of_lots(first)))
@@ -104,8 +104,8 @@ impl<'a> Finder<'a> {
         end == plus(first, 2) && self.draft.pieces.has_digits(plus(first, 1), 1)
     }
 
-    /// Whether a letter and a digit, as `S2`, may be a section: before any other land, or after a section such as
-    /// `S3:`.
+    /// Whether a letter and a digit, as `S2`, may be a section: before any other land, or after a section
+    /// such as `S3:`.
     fn may_be_section(&self, first: usize, end: usize) -> bool {
         let pieces = &self.draft.pieces;
         if !pieces.is(first, b"s") {

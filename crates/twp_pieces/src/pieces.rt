@@ -39,7 +39,8 @@ impl<'a> Pieces<'a> {
         }
     }
 
-    /// How many bytes the piece at an index has, up to the most that a `u16` can hold. Outside, there are none.
+    /// How many bytes the piece at an index has, up to the most that a `u16` can hold. Outside, there are
+    /// none.
     pub fn size(&self, index: usize) -> usize {
         match self.list.get(index) {
             Some(piece) => usize::from(piece.size),

@@ -1,5 +1,5 @@
--- Steps of a part that are written again: all steps of the part, those after an `of`, or those before one;
--- never one of them alone.
+-- Steps of a part that are written again: all steps of the part, those after an `of`, or those before one,
+-- and never only some of these.
 use Rattle.std.specs.Prelude.{◌==◌, ◌||◌, ◌&&◌, ℕ, ◌+◌, ◌-◌, Bool, true, false, List, [], ◌∷◌, Option}
 use Rattle.std.specs.Prelude.{Some, None, if◌then◌else◌, codes, drop, length, nat_le, nat_lt, not}
 use Rattle.std.specs.Prelude.{slice_range, take}

@@ -28,8 +28,8 @@ struct Progress {
     cursor: Cursor,
 }
 
-/// Whether a changed text names one section, before all of its land, and no land that is before the section in the text
-/// follows land that is after it. The items are those of the changed text from an offset on.
+/// Whether a changed text names one section, before all of its land, and no land that is before the section
+/// in the text follows land that is after it. The items are those of the changed text from an offset on.
 #[tactic(auto, using(crate::proofs::AloneFacts::next_alone, crate::proofs::AloneFacts::none_left))]
 pub(crate) fn is_alone(changes: &[Change<'_>], base: usize, items: &[Item]) -> bool
     ensures { result ≡ true → is_alone None (marks_of (map seen changes.now) base items.now) ≡ true }
@@ -51,7 +51,8 @@ pub(crate) fn is_alone(changes: &[Change<'_>], base: usize, items: &[Item]) -> b
     true
 }
 
-/// What is known after an item. None if it names another section, or land that may not follow the land before it.
+/// What is known after an item. None if it names another section, or land that may not follow the land before
+/// it.
 fn after_item(changes: &[Change<'_>], base: usize, item: &Item, it: Progress) -> Option<Progress>
     requires { IsFollowed changes.now it.cursor }
     ensures followed { IfSome result (λ next. IsFollowed changes.now next.cursor) }
@@ -95,8 +96,8 @@ fn after_section(
     })
 }
 
-/// What is known after land. None if no section was named, or if this land is before the section in the text, and the
-/// last land is after it.
+/// What is known after land. None if no section was named, or if this land is before the section in the text,
+/// and the last land is after it.
 #[tactic(auto, using(crate::proofs::AloneFacts::land_beside))]
 fn after_land(changes: &[Change<'_>], base: usize, at: u32, it: Progress) -> Option<Progress>
     requires { IsFollowed changes.now it.cursor }

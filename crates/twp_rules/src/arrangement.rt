@@ -1,7 +1,8 @@
 //! Whether land lies with the section that the text gives it to.
 ghost use Rattle.std.specs.Prelude.{◌≡◌, true, IfOk, None, drop, map, slice_range};
 ghost use Rattle.twp_rules.specs.Arrangement.{has_break, has_no_other, is_after, is_list_from, is_listed_at};
-ghost use Rattle.twp_rules.specs.Arrangement.{is_colon, is_no_other, is_number_with_colon, is_one_list, leads_to};
+ghost use Rattle.twp_rules.specs.Arrangement.{is_colon, is_no_other};
+ghost use Rattle.twp_rules.specs.Arrangement.{is_number_with_colon, is_one_list, leads_to};
 ghost use Rattle.twp_rules.specs.Arrangement.{lie_from, lie_with_sections, lies, lies_after, lies_before};
 ghost use Rattle.twp_rules.specs.Changes.{seen};
 

@@ -1,4 +1,5 @@
-//! Whether the steps that are written again are all steps of a part, those after an `of`, or those before one.
+//! Whether the steps that are written again are all steps of a part, those after an `of`, or those before
+//! one.
 ghost use Rattle.std.specs.Prelude.{◌≡◌, true, IfSome, None, map, slice_range};
 ghost use Rattle.twp_rules.specs.Changes.{changed_from, seen};
 ghost use Rattle.twp_rules.specs.Copying.{are_cut_at_of, fits_run, is_joint, is_whole};
@@ -14,8 +15,8 @@ use crate::rule::Rule;
 use crate::run::Run;
 use crate::same::{begins_with, ends_with};
 
-/// Whether the steps that changes of a text write again are all of their part, those after an `of`, or those before one,
-/// in the text that the changes make.
+/// Whether the steps that changes of a text write again are all of their part, those after an `of`, or those
+/// before one, in the text that the changes make.
 pub fn copy_whole(text: &[u8], made: &[u8], changes: &[Change<'_>]) -> bool
     requires { made.now ≡ changed_from 0 text.now (map seen changes.now) }
     ensures { result ≡ true → copy_whole text.now (map seen changes.now) ≡ true }
@@ -41,7 +42,8 @@ fn keep_steps(made: &[u8], changes: &[Change<'_>]) -> bool
     }
 }
 
-/// Whether the steps before a change are whole, unless it writes the next step of their part at the same place.
+/// Whether the steps before a change are whole, unless it writes the next step of their part at the same
+/// place.
 fn fits_run(made: &[u8], changes: &[Change<'_>], run: Option<Run>, start: usize, rule: Rule) -> bool
     ensures { result ≡ true →
         fits_run made.now (map seen changes.now) run start rule ≡ true }
@@ -99,7 +101,8 @@ fn is_whole(made: &[u8], changes: &[Change<'_>], run: Run) -> bool
     are_cut_at_of(made, from, to)
 }
 
-/// Whether steps are neither right after a step nor right before one, and `of` is not both before and after them.
+/// Whether steps are neither right after a step nor right before one, and `of` is not both before and after
+/// them.
 fn are_cut_at_of(made: &[u8], from: usize, to: usize) -> bool
     ensures { result ≡ are_cut_at_of made.now from to }
 {

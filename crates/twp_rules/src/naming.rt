@@ -1,9 +1,13 @@
 //! Whether a text names land, and whether a number in it may be that of a section or a lot.
-ghost use Rattle.std.specs.Prelude.{◌≡◌, ◌≤◌, ◌&&◌, [], ◌∷◌, if◌then◌else◌, true, drop, length, not, slice_index};
+ghost use Rattle.std.specs.Prelude.{◌≡◌, ◌≤◌, ◌&&◌, [], ◌∷◌};
+ghost use Rattle.std.specs.Prelude.{if◌then◌else◌, true, drop, length, not, slice_index};
 ghost use Rattle.twp_rules.specs.Edges.{byte_before, is_one_of};
-ghost use Rattle.twp_rules.specs.Naming.{are_corners_from, begins_number, begins_word, digits_of, goes_on, has_no_bare_number};
-ghost use Rattle.twp_rules.specs.Naming.{has_no_land, is_explained_at, is_no_section, is_of_something_else, is_side, makes_half};
-ghost use Rattle.twp_rules.specs.Naming.{mark_after_digits, name_after, names_land_at, names_no_land, number_names_township};
+ghost use Rattle.twp_rules.specs.Naming.{are_corners_from, begins_number, begins_word};
+ghost use Rattle.twp_rules.specs.Naming.{digits_of, goes_on, has_no_bare_number};
+ghost use Rattle.twp_rules.specs.Naming.{has_no_land, is_explained_at, is_no_section};
+ghost use Rattle.twp_rules.specs.Naming.{is_of_something_else, is_side, makes_half};
+ghost use Rattle.twp_rules.specs.Naming.{mark_after_digits, name_after};
+ghost use Rattle.twp_rules.specs.Naming.{names_land_at, names_no_land, number_names_township};
 ghost use Rattle.twp_rules.specs.Naming.{word_names_land, word_of};
 ghost use Rattle.twp_rules.specs.Words.{east_west, half_fronts, north_south};
 
@@ -25,8 +29,8 @@ static HALF_FRONTS: [[u8; 8]; 7] = [
     *b"one half",
 ];
 
-/// Whether a text names no land, and has no number that may be that of a section or a lot. Both are looked for at once,
-/// where a word or a number begins.
+/// Whether a text names no land, and has no number that may be that of a section or a lot. Both are looked
+/// for at once, where a word or a number begins.
 #[tactic(auto, using(crate::proofs::NamingFacts::nothing_here, crate::proofs::NamingFacts::none_here, crate::proofs::NamingFacts::land_here, crate::proofs::NamingFacts::bare_here))]
 pub(crate) fn names_no_land(seen: &[u8]) -> bool
     ensures { result ≡ names_no_land seen.now }

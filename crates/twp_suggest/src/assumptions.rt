@@ -2,8 +2,10 @@
 ghost use Rattle.std.specs.Prelude.{◌≡◌, [], ◌∷◌};
 ghost use Rattle.twp_rules.specs.Changes.{seen};
 ghost use Rattle.twp_rules.specs.Edges.{is_one_of};
-ghost use Rattle.twp_suggest.specs.Assumptions.{are_sides, assumed, assumed_by, begins_step, half_corner_ends};
-ghost use Rattle.twp_suggest.specs.Assumptions.{if_joined, is_between_steps, last_before, read_by, side_words};
+ghost use Rattle.twp_suggest.specs.Assumptions.{are_sides, assumed};
+ghost use Rattle.twp_suggest.specs.Assumptions.{assumed_by, begins_step, half_corner_ends};
+ghost use Rattle.twp_suggest.specs.Assumptions.{if_joined, is_between_steps};
+ghost use Rattle.twp_suggest.specs.Assumptions.{last_before, read_by, side_words};
 ghost use Rattle.twp_suggest.specs.Assumptions.{words_of};
 
 use crate::bytes::{after, between, byte_at, is_text, is_white, without_white};

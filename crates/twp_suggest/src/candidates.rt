@@ -113,8 +113,8 @@ fn add_change<'a>(changes: &mut Vec<Change<'a>>, new: Change<'a>) -> Result<(), 
     Ok(())
 }
 
-/// The text that changes make, whether or not their rules allow them. None if they overlap, or don't lie in the text
-/// from left to right.
+/// The text that changes make, whether or not their rules allow them. None if they overlap, or don't lie in
+/// the text from left to right.
 pub(crate) fn made_by(
     alloc: Global,
     text: &[u8],

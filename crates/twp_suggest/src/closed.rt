@@ -255,8 +255,8 @@ fn is_text(reading: &Reading<'_>, text: &[u8]) -> bool
     reading.text.as_slice() == text
 }
 
-/// Whether a text names no land in the township of a reading, or that of one of some readings. Not inlined, since its
-/// set of land would be cleared for each way.
+/// Whether a text names no land in the township of a reading, or that of one of some readings. Not inlined,
+/// since its set of land would be cleared for each way.
 #[inline(never)]
 #[tactic(auto, using(crate::proofs::ClosedFacts::is_land_given))]
 fn has_land_given(
@@ -275,7 +275,8 @@ fn has_land_given(
     Ok(is_given)
 }
 
-/// Whether a text names no land in a township, or that of one of some readings. Not inlined, as `has_land_given`.
+/// Whether a text names no land in a township, or that of one of some readings. Not inlined, as
+/// `has_land_given`.
 #[inline(never)]
 #[tactic(auto, using(crate::proofs::ClosedFacts::land_of_one))]
 fn is_land_given(

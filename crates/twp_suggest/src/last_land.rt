@@ -18,8 +18,8 @@ const FIRST_MOST: usize = 2;
 /// There is room from the start for so many bytes of land.
 const ROOM: usize = 64;
 
-/// Whether parts name the same places as the last land before them, in the same section. Not inlined, since its set of
-/// land would be cleared for each text.
+/// Whether parts name the same places as the last land before them, in the same section. Not inlined, since
+/// its set of land would be cleared for each text.
 #[inline(never)]
 pub(crate) fn names_last_land(
     alloc: Global,
@@ -104,8 +104,8 @@ fn are_all_parts(
     Ok(false)
 }
 
-/// Whether land is the last of a text, from one place up to another. Not inlined, since its set of land would be cleared
-/// for places where there can be none.
+/// Whether land is the last of a text, from one place up to another. Not inlined, since its set of land would
+/// be cleared for places where there can be none.
 #[inline(never)]
 fn is_land_at(
     alloc: Global,

@@ -11,8 +11,8 @@ use twp_rules::{Change, Rule};
 /// There is room from the start for the changes in the phrases, one for each phrase, and so many more.
 const CHANGES_MORE: usize = 4;
 
-/// A way to read a joint, which is a place that can be read in two ways: between two parts, which are two, or one, and
-/// before or after an `of`.
+/// A way to read a joint, which is a place that can be read in two ways: between two parts, which are two, or
+/// one, and before or after an `of`.
 #[derive(Clone, Copy, PartialEq, Eq)]
 pub(crate) enum JointWay {
     First,

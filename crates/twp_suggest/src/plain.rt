@@ -2,7 +2,8 @@
 ghost use Rattle.std.specs.Prelude.{◌≡◌, IfSome, false, true, map};
 ghost use Rattle.twp_grammar.specs.Tokens.{seen as token};
 ghost use Rattle.twp_rules.specs.Changes.{seen};
-ghost use Rattle.twp_suggest.specs.steps.Plain.{IsPlain, has_no_ampersand, is_gap, nothing_passed, passed_with};
+ghost use Rattle.twp_suggest.specs.steps.Plain.{IsPlain, has_no_ampersand};
+ghost use Rattle.twp_suggest.specs.steps.Plain.{is_gap, nothing_passed, passed_with};
 
 use crate::sharing::{is_and, is_comma_by, is_fraction, is_of};
 use twp_grammar::{Token, Tokens};
@@ -22,8 +23,8 @@ pub(crate) struct Passed {
     end: usize,
 }
 
-/// Whether no token of what changes make of a text is at a place that can be read in two ways. Not inlined, since few
-/// texts are asked for it.
+/// Whether no token of what changes make of a text is at a place that can be read in two ways. Not inlined,
+/// since few texts are asked for it.
 #[inline(never)]
 pub(crate) fn is_plain(text: &[u8], made: &[u8], changes: &[Change<'_>]) -> bool
     ensures ampersand { result ≡ true → has_no_ampersand text.now (map seen changes.now) ≡ true }
@@ -77,7 +78,7 @@ fn is_gap(it: Passed, next: &Token<'_>) -> bool
     it.is_fraction && begins_step(next.kind) && it.end < next.at
 }
 
-/// What is known after one more token. None if its end can't be told.
+/// What is known after one more token. None if the place of its end is too large for a number.
 fn passed_with(it: Passed, next: &Token<'_>) -> Option<Passed>
     ensures { IfSome result (λ after. after ≡ passed_with it (token next.now)) }
 {

@@ -1,6 +1,7 @@
 //! Numbers, townships, and ranges that are said again.
 ghost use Rattle.std.specs.Prelude.{◌≡◌, IfOk, drop};
-ghost use Rattle.twp_suggest.specs.Repeats.{is_loose, is_number_said, is_township_letter, is_township_said, solid};
+ghost use Rattle.twp_suggest.specs.Repeats.{is_loose, is_number_said};
+ghost use Rattle.twp_suggest.specs.Repeats.{is_township_letter, is_township_said, solid};
 ghost use Rattle.twp_suggest.specs.Repeats.{may_begin_number, may_begin_township};
 
 use std::alloc::{AllocError, Global};

@@ -8,8 +8,8 @@ pub fn is_same(word: &[u8], text: &[u8]) -> bool {
 /// Whether a word is one of these words, which all have as many bytes as it has, and a space between them. A list in
 /// code calls this with a row of words for each length: so only the few words of this length are compared, and they are
 /// proved at once, not one by one. Rows that a `match` returned would become a table of pointers, each of which is set at
-/// every start of the program. The number before the words has a bit for the first byte of each of them, which rules out
-/// most words before any is compared.
+/// every start of the program. The number before the words has a bit for the first byte of each of them,
+/// which rules out most words before any is compared.
 #[inline(always)]
 pub(crate) fn is_among(word: &[u8], heads: u32, words: &str) -> bool {
     is_head(word, heads) && index_among(word, words).is_some()
@@ -37,7 +37,8 @@ fn index_among(word: &[u8], words: &str) -> Option<usize> {
     None
 }
 
-/// Whether a row is a word, with or without a space after it. Both are short, so they are compared byte by byte.
+/// Whether a row is a word, with or without a space after it. Both are short, so they are compared byte by
+/// byte.
 fn is_row(row: &[u8], word: &[u8]) -> bool {
     for (one, other) in row.iter().zip(word) {
         if one != other {
