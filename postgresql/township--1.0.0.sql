@@ -363,8 +363,15 @@ CREATE OPERATOR CLASS land_gist_ops DEFAULT FOR TYPE land USING gist AS
     FUNCTION 5 land_gist_penalty(internal, internal, internal),
     FUNCTION 6 land_gist_picksplit(internal, internal),
     FUNCTION 7 land_gist_same(bytea, bytea, internal),
-    FUNCTION 11 land_gist_sortsupport(internal),
     STORAGE bytea;
+
+-- Since version 14, the server can sort rows to build such an index.
+DO $$
+BEGIN
+    IF current_setting('server_version_num')::int >= 140000 THEN
+        ALTER OPERATOR FAMILY land_gist_ops USING gist ADD FUNCTION 11 (land, land) land_gist_sortsupport(internal);
+    END IF;
+END $$;
 
 -- The type lots.
 

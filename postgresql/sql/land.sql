@@ -27,6 +27,14 @@ FROM plats WHERE name = 'uneven';
 SELECT number, at, message FROM refusal(:'heading', 'sec. 5, lot 5.');
 SELECT number FROM refusal(:'heading', 'sec. 5, lot 4.');
 
+-- A description with a heading of its own, and a township that is none: NULL, or a record, in place of an error.
+SELECT id, given, land_or_null(given) AS land, refused.number, refused.at, refused.message
+FROM (VALUES (1, 'T. 2 N., R. 3 W., sec. 14, N1/2.'), (2, 'T. 2 N., R. 3 W., sec. 5, N1/2.'), (3, 'sec. 14.'),
+    (4, 'T. 2 N., R. 3 W., no land.'), (5, 'T. 0 N., R. 3 W., sec. 14.'), (6, 'T. 2 N., R. 3 W.'), (7, ''), (8, NULL))
+    AS texts (id, given), refusal(given) AS refused ORDER BY id;
+SELECT land_or_null('T. 2 N., R. 300 W.', 'sec. 14.') IS NULL AS impossible, land_or_null('', 'sec. 14.') IS NULL AS none,
+       land_or_null('T. 2 N., R. 3 W., sec. 14', 'sec. 14.') IS NULL AS more;
+
 -- Its acres are those of the description.
 SELECT acres(plat, land(plat, description)) AS exact, acres(plat, description) AS the_same,
        acres(plat, land(plat, description), 'plat') AS by_plat, (area(plat, land(plat, description))).*
@@ -69,6 +77,19 @@ SELECT a.name, b.name, a.land && b.land AS overlap, a.land @> b.land AS contains
 FROM parts a, parts b WHERE a.land && b.land OR a.land @> b.land OR a.land <@ b.land
 ORDER BY a.name COLLATE "C", b.name COLLATE "C";
 
+-- Parcels that adjoin: in a section, across section lines, also where the numbers of sections turn (6 and 7), and not
+-- at a corner alone, across the township (6 and 1), or where they share land.
+SELECT one, other, touches(land(:'heading', one), land(:'heading', other)) AS touch,
+       touches(land(:'heading', other), land(:'heading', one)) AS turned
+FROM (VALUES ('sec. 14, NE1/4.', 'sec. 14, NW1/4.'), ('sec. 14, NE1/4.', 'sec. 14, SW1/4.'), ('sec. 14, N1/2.', 'sec. 14, NE1/4.'),
+    ('sec. 14, E1/2E1/2.', 'sec. 13, NW1/4NW1/4.'), ('sec. 14, S1/2.', 'sec. 23, N1/2N1/2.'), ('sec. 14, S1/2.', 'sec. 23, S1/2.'),
+    ('sec. 6.', 'sec. 7.'), ('sec. 6.', 'sec. 1.'), ('sec. 7.', 'sec. 12.'), ('sec. 1, lot 1.', 'sec. 1, lot 2.'),
+    ('sec. 14, NE1/4NE1/4NE1/4NE1/4NE1/4.', 'sec. 11, SE1/4SE1/4SE1/4SE1/4SE1/4.'), ('sec. 14.', 'sec. 22.'))
+    AS pairs (one, other);
+SELECT touches(land, land) AS itself, touches(land, land - land) AS with_none,
+       touches(land, 'T. 3 N., R. 3 W., sec. 31.') IS NULL AS elsewhere
+FROM parts WHERE name = 'half';
+
 -- Each land of a table, and the pairs that overlap.
 SELECT union_of(land) FROM parts WHERE name IN ('half', 'other half');
 SELECT union_of(land) IS NULL AS nothing FROM parts WHERE name = 'no such part';
@@ -89,6 +110,10 @@ SELECT land FROM (VALUES ('T. 1 S., R. 1 E., sec. 1.'::land), ('T. 2 N., R. 1 E.
     ('T. 1 N., R. 9 W., sec. 1.'), ('T. 1 N., R. 1 E., sec. 2.'), ('T. 1 N., R. 1 E., secs. 1 and 36.'),
     ('T. 1 N., R. 1 E., secs. 1 and 2.')) AS lands(land)
 ORDER BY land;
+
+SELECT min(land), max(land) FROM (VALUES ('T. 1 S., R. 1 E., sec. 1.'::land), ('T. 1 N., R. 1 E., sec. 2.'),
+    (NULL), ('T. 1 N., R. 1 E., secs. 1 and 2.')) AS lands(land);
+SELECT min(land) IS NULL AS none FROM parts WHERE name = 'no such part';
 
 -- Made-up lands of 20 townships: the index finds what a scan finds.
 CREATE TABLE lands AS
@@ -169,3 +194,6 @@ CREATE TABLE leases (id int, land land, EXCLUDE USING gist (land WITH &&));
 INSERT INTO leases VALUES (1, 'T. 2 N., R. 3 W., sec. 14, N1/2.'), (2, 'T. 2 N., R. 3 W., sec. 14, S1/2.');
 INSERT INTO leases VALUES (3, 'T. 2 N., R. 4 W., sec. 14, N1/2.');
 INSERT INTO leases VALUES (4, 'T. 2 N., R. 3 W., sec. 14, NE1/4NE1/4NE1/4NE1/4NE1/4.');
+-- The same without an error: no row is inserted.
+INSERT INTO leases VALUES (4, 'T. 2 N., R. 3 W., sec. 14, NE1/4NE1/4NE1/4NE1/4NE1/4.') ON CONFLICT DO NOTHING RETURNING id;
+INSERT INTO leases VALUES (5, 'T. 2 N., R. 3 W., sec. 15, NE1/4.') ON CONFLICT DO NOTHING RETURNING id;

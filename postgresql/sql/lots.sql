@@ -45,3 +45,16 @@ SELECT E'section,lot,acres\nT,2,N,3,W\n5,1,40\n'::lots;
 SELECT E'section,lot,acres\nT,2,N,3,W\n5,1,40.00\n5,1,40.00\n'::lots;
 SELECT a.name, b.name, a.lots = b.lots AS same, a.lots <> b.lots AS different
 FROM lot_tables a, lot_tables b ORDER BY a.name, b.name;
+
+-- Order and hash.
+INSERT INTO lot_tables VALUES ('again', E'section,lot,acres\nT,2,N,3,W\n5,1,40.45\n5,2,40.57\n6,7,0.01\n31,4,999.99\n'),
+    ('more', E'section,lot,acres\nT,2,N,3,W\n5,1,40.46\n'), ('elsewhere', E'section,lot,acres\nT,1,N,3,W\n5,1,40.45\n');
+SELECT name FROM lot_tables ORDER BY lots, name COLLATE "C";
+SELECT count(*) AS names, count(DISTINCT lots) AS tables FROM lot_tables;
+SELECT string_agg(name, ' ' ORDER BY name COLLATE "C") AS names FROM lot_tables GROUP BY lots ORDER BY lots;
+CREATE INDEX lot_tables_hash ON lot_tables USING hash (lots);
+CREATE UNIQUE INDEX lot_tables_btree ON lot_tables (lots) WHERE name <> 'again';
+SET enable_seqscan = off;
+SELECT count(*) AS same FROM lot_tables WHERE lots = E'section,lot,acres\nT,2,N,3,W\n5,1,40.46\n';
+RESET enable_seqscan;
+INSERT INTO lot_tables VALUES ('third', E'section,lot,acres\nT,2,N,3,W\n5,1,40.46\n');

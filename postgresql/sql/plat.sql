@@ -9,10 +9,16 @@ CREATE TABLE plats (name text PRIMARY KEY, plat plat NOT NULL);
 INSERT INTO plats VALUES ('even', :'even'), ('uneven', :'uneven');
 SELECT name, township(plat), pg_column_size(plat) FROM plats ORDER BY name;
 
--- The text of a plat is field notes that make it again.
+-- The text of a plat makes it again. Its first line says that the lengths in it are not those that were measured: of a
+-- closing line, 39.80 and 79.90, only the closing quarter mile is kept, which is that of 40.00 and 80.10. So nobody takes
+-- it for field notes.
 SELECT name, plat::text::plat = plat AS again FROM plats ORDER BY name;
-SELECT split_part(plat::text, E'\n', 1) AS heading, split_part(plat::text, E'\n', 2) AS township
+SELECT split_part(plat::text, E'\n', 1) AS first, split_part(plat::text, E'\n', 2) AS heading,
+       split_part(plat::text, E'\n', 3) AS township
 FROM plats WHERE name = 'uneven';
+SELECT split_part(measured::plat::text, 'N,2,3,', 2) ~ '^40[.]00,80[.]10' AS closing, measured::plat::text::plat = measured::plat AS again
+FROM regexp_replace(:'even', 'N,2,3,40[.]00,80[.]00', 'N,2,3,39.80,79.90') AS measured;
+SELECT number, at, message FROM plats, refusal(plat::text) WHERE name = 'uneven';
 
 -- A lot of 40.45 acres; with its neighbor of 40.55 and a half of a quarter of 80 acres, 161. By the printed
 -- plat, lots count as rounded: 39.18 + 39.13 + 39.08 + 39.03 acres are 156.42, while the exact sum is 156.40.

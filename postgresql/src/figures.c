@@ -5,7 +5,6 @@
 
 #include "access/htup_details.h"
 #include "catalog/pg_type.h"
-#include "funcapi.h"
 
 /* The unit of area is a square thousandth of a chain. */
 #define UNITS_IN_ACRE 10000000u
@@ -16,7 +15,7 @@
 typedef unsigned __int128 twpg_wide;
 
 Datum twpg_acres_datum(uint64_t hundredths) {
-    return NumericGetDatum(int64_div_fast_to_numeric((int64)hundredths, 2));
+    return twpg_numeric_of_hundredths((int64)hundredths);
 }
 
 static twpg_wide greatest_common_divisor(twpg_wide a, twpg_wide b) {
@@ -36,13 +35,13 @@ static Datum numeric_of(twpg_wide number) {
     char *first = digits + DIGITS_MOST;
 
     if (number <= (twpg_wide)PG_INT64_MAX) {
-        return NumericGetDatum(int64_to_numeric((int64)number));
+        return twpg_numeric_of((int64)number);
     }
     *first = '\0';
     for (; number > 0; number /= 10) {
         *--first = (char)('0' + (int)(number % 10));
     }
-    return DirectFunctionCall3(numeric_in, CStringGetDatum(first), ObjectIdGetDatum(InvalidOid), Int32GetDatum(-1));
+    return twpg_numeric_of_digits(first);
 }
 
 /* The description of the record that a function returns, which is looked up once in a query. */

@@ -5,6 +5,8 @@
  */
 #include "land.h"
 
+#include <ctype.h>
+
 #define NUMBER_MOST 99
 
 /* Where reading has come. */
@@ -74,9 +76,8 @@ static bool is_number_of_township(unsigned number) {
     return number >= 1 && number <= NUMBER_MOST;
 }
 
-/* Reads the heading with which a description begins, such as `T. 2 N., R. 3 W.,`, and where it ends. Returns
-   whether there is one; if there is one with an impossible number, it is an error. */
-bool twpg_read_heading(twpg_bytes given, township_designation *township, size_t *end) {
+/* Reads the heading with which a description begins, such as `T. 2 N., R. 3 W.,`, and where it ends. */
+twpg_heading twpg_find_heading(twpg_bytes given, township_designation *township, size_t *end) {
     twpg_reader reader = {given, 0};
     unsigned number;
     unsigned range;
@@ -84,20 +85,37 @@ bool twpg_read_heading(twpg_bytes given, township_designation *township, size_t 
     if (!take_letter_and_number(&reader, 't', &number) ||
         !take_side(&reader, 'n', 's', &township->north_south) ||
         !take_letter_and_number(&reader, 'r', &range) || !take_side(&reader, 'e', 'w', &township->east_west)) {
-        return false;
+        return TWPG_NO_HEADING;
     }
     if (!is_number_of_township(number) || !is_number_of_township(range)) {
-        ereport(ERROR, (errcode(ERRCODE_INVALID_TEXT_REPRESENTATION),
-                        errmsg("the numbers of a township and of its range are 1 to %d", NUMBER_MOST)));
+        return TWPG_IMPOSSIBLE_HEADING;
     }
     township->number = (uint8_t)number;
     township->range = (uint8_t)range;
     skip_white(&reader);
     *end = reader.at;
-    return true;
+    return TWPG_HEADING;
 }
 
-/* The township that a text names, which contains nothing but a heading. */
+/* The same, but an impossible number is an error. Returns whether there is a heading. */
+bool twpg_read_heading(twpg_bytes given, township_designation *township, size_t *end) {
+    twpg_heading found = twpg_find_heading(given, township, end);
+
+    if (found == TWPG_IMPOSSIBLE_HEADING) {
+        ereport(ERROR, (errcode(ERRCODE_INVALID_TEXT_REPRESENTATION), errmsg(TWPG_IMPOSSIBLE_NUMBERS)));
+    }
+    return found == TWPG_HEADING;
+}
+
+/* Finds the township that a text names, which contains nothing but a heading. Returns whether there is one. */
+bool twpg_find_township(const text *given, township_designation *township) {
+    twpg_bytes bytes = twpg_bytes_of_text(given);
+    size_t end;
+
+    return twpg_find_heading(bytes, township, &end) == TWPG_HEADING && end == bytes.length;
+}
+
+/* The same, but a text that names none is an error. */
 township_designation twpg_township_of(const text *given) {
     twpg_bytes bytes = twpg_bytes_of_text(given);
     township_designation township;

@@ -44,15 +44,27 @@ twpg_packed twpg_packed_of(const struct varlena *stored);
 void twpg_land_of(const struct varlena *stored, township_land *land);
 Datum twpg_land_datum(const township_land *land);
 char *twpg_two_townships(const uint8_t *first, const uint8_t *second);
-void twpg_fail_of_two(uint32_t verdict, const uint8_t *first, const uint8_t *second) pg_attribute_noreturn();
+_Noreturn void twpg_fail_of_two(uint32_t verdict, const uint8_t *first, const uint8_t *second);
 
 /* What is wrong with two things in two different townships. */
 #define TWPG_TWO_TOWNSHIPS "these are in two different townships"
 
 #define PG_GETARG_LAND(n) PG_DETOAST_DATUM_PACKED(PG_GETARG_DATUM(n))
 
+/* Whether a text begins with a heading that names its township. */
+typedef enum twpg_heading {
+    TWPG_NO_HEADING,
+    TWPG_IMPOSSIBLE_HEADING, /* one with a number that no township has */
+    TWPG_HEADING
+} twpg_heading;
+
+/* What is wrong with an impossible heading. */
+#define TWPG_IMPOSSIBLE_NUMBERS "the numbers of a township and of its range are 1 to 99"
+
 /* headings.c: headings of descriptions, which name the township. */
+twpg_heading twpg_find_heading(twpg_bytes given, township_designation *township, size_t *end);
 bool twpg_read_heading(twpg_bytes given, township_designation *township, size_t *end);
+bool twpg_find_township(const text *given, township_designation *township);
 township_designation twpg_township_of(const text *given);
 
 /* land_reading.c: lands of descriptions, without a plat. */

@@ -101,7 +101,7 @@ static void touch_all(twpg_key *key) {
     key->has_empty = true;
 }
 
-static void pg_attribute_noreturn() refuse_key(void) {
+_Noreturn static void refuse_key(void) {
     ereport(ERROR, (errcode(ERRCODE_INDEX_CORRUPTED), errmsg("a key of an index on land is not valid")));
 }
 

@@ -171,6 +171,16 @@ Datum twpg_land_ge(PG_FUNCTION_ARGS) {
     PG_RETURN_BOOL(compare(fcinfo) >= 0);
 }
 
+PG_FUNCTION_INFO_V1(twpg_land_smaller);
+Datum twpg_land_smaller(PG_FUNCTION_ARGS) {
+    PG_RETURN_DATUM(PG_GETARG_DATUM(compare(fcinfo) <= 0 ? 0 : 1));
+}
+
+PG_FUNCTION_INFO_V1(twpg_land_larger);
+Datum twpg_land_larger(PG_FUNCTION_ARGS) {
+    PG_RETURN_DATUM(PG_GETARG_DATUM(compare(fcinfo) >= 0 ? 0 : 1));
+}
+
 PG_FUNCTION_INFO_V1(twpg_land_hash);
 Datum twpg_land_hash(PG_FUNCTION_ARGS) {
     struct varlena *land = PG_GETARG_LAND(0);

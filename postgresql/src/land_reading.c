@@ -24,54 +24,39 @@ township_plat twpg_even_plat(const township_designation *township) {
     return plat;
 }
 
-/* The error of a description that is refused, or another verdict. */
-static void pg_attribute_noreturn()
-refuse_land(township_answer answer, const township_designation *township, twpg_bytes description) {
-    if (answer.verdict == TOWNSHIP_REFUSED) {
-        township_plat plat = twpg_even_plat(township);
-        twpg_explanation explained = twpg_explain_description(&plat, description);
-
-        twpg_refuse(answer, &explained);
-    }
-    twpg_fail(answer.verdict);
-}
-
-static void read_land(const township_designation *township, twpg_bytes description, township_land *land) {
+/* What came of reading a text: the library's answer, and the bytes that it is about; or that land in a group of a long
+   text is in an earlier one. */
+typedef struct twpg_attempt {
     township_answer answer;
+    twpg_bytes description;
+    bool is_named_twice;
+} twpg_attempt;
 
+/* Reads a description. Returns whether it is accepted. */
+static bool try_description(const township_designation *township, twpg_attempt *attempt, township_land *land) {
     check_stack_depth();
-    answer = township_land_read(township, description.start, description.length, land);
-    if (answer.verdict != TOWNSHIP_ACCEPTED) {
-        refuse_land(answer, township, description);
-    }
-}
-
-static Datum land_read(const township_designation *township, twpg_bytes description) {
-    township_land land;
-
-    read_land(township, description, &land);
-    return twpg_land_datum(&land);
+    attempt->answer = township_land_read(township, attempt->description.start, attempt->description.length, land);
+    return attempt->answer.verdict == TOWNSHIP_ACCEPTED;
 }
 
 /* Adds the land of a group of a long text, which may not share a place with what was before it. */
-static void add_group(twpg_bytes group, township_land *land) {
+static bool try_group(twpg_attempt *attempt, township_land *land) {
     township_land before = *land;
     township_land added;
     uint32_t comparison = TOWNSHIP_DISJOINT;
-    uint32_t verdict;
 
-    read_land(&before.township, group, &added);
-    verdict = township_land_compare(&before, &added, &comparison).verdict;
-    if (verdict == TOWNSHIP_ACCEPTED && comparison != TOWNSHIP_DISJOINT) {
-        ereport(ERROR, (errcode(twpg_sqlstate_of(TOWNSHIP_REFUSAL_LAND_OVERLAP)),
-                        errmsg("this description names the same land twice")));
+    if (!try_description(&before.township, attempt, &added)) {
+        return false;
     }
-    if (verdict == TOWNSHIP_ACCEPTED) {
-        verdict = township_land_combine(&before, &added, TOWNSHIP_UNION, land).verdict;
+    attempt->answer = township_land_compare(&before, &added, &comparison);
+    if (attempt->answer.verdict == TOWNSHIP_ACCEPTED && comparison != TOWNSHIP_DISJOINT) {
+        attempt->is_named_twice = true;
+        return false;
     }
-    if (verdict != TOWNSHIP_ACCEPTED) {
-        twpg_fail(verdict);
+    if (attempt->answer.verdict == TOWNSHIP_ACCEPTED) {
+        attempt->answer = township_land_combine(&before, &added, TOWNSHIP_UNION, land);
     }
+    return attempt->answer.verdict == TOWNSHIP_ACCEPTED;
 }
 
 /* The text up to the next semicolon, which `rest` loses. */
@@ -86,15 +71,47 @@ static twpg_bytes next_group(twpg_bytes *rest) {
     return group;
 }
 
-/* Reads a text that is too long for a description: its groups, which semicolons separate, one after another.
-   Land of very many small parts has such a canonical text, and that has to be read again, as from a dump. */
-static Datum long_land_read(const township_designation *township, twpg_bytes given) {
+/* Reads a text that may be too long for a description: then its groups, which semicolons separate, one after another.
+   Land of very many small parts has such a canonical text, and that has to be read again, as from a dump. Returns
+   whether it is accepted. */
+static bool try_text(const township_designation *township, twpg_bytes given, twpg_attempt *attempt,
+                     township_land *land) {
+    bool is_long = given.length > TOWNSHIP_DESCRIPTION_MOST;
+    bool is_well;
+
+    attempt->is_named_twice = false;
+    attempt->description = is_long ? next_group(&given) : given;
+    is_well = try_description(township, attempt, land);
+    while (is_long && is_well && given.length > 0) {
+        CHECK_FOR_INTERRUPTS();
+        attempt->description = next_group(&given);
+        is_well = try_group(attempt, land);
+    }
+    return is_well;
+}
+
+/* The error of an attempt that failed. */
+_Noreturn static void refuse_land(const township_designation *township, const twpg_attempt *attempt) {
+    if (attempt->is_named_twice) {
+        ereport(ERROR, (errcode(twpg_sqlstate_of(TOWNSHIP_REFUSAL_LAND_OVERLAP)),
+                        errmsg("this description names the same land twice")));
+    }
+    if (attempt->answer.verdict == TOWNSHIP_REFUSED) {
+        township_plat plat = twpg_even_plat(township);
+        twpg_explanation explained = twpg_explain_description(&plat, attempt->description);
+
+        twpg_refuse(attempt->answer, &explained);
+    }
+    twpg_fail(attempt->answer.verdict);
+}
+
+/* The land of a description, or an error. */
+static Datum land_read(const township_designation *township, twpg_bytes description) {
+    twpg_attempt attempt = {.description = description};
     township_land land;
 
-    read_land(township, next_group(&given), &land);
-    while (given.length > 0) {
-        CHECK_FOR_INTERRUPTS();
-        add_group(next_group(&given), &land);
+    if (!try_description(township, &attempt, &land)) {
+        refuse_land(township, &attempt);
     }
     return twpg_land_datum(&land);
 }
@@ -121,6 +138,7 @@ PG_FUNCTION_INFO_V1(twpg_land_in);
 Datum twpg_land_in(PG_FUNCTION_ARGS) {
     const char *given = PG_GETARG_CSTRING(0);
     twpg_bytes description = twpg_bytes_of(given, strlen(given));
+    twpg_attempt attempt;
     township_land land;
     size_t end;
 
@@ -133,10 +151,31 @@ Datum twpg_land_in(PG_FUNCTION_ARGS) {
     if (is_no_land(description, end)) {
         return twpg_land_datum(&land);
     }
-    if (description.length > TOWNSHIP_DESCRIPTION_MOST) {
-        return long_land_read(&land.township, description);
+    if (!try_text(&land.township, description, &attempt, &land)) {
+        refuse_land(&land.township, &attempt);
     }
-    return land_read(&land.township, description);
+    return twpg_land_datum(&land);
+}
+
+/* The land of a text with a heading of its own, or NULL if it has none or is refused. */
+PG_FUNCTION_INFO_V1(twpg_land_of_text_or_null);
+Datum twpg_land_of_text_or_null(PG_FUNCTION_ARGS) {
+    twpg_bytes description = twpg_bytes_of_text(PG_GETARG_TEXT_PP(0));
+    twpg_attempt attempt;
+    township_land land;
+    size_t end;
+
+    memset(&land, 0, sizeof land);
+    if (twpg_find_heading(description, &land.township, &end) != TWPG_HEADING) {
+        PG_RETURN_NULL();
+    }
+    if (is_no_land(description, end) || try_text(&land.township, description, &attempt, &land)) {
+        return twpg_land_datum(&land);
+    }
+    if (attempt.is_named_twice || attempt.answer.verdict == TOWNSHIP_REFUSED) {
+        PG_RETURN_NULL();
+    }
+    twpg_fail(attempt.answer.verdict);
 }
 
 static township_answer write_land(const void *given, uint8_t *text, size_t room) {
@@ -187,25 +226,26 @@ Datum twpg_land_in_township(PG_FUNCTION_ARGS) {
 
 /* The land of the second argument in a township, or NULL if the description is refused. */
 static Datum land_or_null(FunctionCallInfo fcinfo, const township_designation *township) {
-    twpg_bytes description = twpg_bytes_of_text(PG_GETARG_TEXT_PP(1));
+    twpg_attempt attempt = {.description = twpg_bytes_of_text(PG_GETARG_TEXT_PP(1))};
     township_land land;
-    township_answer answer;
 
-    check_stack_depth();
-    answer = township_land_read(township, description.start, description.length, &land);
-    if (answer.verdict == TOWNSHIP_REFUSED) {
+    if (try_description(township, &attempt, &land)) {
+        return twpg_land_datum(&land);
+    }
+    if (attempt.answer.verdict == TOWNSHIP_REFUSED) {
         PG_RETURN_NULL();
     }
-    if (answer.verdict != TOWNSHIP_ACCEPTED) {
-        twpg_fail(answer.verdict);
-    }
-    return twpg_land_datum(&land);
+    twpg_fail(attempt.answer.verdict);
 }
 
+/* The same, or NULL if the first argument names no township. */
 PG_FUNCTION_INFO_V1(twpg_land_or_null);
 Datum twpg_land_or_null(PG_FUNCTION_ARGS) {
-    township_designation township = twpg_township_of(PG_GETARG_TEXT_PP(0));
+    township_designation township;
 
+    if (!twpg_find_township(PG_GETARG_TEXT_PP(0), &township)) {
+        PG_RETURN_NULL();
+    }
     return land_or_null(fcinfo, &township);
 }
 
@@ -222,5 +262,36 @@ Datum twpg_refusal_in_township(PG_FUNCTION_ARGS) {
     township_designation township = twpg_township_of(PG_GETARG_TEXT_PP(0));
     township_plat plat = twpg_even_plat(&township);
 
-    return twpg_refusal_on(fcinfo, &plat);
+    return twpg_refusal_on(fcinfo, &plat, twpg_bytes_of_text(PG_GETARG_TEXT_PP(1)));
+}
+
+/* Why a heading names no township. */
+static Datum refusal_of_heading(FunctionCallInfo fcinfo) {
+    township_answer answer = {.verdict = TOWNSHIP_REFUSED, .number = TOWNSHIP_REFUSAL_LAND_OTHER_TOWNSHIP};
+    twpg_explanation explained = {0, 0, TWPG_IMPOSSIBLE_NUMBERS, NULL, NULL};
+
+    return twpg_refusal_datum(fcinfo, answer, &explained);
+}
+
+/* Why a text is refused, or NULL: a description with a heading of its own, or else field notes. */
+PG_FUNCTION_INFO_V1(twpg_refusal_of_text);
+Datum twpg_refusal_of_text(PG_FUNCTION_ARGS) {
+    twpg_bytes given = twpg_bytes_of_text(PG_GETARG_TEXT_PP(0));
+    township_designation township;
+    township_plat plat;
+    size_t end;
+
+    switch (twpg_find_heading(given, &township, &end)) {
+    case TWPG_NO_HEADING:
+        return twpg_refusal_of_notes(fcinfo);
+    case TWPG_IMPOSSIBLE_HEADING:
+        return refusal_of_heading(fcinfo);
+    case TWPG_HEADING:
+        break;
+    }
+    if (is_no_land(given, end)) {
+        PG_RETURN_NULL();
+    }
+    plat = twpg_even_plat(&township);
+    return twpg_refusal_on(fcinfo, &plat, given);
 }

@@ -4,6 +4,7 @@
  */
 #include "land.h"
 
+#include "common/hashfn.h"
 #include "lib/stringinfo.h"
 #include "libpq/pqformat.h"
 #include "lots.h"
@@ -115,12 +116,61 @@ Datum twpg_lots_township(PG_FUNCTION_ARGS) {
     PG_RETURN_TEXT_P(cstring_to_text(twpg_township_text(at->number, at->north_south, at->range, at->east_west)));
 }
 
+/* Orders lot tables by their townships, and those of one township by their first different figures. */
+static int compare(FunctionCallInfo fcinfo) {
+    const township_lots *first = PG_GETARG_LOTS(0);
+    const township_lots *second = PG_GETARG_LOTS(1);
+    int order = twpg_compare_townships(&first->township.number, &second->township.number);
+    int index;
+
+    for (index = 0; order == 0 && index < TOWNSHIP_LOTS; index++) {
+        order = (first->figures[index] > second->figures[index]) - (first->figures[index] < second->figures[index]);
+    }
+    return order;
+}
+
+PG_FUNCTION_INFO_V1(twpg_lots_cmp);
+Datum twpg_lots_cmp(PG_FUNCTION_ARGS) {
+    PG_RETURN_INT32(compare(fcinfo));
+}
+
 PG_FUNCTION_INFO_V1(twpg_lots_eq);
 Datum twpg_lots_eq(PG_FUNCTION_ARGS) {
-    PG_RETURN_BOOL(memcmp(PG_GETARG_LOTS(0), PG_GETARG_LOTS(1), sizeof(township_lots)) == 0);
+    PG_RETURN_BOOL(compare(fcinfo) == 0);
 }
 
 PG_FUNCTION_INFO_V1(twpg_lots_ne);
 Datum twpg_lots_ne(PG_FUNCTION_ARGS) {
-    PG_RETURN_BOOL(memcmp(PG_GETARG_LOTS(0), PG_GETARG_LOTS(1), sizeof(township_lots)) != 0);
+    PG_RETURN_BOOL(compare(fcinfo) != 0);
+}
+
+PG_FUNCTION_INFO_V1(twpg_lots_lt);
+Datum twpg_lots_lt(PG_FUNCTION_ARGS) {
+    PG_RETURN_BOOL(compare(fcinfo) < 0);
+}
+
+PG_FUNCTION_INFO_V1(twpg_lots_le);
+Datum twpg_lots_le(PG_FUNCTION_ARGS) {
+    PG_RETURN_BOOL(compare(fcinfo) <= 0);
+}
+
+PG_FUNCTION_INFO_V1(twpg_lots_gt);
+Datum twpg_lots_gt(PG_FUNCTION_ARGS) {
+    PG_RETURN_BOOL(compare(fcinfo) > 0);
+}
+
+PG_FUNCTION_INFO_V1(twpg_lots_ge);
+Datum twpg_lots_ge(PG_FUNCTION_ARGS) {
+    PG_RETURN_BOOL(compare(fcinfo) >= 0);
+}
+
+PG_FUNCTION_INFO_V1(twpg_lots_hash);
+Datum twpg_lots_hash(PG_FUNCTION_ARGS) {
+    return hash_any((const unsigned char *)PG_GETARG_LOTS(0), sizeof(township_lots));
+}
+
+PG_FUNCTION_INFO_V1(twpg_lots_hash_extended);
+Datum twpg_lots_hash_extended(PG_FUNCTION_ARGS) {
+    return hash_any_extended((const unsigned char *)PG_GETARG_LOTS(0), sizeof(township_lots),
+                             (uint64)PG_GETARG_INT64(1));
 }

@@ -9,7 +9,7 @@
 #define PG_GETARG_LOTS(n) ((const township_lots *)PG_GETARG_POINTER(n))
 
 /* lots_refusals.c */
-void twpg_refuse_lots(township_answer answer) pg_attribute_noreturn();
+_Noreturn void twpg_refuse_lots(township_answer answer);
 twpg_explanation twpg_explain_lacking(uint32_t at);
 
 #endif

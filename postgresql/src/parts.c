@@ -3,7 +3,6 @@
  */
 #include "land.h"
 
-#include "funcapi.h"
 #include "miscadmin.h"
 #include "utils/tuplestore.h"
 
@@ -42,15 +41,12 @@ static Datum land_datum_of(const township_part *part, const township_designation
 
 PG_FUNCTION_INFO_V1(twpg_parts);
 Datum twpg_parts(PG_FUNCTION_ARGS) {
-    ReturnSetInfo *result;
+    ReturnSetInfo *result = twpg_begin_rows(fcinfo);
     township_part *parts;
     township_land land;
     size_t count;
     size_t index;
 
-    /* To look the columns up in each call would leave memory behind until the query ends. */
-    InitMaterializedSRF(fcinfo, MAT_SRF_USE_EXPECTED_DESC);
-    result = (ReturnSetInfo *)fcinfo->resultinfo;
     check_stack_depth();
     twpg_land_of(PG_GETARG_LAND(0), &land);
     parts = parts_of(&land, &count);

@@ -1,7 +1,8 @@
 /*
- * The type plat: the library's plain data, 340 bytes. As text it is field notes. Its binary form is a
- * version, the designation, and the closing quarters in network order, so that it is the same on all
- * machines.
+ * The type plat: the library's plain data, 340 bytes. It is made from field notes, and keeps the length of the closing
+ * quarter mile of each line, which is all that areas depend on. So its text is notes with these closing quarters, after
+ * a line that says that nobody measured their lengths. Its binary form is a version, the designation, and the closing
+ * quarters in network order, so that it is the same on all machines.
  */
 #include "twpg.h"
 
@@ -11,11 +12,21 @@
 
 #define BINARY_VERSION 1
 
+/* The first line of a plat's text. Field notes don't begin so, and no reader of notes accepts it. */
+#define FIRST_LINE "closing quarters of a plat, not measured lengths\n"
+
 StaticAssertDecl(sizeof(township_plat) == 340, "the size of the type plat, which its table of types says");
+
+/* The notes in a text: all of it, or what is after the first line of a plat's text. */
+static const char *notes_in(const char *given) {
+    size_t length = strlen(FIRST_LINE);
+
+    return strncmp(given, FIRST_LINE, length) == 0 ? given + length : given;
+}
 
 PG_FUNCTION_INFO_V1(twpg_plat_in);
 Datum twpg_plat_in(PG_FUNCTION_ARGS) {
-    const char *given = PG_GETARG_CSTRING(0);
+    const char *given = notes_in(PG_GETARG_CSTRING(0));
     twpg_bytes notes = twpg_bytes_of(given, strlen(given));
     township_plat *plat = palloc0(sizeof *plat);
     township_answer answer;
@@ -47,7 +58,7 @@ Datum twpg_plat_out(PG_FUNCTION_ARGS) {
     if (answer.verdict != TOWNSHIP_ACCEPTED) {
         twpg_fail(answer.verdict);
     }
-    PG_RETURN_CSTRING(notes);
+    PG_RETURN_CSTRING(psprintf("%s%s", FIRST_LINE, notes));
 }
 
 PG_FUNCTION_INFO_V1(twpg_plat_send);

@@ -36,8 +36,7 @@ Datum twpg_refusal_datum(FunctionCallInfo fcinfo, township_answer answer, const 
 }
 
 /* The refusal of a description on a plat, or NULL. */
-Datum twpg_refusal_on(FunctionCallInfo fcinfo, const township_plat *plat) {
-    twpg_bytes description = twpg_bytes_of_text(PG_GETARG_TEXT_PP(1));
+Datum twpg_refusal_on(FunctionCallInfo fcinfo, const township_plat *plat, twpg_bytes description) {
     twpg_explanation explained;
     township_answer answer;
 
@@ -55,7 +54,7 @@ Datum twpg_refusal_on(FunctionCallInfo fcinfo, const township_plat *plat) {
 
 PG_FUNCTION_INFO_V1(twpg_refusal);
 Datum twpg_refusal(PG_FUNCTION_ARGS) {
-    return twpg_refusal_on(fcinfo, PG_GETARG_PLAT(0));
+    return twpg_refusal_on(fcinfo, PG_GETARG_PLAT(0), twpg_bytes_of_text(PG_GETARG_TEXT_PP(1)));
 }
 
 PG_FUNCTION_INFO_V1(twpg_refusal_of_notes);

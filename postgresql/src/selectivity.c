@@ -6,6 +6,7 @@
 
 #include "access/htup_details.h"
 #include "catalog/pg_statistic.h"
+#include "miscadmin.h"
 #include "utils/lsyscache.h"
 #include "utils/selfuncs.h"
 
@@ -38,6 +39,8 @@ static double share_of_pairs(const AttStatsSlot *first, const AttStatsSlot *seco
     for (one = 0; one < first->nvalues; one++) {
         twpg_packed here = packed_in(first, one);
 
+        /* With the largest statistics target there are 100 million pairs. */
+        CHECK_FOR_INTERRUPTS();
         for (other = 0; other < second->nvalues; other++) {
             twpg_packed there = packed_in(second, other);
 

@@ -5,7 +5,6 @@
 #include "twpg.h"
 
 #include "catalog/pg_type.h"
-#include "funcapi.h"
 #include "lib/stringinfo.h"
 #include "miscadmin.h"
 #include "utils/array.h"
@@ -254,24 +253,21 @@ static twpg_row row_without_reading(const twpg_suggested *suggested) {
     return row;
 }
 
-static void put_row(FunctionCallInfo fcinfo, twpg_row row) {
-    ReturnSetInfo *result = (ReturnSetInfo *)fcinfo->resultinfo;
-
+static void put_row(ReturnSetInfo *result, twpg_row row) {
     tuplestore_putvalues(result->setResult, result->setDesc, row.values, row.nulls);
 }
 
 /* Returns the rows of a text. */
 static Datum suggested_rows(FunctionCallInfo fcinfo, twpg_suggested *suggested) {
+    ReturnSetInfo *result = twpg_begin_rows(fcinfo);
     uint64_t index;
 
-    /* To look the columns up in each call would leave memory behind until the query ends. */
-    InitMaterializedSRF(fcinfo, MAT_SRF_USE_EXPECTED_DESC);
     suggest(suggested);
     for (index = 0; index < suggested->sizes.readings; index++) {
-        put_row(fcinfo, row_of(suggested, &suggested->readings[index]));
+        put_row(result, row_of(suggested, &suggested->readings[index]));
     }
     if (suggested->sizes.readings == 0) {
-        put_row(fcinfo, row_without_reading(suggested));
+        put_row(result, row_without_reading(suggested));
     }
     PG_RETURN_NULL();
 }

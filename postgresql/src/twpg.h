@@ -12,8 +12,14 @@
 #include "postgres.h"
 
 #include "fmgr.h"
+#include "funcapi.h"
 #include "utils/builtins.h"
 #include "utils/numeric.h"
+
+/* Since version 16 of the server, the macros for values of variable length are in a header of their own. */
+#if PG_VERSION_NUM >= 160000
+#include "varatt.h"
+#endif
 
 #include <township.h>
 
@@ -60,20 +66,27 @@ char *twpg_one_line(char *written);
 twpg_explanation twpg_explain_description(const township_plat *plat, twpg_bytes description);
 twpg_explanation twpg_explain_notes(twpg_bytes notes);
 
-/* errors.c: the errors of the database. The last two functions don't return. */
+/* errors.c: the errors of the database. */
 int twpg_sqlstate_of(uint32_t number);
-void twpg_refuse(township_answer answer, const twpg_explanation *explained) pg_attribute_noreturn();
-void twpg_fail(uint32_t verdict) pg_attribute_noreturn();
+_Noreturn void twpg_refuse(township_answer answer, const twpg_explanation *explained);
+_Noreturn void twpg_fail(uint32_t verdict);
 
-/* refusals.c: refusals as records; the second one is that of the second argument on a plat. */
+/* refusals.c: refusals as records: of a description on a plat, and of field notes, which are the first argument. */
 Datum twpg_refusal_datum(FunctionCallInfo fcinfo, township_answer answer, const twpg_explanation *explained);
-Datum twpg_refusal_on(FunctionCallInfo fcinfo, const township_plat *plat);
+Datum twpg_refusal_on(FunctionCallInfo fcinfo, const township_plat *plat, twpg_bytes description);
+Datum twpg_refusal_of_notes(PG_FUNCTION_ARGS);
 
 /* figures.c: numbers and records of the database. */
 Datum twpg_acres_datum(uint64_t hundredths);
 Datum twpg_area_datum(FunctionCallInfo fcinfo, const township_fraction *area);
 Datum twpg_record_datum(FunctionCallInfo fcinfo, Datum *values, bool *nulls);
 uint32_t twpg_account_of(const text *given);
+
+/* servers.c: what differs between the versions of the server. */
+Datum twpg_numeric_of(int64 number);
+Datum twpg_numeric_of_hundredths(int64 hundredths);
+Datum twpg_numeric_of_digits(const char *digits);
+ReturnSetInfo *twpg_begin_rows(FunctionCallInfo fcinfo);
 
 /* designations.c: the designations of townships. */
 int twpg_compare_townships(const uint8_t *first, const uint8_t *second);

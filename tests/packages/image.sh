@@ -7,16 +7,20 @@
 #     rust      Debian 13 with a compiler for Rust, and the crates that ours can use; the compiler of Debian 12 is too old
 #     older     Debian 11, which has glibc 2.31
 #     newer     Debian 13, which has glibc 2.41
+#     server13  Debian 11 with PostgreSQL 13 and a compiler for C
+#     server17  Debian 13 with PostgreSQL 17 and a compiler for C
+#     server18  what will be Debian 14, with PostgreSQL 18 and a compiler for C
 #
-#     sh tests/packages/image.sh bare database tools rust older newer
+#     sh tests/packages/image.sh bare database tools rust older newer server13 server17 server18
 #
-# The images are kept in TOWNSHIP_IMAGES, by default in the user's cache, and take 4 GB. Delete the folder to make them
+# The images are kept in TOWNSHIP_IMAGES, by default in the user's cache, and take 6 GB. Delete the folder to make them
 # anew. TOWNSHIP_MIRROR can name another mirror of Debian's archive.
 set -eu
 mirror=${TOWNSHIP_MIRROR:-http://deb.debian.org/debian}
 images=${TOWNSHIP_IMAGES:-${XDG_CACHE_HOME:-${HOME:-/root}/.cache}/township/images}
 python='python3 python3-pip'
 shells='man-db bash-completion'
+server() { echo "postgresql-$1 postgresql-server-dev-$1 gcc libc6-dev make"; }
 
 # The suite of an image, and the packages in it.
 contents() {
@@ -27,6 +31,9 @@ contents() {
         rust) echo 'trixie sse4.2-support gcc libc6-dev cargo librust-serde-dev' ;;
         older) echo "bullseye sse4.2-support $shells $python" ;;
         newer) echo "trixie sse4.2-support $shells $python" ;;
+        server13) echo "bullseye $(server 13)" ;;
+        server17) echo "trixie $(server 17)" ;;
+        server18) echo "forky $(server 18)" ;;
         *)
             echo "there is no image '$1'" >&2
             exit 2

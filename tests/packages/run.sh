@@ -24,8 +24,11 @@ rows='
     rust     rust
     older    program python
     newer    program python
+    server13 server
+    server17 server
+    server18 server
 '
-images=$(echo "$rows" | sed -n 's/^ *\([a-z][a-z]*\) .*/\1/p')
+images=$(echo "$rows" | sed -n 's/^ *\([a-z][a-z0-9]*\) .*/\1/p')
 for image in $images; do
     sh "$here/image.sh" "$image" > "$work/lost" 2> "$work/errors" || {
         skip "the packages on the image $image, which can't be made here: $(tail -n 1 "$work/errors")"

@@ -22,6 +22,8 @@ new_database kinds
 shows 'what kinds of functions there are' 'land_joinsel
 land_overlaps_add
 land_overlaps_pairs
+max
+min
 overlaps
 union_of' sql -d kinds << 'END'
 SELECT proname FROM pg_proc JOIN pg_depend ON objid = pg_proc.oid AND classid = 'pg_proc'::regclass

@@ -61,7 +61,7 @@ if ! start_server; then
 fi
 
 # The regression tests, in the usual form.
-if (cd "$extension" && make -s installcheck LIBRARY="$library" INCLUDE="$headers") > "$work/out" 2>&1; then
+if (cd "$extension" && make -s installcheck PG_CONFIG="$postgres/bin/pg_config" LIBRARY="$library" INCLUDE="$headers") > "$work/out" 2>&1; then
     passed=$((passed + $(grep -c '[.][.][.] ok' "$work/out")))
 else
     [ ! -f "$extension/regression.diffs" ] || cat "$extension/regression.diffs" >> "$work/out"

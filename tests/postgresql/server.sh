@@ -17,7 +17,8 @@ as_server() {
 compile_extension() {
     mkdir -p "$work/source"
     cp -R "$root/postgresql" "$root/samples" "$root/include" "$work/source"
-    (cd "$extension" && make -s clean && make -s LIBRARY="$1" INCLUDE="$2")
+    (cd "$extension" && make -s clean PG_CONFIG="$postgres/bin/pg_config" &&
+        make -s PG_CONFIG="$postgres/bin/pg_config" LIBRARY="$1" INCLUDE="$2")
 }
 
 # Links to every file of the server's packages, except for the programs, which are copied.
@@ -28,7 +29,7 @@ install_server() {
     done
     mkdir -p "$installed$postgres"
     cp -R "$postgres/bin" "$installed$postgres/bin"
-    (cd "$extension" && make -s install DESTDIR="$installed" LIBRARY="$1" INCLUDE="$2")
+    (cd "$extension" && make -s install PG_CONFIG="$postgres/bin/pg_config" DESTDIR="$installed" LIBRARY="$1" INCLUDE="$2")
 }
 
 # Starts the server. It listens in a folder alone, and loses nothing if a process of it is killed.
@@ -50,7 +51,6 @@ max_connections = 50
 max_parallel_workers = 8
 max_worker_processes = 12
 log_min_messages = fatal
-deadlock_timeout = 100ms
 END
     (
         cd "$work/server"
