@@ -1,10 +1,10 @@
 /*
  * township.h: the acreage of land in a township of the United States rectangular survey.
  *
- * township_read makes a plat, which is plain data, from field notes (CSV). On a plat, other functions
- * return the acres, the exact area, and the canonical text of a description by lots and aliquot parts,
- * and the account of a list of tracts; or they refuse the input, with the number and the place of its
- * first fault. The answers are proved for all bytes; docs/PROMISES.md states the promises in words.
+ * township_read makes a plat, which is plain data, from field notes (CSV). On a plat, other functions return the
+ * acres, the exact area, and the canonical text of a description by lots and aliquot parts, or the account of a list
+ * of tracts; or they refuse the input, with the number and the place of its first fault. The answers are proved for
+ * all bytes; docs/PROMISES.md states the promises in words.
  *
  *     township_plat plat;
  *     township_answer answer = township_read(notes, notes_length, &plat);
@@ -15,12 +15,12 @@
  *         printf("%.2f acres\n", (double)answer.hundredths / 100);
  *     }
  *
- * examples/acres.c in the repository is a whole program, and says how to link it.
+ * examples/acres.c in the repository is a complete program, and says how to link it.
  *
- * No pointer may be NULL, even for zero bytes, and memory that a call writes must not overlap the
- * memory of any other argument. There is nothing to free, and nothing is kept from one call to the
- * next: call any function from any thread at any time, but not from a signal handler. A call allocates
- * memory with `malloc` and frees it before it returns. The stack must have 256 KiB available.
+ * No pointer may be NULL, even for zero bytes, and memory that a call writes must not overlap the memory of any other
+ * argument. There is nothing to free, and nothing is kept from one call to the next: call any function from any
+ * thread at any time, but not from a signal handler. A call allocates memory with `malloc` and frees it before it
+ * returns. At least 256 KiB of stack must be available.
  */
 #ifndef TOWNSHIP_H
 #define TOWNSHIP_H
@@ -76,7 +76,7 @@ extern "C" {
 #define TOWNSHIP_REFUSAL_TRACT_REFUSED 83u
 #define TOWNSHIP_REFUSAL_TRACTS_OVERLAP 84u
 #define TOWNSHIP_REFUSAL_TOO_MANY_TRACTS 85u
-/* A lot table, and land by it: */
+/* A lot table, and land measured by it: */
 #define TOWNSHIP_REFUSAL_LOTS_TOO_LARGE 86u
 #define TOWNSHIP_REFUSAL_LOTS_EMPTY 87u
 #define TOWNSHIP_REFUSAL_LOTS_HEADING 88u
@@ -86,13 +86,13 @@ extern "C" {
 #define TOWNSHIP_REFUSAL_LOTS_ACRES 92u
 #define TOWNSHIP_REFUSAL_LOTS_REPEATED 93u
 #define TOWNSHIP_REFUSAL_LOTS_LACKING 94u
-/* End of what tools/header_names.py makes. */
+/* End of the lines that tools/header_names.py makes. */
 
 /* The number of section lines in a township. */
 #define TOWNSHIP_LINES 84
 
-/* The maximum sizes, in bytes, of field notes, of a description, of a list of tracts, and of a lot table. Longer
-   input is refused. */
+/* The maximum sizes, in bytes, of field notes, a description, a list of tracts, and a lot table. Longer input is
+   refused. */
 #define TOWNSHIP_NOTES_MOST 65536
 #define TOWNSHIP_DESCRIPTION_MOST 65536
 #define TOWNSHIP_LIST_MOST 1048576
@@ -111,7 +111,7 @@ extern "C" {
                                      and write neither text nor parts; township_acres_many and
                                      township_answer_many report it in their answers */
 #define TOWNSHIP_NO_RANGE 7u      /* township_acres_many, township_answer_many: the two offsets of this
-                                     description do not enclose bytes */
+                                     description are not a range of the bytes given */
 #define TOWNSHIP_NO_LAND 8u       /* the land you passed is not valid: it has no township, or contains part of a
                                      lot */
 #define TOWNSHIP_NO_LOTS 9u       /* the lot table you passed is not valid */
@@ -143,8 +143,8 @@ typedef struct township_plat {
     uint8_t east_west;   /* TOWNSHIP_EAST or TOWNSHIP_WEST */
 } township_plat;
 
-/* An answer. Fields that do not apply to the verdict are 0; with TOWNSHIP_NO_ROOM, the other fields
-   are the same as if there had been room. */
+/* An answer. Fields that do not apply to the verdict are 0; with TOWNSHIP_NO_ROOM, the other fields are as they would
+   be if there were enough room. */
 typedef struct township_answer {
     uint32_t verdict;
     uint32_t number;       /* the refusal's number, such as TOWNSHIP_REFUSAL_LAND_OVERLAP */
@@ -250,11 +250,11 @@ typedef struct township_designation {
 } township_designation;
 
 /*
- * Land: a set of places in a township. A place is a square of 5/8 of an acre; its side is 1/32 of a section's.
- * `rows[section - 1][row]` is a row of places, counted from 0 in the south of the section; its bit `k`, counted
- * from the lowest, is the place in column `k`, counted from 0 in the east. You may copy land, store it, compare
- * it byte by byte, or fill it in by hand: each function that takes land checks that it contains each lot wholly
- * or not at all. Land needs no plat; only its area depends on a plat or a lot table.
+ * Land: a set of places in a township. A place is a square of 5/8 of an acre, nominally; its side is 1/32 of the
+ * section's side. `rows[section - 1][row]` is a row of places, counted from 0 in the south of the section; its bit
+ * `k`, counted from the lowest, is the place in column `k`, counted from 0 in the east. You may copy land, store it,
+ * compare it byte by byte, or fill it in by hand: each function that takes land checks that it contains each lot
+ * wholly or not at all. Land needs no plat; only its area depends on a plat or a lot table.
  */
 typedef struct township_land {
     uint32_t rows[TOWNSHIP_SECTIONS][TOWNSHIP_PLACES_ACROSS];
@@ -318,7 +318,7 @@ typedef struct township_part {
 #define TOWNSHIP_RULE_ACREAGE 25u        /* stated acreage is left out */
 #define TOWNSHIP_RULE_LABEL 26u          /* a label, which is not land, is left out */
 
-/* Assumptions that a change makes, although the text does not state them. The words around a change extend to white
+/* Assumptions that a change makes, although the text does not state them. "The words around the change" extend to white
    space, a comma, a semicolon, a colon, or a vertical bar. */
 #define TOWNSHIP_ASSUMES_SAME_MERIDIAN 1u    /* the text left out is the field notes' meridian, state, or county */
 #define TOWNSHIP_ASSUMES_SAME_ACREAGE 2u     /* the acreage left out is right; it is not compared */
@@ -388,7 +388,7 @@ township_answer township_read(const uint8_t *notes, size_t notes_length, townshi
    long, except for the second half miles of closing lines. */
 township_answer township_write_notes(const township_plat *plat, uint8_t *text, size_t room);
 
-/* Returns the acres of the land described in `hundredths`, on a plat and by an account. */
+/* Returns in `hundredths` the acres of the land described, on a plat and by an account. */
 township_answer township_acres(const township_plat *plat, const uint8_t *description,
                                size_t description_length, uint32_t account);
 
@@ -418,20 +418,20 @@ township_answer township_account(const township_plat *plat, const uint8_t *list,
                                  township_tract *tracts, size_t room, township_totals *totals);
 
 /*
- * Answers each tract of a list, whatever is wrong with the others: writes to `answers` an answer for each record
- * after the heading. A refusal does not end the call: check the verdict of each answer. The list as a whole is
- * refused if it is too large (80), has no heading (81 at 1), or has too many tracts (85). Overlaps are reported
- * separately: see township_overlaps. `length`, `room`, and other verdicts are as in township_account.
+ * Answers each tract of a list, even if others are refused: writes to `answers` an answer for each record after the
+ * heading. A refusal does not end the call: check the verdict of each answer. The list as a whole is refused if it is
+ * too large (80), has no heading (81 at 1), or has too many tracts (85). Overlaps are reported separately: see
+ * township_overlaps. `length`, `room`, and other verdicts are as in township_account.
  */
 township_answer township_report_each(const township_plat *plat, const uint8_t *list, size_t list_length,
                                      township_tract_answer *answers, size_t room);
 
 /*
- * Finds all overlaps in a list of tracts, whatever else is wrong with it: writes to `overlaps` each pair of tracts
- * that share land, sorted by the later tract and then by the earlier one. Records that are not tracts, and tracts whose
- * description is refused, overlap nothing. `length` is the number of overlaps; if `room`, the number of
- * elements of `overlaps`, is smaller, the verdict is TOWNSHIP_NO_ROOM. The list as a whole is refused as in
- * township_report_each. On any verdict other than TOWNSHIP_ACCEPTED, `overlaps` is unchanged.
+ * Finds all overlaps in a list of tracts, even if tracts are refused: writes to `overlaps` each pair of tracts that
+ * share land, sorted by the later tract and then by the earlier one. Records that are not tracts, and tracts whose
+ * description is refused, overlap nothing. `length` is the number of overlaps; if `room`, the number of elements of
+ * `overlaps`, is smaller, the verdict is TOWNSHIP_NO_ROOM. The list as a whole is refused as in township_report_each.
+ * On any verdict other than TOWNSHIP_ACCEPTED, `overlaps` is unchanged.
  */
 township_answer township_overlaps(const township_plat *plat, const uint8_t *list, size_t list_length,
                                   township_overlap *overlaps, size_t room);
@@ -441,12 +441,12 @@ township_answer township_overlaps(const township_plat *plat, const uint8_t *list
 township_answer township_figures(const township_plat *plat, township_plat_figures *figures);
 
 /*
- * Answers many descriptions, stored one after another: the first description begins at offsets[0] and ends
- * before offsets[1], the next one begins there and ends before offsets[2], and so on, so there is one more
- * offset than descriptions. Each is answered as by township_acres, or with TOWNSHIP_NO_RANGE if its second
- * offset is less than its first one or more than `descriptions_length`. A refusal does not end the call: check the
- * verdict of each answer. `length` is the number of descriptions; if `room`, the number of elements of
- * `answers`, is smaller, the verdict is TOWNSHIP_NO_ROOM, and nothing is written.
+ * Answers many descriptions, stored one after another: the first description begins at offsets[0] and ends before
+ * offsets[1], the next one begins there and ends before offsets[2], and so on, so there is one more offset than
+ * descriptions. Each is answered as township_acres would, or with TOWNSHIP_NO_RANGE if its second offset is less than
+ * its first one or more than `descriptions_length`. A refusal does not end the call: check the verdict of each
+ * answer. `length` is the number of descriptions; if `room`, the number of elements of `answers`, is smaller, the
+ * verdict is TOWNSHIP_NO_ROOM, and nothing is written.
  */
 township_answer township_acres_many(const township_plat *plat, const uint8_t *descriptions,
                                     size_t descriptions_length, const size_t *offsets,
@@ -469,7 +469,7 @@ township_answer township_answer_many(const township_plat *plat, const uint8_t *d
 township_answer township_land_read(const township_designation *township, const uint8_t *description,
                                    size_t description_length, township_land *land);
 
-/* Returns the acres of land in `hundredths`, on a plat of its township and by an account. */
+/* Returns in `hundredths` the acres of land, on a plat of its township and by an account. */
 township_answer township_land_acres(const township_plat *plat, const township_land *land, uint32_t account);
 
 /* Writes to `area` the exact area, which township_land_acres rounds. On any verdict other than
@@ -481,9 +481,11 @@ township_answer township_land_area(const township_plat *plat, const township_lan
    description. The text of empty land is empty. */
 township_answer township_land_text(const township_land *land, uint8_t *text, size_t room);
 
-/* Writes the written parts of land, in the order of its canonical text. A section that the land contains wholly is one
-   block; of any other section, the lots come first, and then the blocks. `length` is the number of parts; if `room`,
-   the number of elements of `parts`, is smaller, the verdict is TOWNSHIP_NO_ROOM, and nothing is written. */
+/*
+ * Writes the written parts of land, in the order of its canonical text. A section that the land contains wholly is
+ * one block; for any other section, the lots come first, and then the other blocks. `length` is the number of parts;
+ * if `room`, the number of elements of `parts`, is smaller, the verdict is TOWNSHIP_NO_ROOM, and nothing is written.
+ */
 township_answer township_land_parts(const township_land *land, township_part *parts, size_t room);
 
 /* Operations: the land in either, the land in both, and the land in the first that is not in the second. */
@@ -513,11 +515,11 @@ township_answer township_land_compare(const township_land *first, const township
 township_answer township_lots_read(const uint8_t *table, size_t table_length, township_lots *lots);
 
 /*
- * Return the acres of the land described, or of land, in `hundredths`, by a lot table of its township; or write the
- * exact area, before rounding, to `area`. Each whole lot counts at its returned acreage, and other land at its nominal
- * area. If the table lacks a lot of the land, the refusal is TOWNSHIP_REFUSAL_LOTS_LACKING, and its place is the first
- * such lot: 100 times the section's number, plus the lot's number. On any verdict other than TOWNSHIP_ACCEPTED, `area`
- * is unchanged.
+ * Return in `hundredths` the acres of a description or of land, by a lot table of its township; or write the exact
+ * area, before rounding, to `area`. Each whole lot counts at its returned acreage, and other land at its nominal
+ * area. If the table lacks a lot of the land, the refusal is TOWNSHIP_REFUSAL_LOTS_LACKING, and its place is the
+ * first such lot: 100 times the section's number, plus the lot's number. On any verdict other than TOWNSHIP_ACCEPTED,
+ * `area` is unchanged.
  */
 township_answer township_lots_acres(const township_lots *lots, const uint8_t *description,
                                     size_t description_length);
@@ -528,26 +530,26 @@ township_answer township_lots_land_area(const township_lots *lots, const townshi
                                         township_fraction *area);
 
 /*
- * Writes to `tracts` the tracts of a list (CSV; see docs/TRACTS-FORMAT.md), each with its acreage by a lot table of its
- * township, and returns the acreage of all tracts together in `hundredths`. Each figure is an exact area, rounded once,
- * half up, so the total may differ from the sum of the tracts' figures. `length` is the number of tracts. The list is
- * refused as in township_account; if the table lacks a lot of a tract, the verdict is TOWNSHIP_TRACT_REFUSED, with
- * TOWNSHIP_REFUSAL_LOTS_LACKING and the first such lot as `inner_number` and `inner_at`. `room` and other verdicts are
- * as in township_account: on any verdict other than TOWNSHIP_ACCEPTED, `tracts` is unchanged.
+ * Writes to `tracts` the tracts of a list (CSV; see docs/TRACTS-FORMAT.md), each with its acreage by a lot table of
+ * its township, and returns in `hundredths` the acreage of all tracts together. Each figure is an exact area, rounded
+ * once, half up, so the total may differ from the sum of the tracts' figures. `length` is the number of tracts. The
+ * list is refused as in township_account; if the table lacks a lot of a tract, the verdict is TOWNSHIP_TRACT_REFUSED,
+ * with TOWNSHIP_REFUSAL_LOTS_LACKING and the first such lot as `inner_number` and `inner_at`. `room` and other
+ * verdicts are as in township_account: on any verdict other than TOWNSHIP_ACCEPTED, `tracts` is unchanged.
  */
 township_answer township_lots_report(const township_lots *lots, const uint8_t *list, size_t list_length,
                                      township_tract *tracts, size_t room);
 
 /*
- * Explain why field notes, a description, or a list is refused. Each function returns the same verdict,
- * with the line and column of the fault, and writes the lines of text that the program would show; or the
- * verdict is TOWNSHIP_NO_ROOM. `name` is the file name that the text shows, in UTF-8; if it is empty or not
- * valid UTF-8, the text shows `input`. A text is at most 8 lines long, and a line at most 100 columns wide,
- * not counting a name that is too long for the first line.
+ * Explain why field notes, a description, or a list is refused. Each function returns the same verdict, with the line
+ * and column of the fault, and writes the lines of text that the program would show; or the verdict is
+ * TOWNSHIP_NO_ROOM. `name` is the file name that the text shows, in UTF-8; if it is empty or not valid UTF-8, the
+ * text shows `input`. A text has at most 8 lines of at most 100 columns, not counting a name that is too long for the
+ * first line.
  *
- * If a description, or a list, is accepted, but a place in it can be read in two ways, the text is a note
- * on the first such place, with its line and column, and `number` is 0. For any other accepted input, there
- * is no text, and `length` is 0. Notes give acres by TOWNSHIP_EXACT.
+ * If a description or a list is accepted, but a place in it can be read in two ways, the text is a note on the first
+ * such place, with its line and column, and `number` is 0. For any other accepted input, there is no text, and
+ * `length` is 0. Notes give acres by TOWNSHIP_EXACT.
  */
 township_answer township_explain_notes(const uint8_t *notes, size_t notes_length, const uint8_t *name,
                                        size_t name_length, uint8_t *text, size_t room);
@@ -571,8 +573,8 @@ typedef struct township_explanation {
     uint32_t shown;           /* TOWNSHIP_SHOWN_NOTHING, _LINE, or _BYTES */
     uint32_t has_other;       /* 1 if the same land, name, or line was given before, at the other place; otherwise 0 */
     uint32_t other_record;    /* its record in a list or in field notes, counted from 1; 0 in a description */
-    uint32_t continued;       /* which lines of the hints continue the line before: bit 1 is for the second line, bit 2
-                                 for the third */
+    uint32_t continued;       /* which lines of the hints continue the previous line: bit 1 is for the second line,
+                                 bit 2 for the third */
     uint64_t start;           /* the bytes of the input that are shown */
     uint64_t end;
     uint64_t other_start;     /* the bytes of the other place in the input */
@@ -589,8 +591,8 @@ typedef struct township_explanation {
 } township_explanation;
 
 /*
- * The same as the functions above, with the parts of the text in `explanation`, so that callers need not parse the
- * text. If no text is written, `explanation` is unchanged.
+ * The same as the functions above, but these also return the parts of the text in `explanation`, so that callers need
+ * not parse it. If no text is written, `explanation` is unchanged.
  */
 township_answer township_explain_notes_parts(const uint8_t *notes, size_t notes_length, const uint8_t *name,
                                              size_t name_length, uint8_t *text, size_t room,
@@ -605,9 +607,9 @@ township_answer township_explain_list_parts(const township_plat *plat, const uin
 
 /*
  * Suggests how a text would be written as a description, without a plat: writes its readings, in a fixed order, their
- * changes, and their texts. A text that can be read in several ways has several readings. It has none if nothing is
- * certain, or if lots and aliquot parts can't describe the land. An accepted description in which no place can be read
- * in two ways is its own and only reading, without changes.
+ * changes, and their texts. A text that can be read in several ways has several readings. A text has none if its
+ * meaning is not clear, or if lots and aliquot parts can't describe the land. An accepted description in which no
+ * place can be read in two ways is its own and only reading, without changes.
  *
  * If one of the three arrays is too small, the verdict is TOWNSHIP_NO_ROOM, and only `suggestion` is written, with the
  * sizes that are needed. With TOWNSHIP_NO_MEMORY, nothing is written. To measure a reading on a plat, pass its text to

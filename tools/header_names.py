@@ -25,7 +25,7 @@ PACKAGES = {
 }
 
 #: The lines that are written are between these two.
-BEGIN, END = "/* Made by tools/header_names.py: */", "/* End of what tools/header_names.py makes. */"
+BEGIN, END = "/* Made by tools/header_names.py: */", "/* End of the lines that tools/header_names.py makes. */"
 
 
 class Group(NamedTuple):
@@ -42,7 +42,7 @@ GROUPS = (
     Group(range(40, 60), "TEXT_", "The text of a description"),
     Group(range(60, 80), "LAND_", "The land that a description names"),
     Group(range(80, 86), "", "A list of tracts"),
-    Group(range(86, 100), "LOTS_", "A lot table, and land by it"),
+    Group(range(86, 100), "LOTS_", "A lot table, and land measured by it"),
 )
 
 

@@ -43,7 +43,7 @@ LISTED = (
 #: Those that are names, with a capital.
 NAMES = ("states", "meridians")
 #: The list in the document is between these two lines.
-BEGIN, END = "<!-- Made by tools/words.py: -->", "<!-- End of what tools/words.py makes. -->"
+BEGIN, END = "<!-- Made by tools/words.py: -->", "<!-- End of the list that tools/words.py makes. -->"
 
 #: Characters that a table shows as letters, besides a backslash, a space that can't be seen, and an empty text.
 ESCAPES = {"\t": "\\t", "\n": "\\n", "\r": "\\r"}
