@@ -302,7 +302,7 @@ typedef struct township_part {
 #define TOWNSHIP_RULE_FRACTION_DIGIT 10u /* the fraction digit of a register is left out: a 0 after the number of a
                                             township or a range */
 #define TOWNSHIP_RULE_HEADING 11u        /* the township and range are written `T. 2 N., R. 3 W.` */
-#define TOWNSHIP_RULE_SECTION_WORD 12u   /* the word for a section is written `sec.`, and for several `secs.` */
+#define TOWNSHIP_RULE_SECTION_WORD 12u   /* the word for a section is written `sec.`, or `secs.` for several */
 #define TOWNSHIP_RULE_LOT_WORD 13u       /* the word for lots is written `lot` or `lots` */
 #define TOWNSHIP_RULE_THROUGH 14u        /* a hyphen or a dash between numbers is written `thru` */
 #define TOWNSHIP_RULE_AND 15u            /* an ampersand is written `and` */
