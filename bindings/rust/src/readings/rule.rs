@@ -27,7 +27,7 @@ pub enum Rule {
     FractionDigit,
     /// The township and range are written `T. 2 N., R. 3 W.`
     Heading,
-    /// The word for a section is written `sec.`, and for several `secs.`
+    /// The word for a section is written `sec.`, or `secs.` for several
     SectionWord,
     /// The word for lots is written `lot` or `lots`.
     LotWord,
