@@ -16,7 +16,9 @@ if python=$(python_with argparse); then
     try 'the table of words, and what is made of it' "$python" tools/words.py --check
     try 'how lists of words are compared' "$python" tests/tools/test_words.py
     try 'that descriptions without readings fail' "$python" tests/tools/test_floors.py
-    try 'the signatures of the calls' "$python" tools/signatures.py
+    try 'the bindings, which are made from township.h' "$python" -B tools/bindings.py --check
+    try 'township.h, compared with the code of the library' "$python" -B tools/signatures.py
+    try 'that differences from township.h are found' "$python" tests/tools/test_bindings.py
     try 'the constants of township.h' "$python" tools/header_names.py --check
     try 'what several files repeat' "$python" -B tools/repeated
     try 'how tools/reading_list finds definitions' "$python" -B tests/tools/test_reading_list.py

@@ -3,32 +3,29 @@
 
     python3 tools/repeated
 
-- The structs and the constants of include/township.h, with those of the library and of the bindings.
 - The functions of include/township.h, with the lists and the tests that have to name each of them.
 - The numbers of the rules of readings, with those of the header and of the bindings, and the words for what they assume.
 - The limits of the definitions, with those of the code, of the header, and of sentences; and likewise the lengths that
   half miles may have.
 - The numbers of refusals in docs/REFUSALS.md, with the ranges of numbers that sentences give.
 
-Each difference is named; the status is 1 if there are any. tools/signatures.py compares the parameters of
-functions, and tools/header_names.py the names of refusals and the versions.
+Each difference is named; the status is 1 if there are any. tools/signatures.py compares the header with the library's
+code, tools/bindings.py the bindings with the header, and tools/header_names.py the names of refusals and the versions.
 """
 
 import sys
 from typing import List
 
 import calls
-import constants
 import lengths
 import limits
 import ranges
 import rules
-import structs
 
 
 def main() -> int:
     differences: List[str] = []
-    for module in (structs, constants, calls, rules, limits, lengths, ranges):
+    for module in (calls, rules, limits, lengths, ranges):
         compared, found = module.compare()
         differences += found
         print(f"{compared} {module.WHAT}")

@@ -3,13 +3,13 @@
 import re
 from typing import List, Set
 
-from reading import HEADER, PYTHON, Compared, text_of
+from reading import HEADER, PYTHON, ROOT, Compared, text_of
 
 WHAT = "names of calls in lists and tests"
 
 #: Where each call is named, as in C: a file, or several files that together name each.
 NAMED = (
-    "crates/twp_calls/src/lib.rt crates/twp_many/src/lib.rt",
+    "crates/*/src/lib.rt",
     "packaging/libtownship.map",
     "tests/library/c/township_test.c tests/library/c/land.c tests/library/c/lots.c tests/library/c/lists.c "
     "tests/library/c/many.c tests/library/c/explanations.c tests/library/c/readings.c",
@@ -36,7 +36,7 @@ def compare() -> Compared:
                 differences.append(f"{place}: {call} is not named")
     # The tests of the Python package have a list of its functions, by their names there.
     tested = words_of("bindings/python/tests/test_library.py")
-    for name in re.findall(r'^(\w+) = _call\("township_\w+"', text_of(f"{PYTHON}/_library.py"), re.M):
+    for name in re.findall(r'^(\w+) = _call\(\s*"township_\w+"', text_of(f"{PYTHON}/_library.py"), re.M):
         compared += 1
         if name not in tested:
             differences.append(f"bindings/python/tests/test_library.py: {name} is not named")
@@ -44,4 +44,6 @@ def compare() -> Compared:
 
 
 def words_of(paths: str) -> Set[str]:
-    return {word for path in paths.split() for word in re.findall(r"\w+", text_of(path))}
+    """The words of files whose names or patterns are given."""
+    files = [file for path in paths.split() for file in sorted(ROOT.glob(path))]
+    return {word for file in files for word in re.findall(r"\w+", text_of(str(file.relative_to(ROOT))))}

@@ -3,7 +3,7 @@
 import re
 from typing import Dict, List, NamedTuple, Set
 
-from reading import HEADER, PYTHON, ROOT, Compared, number_of, text_of
+from reading import HEADER, ROOT, Compared, number_of, text_of
 
 WHAT = "limits in the code, the header, and sentences"
 
@@ -23,7 +23,6 @@ LIMITS = (
         {
             "crates/twp_notes/src/fault.rt": r"const MOST_BYTES: u32 = ",
             HEADER: r"#define TOWNSHIP_NOTES_MOST ",
-            f"{PYTHON}/_library.py": r"^NOTES_MOST = ",
         },
     ),
     Limit(

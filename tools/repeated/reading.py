@@ -13,8 +13,6 @@ Compared = Tuple[int, List[str]]
 SOURCES = (".rt", ".rs", ".py")
 
 HEADER = "include/township.h"
-CALLS = "crates/twp_calls/src"
-MANY = "crates/twp_many/src"
 RUST = "bindings/rust/src"
 PYTHON = "bindings/python/src/township"
 

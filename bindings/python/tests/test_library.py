@@ -12,8 +12,10 @@ from unittest import mock
 
 import township
 from samples import NOTES, TOP, uneven
-from township import _library
+from township import _library, _loading
+from township._written import text_by
 
+HEADER = (TOP / "include" / "township.h").read_text()
 
 LAND = township.Land.of((2, "N", 3, "W"), "sec. 14.")
 LOTS = township.Lots.read("section,lot,acres\nT,2,N,3,W\n")
@@ -29,14 +31,14 @@ class Found(unittest.TestCase):
         return subprocess.run(command, env=environment, capture_output=True, text=True)
 
     def test_named_by_the_environment(self):
-        self.assertEqual(self.importing(_library._LIBRARY._name).stdout, township.version() + "\n")
+        self.assertEqual(self.importing(_loading.LIBRARY._name).stdout, township.version() + "\n")
 
     def test_named_one_that_is_not_there(self):
         run = self.importing("/nowhere/libtownship.so")
         self.assertNotEqual(run.returncode, 0)
         self.assertIn("ImportError: cannot load the township library: /nowhere/libtownship.so", run.stderr)
 
-    @unittest.skipIf(os.path.exists(_library.BESIDE), "the package has its own library")
+    @unittest.skipIf(os.path.exists(_loading.BESIDE), "the package has its own library")
     def test_neither_named_nor_beside_the_package(self):
         for named in (None, ""):
             run = self.importing(named)
@@ -44,7 +46,7 @@ class Found(unittest.TestCase):
             self.assertIn("TOWNSHIP_LIBRARY", run.stderr)
 
     def test_beside_the_package(self):
-        self.assertEqual(Path(_library.BESIDE), Path(township.__file__).resolve().parent / "libtownship.so")
+        self.assertEqual(Path(_loading.BESIDE), Path(township.__file__).resolve().parent / "libtownship.so")
 
     def test_version(self):
         self.assertRegex(township.version(), r"\A[0-9]+\.[0-9]+\.[0-9]+\Z")
@@ -53,8 +55,10 @@ class Found(unittest.TestCase):
 
 class Declared(unittest.TestCase):
     def test_sizes(self):
-        structs = (_library.Plat, _library.Answer, _library.Area, _library.Figures, _library.Tract, _library.Totals)
-        self.assertEqual([ctypes.sizeof(struct) for struct in structs], [340, 48, 24, 2312, 80, 16])
+        structs = (_library.Plat, _library.Answer, _library.FullAnswer, _library.Fraction, _library.PlatFigures)
+        self.assertEqual([ctypes.sizeof(struct) for struct in structs], [340, 48, 400, 24, 2312])
+        structs = (_library.Tract, _library.Totals, _library.Explanation)
+        self.assertEqual([ctypes.sizeof(struct) for struct in structs], [80, 16, 112])
         structs = (_library.Designation, _library.Land, _library.Lots, _library.Part)
         self.assertEqual([ctypes.sizeof(struct) for struct in structs], [4, 4612, 192, 6])
         structs = (_library.TractAnswer, _library.Overlap)
@@ -63,52 +67,24 @@ class Declared(unittest.TestCase):
         self.assertEqual([ctypes.sizeof(struct) for struct in structs], [40, 56, 56])
 
     def test_fields_are_those_of_the_header(self):
-        header = (TOP / "include" / "township.h").read_text()
-        structs = (
-            (_library.Plat, "plat"),
-            (_library.Answer, "answer"),
-            (_library.Area, "fraction"),
-            (_library.Figures, "plat_figures"),
-            (_library.Tract, "tract"),
-            (_library.Totals, "totals"),
-            (_library.TractAnswer, "tract_answer"),
-            (_library.Overlap, "overlap"),
-            (_library.Designation, "designation"),
-            (_library.Land, "land"),
-            (_library.Lots, "lots"),
-            (_library.Part, "part"),
-            (_library.Reading, "reading"),
-            (_library.Change, "change"),
-            (_library.Suggestion, "suggestion"),
-        )
-        for struct, name in structs:
-            body = header.partition(f"typedef struct township_{name} {{")[2].partition("}")[0]
-            declared = re.findall(r"^ +(?:uint\d+_t|char|township_\w+) (\w+)", body, re.MULTILINE)
-            self.assertEqual(declared, [field for field, _ in struct._fields_])
+        declared = re.findall(r"^typedef struct township_(\w+) \{(.*?)^\}", HEADER, re.MULTILINE | re.DOTALL)
+        self.assertGreater(len(declared), 15)
+        for name, body in declared:
+            struct = getattr(_library, name.title().replace("_", ""))
+            fields = re.findall(r"^ +(?:uint\d+_t|char|township_\w+) (\w+)", body, re.MULTILINE)
+            self.assertEqual([field for field, _ in struct._fields_], fields)
 
     def test_limits_are_those_of_the_header(self):
-        header = (TOP / "include" / "township.h").read_text()
-        self.assertIn(f"#define TOWNSHIP_LINES {_library.LINES}\n", header)
-        for name in (
-            *("NOTES_MOST", "DESCRIPTION_MOST", "LOTS_TEXT_MOST", "SECTIONS", "LOTS_MOST", "PLACES_ACROSS", "LOTS"),
-            *("TRACTS_MOST", "NAME_ROOM"),
-        ):
-            self.assertIn(f"#define TOWNSHIP_{name} {getattr(_library, name)}\n", header)
-
-    def test_verdicts_are_those_of_the_header(self):
-        header = (TOP / "include" / "township.h").read_text()
-        for name in (
-            *("ACCEPTED", "REFUSED", "TRACT_REFUSED", "NO_PLAT", "NO_ACCOUNT", "NO_ROOM", "NO_MEMORY", "NO_RANGE"),
-            *("NO_LAND", "NO_LOTS", "NO_TOWNSHIP", "NO_OPERATION", "OTHER_TOWNSHIP"),
-        ):
-            self.assertIn(f"#define TOWNSHIP_{name} {getattr(_library, name)}u ", header)
+        self.constants_are_those_of_the_header(r"^#define TOWNSHIP_(?!VERSION)(\w+) (\d+)$", "LINES", "NAME_ROOM")
 
     def test_codes_are_those_of_the_header(self):
-        header = (TOP / "include" / "township.h").read_text()
-        operations = ("UNION", "INTERSECTION", "DIFFERENCE")
-        comparisons = ("EQUAL", "CONTAINS", "IS_CONTAINED", "OVERLAPS", "DISJOINT")
-        for name in ("EXACT", "BY_PLAT", "NORTH", "SOUTH", "EAST", "WEST", *operations, *comparisons):
-            self.assertRegex(header, rf"#define TOWNSHIP_{name} {getattr(_library, name)}u\s")
+        self.constants_are_those_of_the_header(r"^#define TOWNSHIP_(\w+) (\d+)u\b", "OTHER_TOWNSHIP", "REMAINDER")
+
+    def constants_are_those_of_the_header(self, form, *some):
+        declared = dict(re.findall(form, HEADER, re.MULTILINE))
+        self.assertLessEqual({*some}, {*declared})
+        for name, number in declared.items():
+            self.assertEqual(getattr(_library, name), int(number), name)
 
 
 class Verdicts(unittest.TestCase):
@@ -184,8 +160,8 @@ class Verdicts(unittest.TestCase):
         ):
             parts = _library.Explanation()
             with_parts_of = functools.partial(self.call_with, with_parts, ctypes.byref(parts))
-            answer, text = _library.text_by(alone, *given, b"x", 1)
-            again, same_text = _library.text_by(with_parts_of, *given, b"x", 1)
+            answer, text = text_by(alone, *given, b"x", 1)
+            again, same_text = text_by(with_parts_of, *given, b"x", 1)
             with self.subTest(text=text):
                 self.assertEqual((bytes(answer), text), (bytes(again), same_text))
                 self.assertEqual(parts.shown, _library.SHOWN_BYTES)

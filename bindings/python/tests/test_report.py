@@ -5,13 +5,14 @@ import unittest
 from decimal import Decimal
 
 from township import Overlap, Refusal, Refused, TractAnswer, _library
+from township._written import text_by
 
 from samples import TRACTS, even, uneven
 
 
 def report_text(listed):
     """The text of the report that the library writes for a list."""
-    answer, text = _library.text_by(_library.report, ctypes.byref(uneven()._parts), listed, len(listed))
+    answer, text = text_by(_library.report, ctypes.byref(uneven()._parts), listed, len(listed))
     return text if answer.verdict == _library.ACCEPTED else None
 
 

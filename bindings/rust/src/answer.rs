@@ -163,7 +163,7 @@ mod tests {
             at: 2,
             inner_number: 67,
             inner_at: 19,
-            ..Answer::default()
+            ..Answer::BLANK
         }
     }
 

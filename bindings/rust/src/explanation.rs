@@ -50,10 +50,14 @@ pub(crate) struct Explained {
 /// Calls a function that explains. Returns its answer and the explanation, which is empty if there is
 /// none.
 pub(crate) fn explained_by(
-    call: impl Fn(&mut [u8], &mut ffi::Explanation) -> Answer,
+    call: impl Fn(&mut [u8]) -> (Answer, ffi::Explanation),
 ) -> (Answer, Explained) {
-    let mut parts = ffi::Explanation::default();
-    let (answer, text) = text_by(|room| call(room, &mut parts));
+    let mut parts = ffi::Explanation::BLANK;
+    let (answer, text) = text_by(|room| {
+        let (answer, written) = call(room);
+        parts = written;
+        answer
+    });
     (answer, Explained::new(text, parts))
 }
 
@@ -130,7 +134,7 @@ mod tests {
 
     #[test]
     fn nothing_is_explained() {
-        let nothing = Explained::new(String::new(), ffi::Explanation::default());
+        let nothing = Explained::new(String::new(), ffi::Explanation::BLANK);
         assert_eq!(nothing, Explained::default());
     }
 

@@ -44,7 +44,7 @@ impl Figures {
         self.sections.get(usize::from(number).checked_sub(1)?)
     }
 
-    pub(crate) fn from_data(figures: &ffi::Figures) -> Figures {
+    pub(crate) fn from_data(figures: &ffi::PlatFigures) -> Figures {
         let sections = (0..SECTIONS).map(|index| Section::from_data(figures, index));
         Figures {
             sections: sections.collect(),
@@ -59,7 +59,7 @@ impl Section {
         self.lots.get(usize::from(number).checked_sub(1)?).copied()
     }
 
-    fn from_data(figures: &ffi::Figures, index: usize) -> Section {
+    fn from_data(figures: &ffi::PlatFigures, index: usize) -> Section {
         // The places of lots that a section does not have are 0, which is no lot's figure.
         let lots = figures.lots[index]
             .iter()

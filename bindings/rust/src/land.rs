@@ -103,15 +103,17 @@ impl Land {
 
     /// Makes the land of a description, which is explained on a plat of the township if it is refused.
     pub(crate) fn read_on(
-        plat: &ffi::Parts,
+        plat: &ffi::Plat,
         township: Township,
         description: &[u8],
     ) -> Result<Land, Refused> {
         let (answer, data) = ffi::land_read(&township.designation(), description);
         match answer.accepted() {
-            Ok(_) => Ok(Land { data }),
-            Err(fault) => Err(Refused::explained(fault, |room, parts| {
-                ffi::explain_description_parts(plat, description, DESCRIPTION, room, parts)
+            Ok(_) => Ok(Land {
+                data: Box::new(data),
+            }),
+            Err(fault) => Err(Refused::explained(fault, |room| {
+                ffi::explain_description_parts(plat, description, DESCRIPTION.as_bytes(), room)
             })),
         }
     }

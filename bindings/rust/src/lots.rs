@@ -255,8 +255,8 @@ impl Lots {
             return refused_lots(fault, LIST);
         }
         let plat = self.township().nominal_plat();
-        Refused::explained(fault, |room, parts| {
-            ffi::explain_list_parts(&plat, list, LIST, room, parts)
+        Refused::explained(fault, |room| {
+            ffi::explain_list_parts(&plat, list, LIST.as_bytes(), room)
         })
     }
 
@@ -266,8 +266,8 @@ impl Lots {
             return refused_lots(fault, DESCRIPTION);
         }
         let plat = self.township().nominal_plat();
-        Refused::explained(fault, |room, parts| {
-            ffi::explain_description_parts(&plat, description, DESCRIPTION, room, parts)
+        Refused::explained(fault, |room| {
+            ffi::explain_description_parts(&plat, description, DESCRIPTION.as_bytes(), room)
         })
     }
 }

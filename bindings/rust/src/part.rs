@@ -40,10 +40,10 @@ pub struct Part {
 impl Part {
     /// Returns the parts of land, in the order of its canonical text.
     pub(crate) fn all_of(land: &ffi::Land) -> Vec<Part> {
-        let mut parts = vec![ffi::Part::default(); USUAL_ROOM];
+        let mut parts = vec![ffi::Part::BLANK; USUAL_ROOM];
         let mut answer = ffi::land_parts(land, &mut parts);
         if answer.verdict() == Verdict::NoRoom {
-            parts.resize(answer.text_length(), ffi::Part::default());
+            parts.resize(answer.text_length(), ffi::Part::BLANK);
             answer = ffi::land_parts(land, &mut parts);
         }
         match answer.accepted() {

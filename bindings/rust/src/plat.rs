@@ -1,7 +1,7 @@
 //! Plats.
 
 use crate::answer::{out_of_memory, Verdict};
-use crate::ffi::{self, Parts};
+use crate::ffi;
 use crate::refused::{Refused, NOTES};
 use crate::text::accepted_text_by;
 use crate::township::Township;
@@ -14,7 +14,7 @@ mod land;
 mod lists;
 
 /// The number of section lines in a township.
-pub const LINES: usize = 84;
+pub const LINES: usize = ffi::LINES;
 
 /// The plat of a township: the result of protracting its field notes, and the basis of every
 /// acreage.
@@ -35,7 +35,7 @@ pub const LINES: usize = 84;
     serde(try_from = "crate::data::PlatData", into = "crate::data::PlatData")
 )]
 pub struct Plat {
-    parts: Parts,
+    parts: ffi::Plat,
 }
 
 /// The error for closing quarters that do not make a plat; see [`Plat::from_parts`].
@@ -64,8 +64,8 @@ impl Plat {
         let (answer, parts) = ffi::read(notes);
         match answer.accepted() {
             Ok(_) => Ok(Plat { parts }),
-            Err(fault) => Err(Refused::explained(fault, |room, parts| {
-                ffi::explain_notes_parts(notes, NOTES, room, parts)
+            Err(fault) => Err(Refused::explained(fault, |room| {
+                ffi::explain_notes_parts(notes, NOTES.as_bytes(), room)
             })),
         }
     }

@@ -143,8 +143,8 @@ struct Data {
 impl Data {
     /// Calls the library with this much room. If there is too little, returns how much there is.
     fn with_room(text: &[u8], changes: usize, bytes: usize) -> Result<Data, ffi::Suggestion> {
-        let mut readings = [ffi::Reading::default(); ffi::READINGS_MOST];
-        let mut changes = vec![ffi::Change::default(); changes];
+        let mut readings = [ffi::Reading::BLANK; ffi::READINGS_MOST];
+        let mut changes = vec![ffi::Change::BLANK; changes];
         let mut bytes = vec![0; bytes];
         let (answer, said) = ffi::suggest(text, &mut readings, &mut changes, &mut bytes);
         match answer.verdict() {

@@ -73,7 +73,7 @@ impl Refused {
     /// Returns the refusal for a fault, with the library's explanation. Panics if memory runs out.
     pub(crate) fn explained(
         fault: Fault,
-        explain: impl Fn(&mut [u8], &mut ffi::Explanation) -> Answer,
+        explain: impl Fn(&mut [u8]) -> (Answer, ffi::Explanation),
     ) -> Refused {
         let (answer, explained) = explained_by(explain);
         assert_eq!(
@@ -190,12 +190,13 @@ mod tests {
 
     /// Explains the refusal `OVERLAP` by an answer with these values.
     fn told(verdict: u32, number: u32, at: u32) -> Refused {
-        Refused::explained(FAULT, |_, _| Answer {
+        let answer = Answer {
             verdict,
             number,
             at,
-            ..Answer::default()
-        })
+            ..Answer::BLANK
+        };
+        Refused::explained(FAULT, |_| (answer, ffi::Explanation::BLANK))
     }
 
     #[test]

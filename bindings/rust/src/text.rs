@@ -47,7 +47,7 @@ mod tests {
         Answer {
             verdict,
             length: length as u64,
-            ..Answer::default()
+            ..Answer::BLANK
         }
     }
 

@@ -1,6 +1,6 @@
 //! The designation of a township.
 
-use crate::ffi::{self, Designation, Parts};
+use crate::ffi::{self, Designation};
 use crate::parse::{number, ParseError};
 use crate::plat::LINES;
 use std::fmt;
@@ -94,7 +94,7 @@ impl Township {
     }
 
     /// Returns the township of a plat's parts, if they are valid.
-    pub(crate) fn from_parts(parts: &Parts) -> Option<Township> {
+    pub(crate) fn from_parts(parts: &ffi::Plat) -> Option<Township> {
         Township::from_designation(&Designation {
             number: parts.number,
             north_south: parts.north_south,
@@ -124,8 +124,8 @@ impl Township {
     }
 
     /// Returns the parts of a plat with these closing quarters, which may or may not be valid.
-    pub(crate) fn parts(self, closing_quarters: [u32; LINES]) -> Parts {
-        Parts {
+    pub(crate) fn parts(self, closing_quarters: [u32; LINES]) -> ffi::Plat {
+        ffi::Plat {
             closing_quarters,
             number: self.number,
             north_south: self.north_south.code(),
@@ -136,7 +136,7 @@ impl Township {
 
     /// Returns the plat of the township in which every half mile is 40 chains long. A description is
     /// refused on it if it is refused on any other plat of the township, and for the same fault.
-    pub(crate) fn nominal_plat(self) -> Parts {
+    pub(crate) fn nominal_plat(self) -> ffi::Plat {
         self.parts([NOMINAL_QUARTER; LINES])
     }
 }

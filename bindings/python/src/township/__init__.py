@@ -33,6 +33,7 @@ from ._report import LotsReport, Overlap, Report, Tract, TractAnswer
 from ._rounding import rounded
 from ._township import EastWest, NorthSouth, Township
 from ._version import __version__
+from ._written import text_by
 
 __all__ = [
     "Account",
@@ -80,7 +81,7 @@ def version() -> str:
     >>> township.version().count(".")
     2
     """
-    answer, text = _library.text_by(_library.version)
+    answer, text = text_by(_library.version)
     if answer.verdict != _library.ACCEPTED:
         raise failure_of(answer.verdict)
     return text

@@ -21,6 +21,7 @@ from ._refused import DESCRIPTION, Refused, exception_of, failure_of
 from ._reporting import Reporting
 from ._text import Text, encoded
 from ._township import township_of
+from ._written import text_by, without_text
 
 
 class Answering(Reporting):
@@ -55,7 +56,7 @@ class Answering(Reporting):
         >>> plat.area("sec. 5, lot 1.")
         Fraction(809, 20)
         """
-        area = _library.Area()
+        area = _library.Fraction()
         if isinstance(description, Land):
             self._measured(_library.land_area, description, account, byref(area))
             return fraction_of(area)
@@ -82,7 +83,7 @@ class Answering(Reporting):
         sec. 14, N1/2, SE1/4.
         """
         given = encoded(description)
-        answer, text = _library.text_by(_library.normal, byref(self._parts), given, len(given))
+        answer, text = text_by(_library.normal, byref(self._parts), given, len(given))
         if answer.verdict != _library.ACCEPTED:
             raise self._exception_of(answer, given)
         return text
@@ -103,7 +104,7 @@ write a comma after NE1/4 (320.00 acres)
         given = encoded(description)
         asked = (byref(self._parts), given, len(given), DESCRIPTION, len(DESCRIPTION))
         # Nearly all accepted descriptions have no note, which the answer says without a text.
-        answer = _library.without_text(_library.explain_description, *asked)
+        answer = without_text(_library.explain_description, *asked)
         if answer.verdict == _library.ACCEPTED:
             return []
         if answer.verdict == _library.NO_ROOM:

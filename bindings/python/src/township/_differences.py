@@ -30,7 +30,7 @@ def differences_of(plat: _library.Plat, lots: Lots) -> List[Difference]:
     """Return the lots whose acreage differs, in order."""
     if township_of(plat) != lots.township:
         raise failure_of(_library.OTHER_TOWNSHIP, township_of(plat), lots.township)
-    figures = _library.Figures()
+    figures = _library.PlatFigures()
     answer = _library.figures(byref(plat), byref(figures))
     if answer.verdict != _library.ACCEPTED:
         raise failure_of(answer.verdict)

@@ -5,6 +5,7 @@ from ctypes import byref
 from typing import Callable, List, NamedTuple, Optional, Tuple
 
 from . import _library
+from ._written import text_by
 
 _PROGRAM = "township: "
 
@@ -75,7 +76,7 @@ def _parts_by(
     def explain(*arguments: object) -> _library.Answer:
         return call(*arguments, byref(parts))
 
-    answer, text = _library.text_by(explain, *given)
+    answer, text = text_by(explain, *given)
     return answer, text, parts
 
 

@@ -7,6 +7,9 @@ from typing import Dict, List, NamedTuple, Tuple
 
 from . import _library
 
+#: The number of units in an acre. The unit of area is a square thousandth of a chain.
+UNITS_IN_ACRE = 10_000_000
+
 # A 64-bit number has at most 20 digits, so nothing is rounded, whatever the caller's decimal context is.
 _scaleb = Context(prec=28).scaleb
 
@@ -16,9 +19,9 @@ def acres_of_hundredths(hundredths: int) -> Decimal:
     return _scaleb(hundredths, -2)
 
 
-def fraction_of(area: _library.Area) -> Fraction:
+def fraction_of(area: _library.Fraction) -> Fraction:
     """Return an exact area in acres."""
-    return Fraction(area.units_high << 64 | area.units_low, area.over * _library.UNITS_IN_ACRE)
+    return Fraction(area.units_high << 64 | area.units_low, area.over * UNITS_IN_ACRE)
 
 
 class Section(NamedTuple):
@@ -41,13 +44,13 @@ class Section(NamedTuple):
         return dict(enumerate(self.lot_acres, start=1))
 
 
-def sections_of(figures: _library.Figures) -> Dict[int, Section]:
+def sections_of(figures: _library.PlatFigures) -> Dict[int, Section]:
     """Return the sections of a printed plat, by section number."""
     numbers = range(1, _library.SECTIONS + 1)
     return {number: _section_of(number, lots, total) for number, lots, total in zip(numbers, *_rows(figures))}
 
 
-def _rows(figures: _library.Figures) -> Tuple[List[List[int]], List[int]]:
+def _rows(figures: _library.PlatFigures) -> Tuple[List[List[int]], List[int]]:
     """Return the figures of the lots of each section, and those of the sections."""
     return [list(lots) for lots in figures.lots], list(figures.sections)
 

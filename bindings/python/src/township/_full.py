@@ -9,6 +9,7 @@ from ._explanation import sentence_by
 from ._many import Refuse, in_a_row
 from ._refused import DESCRIPTION, Refusal, Refused, failure_of, refusal_of
 from ._text import Text
+from ._written import text_by
 
 # The answers to a description consist of words of 64 bits. The first word of each contains the verdict, and the number
 # of a refusal.
@@ -98,7 +99,7 @@ class FullAnswers:
     def _long_text(self, index: int) -> str:
         """Return a canonical text for which there was no room."""
         given = self._description(index)
-        answer, text = _library.text_by(_library.normal, self._parts, given, len(given))
+        answer, text = text_by(_library.normal, self._parts, given, len(given))
         if answer.verdict != _library.ACCEPTED:
             raise failure_of(answer.verdict)
         return text

@@ -14,6 +14,7 @@ from ._refused import DESCRIPTION, exception_of, failure_of
 from ._spelling import Named, township_named
 from ._text import Text, encoded
 from ._township import Township, codes_of, nominal_plat_of, township_of
+from ._written import text_by
 
 if TYPE_CHECKING:
     from ._lots import Lots
@@ -131,7 +132,7 @@ class Land:
 
         The text of empty land is empty.
         """
-        answer, text = _library.text_by(_library.land_text, byref(self._parts))
+        answer, text = text_by(_library.land_text, byref(self._parts))
         if answer.verdict != _library.ACCEPTED:
             raise failure_of(answer.verdict)
         return text

@@ -1,38 +1,57 @@
-"""The shared library: its structs and functions, as declared in `include/township.h`, and its location."""
+"""The library's constants, structs, and calls. Made from include/township.h by tools/bindings.py, not by hand."""
 from __future__ import annotations
 
 import ctypes
-import os
-import threading
 from ctypes import POINTER, c_char, c_char_p, c_size_t, c_uint8, c_uint32, c_uint64
-from typing import Any, Callable, Tuple
+from typing import Any, Callable
 
-#: The number of section lines in a township.
+from ._loading import LIBRARY
+
+REFUSAL_NOTES_TOO_LARGE = 1
+REFUSAL_NOTES_EMPTY = 2
+REFUSAL_NOTES_HEADING = 3
+REFUSAL_NOTES_COLUMNS = 4
+REFUSAL_NOTES_TOWNSHIP = 5
+REFUSAL_NOTES_RUN = 6
+REFUSAL_NOTES_SECTION = 7
+REFUSAL_NOTES_NO_LINE = 8
+REFUSAL_NOTES_LENGTH = 9
+REFUSAL_NOTES_REPEATED = 10
+REFUSAL_NOTES_MISSING = 11
+REFUSAL_PLAT_IRREGULAR = 21
+REFUSAL_PLAT_CLOSING_SHORT = 22
+REFUSAL_PLAT_CLOSING_LONG = 23
+REFUSAL_TEXT_TOO_LARGE = 41
+REFUSAL_TEXT_BAD_BYTE = 42
+REFUSAL_TEXT_BAD_NUMBER = 43
+REFUSAL_TEXT_SYNTAX = 44
+REFUSAL_LAND_OTHER_TOWNSHIP = 61
+REFUSAL_LAND_NO_SECTION = 62
+REFUSAL_LAND_BACKWARD = 63
+REFUSAL_LAND_NO_LOT = 64
+REFUSAL_LAND_TOO_FINE = 65
+REFUSAL_LAND_ON_LOT = 66
+REFUSAL_LAND_OVERLAP = 67
+REFUSAL_TRACTS_TOO_LARGE = 80
+REFUSAL_TRACT_ROW = 81
+REFUSAL_NAME_REPEATED = 82
+REFUSAL_TRACT_REFUSED = 83
+REFUSAL_TRACTS_OVERLAP = 84
+REFUSAL_TOO_MANY_TRACTS = 85
+REFUSAL_LOTS_TOO_LARGE = 86
+REFUSAL_LOTS_EMPTY = 87
+REFUSAL_LOTS_HEADING = 88
+REFUSAL_LOTS_COLUMNS = 89
+REFUSAL_LOTS_TOWNSHIP = 90
+REFUSAL_LOTS_NO_LOT = 91
+REFUSAL_LOTS_ACRES = 92
+REFUSAL_LOTS_REPEATED = 93
+REFUSAL_LOTS_LACKING = 94
 LINES = 84
-
-#: The number of sections in a township, and the most lots of a section.
-SECTIONS = 36
-LOTS_MOST = 7
-
-#: The number of rows, and of columns, of the places in a section.
-PLACES_ACROSS = 32
-
-#: The number of lots in a township.
-LOTS = 47
-
-#: The most tracts of a list, and the room for a tract's name, in bytes.
-TRACTS_MOST = 1_000
-NAME_ROOM = 68
-
-#: The maximum size, in bytes, of field notes, of a description, and of a lot table: longer ones are refused.
 NOTES_MOST = 65_536
 DESCRIPTION_MOST = 65_536
+LIST_MOST = 1_048_576
 LOTS_TEXT_MOST = 65_536
-
-#: The room for the canonical text of each of many descriptions, in bytes.
-TEXT_ROOM = 256
-
-# Verdicts.
 ACCEPTED = 0
 REFUSED = 1
 TRACT_REFUSED = 2
@@ -46,62 +65,74 @@ NO_LOTS = 9
 NO_TOWNSHIP = 10
 NO_OPERATION = 11
 OTHER_TOWNSHIP = 12
-
-# Accounts.
 EXACT = 0
 BY_PLAT = 1
-
-# Operations on two lands.
+NORTH = 0
+SOUTH = 1
+EAST = 0
+WEST = 1
+TEXT_ROOM = 256
+LOTS_MOST = 7
+SECTIONS = 36
+TRACTS_MOST = 1_000
+NAME_MOST = 64
+NAME_ROOM = 68
+PLACES_ACROSS = 32
+LOTS = 47
+READINGS_MOST = 8
+RULE_HALF = 1
+RULE_QUARTER = 2
+RULE_DIRECTION = 3
+RULE_NUMERAL = 4
+RULE_COPIED = 5
+RULE_COPIED_STEP = 6
+RULE_DAMAGE = 7
+RULE_EXCEPTION = 8
+RULE_ZEROS = 9
+RULE_FRACTION_DIGIT = 10
+RULE_HEADING = 11
+RULE_SECTION_WORD = 12
+RULE_LOT_WORD = 13
+RULE_THROUGH = 14
+RULE_AND = 15
+RULE_COMMA = 16
+RULE_SEMICOLON = 17
+RULE_ONE_PART = 18
+RULE_MARK = 19
+RULE_WORD = 20
+RULE_REPEATED = 21
+RULE_MOVED_SECTION = 22
+RULE_MOVED_HEADING = 23
+RULE_MERIDIAN = 24
+RULE_ACREAGE = 25
+RULE_LABEL = 26
+ASSUMES_SAME_MERIDIAN = 1
+ASSUMES_SAME_ACREAGE = 2
+ASSUMES_NOT_LAND = 3
+ASSUMES_SAID_BEFORE = 4
+ASSUMES_WRONG_LETTER = 5
+ASSUMES_NO_MISSING_COMMA = 6
+CHANGED = 0
+LOTS_NAMED = 1
+REMAINDER = 2
 UNION = 0
 INTERSECTION = 1
 DIFFERENCE = 2
-
-# Comparisons of two lands.
 EQUAL = 0
 CONTAINS = 1
 IS_CONTAINED = 2
 OVERLAPS = 3
 DISJOINT = 4
-
-# What an explanation shows of the input.
+SHOWN_NOTHING = 0
+SHOWN_LINE = 1
 SHOWN_BYTES = 2
-
-# Manners of readings.
-CHANGED = 0
-LOTS_NAMED = 1
-REMAINDER = 2
-
-#: The most readings of a text.
-READINGS_MOST = 8
-
-# Sides of the base line, and of the principal meridian.
-NORTH = 0
-SOUTH = 1
-EAST = 0
-WEST = 1
-
-#: The environment variable that gives the path of the library.
-VARIABLE = "TOWNSHIP_LIBRARY"
-
-#: The default path of the library: in the package's own folder.
-BESIDE = os.path.join(os.path.dirname(os.path.abspath(__file__)), "libtownship.so")
-
-#: The number of units in an acre. The unit of area is a square thousandth of a chain.
-UNITS_IN_ACRE = 10_000_000
-
-
-#: The last quarter miles of all section lines.
-Quarters = c_uint32 * LINES
 
 
 class Plat(ctypes.Structure):
     """`township_plat`: 340 bytes."""
 
     _fields_ = [
-        ("closing_quarters", Quarters),
-        ("number", c_uint8),
-        ("north_south", c_uint8),
-        ("range", c_uint8),
+        ("closing_quarters", c_uint32 * LINES), ("number", c_uint8), ("north_south", c_uint8), ("range", c_uint8),
         ("east_west", c_uint8),
     ]
 
@@ -110,96 +141,28 @@ class Answer(ctypes.Structure):
     """`township_answer`: 48 bytes."""
 
     _fields_ = [
-        ("verdict", c_uint32),
-        ("number", c_uint32),
-        ("at", c_uint32),
-        ("inner_number", c_uint32),
-        ("inner_at", c_uint32),
-        ("line", c_uint32),
-        ("column", c_uint32),
-        ("reserved", c_uint32),
-        ("hundredths", c_uint64),
-        ("length", c_uint64),
+        ("verdict", c_uint32), ("number", c_uint32), ("at", c_uint32), ("inner_number", c_uint32),
+        ("inner_at", c_uint32), ("line", c_uint32), ("column", c_uint32), ("reserved", c_uint32),
+        ("hundredths", c_uint64), ("length", c_uint64),
     ]
 
 
 class FullAnswer(ctypes.Structure):
     """`township_full_answer`: 400 bytes."""
 
-    _fields_ = [
-        ("acres", Answer),
-        ("normal", Answer),
-        ("note", Answer),
-        ("text", c_uint8 * TEXT_ROOM),
-    ]
+    _fields_ = [("acres", Answer), ("normal", Answer), ("note", Answer), ("text", c_uint8 * TEXT_ROOM)]
 
 
-class Area(ctypes.Structure):
+class Fraction(ctypes.Structure):
     """`township_fraction`: 24 bytes."""
 
     _fields_ = [("units_low", c_uint64), ("units_high", c_uint64), ("over", c_uint64)]
 
 
-class Figures(ctypes.Structure):
+class PlatFigures(ctypes.Structure):
     """`township_plat_figures`: 2,312 bytes."""
 
-    _fields_ = [
-        ("lots", c_uint64 * LOTS_MOST * SECTIONS),
-        ("sections", c_uint64 * SECTIONS),
-        ("township", c_uint64),
-    ]
-
-
-class Explanation(ctypes.Structure):
-    """`township_explanation`: 112 bytes."""
-
-    _fields_ = [
-        ("shown", c_uint32),
-        ("has_other", c_uint32),
-        ("other_record", c_uint32),
-        ("continued", c_uint32),
-        ("start", c_uint64),
-        ("end", c_uint64),
-        ("other_start", c_uint64),
-        ("other_end", c_uint64),
-        ("sentence", c_uint64),
-        ("sentence_length", c_uint64),
-        ("excerpt", c_uint64),
-        ("excerpt_length", c_uint64),
-        ("hints", c_uint64),
-        ("hints_length", c_uint64),
-        ("repair", c_uint64),
-        ("repair_length", c_uint64),
-    ]
-
-
-class Designation(ctypes.Structure):
-    """`township_designation`: 4 bytes."""
-
-    _fields_ = [
-        ("number", c_uint8),
-        ("north_south", c_uint8),
-        ("range", c_uint8),
-        ("east_west", c_uint8),
-    ]
-
-
-class Land(ctypes.Structure):
-    """`township_land`: 4,612 bytes."""
-
-    _fields_ = [
-        ("rows", c_uint32 * PLACES_ACROSS * SECTIONS),
-        ("township", Designation),
-    ]
-
-
-class Lots(ctypes.Structure):
-    """`township_lots`: 192 bytes."""
-
-    _fields_ = [
-        ("figures", c_uint32 * LOTS),
-        ("township", Designation),
-    ]
+    _fields_ = [("lots", c_uint64 * LOTS_MOST * SECTIONS), ("sections", c_uint64 * SECTIONS), ("township", c_uint64)]
 
 
 class Tract(ctypes.Structure):
@@ -214,19 +177,6 @@ class Totals(ctypes.Structure):
     _fields_ = [("total", c_uint64), ("remaining", c_uint64)]
 
 
-class Part(ctypes.Structure):
-    """`township_part`: 6 bytes."""
-
-    _fields_ = [
-        ("section", c_uint8),
-        ("lot", c_uint8),
-        ("column", c_uint8),
-        ("row", c_uint8),
-        ("columns", c_uint8),
-        ("rows", c_uint8),
-    ]
-
-
 class TractAnswer(ctypes.Structure):
     """`township_tract_answer`: 120 bytes."""
 
@@ -239,16 +189,30 @@ class Overlap(ctypes.Structure):
     _fields_ = [("first", c_uint32), ("second", c_uint32), ("hundredths", c_uint64)]
 
 
-class Reading(ctypes.Structure):
-    """`township_reading`: 40 bytes."""
+class Designation(ctypes.Structure):
+    """`township_designation`: 4 bytes."""
+
+    _fields_ = [("number", c_uint8), ("north_south", c_uint8), ("range", c_uint8), ("east_west", c_uint8)]
+
+
+class Land(ctypes.Structure):
+    """`township_land`: 4,612 bytes."""
+
+    _fields_ = [("rows", c_uint32 * PLACES_ACROSS * SECTIONS), ("township", Designation)]
+
+
+class Lots(ctypes.Structure):
+    """`township_lots`: 192 bytes."""
+
+    _fields_ = [("figures", c_uint32 * LOTS), ("township", Designation)]
+
+
+class Part(ctypes.Structure):
+    """`township_part`: 6 bytes."""
 
     _fields_ = [
-        ("text", c_uint64),
-        ("text_length", c_uint64),
-        ("changes", c_uint64),
-        ("changes_length", c_uint64),
-        ("manner", c_uint32),
-        ("reserved", c_uint32),
+        ("section", c_uint8), ("lot", c_uint8), ("column", c_uint8), ("row", c_uint8), ("columns", c_uint8),
+        ("rows", c_uint8),
     ]
 
 
@@ -256,14 +220,17 @@ class Change(ctypes.Structure):
     """`township_change`: 56 bytes."""
 
     _fields_ = [
-        ("start", c_uint64),
-        ("end", c_uint64),
-        ("written", c_uint64),
-        ("written_length", c_uint64),
-        ("copied", c_uint64),
-        ("copied_end", c_uint64),
-        ("rule", c_uint32),
-        ("assumes", c_uint32),
+        ("start", c_uint64), ("end", c_uint64), ("written", c_uint64), ("written_length", c_uint64),
+        ("copied", c_uint64), ("copied_end", c_uint64), ("rule", c_uint32), ("assumes", c_uint32),
+    ]
+
+
+class Reading(ctypes.Structure):
+    """`township_reading`: 40 bytes."""
+
+    _fields_ = [
+        ("text", c_uint64), ("text_length", c_uint64), ("changes", c_uint64), ("changes_length", c_uint64),
+        ("manner", c_uint32), ("reserved", c_uint32),
     ]
 
 
@@ -271,121 +238,84 @@ class Suggestion(ctypes.Structure):
     """`township_suggestion`: 56 bytes."""
 
     _fields_ = [
-        ("readings", c_uint64),
-        ("changes", c_uint64),
-        ("bytes", c_uint64),
-        ("reason", c_uint64),
-        ("reason_length", c_uint64),
-        ("beyond", c_uint64),
-        ("beyond_end", c_uint64),
+        ("readings", c_uint64), ("changes", c_uint64), ("bytes", c_uint64), ("reason", c_uint64),
+        ("reason_length", c_uint64), ("beyond", c_uint64), ("beyond_end", c_uint64),
     ]
 
 
-def _load() -> ctypes.CDLL:
-    """Load the library that the environment variable names, or else the one in the package's folder."""
-    path = os.environ.get(VARIABLE) or BESIDE
-    try:
-        return ctypes.CDLL(path)
-    except OSError as error:
-        raise ImportError(f"cannot load the township library: {error} ({VARIABLE} can name its file)") from error
+class Explanation(ctypes.Structure):
+    """`township_explanation`: 112 bytes."""
 
-
-_LIBRARY = _load()
-
-# `c_char_p` passes the memory of a `bytes` object directly, without a copy. The length is passed separately,
-# so zero bytes are ordinary bytes.
-_PLAT = POINTER(Plat)
-_BYTES = (c_char_p, c_size_t)
-_ROOM = (POINTER(c_char), c_size_t)
-_OFFSETS = (POINTER(c_size_t), c_size_t)
-_ANSWERS = (POINTER(Answer), c_size_t)
-_FULL_ANSWERS = (POINTER(FullAnswer), c_size_t)
-_TRACTS = (POINTER(Tract), c_size_t)
-_READINGS = (POINTER(Reading), c_size_t)
-_CHANGES = (POINTER(Change), c_size_t)
-_TOWNSHIP = POINTER(Designation)
-_LAND = POINTER(Land)
-_LOTS = POINTER(Lots)
-_PARTS = (POINTER(Part), c_size_t)
-_AREA = POINTER(Area)
-_NUMBER = POINTER(c_uint32)
-_TRACT_ANSWERS = (POINTER(TractAnswer), c_size_t)
-_OVERLAPS = (POINTER(Overlap), c_size_t)
-_EXPLANATION = POINTER(Explanation)
+    _fields_ = [
+        ("shown", c_uint32), ("has_other", c_uint32), ("other_record", c_uint32), ("continued", c_uint32),
+        ("start", c_uint64), ("end", c_uint64), ("other_start", c_uint64), ("other_end", c_uint64),
+        ("sentence", c_uint64), ("sentence_length", c_uint64), ("excerpt", c_uint64), ("excerpt_length", c_uint64),
+        ("hints", c_uint64), ("hints_length", c_uint64), ("repair", c_uint64), ("repair_length", c_uint64),
+    ]
 
 
 def _call(name: str, *types: Any) -> Callable[..., Answer]:
-    """Return the library function with this name, declared with these argument types."""
-    function: Any = getattr(_LIBRARY, name)
+    """Return the library's function of this name, with the types of its arguments declared."""
+    function: Any = getattr(LIBRARY, name)
     function.argtypes = types
     function.restype = Answer
     call: Callable[..., Answer] = function
     return call
 
 
-read = _call("township_read", *_BYTES, _PLAT)
-write_notes = _call("township_write_notes", _PLAT, *_ROOM)
-acres = _call("township_acres", _PLAT, *_BYTES, c_uint32)
-area = _call("township_area", _PLAT, *_BYTES, c_uint32, _AREA)
-normal = _call("township_normal", _PLAT, *_BYTES, *_ROOM)
-print_plat = _call("township_print", _PLAT, *_ROOM)
-report = _call("township_report", _PLAT, *_BYTES, *_ROOM)
-account = _call("township_account", _PLAT, *_BYTES, *_TRACTS, POINTER(Totals))
-report_each = _call("township_report_each", _PLAT, *_BYTES, *_TRACT_ANSWERS)
-overlaps = _call("township_overlaps", _PLAT, *_BYTES, *_OVERLAPS)
-figures = _call("township_figures", _PLAT, POINTER(Figures))
-acres_many = _call("township_acres_many", _PLAT, *_BYTES, *_OFFSETS, c_uint32, *_ANSWERS)
-answer_many = _call("township_answer_many", _PLAT, *_BYTES, *_OFFSETS, c_uint32, *_FULL_ANSWERS)
-explain_notes = _call("township_explain_notes", *_BYTES, *_BYTES, *_ROOM)
-explain_description = _call("township_explain_description", _PLAT, *_BYTES, *_BYTES, *_ROOM)
-explain_list = _call("township_explain_list", _PLAT, *_BYTES, *_BYTES, *_ROOM)
-explain_notes_parts = _call("township_explain_notes_parts", *_BYTES, *_BYTES, *_ROOM, _EXPLANATION)
-explain_description_parts = _call("township_explain_description_parts", _PLAT, *_BYTES, *_BYTES, *_ROOM, _EXPLANATION)
-explain_list_parts = _call("township_explain_list_parts", _PLAT, *_BYTES, *_BYTES, *_ROOM, _EXPLANATION)
-suggest = _call("township_suggest", *_BYTES, *_READINGS, *_CHANGES, *_ROOM, POINTER(Suggestion))
-version = _call("township_version", *_ROOM)
-land_read = _call("township_land_read", _TOWNSHIP, *_BYTES, _LAND)
-land_acres = _call("township_land_acres", _PLAT, _LAND, c_uint32)
-land_area = _call("township_land_area", _PLAT, _LAND, c_uint32, _AREA)
-land_text = _call("township_land_text", _LAND, *_ROOM)
-land_combine = _call("township_land_combine", _LAND, _LAND, c_uint32, _LAND)
-land_compare = _call("township_land_compare", _LAND, _LAND, _NUMBER)
-land_parts = _call("township_land_parts", _LAND, *_PARTS)
-lots_read = _call("township_lots_read", *_BYTES, _LOTS)
-lots_acres = _call("township_lots_acres", _LOTS, *_BYTES)
-lots_area = _call("township_lots_area", _LOTS, *_BYTES, _AREA)
-lots_land_acres = _call("township_lots_land_acres", _LOTS, _LAND)
-lots_land_area = _call("township_lots_land_area", _LOTS, _LAND, _AREA)
-lots_report = _call("township_lots_report", _LOTS, *_BYTES, *_TRACTS)
-
-#: The buffer size for a first call, in bytes. It holds all but long canonical texts and field notes.
-USUAL_ROOM = 4096
-
-
-class _Usual(threading.local):
-    """The buffer for first calls. Each thread has its own, because a call lets other threads run."""
-
-    def __init__(self) -> None:
-        self.buffer = ctypes.create_string_buffer(USUAL_ROOM)
-
-
-_usual = _Usual()
-
-
-def without_text(call: Callable[..., Answer], *arguments: object) -> Answer:
-    """Call a function that writes a text, without room for it. The answer has the length of the text."""
-    return call(*arguments, _usual.buffer, 0)
-
-
-def text_by(call: Callable[..., Answer], *arguments: object) -> Tuple[Answer, str]:
-    """Call a function that writes a text. Return its answer and the text, which is empty if there is none.
-
-    If the buffer is too small, the library reports the size it needs, and the function is called again.
-    """
-    buffer = _usual.buffer
-    answer = call(*arguments, buffer, USUAL_ROOM)
-    while answer.verdict == NO_ROOM:
-        room = answer.length
-        buffer = ctypes.create_string_buffer(room)
-        answer = call(*arguments, buffer, room)
-    return answer, ctypes.string_at(buffer, answer.length).decode("utf-8", "replace")
+read = _call("township_read", c_char_p, c_size_t, POINTER(Plat))
+write_notes = _call("township_write_notes", POINTER(Plat), POINTER(c_char), c_size_t)
+acres = _call("township_acres", POINTER(Plat), c_char_p, c_size_t, c_uint32)
+area = _call("township_area", POINTER(Plat), c_char_p, c_size_t, c_uint32, POINTER(Fraction))
+normal = _call("township_normal", POINTER(Plat), c_char_p, c_size_t, POINTER(c_char), c_size_t)
+print_plat = _call("township_print", POINTER(Plat), POINTER(c_char), c_size_t)
+report = _call("township_report", POINTER(Plat), c_char_p, c_size_t, POINTER(c_char), c_size_t)
+account = _call("township_account", POINTER(Plat), c_char_p, c_size_t, POINTER(Tract), c_size_t, POINTER(Totals))
+report_each = _call("township_report_each", POINTER(Plat), c_char_p, c_size_t, POINTER(TractAnswer), c_size_t)
+overlaps = _call("township_overlaps", POINTER(Plat), c_char_p, c_size_t, POINTER(Overlap), c_size_t)
+figures = _call("township_figures", POINTER(Plat), POINTER(PlatFigures))
+acres_many = _call(
+    "township_acres_many", POINTER(Plat), c_char_p, c_size_t, POINTER(c_size_t), c_size_t, c_uint32, POINTER(Answer),
+    c_size_t,
+)
+answer_many = _call(
+    "township_answer_many", POINTER(Plat), c_char_p, c_size_t, POINTER(c_size_t), c_size_t, c_uint32,
+    POINTER(FullAnswer), c_size_t,
+)
+land_read = _call("township_land_read", POINTER(Designation), c_char_p, c_size_t, POINTER(Land))
+land_acres = _call("township_land_acres", POINTER(Plat), POINTER(Land), c_uint32)
+land_area = _call("township_land_area", POINTER(Plat), POINTER(Land), c_uint32, POINTER(Fraction))
+land_text = _call("township_land_text", POINTER(Land), POINTER(c_char), c_size_t)
+land_parts = _call("township_land_parts", POINTER(Land), POINTER(Part), c_size_t)
+land_combine = _call("township_land_combine", POINTER(Land), POINTER(Land), c_uint32, POINTER(Land))
+land_compare = _call("township_land_compare", POINTER(Land), POINTER(Land), POINTER(c_uint32))
+lots_read = _call("township_lots_read", c_char_p, c_size_t, POINTER(Lots))
+lots_acres = _call("township_lots_acres", POINTER(Lots), c_char_p, c_size_t)
+lots_area = _call("township_lots_area", POINTER(Lots), c_char_p, c_size_t, POINTER(Fraction))
+lots_land_acres = _call("township_lots_land_acres", POINTER(Lots), POINTER(Land))
+lots_land_area = _call("township_lots_land_area", POINTER(Lots), POINTER(Land), POINTER(Fraction))
+lots_report = _call("township_lots_report", POINTER(Lots), c_char_p, c_size_t, POINTER(Tract), c_size_t)
+explain_notes = _call("township_explain_notes", c_char_p, c_size_t, c_char_p, c_size_t, POINTER(c_char), c_size_t)
+explain_description = _call(
+    "township_explain_description", POINTER(Plat), c_char_p, c_size_t, c_char_p, c_size_t, POINTER(c_char), c_size_t,
+)
+explain_list = _call(
+    "township_explain_list", POINTER(Plat), c_char_p, c_size_t, c_char_p, c_size_t, POINTER(c_char), c_size_t,
+)
+explain_notes_parts = _call(
+    "township_explain_notes_parts", c_char_p, c_size_t, c_char_p, c_size_t, POINTER(c_char), c_size_t,
+    POINTER(Explanation),
+)
+explain_description_parts = _call(
+    "township_explain_description_parts", POINTER(Plat), c_char_p, c_size_t, c_char_p, c_size_t, POINTER(c_char),
+    c_size_t, POINTER(Explanation),
+)
+explain_list_parts = _call(
+    "township_explain_list_parts", POINTER(Plat), c_char_p, c_size_t, c_char_p, c_size_t, POINTER(c_char), c_size_t,
+    POINTER(Explanation),
+)
+suggest = _call(
+    "township_suggest", c_char_p, c_size_t, POINTER(Reading), c_size_t, POINTER(Change), c_size_t, POINTER(c_char),
+    c_size_t, POINTER(Suggestion),
+)
+version = _call("township_version", POINTER(c_char), c_size_t)

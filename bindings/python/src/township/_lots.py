@@ -166,7 +166,7 @@ class Lots:
 
     def area(self, description: Union[Text, Land]) -> Fraction:
         """Return the exact area of the land described, or of a `Land`, in acres. `acres` returns it rounded."""
-        area = _library.Area()
+        area = _library.Fraction()
         if isinstance(description, Land):
             answer = _library.lots_land_area(byref(self._parts), byref(description._parts), byref(area))
             self._check_land(answer, description)

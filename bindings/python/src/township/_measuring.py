@@ -17,6 +17,7 @@ from ._plat import Plat
 from ._refused import Refused, failure_of
 from ._text import shown
 from ._township import nominal_plat_of
+from ._written import text_by
 
 #: The file descriptors of standard input and standard output.
 _INPUT, _OUTPUT = 0, 1
@@ -166,7 +167,7 @@ def _read(name: str, by: Union[Plat, Lots]) -> _Description:
     given, source = _bytes_in(name, _library.DESCRIPTION_MOST), _source(name)
     land = Land._read(by.township, plat, given, source)
     explain = _library.explain_description
-    answer, note = _library.text_by(explain, byref(plat), given, len(given), source, len(source))
+    answer, note = text_by(explain, byref(plat), given, len(given), source, len(source))
     if answer.verdict != _library.ACCEPTED:
         raise failure_of(answer.verdict)
     return _Description(land, note)

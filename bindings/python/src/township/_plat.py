@@ -14,6 +14,7 @@ from ._land import Land
 from ._refused import NOTES, Refused, exception_of, failure_of, hinted
 from ._text import Path, Text, encoded, names_a_file, shown
 from ._township import Township, struct_of, township_of
+from ._written import text_by
 
 
 class Plat(Answering):
@@ -134,7 +135,7 @@ class Plat(Answering):
         >>> township.Plat.read(plat.write_notes()) == plat
         True
         """
-        answer, text = _library.text_by(_library.write_notes, byref(self._parts))
+        answer, text = text_by(_library.write_notes, byref(self._parts))
         if answer.verdict != _library.ACCEPTED:
             raise failure_of(answer.verdict)
         return text
@@ -204,7 +205,7 @@ class Plat(Answering):
 
     def _print(self) -> str:
         """Print the plat and cache the text."""
-        answer, text = _library.text_by(_library.print_plat, byref(self._parts))
+        answer, text = text_by(_library.print_plat, byref(self._parts))
         if answer.verdict != _library.ACCEPTED:
             raise failure_of(answer.verdict)
         self._text = text
@@ -213,7 +214,7 @@ class Plat(Answering):
     def _printed_figures(self) -> Tuple[Mapping[int, Section], Decimal]:
         """Return the figures of the printed plat, which are cached."""
         if self._figures is None:
-            figures = _library.Figures()
+            figures = _library.PlatFigures()
             answer = _library.figures(byref(self._parts), byref(figures))
             if answer.verdict != _library.ACCEPTED:
                 raise failure_of(answer.verdict)

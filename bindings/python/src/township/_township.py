@@ -2,6 +2,7 @@
 from __future__ import annotations
 
 import functools
+from ctypes import c_uint32
 from typing import Dict, Literal, NamedTuple, Sequence, Tuple, Union, cast
 
 from . import _library
@@ -13,6 +14,9 @@ EastWest = Literal["E", "W"]
 
 #: A quarter mile, in thousandths of a chain.
 NOMINAL_QUARTER = 20_000
+
+# The last quarter miles of all section lines.
+_Quarters = c_uint32 * _library.LINES
 
 # The sides by the library's codes.
 _NORTH_SOUTH: Dict[int, NorthSouth] = {_library.NORTH: "N", _library.SOUTH: "S"}
@@ -72,7 +76,7 @@ def struct_of(township: Tuple[int, str, int, str], closing_quarters: Sequence[in
         raise ValueError(f"a township has {_library.LINES} section lines, not {len(closing_quarters)}")
     if not all(0 <= quarter < 1 << 32 for quarter in closing_quarters):
         raise ValueError("the last quarter mile of a section line is 5,000 to 25,000 thousandths of a chain")
-    return _library.Plat(_library.Quarters(*closing_quarters), *codes_of(checked(township)))
+    return _library.Plat(_Quarters(*closing_quarters), *codes_of(checked(township)))
 
 
 @functools.lru_cache(maxsize=1024)

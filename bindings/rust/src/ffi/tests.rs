@@ -1,10 +1,9 @@
 use super::*;
-use crate::plat::LINES;
 
 const HEADER: &str = include_str!(concat!(env!("CARGO_MANIFEST_DIR"), "/include/township.h"));
 
 /// The even township.
-const EVEN: Parts = Parts {
+const EVEN: Plat = Plat {
     closing_quarters: [20_000; LINES],
     number: 2,
     north_south: NORTH,
@@ -15,7 +14,7 @@ const EVEN: Parts = Parts {
 fn bare(verdict: u32) -> Answer {
     Answer {
         verdict,
-        ..Answer::default()
+        ..Answer::BLANK
     }
 }
 
@@ -73,7 +72,7 @@ fn numbers_are_those_of_the_header() {
 
 #[test]
 fn parts_of_no_plat_are_found_out_by_each_call() {
-    let none = Parts::BLANK;
+    let none = Plat::BLANK;
     let no_plat = bare(NO_PLAT);
     let mut room = [0; 64];
     assert_eq!(acres(&none, b"sec. 14.", EXACT), no_plat);
@@ -84,51 +83,47 @@ fn parts_of_no_plat_are_found_out_by_each_call() {
     assert_eq!(report(&none, b"name,description\n", &mut room), no_plat);
     let mut tracts = [Tract::BLANK];
     let account = account(&none, b"name,description\nA,sec. 14\n", &mut tracts);
-    assert_eq!(account, (no_plat, Totals::default()));
+    assert_eq!(account, (no_plat, Totals::BLANK));
     assert_eq!(tracts, [Tract::BLANK]);
-    let mut each = [TractAnswer::blank()];
+    let mut each = [TractAnswer::BLANK];
     let list = b"name,description\nA,sec. 14\n";
     assert_eq!(report_each(&none, list, &mut each), no_plat);
-    assert_eq!(each, [TractAnswer::blank()]);
+    assert_eq!(each, [TractAnswer::BLANK]);
     assert_eq!(overlaps(&none, list, &mut []), no_plat);
-    assert_eq!(figures(&none), (no_plat, Figures::BLANK));
+    assert_eq!(figures(&none), (no_plat, PlatFigures::BLANK));
     assert_eq!(acres_many(&none, b"", &[0], EXACT, &mut []), no_plat);
-    let mut full = [FullAnswer::blank()];
+    let mut full = [FullAnswer::BLANK];
     answer_many(&none, b"sec. 14.", &[0, 8], EXACT, &mut full);
     let wanted = FullAnswer {
         acres: no_plat,
         normal: no_plat,
         note: no_plat,
-        ..FullAnswer::blank()
+        ..FullAnswer::BLANK
     };
     assert_eq!(full, [wanted]);
     assert_eq!(
-        explain_description(&none, b"sec. 37.", "land", &mut room),
+        explain_description(&none, b"sec. 37.", b"land", &mut room),
         no_plat
     );
-    assert_eq!(explain_list(&none, b"", "tracts", &mut room), no_plat);
-    let mut parts = Explanation::default();
+    assert_eq!(explain_list(&none, b"", b"tracts", &mut room), no_plat);
+    let nothing = (no_plat, Explanation::BLANK);
     assert_eq!(
-        explain_description_parts(&none, b"sec. 37.", "land", &mut room, &mut parts),
-        no_plat
+        explain_description_parts(&none, b"sec. 37.", b"land", &mut room),
+        nothing
     );
     assert_eq!(
-        explain_list_parts(&none, b"", "tracts", &mut room, &mut parts),
-        no_plat
+        explain_list_parts(&none, b"", b"tracts", &mut room),
+        nothing
     );
-    assert_eq!((room, parts), ([0; 64], Explanation::default()));
+    assert_eq!(room, [0; 64]);
 }
 
 #[test]
 fn texts_of_both_kinds_of_calls_are_the_same() {
     let (mut room, mut room_with_parts) = ([0; 512], [0; 512]);
-    let mut parts = Explanation::default();
-    let answer = explain_notes(b"line\n", "notes", &mut room);
-    assert_eq!(
-        explain_notes_parts(b"line\n", "notes", &mut room_with_parts, &mut parts),
-        answer
-    );
-    assert_eq!(room, room_with_parts);
+    let answer = explain_notes(b"line\n", b"notes", &mut room);
+    let (same_answer, parts) = explain_notes_parts(b"line\n", b"notes", &mut room_with_parts);
+    assert_eq!((same_answer, room_with_parts), (answer, room));
     assert_eq!(parts.shown, SHOWN_BYTES);
 }
 
@@ -145,7 +140,7 @@ const NORTH_OF_IT: Designation = Designation {
 };
 
 /// The land of a description.
-fn land(township: &Designation, description: &[u8]) -> Box<Land> {
+fn land(township: &Designation, description: &[u8]) -> Land {
     let (answer, land) = land_read(township, description);
     assert_eq!(answer, bare(ACCEPTED));
     land
@@ -164,31 +159,22 @@ fn land_and_lots_that_are_none_are_found_out_by_each_call() {
     let no_land = bare(NO_LAND);
     let mut room = [0; 64];
     assert_eq!(land_acres(&EVEN, &none, EXACT), no_land);
-    assert_eq!(
-        land_area(&EVEN, &none, EXACT),
-        (no_land, Fraction::default())
-    );
+    assert_eq!(land_area(&EVEN, &none, EXACT), (no_land, Fraction::BLANK));
     assert_eq!(land_text(&none, &mut room), no_land);
-    assert_eq!(land_parts(&none, &mut [Part::default()]), no_land);
+    assert_eq!(land_parts(&none, &mut [Part::BLANK]), no_land);
     assert_eq!(land_combine(&none, &some, UNION).0, no_land);
-    assert_eq!(
-        land_combine(&some, &none, UNION),
-        (no_land, Box::new(Land::BLANK))
-    );
+    assert_eq!(land_combine(&some, &none, UNION), (no_land, Land::BLANK));
     assert_eq!(land_compare(&none, &some), (no_land, 0));
     assert_eq!(land_compare(&some, &none), (no_land, 0));
     assert_eq!(lots_land_acres(&lots(), &none), no_land);
     assert_eq!(lots_land_area(&lots(), &none).0, no_land);
 
-    assert_eq!(land_acres(&Parts::BLANK, &some, EXACT), bare(NO_PLAT));
-    assert_eq!(land_area(&Parts::BLANK, &some, EXACT).0, bare(NO_PLAT));
+    assert_eq!(land_acres(&Plat::BLANK, &some, EXACT), bare(NO_PLAT));
+    assert_eq!(land_area(&Plat::BLANK, &some, EXACT).0, bare(NO_PLAT));
 
     let (none, no_lots) = (Lots::BLANK, bare(NO_LOTS));
     assert_eq!(lots_acres(&none, b"sec. 14."), no_lots);
-    assert_eq!(
-        lots_area(&none, b"sec. 14."),
-        (no_lots, Fraction::default())
-    );
+    assert_eq!(lots_area(&none, b"sec. 14."), (no_lots, Fraction::BLANK));
     assert_eq!(lots_land_acres(&none, &some), no_lots);
     assert_eq!(lots_land_area(&none, &some).0, no_lots);
     assert_eq!(lots_report(&none, b"", &mut [Tract::BLANK]), no_lots);
@@ -198,11 +184,11 @@ fn land_and_lots_that_are_none_are_found_out_by_each_call() {
 #[test]
 fn numbers_of_nothing() {
     let some = land(&TOWNSHIP, b"sec. 14.");
-    let no_operation = (bare(NO_OPERATION), Box::new(Land::BLANK));
+    let no_operation = (bare(NO_OPERATION), Land::BLANK);
     assert_eq!(land_combine(&some, &some, 3), no_operation);
     assert_eq!(land_acres(&EVEN, &some, 2), bare(NO_ACCOUNT));
     assert_eq!(land_area(&EVEN, &some, 2).0, bare(NO_ACCOUNT));
-    let no_township = (bare(NO_TOWNSHIP), Box::new(Land::BLANK));
+    let no_township = (bare(NO_TOWNSHIP), Land::BLANK);
     assert_eq!(land_read(&Designation::BLANK, b"sec. 14."), no_township);
 }
 
@@ -225,7 +211,7 @@ fn different_townships() {
 fn account_that_is_none() {
     assert_eq!(acres(&EVEN, b"sec. 14.", 2), bare(NO_ACCOUNT));
     let (answer, kept) = area(&EVEN, b"sec. 14.", 2);
-    assert_eq!((answer, kept), (bare(NO_ACCOUNT), Fraction::default()));
+    assert_eq!((answer, kept), (bare(NO_ACCOUNT), Fraction::BLANK));
 }
 
 #[test]
@@ -252,7 +238,7 @@ fn tracts_need_room_for_all() {
     let mut tracts = [Tract::BLANK; 3];
     let (short, totals) = account(&EVEN, list, &mut tracts[..1]);
     assert_eq!((short.verdict, short.length), (NO_ROOM, 2));
-    assert_eq!((totals, tracts), (Totals::default(), [Tract::BLANK; 3]));
+    assert_eq!((totals, &tracts), (Totals::BLANK, &[Tract::BLANK; 3]));
 
     let (enough, totals) = account(&EVEN, list, &mut tracts);
     assert_eq!((enough.verdict, enough.length), (ACCEPTED, 2));
@@ -276,5 +262,5 @@ fn refused_notes_make_no_parts() {
         at: 1,
         ..bare(REFUSED)
     };
-    assert_eq!((answer, parts), (refused, Parts::BLANK));
+    assert_eq!((answer, parts), (refused, Plat::BLANK));
 }

@@ -60,7 +60,9 @@ impl Land {
         let (answer, data) = ffi::land_combine(&self.data, &other.data, operation);
         let answer = answer.in_one_township(self.township(), other.township())?;
         match answer.accepted() {
-            Ok(_) => Ok(Land { data }),
+            Ok(_) => Ok(Land {
+                data: Box::new(data),
+            }),
             Err(fault) => unreachable!("land can be combined, and {}", fault.refusal),
         }
     }

@@ -146,8 +146,8 @@ impl Plat {
     /// ```
     pub fn notes(&self, description: impl AsRef<[u8]>) -> Result<Vec<Note>, Refused> {
         let description = description.as_ref();
-        let (answer, explained) = explained_by(|room, parts| {
-            ffi::explain_description_parts(&self.parts, description, DESCRIPTION, room, parts)
+        let (answer, explained) = explained_by(|room| {
+            ffi::explain_description_parts(&self.parts, description, DESCRIPTION.as_bytes(), room)
         });
         match answer.accepted() {
             Ok(answer) => Ok(Note::beside(answer, explained)),
@@ -206,7 +206,7 @@ impl Plat {
         account: Account,
     ) -> Vec<Result<Acres, Refused>> {
         let (all, offsets) = in_a_row(descriptions);
-        let mut answers = vec![Answer::default(); descriptions.len()];
+        let mut answers = vec![Answer::BLANK; descriptions.len()];
         let outcome = ffi::acres_many(&self.parts, &all, &offsets, account.code(), &mut answers);
         if let Err(fault) = outcome.accepted() {
             unreachable!("only descriptions are refused, and {}", fault.refusal);
@@ -229,7 +229,7 @@ impl Plat {
     /// ```
     pub fn normal_many<D: AsRef<[u8]>>(&self, descriptions: &[D]) -> Vec<Result<String, Refused>> {
         let (all, offsets) = in_a_row(descriptions);
-        let mut answers = vec![FullAnswer::blank(); descriptions.len()];
+        let mut answers = vec![FullAnswer::BLANK; descriptions.len()];
         let account = Account::Exact.code();
         let outcome = ffi::answer_many(&self.parts, &all, &offsets, account, &mut answers);
         if let Err(fault) = outcome.accepted() {
@@ -293,8 +293,8 @@ impl Plat {
 
     /// Returns the refusal of a description on this plat, with its explanation.
     fn description_refused(&self, fault: Fault, description: &[u8]) -> Refused {
-        Refused::explained(fault, |room, parts| {
-            ffi::explain_description_parts(&self.parts, description, DESCRIPTION, room, parts)
+        Refused::explained(fault, |room| {
+            ffi::explain_description_parts(&self.parts, description, DESCRIPTION.as_bytes(), room)
         })
     }
 }

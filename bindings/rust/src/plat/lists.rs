@@ -121,7 +121,7 @@ impl Plat {
     /// ```
     pub fn report_each_csv(&self, list: impl AsRef<[u8]>) -> Result<Vec<TractAnswer>, Refused> {
         let list = list.as_ref();
-        let mut answers = vec![ffi::TractAnswer::blank(); TRACTS_MOST];
+        let mut answers = vec![ffi::TractAnswer::BLANK; TRACTS_MOST];
         match ffi::report_each(&self.parts, list, &mut answers).accepted() {
             Ok(answer) => {
                 let answers = &answers[..answer.text_length()];
@@ -176,10 +176,10 @@ impl Plat {
     /// ```
     pub fn overlaps_csv(&self, list: impl AsRef<[u8]>) -> Result<Vec<Overlap>, Refused> {
         let list = list.as_ref();
-        let mut room = vec![ffi::Overlap::default(); USUAL_OVERLAPS];
+        let mut room = vec![ffi::Overlap::BLANK; USUAL_OVERLAPS];
         let mut answer = ffi::overlaps(&self.parts, list, &mut room);
         if answer.verdict() == Verdict::NoRoom {
-            room = vec![ffi::Overlap::default(); answer.text_length()];
+            room = vec![ffi::Overlap::BLANK; answer.text_length()];
             answer = ffi::overlaps(&self.parts, list, &mut room);
         }
         match answer.accepted() {
@@ -218,9 +218,8 @@ impl Plat {
     /// Returns the refusal of a list as a whole. It has no explanation if a tract's fault comes
     /// before it, since that fault would be explained.
     fn whole_list_refused(&self, fault: Fault, list: &[u8]) -> Refused {
-        let (explained, _) = explained_by(|room, parts| {
-            ffi::explain_list_parts(&self.parts, list, LIST, room, parts)
-        });
+        let (explained, _) =
+            explained_by(|room| ffi::explain_list_parts(&self.parts, list, LIST.as_bytes(), room));
         if explained.accepted() == Err(fault) {
             return self.list_refused(fault, list);
         }
@@ -229,8 +228,8 @@ impl Plat {
 
     /// Returns the refusal of a list of tracts on this plat, with its explanation.
     fn list_refused(&self, fault: Fault, list: &[u8]) -> Refused {
-        Refused::explained(fault, |room, parts| {
-            ffi::explain_list_parts(&self.parts, list, LIST, room, parts)
+        Refused::explained(fault, |room| {
+            ffi::explain_list_parts(&self.parts, list, LIST.as_bytes(), room)
         })
     }
 }
