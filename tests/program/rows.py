@@ -12,6 +12,7 @@ from wrapping import wrapped
 
 TOP = Path(__file__).resolve().parents[2]
 FOLDER = Path(__file__).resolve().parent / "rows"
+HINTS = Path(__file__).resolve().parent / "hints.toml"
 
 #: The words of each kind of run, which name the files that it reads.
 KINDS = {
@@ -32,6 +33,7 @@ KEYS = {
 #: A row without a name is named by so many characters of its input.
 NAME_MOST = 100
 ESCAPE = re.compile(r"\\(?:x([0-9A-Fa-f]{2})|u\{([0-9A-Fa-f]+)\}|([nrt\\])|)")
+HINT = re.compile(r"\{hint:([a-z0-9-]+)((?: \w+=[^\s{}]+)*)\}")
 LETTERS = {"n": b"\n", "r": b"\r", "t": b"\t", "\\": b"\\"}
 
 
@@ -224,10 +226,24 @@ def with_defaults(row: Dict[str, Any], all_rows: Dict[str, Any]) -> Dict[str, An
 
 
 def tables() -> Dict[str, Dict[str, Any]]:
-    """All files of rows, by their subjects."""
+    """All files of rows, by their subjects, with the words of the hints that they name."""
     import tomllib  # Only the tests of packages do without it, on an older Python.
 
-    return {it.stem: tomllib.loads(it.read_text(encoding="utf-8")) for it in sorted(FOLDER.glob("*.toml"))}
+    hints = tomllib.loads(HINTS.read_text(encoding="utf-8"))
+    files = sorted(FOLDER.glob("*.toml"))
+    return {it.stem: tomllib.loads(with_hints(it.read_text(encoding="utf-8"), hints)) for it in files}
+
+
+def with_hints(text: str, hints: Dict[str, str]) -> str:
+    """The rows of a file with the words of each hint in place of its name, as in `{hint:a-lot next=2}`."""
+
+    def words_of(found: re.Match[str]) -> str:
+        name, given = found[1], dict(re.findall(r"(\w+)=(\S+)", found[2]))
+        if name not in hints or set(given) != set(re.findall(r"\{(\w+)\}", hints[name])):
+            raise RowError(f"no hint has these words: {found[0]}")
+        return re.sub(r"\{(\w+)\}", lambda place: given[place[1]], hints[name])
+
+    return HINT.sub(words_of, text)
 
 
 def rows(files: Dict[str, Dict[str, Any]]) -> Iterator[Tuple[str, Dict[str, Any]]]:

@@ -4,6 +4,7 @@
     python3 tools/repeated
 
 - The functions of include/township.h, with the lists and the tests that have to name each of them.
+- The words of hints, with those of tests/program/hints.toml, which the rows of the tests name.
 - The numbers of the rules of readings, with those of the header and of the bindings, and the words for what they assume.
 - The limits of the definitions, with those of the code, of the header, and of sentences; and likewise the lengths that
   half miles may have.
@@ -17,6 +18,7 @@ import sys
 from typing import List
 
 import calls
+import hints
 import lengths
 import limits
 import ranges
@@ -25,7 +27,7 @@ import rules
 
 def main() -> int:
     differences: List[str] = []
-    for module in (calls, rules, limits, lengths, ranges):
+    for module in (calls, rules, hints, limits, lengths, ranges):
         compared, found = module.compare()
         differences += found
         print(f"{compared} {module.WHAT}")
