@@ -91,6 +91,32 @@ count() {
     case $last in *' skipped ('*) skip "$what: $(echo "$last" | sed 's/.* skipped (\(.*\))/\1/')" ;; esac
 }
 
+# Runs tests that are written for pytest, and counts them: a Python that has it, and words for it. What it skips is
+# skipped, in the name of the folder, which is the first of these words.
+pytests() {
+    python=$1
+    shift
+    unset PYTEST_ADDOPTS
+    "$python" -B -m pytest -q --no-header -p no:cacheprovider -rs "$@" > "$work/out" 2>&1
+    status=$?
+    # The last line is such as '2 failed, 90 passed, 1 skipped in 60.51s'.
+    tail -n 1 "$work/out" | tr ',' '\n' > "$work/numbers"
+    number_of() { sed -n "s/^ *\([0-9][0-9]*\) $1.*/\1/p" "$work/numbers"; }
+    number=$(number_of passed)
+    passed=$((passed + ${number:-0}))
+    if [ "$status" != 0 ]; then
+        sed -n '/^=.*= \(FAILURES\|ERRORS\) =/,$p' "$work/out" | head -c 40000
+        echo
+        wrong=$(number_of failed)
+        number=$(number_of error)
+        wrong=$((${wrong:-0} + ${number:-0}))
+        [ "$wrong" != 0 ] || fail "pytest $*" "$work/out"
+        failed=$((failed + wrong))
+    fi
+    sed -n "s|^SKIPPED \[\([0-9]*\)\] [^ ]* \(.*\)\$|$1: \2 (tests: \1)|p" "$work/out" > "$work/skipped"
+    while read -r left; do skip "$left"; done < "$work/skipped"
+}
+
 # Starts a script that counts its tests, alongside others; its name comes first. `gather` waits for all of them, shows
 # what they print, and adds their counts.
 begun=

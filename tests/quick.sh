@@ -5,24 +5,20 @@
 . "$(dirname "$0")/lib.sh"
 cd "$root" || exit 1
 try 'the layout of sources' sh tools/formatted.sh
-try 'how tests are counted' sh tests/tools/counting.sh
 if python=$(python_with argparse); then
     try 'the layout of definitions and proofs' "$python" tools/wrap_proofs.py --check
     try 'each wrong body fits the code, and the named ones are tried' "$python" tools/edits.py
-    try 'what is said of a wrong body that does not fit' "$python" tests/tools/test_edits.py
-    try 'how wrong bodies are tried together' "$python" tests/tools/test_wrong_bodies.py
-    try 'how the progress of proofs is shown' "$python" tests/tools/test_prove.py
-    try 'what the gate shows' "$python" tests/tools/test_gate.py
     try 'the table of words, and what is made of it' "$python" tools/words.py --check
-    try 'how lists of words are compared' "$python" tests/tools/test_words.py
-    try 'that descriptions without readings fail' "$python" tests/tools/test_floors.py
     try 'the bindings, which are made from township.h' "$python" -B tools/bindings.py --check
     try 'township.h, compared with the code of the library' "$python" -B tools/signatures.py
-    try 'that differences from township.h are found' "$python" tests/tools/test_bindings.py
     try 'the constants of township.h' "$python" tools/header_names.py --check
     try 'what several files repeat' "$python" -B tools/repeated
-    try 'how tools/reading_list finds definitions' "$python" -B tests/tools/test_reading_list.py
 else
     skip 'the checks of the sources, since there is no Python here'
+fi
+if python=$(python_with pytest); then
+    pytests "$python" tests/tools
+else
+    skip 'the tests of the scripts: no Python with pytest'
 fi
 ended

@@ -13,22 +13,5 @@ if ! python=$(python_with 'pytest, tomllib'); then
     ended
 fi
 cd "$root" || exit 1
-unset PYTEST_ADDOPTS
-"$python" -B -m pytest -q --no-header -p no:cacheprovider tests/program --program "$program" --calls "$calls" "$@" \
-    > "$work/out" 2>&1
-status=$?
-
-# The last line is such as '2 failed, 4906 passed, 1 error in 20.51s'.
-number_of() { tail -n 1 "$work/out" | tr ',' '\n' | sed -n "s/^ *\([0-9][0-9]*\) $1.*/\1/p"; }
-passed=$(number_of passed)
-passed=${passed:-0}
-for kind in failed error; do
-    number=$(number_of "$kind")
-    failed=$((failed + ${number:-0}))
-done
-if [ "$status" != 0 ]; then
-    sed -n '/^=.*= \(FAILURES\|ERRORS\) =/,$p' "$work/out" | head -c 40000
-    echo
-    [ "$failed" != 0 ] || failed=1
-fi
+pytests "$python" tests/program --program "$program" --calls "$calls" "$@"
 ended
