@@ -33,11 +33,11 @@ try:
 	@cd crates/twp_cmd && rt try < stdin
 
 ## test           prove everything from nothing, and test it; the last line is N passed, 0 failed
-# What takes a second is tested before the proofs, too, since they take most of an hour. tools/gate.py is `rt ci`, which
-# tries wrong bodies many at a time.
+# What takes a second is tested before the proofs, too, since they take most of an hour. tools/gate.sh is the kit's own
+# `rt ci`.
 test:
 	@sh tests/quick.sh
-	@python3 tools/gate.py
+	@bash tools/gate.sh
 	@sh tests/proved.sh
 
 ## e2e            build the program, and test it on files, pipes, and devices
