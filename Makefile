@@ -60,7 +60,7 @@ descriptions: township
 check:
 	rt all check
 
-## bugs           try the wrong bodies that are kept for releases; CRATES='..' names crates, LANES=N limits the checks
+## bugs           try all wrong bodies, also those for releases; CRATES='..' names crates, LANES=N limits the checks
 # `make bugs CRATES='twp_grid twp_land' LANES=2` tries those of these crates alone, with at most two checks at a time.
 CRATES =
 LANES =
@@ -120,4 +120,4 @@ trust:
 
 ## clean          remove what was built, and what the checks kept
 clean:
-	rm -rf crates/*/out lib township dist gate.log
+	rm -rf crates/*/out lib township dist gate.log bugs.log .bugs

@@ -12,6 +12,7 @@ if python=$(python_with argparse); then
     try 'each wrong body fits the code, and the named ones are tried' "$python" tools/edits.py
     try 'what is said of a wrong body that does not fit' "$python" tests/tools/test_edits.py
     try 'how wrong bodies are tried together' "$python" tests/tools/test_wrong_bodies.py
+    try 'what is kept of wrong bodies that were tried' "$python" tests/tools/test_bugs.py
     try 'what is proved, and how its progress is shown' "$python" tests/tools/test_prove.py
     try 'the table of words, and what is made of it' "$python" tools/words.py --check
     try 'the bindings, which are made from township.h' "$python" -B tools/bindings.py --check

@@ -7,31 +7,27 @@ by a goal of its own function.
 
 A wrong body counts as refused here only if
 
-- it changes the lines of functions, or a constant or a table that functions name, and nothing else but imports, and no
-  other wrong body in the same check changes these functions;
+- it changes the bodies of functions, or a constant or a table that only bodies name, and nothing else but imports, and
+  no other wrong body in the same check changes these functions;
 - and the check names a goal that isn't proved, of one of these functions: in their lines of `src/`, or in the folder
   of `proofs/` that has the answers to their goals. An answer that only lacks a name that the edit took away doesn't
   count.
 
 All others are tried by rt itself, one at a time and over the work of these checks, if the crate is also proved over it as
-it stands: those that break a goal of a caller, and all those of a check that finds an error in a definition or a lemma,
-which functions share. What is said of them ends with `[tried alone]`. Each takes as long as a proof of the crate, so
-prefer a wrong body that a goal of its own function refuses.
+it stands: those that change a clause, a signature, or a type, by which the proofs of other functions know a function;
+those that break a goal of a caller; and all those of a check that finds an error in a definition or a lemma, which
+functions share. What is said of them ends with `[tried alone]`. Each takes as long as a proof of the crate, so prefer a
+wrong body that a goal of its own function refuses.
 
-A check of a crate that few others stand on begins with what its proof left (checked.py), and checks the functions that
-are changed alone. Of other crates nothing is left: the first check begins with nothing, and checks the functions that
-they call, too. A second check, of other wrong bodies of the same functions, is then over the work of the first; over
-that, these functions must also be proved as they stand.
+The first check of a crate begins with nothing, or with what `rt check` kept, and checks the functions that are changed
+and those that they call. A second check, of other wrong bodies of the same functions, is then over the work of the
+first; over that, these functions must also be proved as they stand.
 """
-import contextlib
 import re
 import shutil
 import tempfile
-import time
 from dataclasses import dataclass
 from pathlib import Path
-
-from checked import Proof
 
 # What `rt fmt` makes of the first line of a function, and of an `impl` or a trait. The last line is the next one that
 # is a closing brace with the same indent.
@@ -55,6 +51,10 @@ UNNAMED = re.compile(r"has no function `([^`]+)`|several functions are named `([
 # The last line of a check of some functions alone.
 JUDGED = re.compile(r"only=\d+ proved=\d+$")
 
+# The files that may name a constant, and those of them that are of a function's proof.
+READ = ("src/**/*.rt", "specs/**/*.antt", "proofs/**/*.antt")
+OF_FUNCTIONS = ("Answers.antt", "Invariants.antt", "Proof.antt")
+
 # What is used of the kit's rt.
 NEEDED = ("checked", "must_fail", "unread", "rtlib.STALE")
 
@@ -70,6 +70,8 @@ class Function:
     owner: str
     name: str
     trait: str = ""
+    # The line with the brace at which its body begins, or 0 if it has no body.
+    brace: int = 0
 
     @property
     def module(self):
@@ -82,6 +84,11 @@ class Function:
 
     def has_line(self, path, line):
         return path == self.path and self.first <= line <= self.last
+
+    def has_in_body(self, line, old, new):
+        """Whether a line that an edit changes, of its file, has only parts of its body that are changed."""
+        head, brace, _ = old.partition("{")
+        return bool(self.brace) and (line > self.brace or (line == self.brace and new.startswith(head + brace)))
 
     def has_answers(self, folder, begins):
         """Whether its answers are in this folder of proofs/, such as line/Line/index for `Line::index`. That of a method
@@ -111,8 +118,18 @@ def functions_of(path, text):
         if head and not (found and at < found[-1].last):
             first, last = start_of(lines, at, head[1]), end_of(lines, at, head[1])
             trait, owner = of if at < of_ends else ("", "")
-            found.append(Function(path, first + 1, last + 1, owner, head[2], trait))
+            brace = brace_of(lines, at, last, head[1]) + 1
+            found.append(Function(path, first + 1, last + 1, owner, head[2], trait, brace))
     return found
+
+
+def brace_of(lines, head, last, indent):
+    """The line with the brace at which the body of a function begins: its only line, or the first one with its indent that
+    ends with a brace; -1 if it has none."""
+    if head == last and "{" in lines[head]:
+        return head
+    begins = (at for at in range(head, last) if re.match(rf"{indent}(?! ).*\{{$", lines[at]))
+    return next(begins, last if lines[last].startswith(f"{indent}{{}}") else -1)
 
 
 def constants_in(text):
@@ -135,14 +152,33 @@ def are_named(names, text, first, last):
 
 
 def functions_that_name(name, texts):
-    """The functions of sources, given by their paths, that name a constant, or another one that is made of it."""
+    """The functions whose bodies name a constant, or another one that is made of it, in files that are given by their
+    paths; none if anything but a body names it: a type, a clause, a signature, a definition, or a lemma."""
     names, more = set(), {name}
+    sources = {path: text for path, text in texts.items() if path.endswith(".rt")}
     while more:
         names |= more
-        found = [(it, text, first, last) for text in texts.values() for it, first, last in constants_in(text)]
+        found = [(it, text, first, last) for text in sources.values() for it, first, last in constants_in(text)]
         more = {it for it, *where in found if it not in names and are_named(names, *where)}
-    every = [(it, text) for path, text in texts.items() for it in functions_of(path, text)]
-    return [it for it, text in every if are_named(names, text, it.first, it.last)]
+    every = {path: functions_of(path, text) for path, text in sources.items()}
+    if any(is_named_elsewhere(names, path, text, every.get(path, [])) for path, text in texts.items()):
+        return []
+    return [it for path in every for it in every[path] if are_named(names, texts[path], it.first, it.last)]
+
+
+def is_named_elsewhere(names, path, text, functions):
+    """Whether a line of a file has one of these names, but for bodies of functions and their answers, constants, comments,
+    and imports."""
+    if Path(path).name in OF_FUNCTIONS:
+        return False
+    bodies = [range(it.brace, it.last + 1) for it in functions if it.brace]
+    skipped = [*bodies, *(range(first, last + 1) for _, first, last in constants_in(text))]
+    for at, line in enumerate(text.split("\n"), 1):
+        code = re.split("//|--", line)[0]
+        if names & set(re.findall(r"\w+", code)) and not IMPORT.match(line.strip()):
+            if not any(at in it for it in skipped):
+                return True
+    return False
 
 
 def start_of(lines, head, indent):
@@ -195,8 +231,8 @@ class Edit:
             texts[path] = text.replace(old, new)
         return texts, None
 
-    def functions(self, text_of, sources=()):
-        """The functions that it changes: those with changed lines, and those of these sources that name a constant with
+    def functions(self, text_of, files=()):
+        """The functions whose bodies it changes: those with changed lines, and those of these files that name a constant with
         changed lines, or one made of it. It has none if it can't be applied, or changes anything else but imports."""
         found = set()
         for path, text in self.made(text_of)[0].items():
@@ -207,7 +243,9 @@ class Edit:
                     continue
                 around = [it for it in functions if it.has_line(path, at)]
                 if not around and is_source and (name := constant_at(text_of(path), at)):
-                    around = functions_that_name(name, {it: text_of(it) for it in sources})
+                    around = functions_that_name(name, {it: text_of(it) for it in files})
+                elif not all(it.has_in_body(at, old, new) for it in around):
+                    return set()
                 if not around:
                     return set()
                 found.update(around)
@@ -255,22 +293,12 @@ def names_goal(line, function):
 
 
 class Trying:
-    """The wrong bodies of a crate, which are tried over what its proof left, or else over the work of earlier checks, which a
-    folder has; at first, that may be empty."""
+    """The wrong bodies of a crate, which are tried over the work of earlier checks, which a folder has; at first, that may be
+    empty."""
 
-    def __init__(self, rt, crate, flags, kept, proof):
-        self.rt, self.crate, self.flags, self.kept, self.proof = rt, crate, flags, kept, proof
+    def __init__(self, rt, crate, flags, kept):
+        self.rt, self.crate, self.flags, self.kept = rt, crate, flags, kept
         self.sources, self.unnamed = {}, set()
-
-    @contextlib.contextmanager
-    def work(self):
-        """The folder with the work that a check is over. What a proof left is copied for each check, which changes it."""
-        if not self.proof:
-            yield self.kept
-            return
-        with tempfile.TemporaryDirectory(prefix="rt-edits-") as kept:
-            self.proof.put_into(kept)
-            yield kept
 
     def text_of(self, path):
         """The text of a file of the crate, or no text if there is no such file."""
@@ -282,8 +310,9 @@ class Trying:
     def groups(self, edits):
         """Wrong bodies that are tried together: as few groups as there are wrong bodies for one function."""
         folder = Path(self.crate.folder)
-        sources = sorted(str(it.relative_to(folder)) for it in folder.glob("src/**/*.rt"))
-        left = {it: functions for it in edits if (functions := it.functions(self.text_of, sources))}
+        found = (it for pattern in READ for it in folder.glob(pattern))
+        files = sorted(str(it.relative_to(folder)) for it in found)
+        left = {it: functions for it in edits if (functions := it.functions(self.text_of, files))}
         while left:
             these = Together(self.text_of)
             left = {it: functions for it, functions in left.items() if not these.takes(it, functions)}
@@ -297,7 +326,7 @@ class Trying:
         found, waiting = {}, list(self.groups(edits))
         while waiting:
             these = waiting.pop(0)
-            is_over_others = not self.proof and any(Path(self.kept).iterdir())
+            is_over_others = any(Path(self.kept).iterdir())
             refused = self.refused(these)
             if not is_over_others or self.are_proved(these):
                 found.update(refused)
@@ -323,8 +352,7 @@ class Trying:
         while True:
             parts = sorted(map(self.part_of, these.functions()))
             only = [word for it in dict.fromkeys(parts) for word in ("--only", it)]
-            with self.work() as kept:
-                ran = self.rt.checked(self.crate, texts, [*self.flags, *only], kept)
+            ran = self.rt.checked(self.crate, texts, [*self.flags, *only], self.kept)
             found = UNNAMED.search(ran.stdout) if ran.returncode == 2 else None
             name = found and (found[1] or found[2])
             if not name or name in self.unnamed or name not in parts:
@@ -346,13 +374,11 @@ class Trying:
 
     def alone(self, edit):
         """What rt says of a wrong body by itself."""
-        with self.work() as kept:
-            return self.rt.must_fail(self.crate, edit.file, self.flags, kept)
+        return self.rt.must_fail(self.crate, edit.file, self.flags, self.kept)
 
     def is_proved(self):
         """Whether the crate is proved as it stands."""
-        with self.work() as kept:
-            return not self.rt.checked(self.crate, {}, self.flags, kept).returncode
+        return not self.rt.checked(self.crate, {}, self.flags, self.kept).returncode
 
     def result(self, edit, goal, alone, is_sound, is_known):
         # Kits say that it is refused by `True`, or by a word.
@@ -371,43 +397,9 @@ def said_of(crate, edit, goal):
 
 
 def must_fail_all(rt, crate, files, flags, over=None, known=()):
-    """What rt's function of this name returns: of each wrong body, whether it is refused, and what to say. There may be a
-    folder with the work of earlier checks, which is copied, and some wrong bodies may be known to be let through."""
+    """Of each wrong body, whether it is refused, and what to say. There may be a folder with the work of earlier checks,
+    which is copied, and some wrong bodies may be known to be let through."""
     with tempfile.TemporaryDirectory(prefix="rt-edits-") as kept:
-        proof = Proof.of(crate)
-        if over and not proof:
+        if over:
             shutil.copytree(over, kept, dirs_exist_ok=True)
-        return Trying(rt, crate, flags, kept, proof).results(files, known)
-
-
-def in_one_task(rt):
-    """What takes the place of an rt's `add_edits`, by which each wrong body of a crate is a task of its own, over the work
-    of a check that proves the crate once more: one task, which tries all of them from nothing."""
-
-    def add_edits(tasks, crate, edits, first, waits, is_well, kept, start=None, in_ci=True):
-        key, earlier = (crate.name, "edits"), {}
-
-        def names():
-            return [kept.of_edit(it, kept.key(crate)) for it in edits]
-
-        def tried(given, jobs):
-            named = names()
-            earlier.update({at: told for at, name in enumerate(named) if (told := kept.tried(name))})
-            left = [at for at in range(len(edits)) if at not in earlier]
-            if not is_well(given, len(left)):
-                return None
-            begun = time.monotonic()
-            found = dict(zip(left, must_fail_all(rt, crate, [edits[at] for at in left], ["--jobs", "1"])))
-            if left:
-                print(f"rt: {crate.name}: its must-fail edits took {time.monotonic() - begun:.0f} s", flush=True)
-            if kept.is_untouched(crate) and named == names():
-                for at, (kind, said) in found.items():
-                    if kind in rt.SETTLED:
-                        kept.keep_tried(named[at], kind, said)
-            return [(earlier | found)[at] for at in range(len(edits))]
-
-        if edits:
-            tasks[key] = (waits, crate.count(rb"\n"), rt.need(crate), tried)
-        return lambda given: given.get(key, []), lambda: earlier
-
-    return add_edits
+        return Trying(rt, crate, flags, kept).results(files, known)

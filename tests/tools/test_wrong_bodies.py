@@ -1,6 +1,5 @@
 #!/usr/bin/env python3
 """Tests how tools/wrong_bodies.py tells which functions an edit changes, and which goals of a check are theirs."""
-import json
 import pathlib
 import re
 import sys
@@ -11,8 +10,7 @@ import unittest
 sys.dont_write_bytecode = True
 sys.path.insert(0, str(pathlib.Path(__file__).resolve().parent.parent.parent / "tools"))
 
-from checked import Proof  # noqa: E402
-from wrong_bodies import Edit, Function, Together, functions_of, in_one_task, must_fail_all, names_goal  # noqa: E402
+from wrong_bodies import Edit, Function, Together, functions_of, must_fail_all, names_goal  # noqa: E402
 
 SOURCE = """//! Lines.
 
@@ -83,6 +81,42 @@ class Functions(unittest.TestCase):
         texts = {"src/one.rt": one, "src/other.rt": other}
         found = edit("u32 = 80;", "u32 = 40;", "src/one.rt").functions(lambda path: texts.get(path, ""), list(texts))
         self.assertEqual([(it.path, it.name) for it in found], [("src/other.rt", "area")])
+
+    def test_an_edit_of_a_constant_that_a_type_or_a_clause_names_changes_no_body(self):
+        one = "pub const SIDE: u32 = 80;\n\nconst AREA: u32 = SIDE;\n\nfn area() -> u32 {\n    AREA\n}\n"
+        body = "fn side() -> u32 {\n    // SIDE is in chains.\n    SIDE\n}\n"
+        texts = {"src/one.rt": one, "src/two.rt": f"use crate::one::{{AREA, SIDE}};\n\n{body}"}
+
+        def named(**more):
+            every = texts | {it.replace("_", "/").replace("/rt", ".rt").replace("/antt", ".antt"): text for it, text in more.items()}
+            found = edit("u32 = 80;", "u32 = 40;", "src/one.rt").functions(lambda path: every.get(path, ""), list(every))
+            return {it.name for it in found}
+
+        self.assertEqual(named(), {"area", "side"})
+        self.assertEqual(named(proofs_area_Answers_antt="returns = refl AREA\n"), {"area", "side"})
+        self.assertEqual(named(src_row_rt="struct Row {\n    sides: [u8; SIDE],\n}\n"), set())
+        self.assertEqual(named(src_row_rt="struct Row {\n    areas: [u8; AREA],\n}\n"), set())
+        self.assertEqual(named(src_row_rt="fn row() -> u32\n    ensures { result ≡ AREA }\n{\n    0\n}\n"), set())
+        self.assertEqual(named(specs_Sides_antt="side = SIDE\n"), set())
+        self.assertEqual(named(proofs_Sides_antt="side : SIDE ≡ 80\n"), set())
+
+    def test_an_edit_of_a_clause_or_a_signature_changes_no_body(self):
+        for old, new in (
+            ("index_of self }", "number_of self }"),
+            ("pub fn index(self) -> usize", "pub fn index(&self) -> usize"),
+            ("#[inline(always)]", "#[inline(never)]"),
+            ("fn number(self) -> u8 {", "fn number(self) -> u16 {"),
+            ("pub fn sides(section: Section) -> Sides {", "pub fn sides(_section: Section) -> Sides {"),
+        ):
+            self.assertEqual(edit(old, new).functions(text_of), set(), old)
+        both = edit("return 1;", "return 2;")
+        both.pairs.append(("src/line.rt", "index_of self }", "number_of self }"))
+        self.assertEqual(both.functions(text_of), set())
+
+    def test_a_body_may_begin_in_the_line_of_its_signature(self):
+        for old, new in (("self.number % LINES", "self.number"), ("-> u8 { self", "-> u8 { return 1; self")):
+            self.assertEqual(edit(old, new).functions(text_of), {NUMBER}, old)
+        self.assertEqual(edit("block: Block) -> bool {", "block: Block) -> bool { return true;").functions(text_of), {MEETS})
 
     def test_an_edit_of_a_row_changes_the_functions_that_name_the_table(self):
         rows = "static ROWS: [[u8; 2]; 2] = [\n    *b\"a=\",\n    *b\"b=\",\n];\n\nfn row() -> u8 {\n    ROWS[0][1]\n}\n"
@@ -202,47 +236,8 @@ fn added<P: Plot>(plot: &mut P) {
         self.assertEqual(found, [("Plot", "empty", 2, 3), ("Plot", "is_untouched", 5, 9), ("", "added", 12, 14)])
 
 
-def rlib_in(folder, names=("Grid", "Grid.Line", "rests/Grid")):
-    """Makes an rlib with checked modules of these names, and returns it."""
-    rlib = pathlib.Path(folder, "out", "rlib", "twp_grid.rlib")
-    (rlib / "toolchain").mkdir(parents=True)
-    module = b"--@ antt-checked 81\n--@ kernel antt-81/1.0\n--@ module "
-    rows = [json.dumps([name, 8 + at * len(module), len(module)]) for at, name in enumerate(names)]
-    (rlib / "toolchain" / "checked.a").write_bytes(b"!<arch>\n" + module * len(names))
-    (rlib / "toolchain" / "checked.json").write_text("\n".join(rows))
-    return str(rlib)
-
-
-class Left(unittest.TestCase):
-    """What a proof left."""
-
-    def setUp(self):
-        room = tempfile.TemporaryDirectory()
-        self.addCleanup(room.cleanup)
-        self.folder = room.name
-
-    def left(self, *names):
-        return Proof.of(types.SimpleNamespace(rlib=rlib_in(self.folder, names)))
-
-    def test_modules_are_put_into_the_folder_of_the_rattle_that_checked_them(self):
-        self.left("Grid", "Grid.Line", "rests/Grid", "sum/all").put_into(self.folder)
-        files = sorted(it.name for it in pathlib.Path(self.folder, "antt-81_1.0").iterdir())
-        self.assertEqual(files, ["Grid.Line.oantt", "Grid.oantt"])
-        self.assertIn("--@ module", pathlib.Path(self.folder, "antt-81_1.0", "Grid.Line.oantt").read_text())
-
-    def test_statements_are_no_proof(self):
-        self.assertIsNone(self.left("part/Grid", "part/Grid.Line", "sum/all"))
-
-    def test_another_form_and_no_rlib_are_no_proof(self):
-        rlib = rlib_in(self.folder)
-        pathlib.Path(rlib, "toolchain", "checked.json").write_text("{}")
-        self.assertIsNone(Proof.of(types.SimpleNamespace(rlib=rlib)))
-        self.assertIsNone(Proof.of(types.SimpleNamespace(rlib=f"{rlib}.none")))
-        self.assertIsNone(Proof.of(types.SimpleNamespace()))
-
-
-class OneTask(unittest.TestCase):
-    """All wrong bodies of a crate in one task of rt's."""
+class Tried(unittest.TestCase):
+    """All wrong bodies of a crate."""
 
     def setUp(self):
         room = tempfile.TemporaryDirectory()
@@ -258,20 +253,18 @@ class OneTask(unittest.TestCase):
             file = folder / f"{name}.edit"
             file.write_text(f"file: src/line.rt\nold: {old}\nnew: {new}\n")
             self.files[name] = str(file)
-        self.checks, self.alone, self.kept, self.is_proved, self.unnamed = [], [], {}, True, []
-        # What each check finds that earlier ones, or a proof, left.
+        self.checks, self.alone, self.is_proved, self.unnamed = [], [], True, []
+        # What each check finds that earlier ones left.
         self.found = []
         # Whether `sides` is refused where no other function is changed.
         self.waits = False
-        self.crate = types.SimpleNamespace(name="twp_grid", folder=str(folder), count=lambda it: 30)
+        self.crate = types.SimpleNamespace(name="twp_grid", folder=str(folder))
         self.rt = types.SimpleNamespace(
             checked=self.checked,
             must_fail=self.must_fail,
-            need=lambda crate: 1_000,
             unread=lambda line, texts: False,
             rtlib=types.SimpleNamespace(STALE=re.compile("stale")),
             REFUSED="refused",
-            SETTLED=("refused", "bad"),
         )
 
     def checked(self, crate, texts, flags, kept):
@@ -293,27 +286,13 @@ class OneTask(unittest.TestCase):
         self.alone.append((pathlib.Path(file).stem, bool(kept)))
         return ("missed", "NOT REFUSED") if kept else ("refused", "from nothing")
 
-    def all(self, *names, known=()):
+    def tried(self, *names, known=(), over=None):
         """What is said of these wrong bodies."""
         files = [self.files[it] for it in names]
-        return must_fail_all(self.rt, self.crate, files, [], None, [self.files[it] for it in known])
-
-    def tried(self, *names, is_well=True):
-        """What a task gives for these wrong bodies, and how many an earlier run tried."""
-        kept = types.SimpleNamespace(
-            key=lambda crate: "key",
-            of_edit=lambda file, key: f"{key}/{pathlib.Path(file).stem}",
-            tried=self.kept.get,
-            is_untouched=lambda crate: True,
-            keep_tried=lambda name, kind, said: self.kept.update({name: (kind, said)}),
-        )
-        tasks, files = {}, [self.files[it] for it in names]
-        results, known = in_one_task(self.rt)(tasks, self.crate, files, [], [], lambda given, new=0: is_well, kept)
-        given = {key: call({}, 1) for key, (_, _, _, call) in tasks.items()}
-        return results(given), len(known())
+        return must_fail_all(self.rt, self.crate, files, ["--jobs", "1"], over, [self.files[it] for it in known])
 
     def test_those_of_different_functions_are_in_one_check(self):
-        found, _ = self.tried("one", "sides", "lines")
+        found = self.tried("one", "sides", "lines")
         self.assertEqual([it[0] for it in found], ["refused"] * 3)
         self.assertIn("must-fail twp_grid/one.edit: refused, as it must be: note: src/line.rt:12", found[0][1])
         ((text, flags), again, same, whole) = self.checks
@@ -326,66 +305,63 @@ class OneTask(unittest.TestCase):
 
     def test_one_that_waits_for_a_function_that_another_changes_is_tried_once_more(self):
         self.waits = True
-        found, _ = self.tried("one", "sides")
+        found = self.tried("one", "sides")
         self.assertIn(f"src/line.rt:{LINE_OF_SIDES}:9", found[1][1])
         self.assertEqual(self.alone, [])
         self.assertEqual([it[1][2:] for it in self.checks[1:]], [["--only", "line::sides"]] * 2)
 
     def test_one_that_only_a_try_by_itself_refuses_is_marked(self):
         self.rt.must_fail = lambda crate, file, flags, kept=None: ("refused", "refused, as it must be")
-        self.assertEqual(self.tried("lines")[0], [("refused", "refused, as it must be [tried alone]")])
+        self.assertEqual(self.tried("lines"), [("refused", "refused, as it must be [tried alone]")])
 
     def test_a_function_whose_name_is_not_taken_is_checked_with_its_module(self):
         self.unnamed = ["Line::index"]
-        self.assertEqual([it[0] for it in self.tried("one")[0]], ["refused"])
+        self.assertEqual([it[0] for it in self.tried("one")], ["refused"])
         self.assertEqual([it[1][2:] for it in self.checks], [["--only", "Line::index"], ["--only", "line"]])
 
     def test_a_check_that_fails_for_another_reason_is_not_repeated(self):
         self.unnamed = ["line::sides", "line"]
-        self.assertEqual([it[1] for it in self.tried("sides")[0]], ["from nothing [tried alone]"])
+        self.assertEqual([it[1] for it in self.tried("sides")], ["from nothing [tried alone]"])
         self.assertEqual([it[1][2:] for it in self.checks], [["--only", "line::sides"], ["--only", "line"], []])
 
     def test_over_the_work_of_one_check_another_needs_its_functions_proved_as_they_stand(self):
-        self.assertIn("src/line.rt:12", self.tried("one", "two")[0][1][1])
+        self.assertIn("src/line.rt:12", self.tried("one", "two")[1][1])
         (_, (second, flags), (third, same)) = self.checks
         self.assertTrue("7)" in second and "return 2;" not in second)
         self.assertEqual((third, same), ("as it stands", flags))
 
     def test_a_second_check_says_nothing_if_they_are_not(self):
         self.is_proved = False
-        self.assertEqual([it[1] for it in self.tried("one", "two")[0]][1], "from nothing [tried alone]")
+        self.assertEqual([it[1] for it in self.tried("one", "two")][1], "from nothing [tried alone]")
         self.assertEqual(self.alone, [("two", True), ("two", False)])
 
-    def test_each_check_is_over_what_the_proof_left(self):
-        self.crate.rlib = rlib_in(self.crate.folder)
-        self.assertEqual([it[0] for it in self.all("one", "two")], ["refused"] * 2)
-        self.assertTrue("return 2;" in self.checks[0][0] and "7)" in self.checks[1][0])
-        self.assertEqual(self.found, [["antt-81_1.0/Grid.Line.oantt", "antt-81_1.0/Grid.oantt"]] * 2)
-
-    def test_without_a_proof_a_check_is_over_the_work_of_the_one_before(self):
-        self.all("one", "two")
+    def test_a_check_is_over_the_work_of_the_one_before(self):
+        self.tried("one", "two")
         self.assertEqual(self.found, [[], ["changed.oantt"], ["changed.oantt"]])
 
+    def test_the_first_check_is_over_what_rt_check_kept(self):
+        over = pathlib.Path(self.crate.folder, "kept")
+        over.mkdir()
+        (over / "line.oantt").touch()
+        self.tried("one", over=over)
+        self.assertEqual(self.found, [["line.oantt"], ["changed.oantt", "line.oantt"]])
+        self.assertEqual([it.name for it in over.iterdir()], ["line.oantt"])
+
+    def test_one_of_a_clause_is_tried_by_itself(self):
+        file = pathlib.Path(self.crate.folder, "clause.edit")
+        file.write_text("file: src/line.rt\nold: index_of self\nnew: number_of self\n")
+        self.files["clause"] = str(file)
+        found = self.tried("clause", "sides")
+        self.assertEqual([it[1] for it in found], ["from nothing [tried alone]"] * 2)
+        self.assertEqual([it[0] for it in self.alone], ["clause", "sides"] * 2)
+        self.assertNotIn("number_of", "".join(text for text, _ in self.checks))
+
     def test_one_that_is_known_to_be_let_through_is_not_tried_from_nothing(self):
-        self.assertEqual([it[0] for it in self.all("lines", known=["lines"])], ["missed"])
+        self.assertEqual([it[0] for it in self.tried("lines", known=["lines"])], ["missed"])
 
     def test_what_is_said_of_one_alone_counts_only_if_the_crate_is_proved(self):
         self.is_proved = False
-        self.assertEqual([it[1] for it in self.all("lines", known=["lines"])], ["from nothing [tried alone]"])
-
-    def test_what_an_earlier_run_tried_is_not_tried_again(self):
-        self.assertEqual(self.tried("one")[1], 0)
-        found, known = self.tried("one", "two")
-        self.assertEqual((len(found), known), (2, 1))
-        self.assertEqual(len(self.checks), 2)
-        self.assertNotIn("return 2;", self.checks[1][0])
-
-    def test_a_crate_that_is_not_proved_has_no_results(self):
-        self.assertEqual(self.tried("one", is_well=False), (None, 0))
-        self.assertEqual(self.checks, [])
-
-    def test_a_crate_without_wrong_bodies_has_no_task(self):
-        self.assertEqual(self.tried(), ([], 0))
+        self.assertEqual([it[1] for it in self.tried("lines", known=["lines"])], ["from nothing [tried alone]"])
 
 
 if __name__ == "__main__":
