@@ -9,15 +9,8 @@ kit=$(dirname "$(rt doc)")
 version=$(sh packaging/version.sh)
 major=${version%%.*}
 echo 'the library is proved before it is built: some minutes the first time, seconds after that.'
-status=0
-[ "${2:-}" = proved ] || python3 tools/prove.py twp_c || status=$?
-case $status in
-    0) prove() { sh tools/over_proved.sh twp_c; } ;;
-    # This kit's rt proves one crate after another.
-    3) prove() { cd crates/twp_c && rt lib; } ;;
-    *) exit "$status" ;;
-esac
-(prove) > lib.log 2>&1 || {
+[ "${2:-}" = proved ] || python3 tools/prove.py twp_c
+sh tools/over_proved.sh twp_c > lib.log 2>&1 || {
     cat lib.log >&2
     exit 1
 }
