@@ -19,6 +19,7 @@ ended_now() { echo "tests of $* ended after $((($(date +%s) - begun_at) / 60)) m
 
 {
     part quick sh tests/quick.sh
+    part gate sh tests/gate.sh
     part library sh tests/library/run.sh proved
     part program sh tests/e2e.sh crates/twp_cmd/out/twp_cmd
     gather
