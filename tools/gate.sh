@@ -1,20 +1,20 @@
 #!/usr/bin/env bash
 # Runs the kit's own `rt ci`, which proves every crate, tries the wrong bodies in must-fail/, and runs the programs, and
-# ends with its status. All that it prints is in the file gate.log. Shown are the crate that isn't proved, with its whole
-# output, a wrong body that isn't refused by a goal, and one line for each of the rest; the last line is
+# exits with its status. The file gate.log gets the complete output. The terminal shows it for crates that are not
+# proved, and for wrong bodies that no goal refuses; otherwise, a line for each crate. The last line is
 # 'N passed, M failed'.
 set -euo pipefail
 cd "$(dirname "$0")/.."
 
-# By itself, rt gives a proof more processes if processors are idle, and then it takes up to a third more processor time.
-# A check takes up to 4 GB of memory.
+# By default, rt gives a proof more processes if processors are idle, which takes up to a third more processor time. A
+# check takes up to 4 GB of memory.
 processors=$(nproc)
 memory=$(awk '$1 == "MemAvailable:" { print int($2 / 4000000) }' /proc/meminfo)
 checks=$((memory < processors ? memory : processors))
 export RT_JOBS="${RT_JOBS:-$((checks > 1 ? checks : 1))}"
 
-# The output of a crate begins with a line of two equals signs and ends with whether it is proved. What is left at the
-# end is of a run that was cut off.
+# The output of a crate begins with a line of two equals signs, and ends with one that says whether it is proved. If the
+# run was cut off, lines are left at the end.
 shown() {
     local line held=()
     while IFS= read -r line || [ -n "$line" ]; do
@@ -28,7 +28,12 @@ shown() {
     done
     printf '%s' "${held[@]/%/$'\n'}"
 }
-
-# The status is that of rt, or of what shows its output. A run that passed nothing has failed, too.
 rt ci 2>&1 | tee gate.log | shown
+
+# A run that passed nothing has failed, and so has one with a wrong body that can't be applied or compiled: some kits
+# only mention that.
 tail -n 1 gate.log | grep -q '^[1-9][0-9]* passed, 0 failed$'
+if grep -q '^rt: .*BAD EDIT' gate.log; then
+    echo 'the gate failed: a wrong body is a BAD EDIT, as said above'
+    exit 1
+fi

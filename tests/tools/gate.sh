@@ -1,5 +1,5 @@
 #!/bin/sh
-# Tests what tools/gate.sh shows of what rt prints, and its status, with a command in place of rt. The last line is
+# Tests which output of rt tools/gate.sh shows, and its status, with another command in place of rt. The last line is
 # 'N passed, M failed'.
 . "$(dirname "$0")/../lib.sh"
 
@@ -57,6 +57,8 @@ echo '0 passed, 0 failed' > "$work/said"
 ends 'a gate that tries nothing' 0 1
 : > "$work/said"
 ends 'a gate that prints nothing' 0 1
+printf "$bad"'72 passed, 0 failed\n' > "$work/said"
+ends 'a wrong body that can not be tried' 0 1
 
 # As many checks run as there are processors, unless another number is given.
 RT_JOBS=7 gate
@@ -64,5 +66,6 @@ echo 7 > "$work/wanted"
 mv "$work/jobs" "$work/found"
 same 'the number of checks that is given'
 gate
-[ "$(cat "$work/jobs")" -ge 1 ] && [ "$(cat "$work/jobs")" -le "$(nproc)" ] && pass || fail 'the number of checks' "$work/jobs"
+jobs=$(cat "$work/jobs")
+if [ "$jobs" -ge 1 ] && [ "$jobs" -le "$(nproc)" ]; then pass; else fail 'the number of checks' "$work/jobs"; fi
 ended
