@@ -14,6 +14,7 @@ of that crate, and ends with status 1.
 
 import re
 import shutil
+import signal
 import subprocess
 import sys
 import tempfile
@@ -140,6 +141,8 @@ def prove(crates):
 def main(names):
     if not names:
         sys.exit("usage: python3 tools/prove.py CRATE ..")
+    # So that the folder is removed, and rt is ended.
+    signal.signal(signal.SIGTERM, lambda *_: sys.exit(1))
     rt = loaded_rt("rtlib.crates_below") or sys.exit("prove.py: this kit's rt doesn't say which crates are below one")
     every = [it for name in names for it in rt.rtlib.crates_below(str(ROOT / "crates" / name))]
     # A static library is proved where it is built.
