@@ -5,15 +5,10 @@
 . "$(dirname "$0")/lib.sh"
 cd "$root" || exit 1
 try 'the layout of sources' sh tools/formatted.sh
-try 'how tests are counted' sh tests/tools/counting.sh
 try 'what the gate shows, and its status' sh tests/tools/gate.sh
 if python=$(python_with argparse); then
     try 'the layout of definitions and proofs' "$python" tools/wrap_proofs.py --check
     try 'each wrong body fits the code, and the named ones are tried' "$python" tools/edits.py
-    try 'what is said of a wrong body that does not fit' "$python" tests/tools/test_edits.py
-    try 'how wrong bodies are tried together' "$python" tests/tools/test_wrong_bodies.py
-    try 'what is kept of wrong bodies that were tried' "$python" tests/tools/test_bugs.py
-    try 'what is proved, and how its progress is shown' "$python" tests/tools/test_prove.py
     try 'the table of words, and what is made of it' "$python" tools/words.py --check
     try 'the bindings, which are made from township.h' "$python" -B tools/bindings.py --check
     try 'township.h, compared with the code of the library' "$python" -B tools/signatures.py
