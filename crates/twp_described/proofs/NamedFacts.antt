@@ -1,5 +1,6 @@
 -- The land of items, added one after another.
-use Rattle.std.proofs.Common.{◌≡◌, ℕ, ◌+◌, ◌<◌, ◌≤◌, ◌||◌, Bool, List, length, take, drop, refl, sym, ap}
+use Rattle.std.proofs.Common.{◌≡◌, ◌⊎◌, inl, inr, ℕ, ◌+◌, ◌<◌, ◌≤◌, ◌||◌, Bool, true, false, List, length}
+use Rattle.std.proofs.Common.{take, drop, refl, sym, ap}
 use Rattle.std.proofs.Common.{◌∙◌, arith, IfOk, Result, Ok, Err}
 use Rattle.std.proofs.Math.Path.{fun_ext}
 use Rattle.std.proofs.Math.ListN.{get_or}
@@ -7,13 +8,14 @@ use Rattle.std.proofs.lemmas.List.{take_all}
 use Rattle.std.proofs.lemmas.List.Folds.{list_any_more}
 use Rattle.twp_grid.specs.Places.{PLACE_DIGITS}
 use Rattle.twp_grid.specs.Townships.{Designation}
-use Rattle.twp_grid.specs.Lands.{HasWholeLots, no_places, union}
+use Rattle.twp_grid.specs.Lands.{HasWholeLots, IsWholeOrNot, LieWithin, no_places, union}
 use Rattle.twp_grammar.specs.declared.item.Item.{Item}
 use Rattle.twp_grammar.specs.ItemPlaces.{ItemOfSection, item_of, item_places, land_of, parts_of}
 use Rattle.twp_grammar.specs.ItemPlaces.{section_after, with_sections}
 use Rattle.twp_grammar.specs.Sentences.{IsReadAs}
 use Rattle.twp_spell.specs.CanonicalText.{IsCanonicalText}
 use Rattle.twp_described.specs.Descriptions.{AreLotsNamed, AreNamed, NamesTownship, as_written}
+use Rattle.twp_land.proofs.LotSections.{whole_of_none}
 use Rattle.twp_resolve.proofs.ResolvingFacts.{IsNext, next_is, parts_count}
 
 -- the land of the items before an index
@@ -77,3 +79,35 @@ are_lots_named made text full items township places read of_township named whole
   spelled = spelled;
   text_is = written;
 }
+
+-- land has no lots outside of the sections between which it is
+whole_outside : (places : ℕ → ℕ → ℕ → Bool) (first last section lot : ℕ) → LieWithin places first last
+    → (section < first) ⊎ (last < section) → IsWholeOrNot PLACE_DIGITS section lot (places section)
+whole_outside places first last section lot within out =
+    whole_of_none section lot (places section) (λ column row.
+    by_test column row (places section column row) refl)
+  where
+    by_test : (column row : ℕ) (x : Bool) → places section column row ≡ x → places section column row ≡ false
+    by_test column row true e =
+        let there = within section column row e in
+        elim out [
+          | inl before ↦ absurd (omega (arith, there.0))
+          | inr after ↦ absurd (omega (arith, there.1))
+        ]
+    by_test column row false e = e
+
+pub whole_before : (places : ℕ → ℕ → ℕ → Bool) (first last section lot : ℕ) → LieWithin places first last
+    → section < first → IsWholeOrNot PLACE_DIGITS section lot (places section)
+whole_before places first last section lot within before =
+    whole_outside places first last section lot within (inl before)
+
+pub whole_after : (places : ℕ → ℕ → ℕ → Bool) (first last section lot : ℕ) → LieWithin places first last
+    → last < section → IsWholeOrNot PLACE_DIGITS section lot (places section)
+whole_after places first last section lot within after =
+    whole_outside places first last section lot within (inr after)
+
+-- nor has no land any
+pub whole_if_none : (places : ℕ → ℕ → ℕ → Bool) → places ≡ no_places → HasWholeLots PLACE_DIGITS places
+whole_if_none places none section lot range =
+    whole_of_none section lot (places section) (λ column row.
+    ap (λ (land : ℕ → ℕ → ℕ → Bool). land section column row) none)

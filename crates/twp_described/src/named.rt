@@ -2,7 +2,7 @@
 ghost use Rattle.std.specs.Prelude.{◌≡◌, ℕ, ◌≤◌, true, IfOk};
 ghost use Rattle.twp_grid.specs.Places.{PLACE_DIGITS};
 ghost use Rattle.twp_grid.specs.Winding.{IsSection};
-ghost use Rattle.twp_grid.specs.Lands.{HasWholeLots, Meets, block_places, union};
+ghost use Rattle.twp_grid.specs.Lands.{HasWholeLots, IsWholeOrNot, Meets, block_places, union};
 ghost use Rattle.twp_grammar.specs.declared.item.Item.TheVariants.{Chain, All, Sections as RangeOfSections, Lots as RangeOfLots};
 ghost use Rattle.twp_grammar.specs.ItemPlaces.{item_of, item_places, land_of, parts_of, section_after};
 ghost use Rattle.twp_grammar.specs.OnPlat.{HasLot};
@@ -14,7 +14,7 @@ use crate::unread::Unread;
 use std::alloc::{AllocError, Global};
 use twp_grammar::{Item, Numeral, Steps};
 use twp_grid::{Block, Section, lot_count};
-use twp_land::{Land, Lanes, lots_whole};
+use twp_land::{Land, Lanes};
 use twp_read::Description;
 use twp_resolve::chain_block;
 
@@ -44,10 +44,37 @@ pub(crate) fn find_with_lots(description: &Description, land: &mut Lanes) -> boo
     if !is_named {
         return false;
     }
-    if lots_whole(&land.rows()) {
+    has_whole_lots(land)
+}
+
+/// Whether land contains each lot wholly or not at all. Only the sections between which it is are looked at,
+/// of which most have no lots.
+fn has_whole_lots<L: Land>(land: &L) -> bool
+    ensures { result ≡ true → HasWholeLots PLACE_DIGITS (L.places land.now) }
+{
+    let Some((first, last)) = land.sections() else {
         return true;
+    };
+    for number in first.number()..last.number() + 1 {
+        let section = Section::new(number).unwrap();
+        if !holds_whole_lots(land, section) {
+            return false;
+        }
     }
-    false
+    true
+}
+
+/// Whether land contains each lot of a section wholly or not at all.
+fn holds_whole_lots<L: Land>(land: &L, section: Section) -> bool
+    ensures { result ≡ true → (lot : ℕ) → IsWholeOrNot PLACE_DIGITS section lot (L.places land.now section) }
+{
+    for lot in 1..lot_count(section) + 1 {
+        let places = Block::of_lot(section, lot).unwrap();
+        if land.meets(section, places) && !land.full(section, places) {
+            return false;
+        }
+    }
+    true
 }
 
 /// Why a description isn't read whose land isn't on the plat: it names some land twice, or a part of a lot.
