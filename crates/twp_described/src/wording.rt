@@ -2,13 +2,15 @@
 //! without the land that it excepts.
 ghost use Rattle.std.specs.Prelude.{◌≡◌, ◌≤◌, ◌++◌, IfOk, IfSome, IsTrue, OnOk, drop, length};
 ghost use Rattle.twp_grid.specs.Lands.{ContainsAll, SamePlaces};
-ghost use Rattle.twp_described.specs.Descriptions.{AreItemsOf, AreLotsNamed, IsAccepted, IsDescribed, IsRemainder};
+ghost use Rattle.twp_grammar.specs.Sentences.{IsReadAs};
+ghost use Rattle.twp_described.specs.Descriptions.{AreItemsOf, AreLotsNamed, IsAccepted, IsDescribed};
+ghost use Rattle.twp_described.specs.Descriptions.{IsRemainder, NamesTownship};
 ghost use Rattle.twp_described.specs.Descriptions.{as_written, except};
 ghost use Rattle.twp_described.specs.Descriptions.{without_first_line};
 
 use crate::manner::Manner;
 use crate::named::{find_with_lots, why_unread};
-use crate::on_plat::{find_land, first_township, read};
+use crate::on_plat::{first_township, read};
 use crate::unread::Unread;
 use std::alloc::{AllocError, Global};
 use twp_grammar::Item;
@@ -73,7 +75,7 @@ pub fn described(alloc: Global, made: Vec<u8>, has_except: bool) -> Result<Optio
         })),
         Err(PlaceFault::Overlap { .. } | PlaceFault::TooFine { .. }) => Ok(None),
         Err(PlaceFault::OnLot { .. }) => {
-            let text = with_lots_named(alloc, made.as_slice())?;
+            let text = with_lots_named(alloc, made.as_slice(), &description, township)?;
             accept(alloc, text.as_slice())?;
             Ok(Some(Wording {
                 text,
@@ -118,22 +120,23 @@ fn accept(alloc: Global, text: &[u8]) -> Result<(), Unread>
 /// The canonical description of the land of a text in which aliquot parts include whole lots.
 #[tactic(auto, using(crate::proofs::NamedFacts::are_lots_named))]
 #[inline(never)]
-fn with_lots_named(alloc: Global, made: &[u8]) -> Result<Vec<u8>, Unread>
+fn with_lots_named(
+    alloc: Global,
+    made: &[u8],
+    description: &Description,
+    township: Township,
+) -> Result<Vec<u8>, Unread>
+    requires read { IsReadAs made.now description.now }
+    requires township { NamesTownship description.now township }
     ensures { IfOk result (λ text. AreLotsNamed made.now text.items) }
 {
-    let Some(description) = read(alloc, made)? else {
-        return Err(Unread::Refused);
-    };
-    let Some(township) = first_township(description.items()) else {
-        return Err(Unread::Refused);
-    };
     let mut land = Lanes::empty();
-    let is_named = find_with_lots(&description, &mut land);
+    let is_named = find_with_lots(description, &mut land);
     if !is_named {
-        return Err(why_unread(&description));
+        return Err(why_unread(description));
     }
     let full = spell(alloc, &land, township)?;
-    let text = as_written(alloc, &description, full.as_slice())?;
+    let text = as_written(alloc, description, full.as_slice())?;
     Ok(text)
 }
 
@@ -187,30 +190,29 @@ fn remainder(alloc: Global, whole: &[u8], excepted: &[u8]) -> Result<Wording, Un
     ensures items { IfOk result (λ found.
         AreItemsOf (whole.now ++ except ++ excepted.now) found.items found.excepted) }
 {
+    let mut land = Lanes::empty();
+    let mut less = Lanes::empty();
     let Some(description) = read(alloc, whole)? else {
         return Err(Unread::Refused);
     };
     let Some(township) = first_township(description.items()) else {
         return Err(Unread::Refused);
     };
-    let mut land = Lanes::empty();
     let Ok(()) = resolve_into(&mut land, &description, township) else {
         return Err(why_unread(&description));
     };
-    let mut less = Lanes::empty();
-    let has_less = find_land(alloc, excepted, township, &mut less)?;
-    if !has_less {
-        return Err(why_text_is_unread(alloc, excepted)?);
-    }
+    let Some(items) = read(alloc, excepted)? else {
+        return Err(Unread::Refused);
+    };
+    let Ok(()) = resolve_into(&mut less, &items, township) else {
+        return Err(why_unread(&items));
+    };
     if !is_proper_part(&less, &land) {
         return Err(Unread::Unfit);
     }
     land.take_away(&less);
     let full = spell(alloc, &land, township)?;
     let text = as_written(alloc, &description, full.as_slice())?;
-    let Some(items) = read(alloc, excepted)? else {
-        return Err(Unread::Refused);
-    };
     Ok(Wording {
         text,
         manner: Manner::Remainder,
@@ -228,14 +230,6 @@ fn is_proper_part(part: &Lanes, land: &Lanes) -> bool
     ensures some_left { IsTrue result → ¬ SamePlaces (⟦<Lanes as Land>⟧.places land.now) (⟦<Lanes as Land>⟧.places part.now) }
 {
     land.holds_land(part) && !land.same(part)
-}
-
-/// Why the land of a text isn't on the plat.
-fn why_text_is_unread(alloc: Global, text: &[u8]) -> Result<Unread, AllocError> {
-    let Some(description) = read(alloc, text)? else {
-        return Ok(Unread::Refused);
-    };
-    Ok(why_unread(&description))
 }
 
 /// A canonical text as a description of land for which another was written.

@@ -7,7 +7,10 @@ returns-clause-described c =
     let only = rw c.in-Some.is at c.in_ok-description.ensures.only in
     let land =
     is_land c.in-Some-first_township.township c.args.whole.now _ _ read (c.in-Ok.ensures.land) in
-    let less = c.in_ok-has_less.ensures.land c.if-not-has_less.false in
+    let read_less = rw c.in-Some-2.is at c.in_ok-items.ensures.read in
+    let less =
+    is_land c.in-Some-first_township.township c.args.excepted.now _ _ read_less
+    (c.in-Ok-resolve_into.ensures.land) in
     is_remainder c.args.whole.now c.args.excepted.now c.in_ok-text.text.items c.in_ok-full.full.items _ _ _ _
     only land less (c.is_proper_part.ensures.inside c.if-not-is_proper_part.false)
     (c.is_proper_part.ensures.some_left c.if-not-is_proper_part.false)
