@@ -6,3 +6,5 @@ pub mod ClosedFacts
 pub mod RepeatFacts
 pub mod WordFacts
 mod PlainFacts
+mod WordLetters
+mod PlainBytes

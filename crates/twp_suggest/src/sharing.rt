@@ -124,7 +124,7 @@ pub(crate) fn has_place(made: &[u8]) -> bool
 }
 
 /// Whether a byte is F, which of the words of a description only `of` has.
-fn is_f(byte: u8) -> bool
+pub(crate) fn is_f(byte: u8) -> bool
     ensures { result ≡ is_f byte }
 {
     byte == 102 || byte == 70

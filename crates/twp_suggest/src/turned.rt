@@ -198,7 +198,7 @@ fn ends_step_at(made: &[u8], at: usize) -> bool
 }
 
 /// Whether two bytes end a step.
-fn ends_fraction(before: u8, last: u8) -> bool
+pub(crate) fn ends_fraction(before: u8, last: u8) -> bool
     ensures { result ≡ ends_fraction before last }
 {
     (before == 47 && (last == 50 || last == 52)) || (before == 194 && (last == 188 || last == 189))
