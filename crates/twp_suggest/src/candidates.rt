@@ -20,10 +20,8 @@ pub(crate) fn outline_of<'a, F: FindsPhrases>(
     if text.len() > TEXT_LIMIT {
         return Ok(None);
     }
-    let draft = F::phrases_of(alloc, text)?;
-    let mut writer = Writer {
-        plan: Plan::of(draft),
-    };
+    let mut plan = Plan::of(F::phrases_of(alloc, text)?);
+    let mut writer = Writer { plan: &mut plan };
     if writer.plan.draft.is_unsure {
         return Ok(None);
     }
@@ -53,6 +51,12 @@ impl<'a> Outline<'a> {
         if self.candidates == 1 && !has_white_space(self.changes.as_slice()) {
             return Ok(mem::replace(&mut self.changes, Vec::new(alloc)));
         }
+        self.chosen(alloc, number)
+    }
+
+    /// The changes of one candidate of several. Not inlined, since most texts have one.
+    #[inline(never)]
+    fn chosen(&self, alloc: Global, number: usize) -> Result<Vec<Change<'a>>, AllocError> {
         let mut changes = Vec::with_capacity(alloc, self.changes.len())?;
         for (before, new) in self.changes.iter().enumerate() {
             self.add_choices(number, before, &mut changes)?;

@@ -44,7 +44,7 @@ impl Before {
     }
 }
 
-impl<'a> Writer<'a> {
+impl<'p, 'a> Writer<'p, 'a> {
     /// Whether each part that is called fractional includes lots.
     pub(crate) fn fractional_fit(
         &self,
@@ -128,27 +128,15 @@ impl<'a> Writer<'a> {
         changes: Span,
         text: &mut Vec<u8>,
     ) -> Result<(), AllocError> {
-        let mut at = self.plan.draft.pieces.start(pieces.first);
-        let end = self.plan.draft.pieces.end_before(pieces.end);
-        for change in self
-            .plan
-            .draft
-            .changes
-            .get(changes.first..changes.end)
-            .unwrap_or(&[])
-        {
-            text.extend_from_slice(
-                self.plan
-                    .draft
-                    .pieces
-                    .text
-                    .get(at..change.start)
-                    .unwrap_or(b""),
-            )?;
+        let draft = &self.plan.draft;
+        let mut at = draft.pieces.start(pieces.first);
+        let end = draft.pieces.end_before(pieces.end);
+        for change in draft.changes.get(changes.first..changes.end).unwrap_or(&[]) {
+            text.extend_from_slice(draft.pieces.text.get(at..change.start).unwrap_or(b""))?;
             text.extend_from_slice(change.written)?;
             at = change.end;
         }
-        text.extend_from_slice(self.plan.draft.pieces.text.get(at..end).unwrap_or(b""))
+        text.extend_from_slice(draft.pieces.text.get(at..end).unwrap_or(b""))
     }
 }
 

@@ -1,7 +1,7 @@
 //! What is written between phrases: commas, semicolons, and nothing.
 
 use crate::joints::Shared;
-use crate::outline::Outline;
+use crate::outline::{Outline, Parts};
 use crate::writer::Writer;
 use twp_arrange::{Between, Gap, Joining, Placed, is_joint, is_written, mark_between};
 use twp_draft::{Form, Names};
@@ -9,13 +9,14 @@ use twp_grammar::Kind;
 use twp_pieces::plus;
 use twp_rules::{Change, Rule};
 
-impl<'a> Writer<'a> {
+impl<'p, 'a> Writer<'p, 'a> {
     /// Writes what has to be between two phrases, and leaves out what is between them.
-    pub(crate) fn write_gap(
+    pub(crate) fn write_gap<'b>(
         &mut self,
-        before: Option<&Placed>,
-        after: Option<&Placed>,
+        before: Option<&'b Placed>,
+        after: Option<&'b Placed>,
         left_out: &[Placed],
+        parts: &mut Parts<'b>,
         out: &mut Outline<'a>,
     ) {
         let gap = Gap {
@@ -28,87 +29,91 @@ impl<'a> Writer<'a> {
             if one.phrase.names == Names::Except || other.phrase.names == Names::Except {
                 return self.write_pieces(gap, left_out, Some(gap.end), false, out);
             }
-            let shared = self.shared_of(one, other, joining, out);
-            let is_apart = matches!(joining, Joining::Nothing | Joining::Stop);
-            if self.is_unsure_of(one, other, shared, is_apart, out) {
+            if is_joint(one, other) {
+                return self.write_joined(one, other, gap, left_out, joining, parts, out);
+            }
+            *parts = Parts::none();
+            if self.plan.is_unsure_gap(one, other, joining, left_out) {
                 self.plan.draft.doubt();
-            }
-            match shared {
-                Shared::Nothing if self.is_slash(gap, one, other) => {
-                    return self.write_slash(gap, out);
-                }
-                Shared::Nothing if self.plan.is_unsure_gap(one, other, joining, left_out) => {
-                    self.plan.draft.doubt();
-                }
-                Shared::Tail => self.write_tail(&one.phrase, &other.phrase, out),
-                Shared::Head => {
-                    self.write_between(before, after, gap, left_out, joining, out);
-                    return self.write_head(&one.phrase, &other.phrase, out);
-                }
-                _ => {}
-            }
-            if is_joint(one, other) && is_apart && left_out.is_empty() {
-                return self.write_joint(gap, &one.phrase, &other.phrase, out);
             }
         }
         self.write_between(before, after, gap, left_out, joining, out)
     }
 
+    /// Writes what has to be between two parts of one section. Not inlined, since most phrases are no such
+    /// parts.
+    #[inline(never)]
+    fn write_joined<'b>(
+        &mut self,
+        one: &'b Placed,
+        other: &'b Placed,
+        gap: Gap,
+        left_out: &[Placed],
+        joining: Joining,
+        parts: &mut Parts<'b>,
+        out: &mut Outline<'a>,
+    ) {
+        let shared = self.shared_of(one, other, joining, out);
+        let is_apart = matches!(joining, Joining::Nothing | Joining::Stop);
+        if self.is_unsure_of(one, other, shared, is_apart, parts) {
+            self.plan.draft.doubt();
+        }
+        match shared {
+            Shared::Nothing if self.is_slash(gap) => {
+                return self.write_slash(gap, out);
+            }
+            Shared::Nothing if self.plan.is_unsure_gap(one, other, joining, left_out) => {
+                self.plan.draft.doubt();
+            }
+            Shared::Tail => self.write_tail(&one.phrase, &other.phrase, out),
+            Shared::Head => {
+                self.write_between(Some(one), Some(other), gap, left_out, joining, out);
+                return self.write_head(&one.phrase, &other.phrase, out);
+            }
+            _ => {}
+        }
+        if is_apart && left_out.is_empty() {
+            return self.write_joint(gap, &one.phrase, &other.phrase, parts, out);
+        }
+        self.write_between(Some(one), Some(other), gap, left_out, joining, out)
+    }
+
     /// Whether it isn't sure for which of two parts, and those beside them, an `of` is: also where only white
     /// space or a period is between them, after a part whose `of` may be for the one before it.
-    fn is_unsure_of(
-        &mut self,
-        one: &Placed,
-        other: &Placed,
+    fn is_unsure_of<'b>(
+        &self,
+        one: &'b Placed,
+        other: &'b Placed,
         shared: Shared,
         is_apart: bool,
-        out: &mut Outline<'a>,
+        parts: &mut Parts<'b>,
     ) -> bool {
-        let is_after_tail = is_apart && out.has_tail && is_joint(one, other);
+        let is_after_tail = is_apart && parts.has_tail;
         is_after_tail
-            || self.does_overlap_bare(one, other, shared, out)
+            || self.does_overlap_bare(one, other, shared, parts)
             || self.is_forced(&one.phrase, &other.phrase, shared)
-            || self.is_unsure_of_three(one, other, shared, out)
+            || is_unsure_of_three(other, shared, parts)
     }
 
     /// Whether a part has land in common with one before it for which an `of` may be, so that it has to be
     /// for that. Notes what the next part has to know.
-    fn does_overlap_bare(
+    fn does_overlap_bare<'b>(
         &self,
-        one: &Placed,
-        other: &Placed,
+        one: &'b Placed,
+        other: &'b Placed,
         shared: Shared,
-        out: &mut Outline<'a>,
+        parts: &mut Parts<'b>,
     ) -> bool {
-        let does_overlap = match out.bare {
-            Some(bare) => is_joint(one, other) && self.plan.draft.do_overlap(bare, other.phrase),
+        let does_overlap = match parts.bare {
+            Some(bare) => self.plan.draft.do_overlap(bare.phrase, other.phrase),
             None => false,
         };
         match shared {
-            Shared::Tail => out.bare = Some(one.phrase),
-            Shared::Head => out.bare = Some(other.phrase),
-            Shared::Nothing if !is_joint(one, other) => out.bare = None,
+            Shared::Tail => parts.bare = Some(one),
+            Shared::Head => parts.bare = Some(other),
             Shared::Nothing => {}
         }
         does_overlap
-    }
-
-    /// Whether an `of` of the last of three parts may be for the first one too, or one of the first for the last:
-    /// `NE¼, NW¼ & SE¼ of SW¼`. Notes what the next part has to know.
-    fn is_unsure_of_three(
-        &mut self,
-        one: &Placed,
-        other: &Placed,
-        shared: Shared,
-        out: &mut Outline<'a>,
-    ) -> bool {
-        let are_parts = is_joint(one, other);
-        let is_after_head = out.has_head && are_parts && other.phrase.form != Form::WithOf;
-        out.parts = if are_parts { plus(out.parts, 1) } else { 0 };
-        let is_after_part = out.parts > 1 && shared == Shared::Tail;
-        out.has_head = shared == Shared::Head;
-        out.has_tail = shared == Shared::Tail;
-        is_after_head || is_after_part
     }
 
     /// Writes what has to be between two phrases, if it isn't written so.
@@ -162,7 +167,23 @@ impl<'a> Writer<'a> {
 
     /// Writes the pieces between two phrases: a mark instead of one of them, and nothing instead of the
     /// others. With no such piece, all of them stay.
+    #[inline(always)]
     fn write_pieces(
+        &mut self,
+        gap: Gap,
+        left_out: &[Placed],
+        mark: Option<usize>,
+        is_comma: bool,
+        out: &mut Outline<'a>,
+    ) {
+        if gap.first < gap.end {
+            self.write_some_pieces(gap, left_out, mark, is_comma, out);
+        }
+    }
+
+    /// The same, for a gap that has pieces.
+    #[inline(never)]
+    fn write_some_pieces(
         &mut self,
         gap: Gap,
         left_out: &[Placed],
@@ -314,4 +335,15 @@ impl<'a> Writer<'a> {
             rule,
         });
     }
+}
+
+/// Whether an `of` of the last of three parts may be for the first one too, or one of the first for the last:
+/// `NE¼, NW¼ & SE¼ of SW¼`. Notes what the next part has to know.
+fn is_unsure_of_three(other: &Placed, shared: Shared, parts: &mut Parts<'_>) -> bool {
+    let is_after_head = parts.has_head && other.phrase.form != Form::WithOf;
+    parts.count = plus(parts.count, 1);
+    let is_after_part = parts.count > 1 && shared == Shared::Tail;
+    parts.has_head = shared == Shared::Head;
+    parts.has_tail = shared == Shared::Tail;
+    is_after_head || is_after_part
 }

@@ -1,9 +1,9 @@
 //! Joints: places that can be read in two ways, and steps that may be for two parts.
 
 use crate::candidates::CANDIDATES_MOST;
-use crate::outline::{JointWay, Outline, change};
+use crate::outline::{JointWay, Outline, Parts, change};
 use crate::writer::Writer;
-use twp_arrange::{Gap, Joining, Placed, is_joint};
+use twp_arrange::{Gap, Joining, Placed};
 use twp_draft::{Form, Phrase, PlacedStep};
 use twp_grammar::Kind;
 use twp_pieces::plus;
@@ -19,7 +19,7 @@ pub(crate) enum Shared {
     Head,
 }
 
-impl<'a> Writer<'a> {
+impl<'p, 'a> Writer<'p, 'a> {
     /// Notes a joint between two parts: a comma is written, or all that is between them is left out. A half
     /// beside itself is not sure.
     pub(crate) fn write_joint(
@@ -27,10 +27,11 @@ impl<'a> Writer<'a> {
         gap: Gap,
         one: &Phrase,
         other: &Phrase,
+        parts: &Parts<'_>,
         out: &mut Outline<'a>,
     ) {
         // An `of` after the second part may be for those before the first, too.
-        let is_shared = out.parts > 1 && other.form == Form::WithOf;
+        let is_shared = parts.count > 1 && other.form == Form::WithOf;
         if is_shared || self.is_unsure_joint(gap, *one, *other) {
             self.plan.draft.doubt();
         }
@@ -164,10 +165,9 @@ impl<'a> Writer<'a> {
     }
 
     /// Whether only a slash is between two parts, both of which it is joined to.
-    pub(crate) fn is_slash(&self, gap: Gap, one: &Placed, other: &Placed) -> bool {
+    pub(crate) fn is_slash(&self, gap: Gap) -> bool {
         let pieces = &self.plan.draft.pieces;
-        is_joint(one, other)
-            && plus(gap.first, 1) == gap.end
+        plus(gap.first, 1) == gap.end
             && pieces.is(gap.first, b"/")
             && pieces.is_joined(gap.first)
             && pieces.is_joined(gap.end)
@@ -200,7 +200,7 @@ impl<'a> Writer<'a> {
         let is_and = joining == Joining::And || (joining == Joining::Other && is_mark);
         let is_close = after.first <= plus(before.end, plus(1, usize::from(has_the)))
             && out.candidates <= 2;
-        if !is_joint(one, other) || !is_and || !is_close || before.form == after.form {
+        if !is_and || !is_close || before.form == after.form {
             return Shared::Nothing;
         }
         if after.form == Form::WithOf {

@@ -15,7 +15,7 @@ const EXCEPTING_MOST: usize = 2 * TEXT_LIMIT + 8;
 /// The fewest bytes that are written for a section besides its parts, as in `sec. 1, ; `.
 const SECTION_LEAST: usize = 10;
 
-impl<'a> Writer<'a> {
+impl<'p, 'a> Writer<'p, 'a> {
     /// The township and range that have to be written first, if they aren't.
     pub(crate) fn moved_heading(&self, list: &[Placed]) -> Option<Phrase> {
         for placed in list {

@@ -9,7 +9,7 @@ use twp_pieces::plus;
 use twp_rules::{Change, Rule};
 
 /// There is room from the start for the changes in the phrases, one for each phrase, and so many more.
-const CHANGES_MORE: usize = 4;
+const CHANGES_MORE: usize = 8;
 
 /// A way to read a joint, which is a place that can be read in two ways: between two parts, which are two, or
 /// one, and before or after an `of`.
@@ -42,16 +42,34 @@ pub(crate) struct Outline<'a> {
     pub(crate) again: Again<'a>,
     /// Whether there is an exception.
     pub(crate) has_except: bool,
-    /// How many parts of a list are before the last phrase.
-    pub(crate) parts: usize,
+    /// Whether memory was refused for something, which is then missing.
+    lacks_memory: bool,
+}
+
+/// What is known of the parts of a list, up to the last phrase.
+#[derive(Clone, Copy)]
+pub(crate) struct Parts<'b> {
+    /// How many are before it.
+    pub(crate) count: usize,
     /// Whether the steps before the last `of` of a part may be for the one after it.
     pub(crate) has_head: bool,
     /// Whether those after the first `of` of a part may be for the one before it.
     pub(crate) has_tail: bool,
-    /// The last part of a list for which an `of` of the part beside it may be, too.
-    pub(crate) bare: Option<Phrase>,
-    /// Whether memory was refused for something, which is then missing.
-    lacks_memory: bool,
+    /// The last part for which an `of` of the part beside it may be, too.
+    pub(crate) bare: Option<&'b Placed>,
+}
+
+impl<'b> Parts<'b> {
+    /// No list has begun.
+    #[inline(always)]
+    pub(crate) fn none() -> Parts<'b> {
+        Parts {
+            count: 0,
+            has_head: false,
+            has_tail: false,
+            bare: None,
+        }
+    }
 }
 
 /// What was written of a list.
@@ -100,7 +118,7 @@ impl<'a> Outline<'a> {
     }
 }
 
-impl<'a> Writer<'a> {
+impl<'p, 'a> Writer<'p, 'a> {
     /// The changes of the whole text, from left to right.
     pub(crate) fn outline(
         &mut self,
@@ -114,18 +132,15 @@ impl<'a> Writer<'a> {
             candidates: 1,
             again: self.plan.draft.take_again(alloc),
             has_except: has_except(list),
-            parts: 0,
-            has_head: false,
-            has_tail: false,
-            bare: None,
             lacks_memory: false,
         };
-        let written = self.write_kept(alloc, list, &mut out)?;
+        let mut parts = Parts::none();
+        let written = self.write_kept(alloc, list, &mut parts, &mut out)?;
         // A joint in the land of several sections would be read in both ways for each of them.
         if out.candidates > 1 && has_several_sections(list) {
             self.plan.draft.doubt();
         }
-        self.write_end(written.last, written.rest, list, &mut out);
+        self.write_end(written.last, written.rest, list, &mut parts, &mut out);
         self.plan.draft.all_added()?;
         out.all_added()?;
         Ok(out)
@@ -136,6 +151,7 @@ impl<'a> Writer<'a> {
         &mut self,
         alloc: Global,
         list: &'b [Placed],
+        parts: &mut Parts<'b>,
         out: &mut Outline<'a>,
     ) -> Result<Written<'b>, AllocError> {
         let heading = self.moved_heading(list);
@@ -149,7 +165,7 @@ impl<'a> Writer<'a> {
             if placed.role == Role::LeftOut {
                 continue;
             }
-            self.write_gap(last, Some(placed), &list[next..index], out);
+            self.write_gap(last, Some(placed), &list[next..index], parts, out);
             if last.is_none() {
                 self.write_heading(heading, placed, out);
             }
@@ -166,11 +182,12 @@ impl<'a> Writer<'a> {
     }
 
     /// Writes what follows the last phrase that stays: those that are left out, of all that there are.
-    fn write_end(
+    fn write_end<'b>(
         &mut self,
-        last: Option<&Placed>,
+        last: Option<&'b Placed>,
         left_out: &[Placed],
         list: &[Placed],
+        parts: &mut Parts<'b>,
         out: &mut Outline<'a>,
     ) {
         let end = list.last().map_or(0, |placed| placed.phrase.end);
@@ -181,7 +198,8 @@ impl<'a> Writer<'a> {
         {
             self.plan.draft.doubt();
         }
-        self.write_gap(last, None, left_out, out);
+        let none: Option<&'b Placed> = None;
+        self.write_gap(last, none, left_out, parts, out);
     }
 
     /// Whether a mark after a phrase, which is the last one, says that more follows, which may have been cut

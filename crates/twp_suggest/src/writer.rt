@@ -4,6 +4,6 @@ use twp_arrange::Plan;
 
 /// The phrases of a text, whose changes are written.
 #[derive(Drop)]
-pub(crate) struct Writer<'a> {
-    pub(crate) plan: Plan<'a>,
+pub(crate) struct Writer<'p, 'a> {
+    pub(crate) plan: &'p mut Plan<'a>,
 }
