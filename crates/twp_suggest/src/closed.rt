@@ -52,6 +52,20 @@ fn is_closed(
     if own.manner == Manner::Changed {
         return are_given(alloc, text, own.text.as_slice(), readings, own);
     }
+    is_closed_before(alloc, text, readings, own)
+}
+
+/// The same for a reading whose changes make another text than its own. Not inlined, since most make that.
+#[inline(never)]
+fn is_closed_before(
+    alloc: Global,
+    text: &[u8],
+    readings: &[Reading<'_>],
+    own: &Reading<'_>,
+) -> Result<bool, AllocError>
+    requires { IsReading text.now own.now }
+    ensures { IfOk result (λ it. it ≡ true → IsClosed text.now readings.now own.now) }
+{
     let made = changed(alloc, text, own.changes.as_slice())?;
     are_given(alloc, text, made.as_slice(), readings, own)
 }

@@ -1,5 +1,5 @@
 //! The readings of a text.
-ghost use Rattle.std.specs.Prelude.{◌≡◌, ◌↔◌, true, IsTrue, IfOk, IfSome, All, map};
+ghost use Rattle.std.specs.Prelude.{◌≡◌, ◌↔◌, true, IsTrue, IfOk, IfSome, All, None, map};
 ghost use Rattle.twp_rules.specs.Arrangement.{lie_with_sections};
 ghost use Rattle.twp_rules.specs.Changes.{AreChangesFrom, changed_from, seen};
 ghost use Rattle.twp_rules.specs.Copying.{copy_whole};
@@ -99,8 +99,9 @@ fn add<'a>(
     Ok(())
 }
 
-/// The text itself, as its one reading.
+/// The text itself, as its one reading. Not inlined, since few texts are clear.
 #[tactic(auto, using(crate::proofs::ReadingFacts::only_itself))]
+#[inline(never)]
 fn itself<'a>(alloc: Global, text: &'a [u8]) -> Result<Vec<Reading<'a>>, AllocError>
     requires { IsClear text.now }
     ensures { IfOk result (λ readings. AreReadings text.now readings.items) }
@@ -128,13 +129,7 @@ fn reading_with<'a>(
     ensures { IfOk result (λ it. IfSome it (IsReading text.now)) }
 {
     if !are_changes(text, changes.as_slice()) {
-        let Some(made) = made_by(alloc, text, changes.as_slice())? else {
-            return Err(Unread::Refused);
-        };
-        return match described(alloc, made, has_except)? {
-            Some(_) => Err(Unread::Refused),
-            None => Ok(None),
-        };
+        return unfit_or_refused(alloc, text, changes.as_slice(), has_except);
     }
     let is_repeated = are_repeated(alloc, text, changes.as_slice(), again)?;
     if !is_repeated {
@@ -157,6 +152,26 @@ fn reading_with<'a>(
     }))
 }
 
+/// What comes of changes that aren't allowed: none if what they make names some land twice, or a part that is
+/// too fine, so that another candidate may be a reading. Not inlined, since most changes are allowed.
+#[inline(never)]
+fn unfit_or_refused<'a>(
+    alloc: Global,
+    text: &[u8],
+    changes: &[Change<'_>],
+    has_except: bool,
+) -> Result<Option<Reading<'a>>, Unread>
+    ensures { IfOk result (λ it. it ≡ None) }
+{
+    let Some(made) = made_by(alloc, text, changes)? else {
+        return Err(Unread::Refused);
+    };
+    match described(alloc, made, has_except)? {
+        Some(_) => Err(Unread::Refused),
+        None => Ok(None),
+    }
+}
+
 /// Whether the steps that changes of a text write again are all of their part. Only a text that is accepted is
 /// asked for it: one that names land twice may write thousands of them again.
 fn are_copied_whole(
@@ -173,6 +188,19 @@ fn are_copied_whole(
     if let Manner::Changed = wording.manner {
         return Ok(copy_whole(text, wording.text.as_slice(), changes));
     }
+    are_copied_whole_before(alloc, text, changes)
+}
+
+/// The same for changes that make another text than that of the reading. Not inlined, since most make that.
+#[inline(never)]
+fn are_copied_whole_before(
+    alloc: Global,
+    text: &[u8],
+    changes: &[Change<'_>],
+) -> Result<bool, AllocError>
+    requires allowed { AreChangesFrom 0 text.now (map seen changes.now) }
+    ensures { IfOk result (λ it. it ≡ true → copy_whole text.now (map seen changes.now) ≡ true) }
+{
     let made = changed(alloc, text, changes)?;
     Ok(copy_whole(text, made.as_slice(), changes))
 }

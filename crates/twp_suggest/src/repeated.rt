@@ -53,7 +53,8 @@ fn is_for_repeated(rule: Rule) -> bool
     }
 }
 
-/// The same, for changes of which some are by that rule.
+/// The same, for changes of which some are by that rule. Not inlined, since few texts say something again.
+#[inline(never)]
 #[tactic(auto, using(crate::proofs::RepeatFacts::next_repeated, crate::proofs::RepeatFacts::end_within))]
 fn all_say_again(
     alloc: Global,
