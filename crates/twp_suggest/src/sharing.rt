@@ -113,8 +113,10 @@ pub(crate) fn has_place(made: &[u8]) -> bool
     let mut before = 0;
     let mut left = made;
     while let [byte, more @ ..] = left {
-        let is_place = is_f(*byte) || may_be_between(before, *byte, byte_at(more, 0));
-        if is_place {
+        if is_f(*byte) {
+            return true;
+        }
+        if is_white(*byte) && may_be_between(before, *byte, byte_at(more, 0)) {
             return true;
         }
         before = *byte;
