@@ -71,7 +71,7 @@ record AreOfWords (such : Kind → Bool) : Type 0 where
 
 pub never : (such : Kind → Bool) (kind other : Kind) → kind ≡ other → such other ≡ false → such kind ≡ true
     → ⊥
-never such kind other e others is = false≢true (sym others ∙ ap such (sym e) ∙ is)
+never such kind unlike e others is = false≢true (sym others ∙ ap such (sym e) ∙ is)
 
 good_word : (such : Kind → Bool) (text rest : List ℕ) (kind : Kind) → AreOfWords such
     → IsGoodToken text rest kind → such kind ≡ true → such (kind_of_word text) ≡ true
@@ -83,9 +83,11 @@ good_word such text rest kind others (a_bad_number number many e) is =
 good_word such text rest kind others (a_half t e) is = absurd (never such kind Half e others.half is)
 good_word such text rest kind others (a_half_sign t e) is = absurd (never such kind Half e others.half is)
 good_word such text rest kind others (a_quarter t e) is = absurd (never such kind Quarter e others.quarter is)
-good_word such text rest kind others (a_quarter_sign t e) is = absurd (never such kind Quarter e others.quarter is)
+good_word such text rest kind others (a_quarter_sign t e) is =
+    absurd (never such kind Quarter e others.quarter is)
 good_word such text rest kind others (a_comma t e) is = absurd (never such kind Comma e others.comma is)
-good_word such text rest kind others (a_semicolon t e) is = absurd (never such kind Semicolon e others.semicolon is)
+good_word such text rest kind others (a_semicolon t e) is =
+    absurd (never such kind Semicolon e others.semicolon is)
 good_word such text rest kind others (a_colon t e) is = absurd (never such kind Colon e others.colon is)
 good_word such text rest kind others (a_stop t e) is = absurd (never such kind Stop e others.stop is)
 

@@ -1,4 +1,4 @@
-use Rattle.std.proofs.Common.{◌≡◌, length, map, true}
+use Rattle.std.proofs.Common.{◌≡◌, length, map}
 use Rattle.twp_rules.specs.Changes.{seen}
 use Rattle.twp_suggest.specs.steps.Plain.{has_no_ampersand}
 use Rattle.twp_suggest.proofs.plain.has_ampersand.Given as goal
