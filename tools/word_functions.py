@@ -70,21 +70,23 @@ def arm_of_words(length: int, words: Dict[str, List[str]]) -> List[str]:
     return call_lines(f"        {length} => ", "is_among", words, "", ",")
 
 
-def heads_of(words: Iterable[str]) -> str:
-    """The number that has a bit for the first byte of each word: that of its low five bits."""
-    return f"0x{sum(1 << bit for bit in {word.encode()[0] % 32 for word in words}):x}"
+def edges_of(words: Iterable[str]) -> str:
+    """The number that has a bit for the first byte of each word, and 32 bits higher, one for the last byte. The bit is
+    that of the byte's low five bits."""
+    heads, tails = (sum(1 << bit for bit in {word.encode()[at] % 32 for word in words}) for at in (0, -1))
+    return f"0x{tails:x}_{heads:08x}"
 
 
 def call_lines(before: str, function: str, words: Iterable[str], more: str, after: str) -> List[str]:
     """A call with a word, and with words of one length, as `rt fmt` lays it out."""
-    heads, text = heads_of(words), " ".join(words)
-    arguments = f'word, {heads}, "{text}"' + (f", {more}" if more else "")
+    edges, text = edges_of(words), " ".join(words)
+    arguments = f'word, {edges}, "{text}"' + (f", {more}" if more else "")
     if len(arguments) <= ARGUMENTS:
         return [f"{before}{function}({arguments}){after}"]
     indent = " " * (len(before) - len(before.lstrip()) + 4)
     wrapped = textwrap.wrap(text, COLUMNS - len(indent) - 3, break_on_hyphens=False)
     literal = (" \\\n" + indent + " ").join(wrapped)
-    lines = [f"{before}{function}(", f"{indent}word,", f"{indent}{heads},", *f'{indent}"{literal}",'.split("\n")]
+    lines = [f"{before}{function}(", f"{indent}word,", f"{indent}{edges},", *f'{indent}"{literal}",'.split("\n")]
     lines += [f"{indent}{more},"] if more else []
     return [*lines, f"{indent[4:]}){after}"]
 
@@ -110,7 +112,7 @@ def arm_of_texts(length: int, words: Dict[str, List[str]]) -> List[str]:
 
 def condition_of(words: List[str]) -> str:
     """The condition that a word is one of these."""
-    return f'is_same(word, b"{words[0]}")' if len(words) == 1 else f'is_among(word, {heads_of(words)}, "{" ".join(words)}")'
+    return f'is_same(word, b"{words[0]}")' if len(words) == 1 else f'is_among(word, {edges_of(words)}, "{" ".join(words)}")'
 
 
 def returning_lines(length: int, cases: List[Tuple[str, str]], otherwise: str) -> List[str]:

@@ -91,10 +91,11 @@ class Table(unittest.TestCase):
         self.change(words.WORDS, "zone\t", "zone\tis_worn_section ")
         self.faults("is_worn_section: zone is in none of worn_section_words")
 
-    def test_each_word_of_a_function_is_in_the_row_of_its_length_with_the_bits_of_first_letters(self):
+    def test_each_word_of_a_function_is_in_the_row_of_its_length_with_the_bits_of_first_and_last_letters(self):
         of_it = {"abc": [], "ab": [], "cbd": []}
         source = function_of(Class("is_it", "", "word", (), "It."), of_it)
-        self.assertIn('        2 => is_among(word, 0x2, "ab"),\n        3 => is_among(word, 0xa, "abc cbd"),\n', source)
+        self.assertIn('        2 => is_among(word, 0x4_00000002, "ab"),\n', source)
+        self.assertIn('        3 => is_among(word, 0x18_0000000a, "abc cbd"),\n', source)
 
     def test_texts_are_shown_and_meant(self):
         for text in ("", " ", "a b", " e", "\t", "\n", "\\", "½"):

@@ -8,30 +8,30 @@ use crate::same::is_among;
 /// remark, label, or term contains them.
 pub fn alters_land(word: &[u8]) -> bool {
     match word.len() {
-        2 => is_among(word, 0x400000, "vs"),
-        3 => is_among(word, 0x410b6, "alt bad bal del err gap lla rej"),
+        2 => is_among(word, 0x80000_00400000, "vs"),
+        3 => is_among(word, 0x151412_000410b6, "alt bad bal del err gap lla rej"),
         4 => is_among(
             word,
-            0x459b8da,
+            0x3dd038_0459b8da,
             "abbr addl canc corr dump frac gore keep lieu lost most oops prtn sans swap \
              true typo void zero",
         ),
         5 => is_among(
             word,
-            0x98eaee,
+            0x1c2060_0098eaee,
             "abuts brief carve error false guess inter keeps meant minus neblm nwblm omits \
              seblm split swblm trade wedge",
         ),
         6 => is_among(
             word,
-            0x5cd27e,
+            0x25e18b2_005cd27e,
             "abbrev beside cancel carved circle cutout defect delete either errata exempt \
              facing failed ignore likely nearby outlot rather reduce relinq replat resold \
              splits strike struck taking traded verify versus voided",
         ),
         7 => is_among(
             word,
-            0xfdf27c,
+            0x21d18b0_00fdf27c,
             "balance becomes besides borders claimed deleted divided expired failure \
              feedlot invalid lengthy missing nearest neither outsale overlap perhaps \
              platted reduced release removal residue revoked roughly setback severed \
@@ -39,7 +39,7 @@ pub fn alters_land(word: &[u8]) -> bool {
         ),
         8 => is_among(
             word,
-            0xdde17a,
+            0x29c40b0_00dde17a,
             "accreted amending canceled carveout conflict deletion disposed disputed \
              divested envelope exchange expunged farmyard fraction homesite majority \
              mistaken neighbor opposite outsales platting possibly probably rejected \
@@ -48,7 +48,7 @@ pub fn alters_land(word: &[u8]) -> bool {
         ),
         9 => is_among(
             word,
-            0x3dc37a,
+            0xc50b0_003dc37a,
             "abandoned alternate cancelled contested cornering corrected dedicated \
              deletions disposals disregard duplicate exchanged farmstead forfeited \
              homesites inholding irregular neighbors nonleased omissions outparcel \
@@ -57,20 +57,24 @@ pub fn alters_land(word: &[u8]) -> bool {
         ),
         10 => is_among(
             word,
-            0xbc827a,
+            0x21c50b0_00bc827a,
             "adjustment contiguous correcting correction dedication disclaimed duplicates \
              eliminated everything foreclosed incomplete ineligible inholdings originally \
              reconveyed rescission subdivided triangular unreadable unsurveyed withdrawal",
         ),
         11 => is_among(
             word,
-            0x2d003a,
+            0x2180030_002d003a,
             "abbreviated alternative corrections divestiture erroneously partitioned \
              replacement surrendered unavailable uncommitted",
         ),
-        12 => is_among(word, 0x40008, "cancellation condemnation relinquished"),
-        13 => is_among(word, 0x8000, "outconveyance"),
-        14 => is_among(word, 0x40000, "relinquishment"),
+        12 => is_among(
+            word,
+            0x4010_00040008,
+            "cancellation condemnation relinquished",
+        ),
+        13 => is_among(word, 0x20_00008000, "outconveyance"),
+        14 => is_among(word, 0x100000_00040000, "relinquishment"),
         _ => false,
     }
 }
@@ -79,52 +83,56 @@ pub fn alters_land(word: &[u8]) -> bool {
 /// and no limit on depths.
 pub fn limits_land(word: &[u8]) -> bool {
     match word.len() {
-        2 => is_among(word, 0x140040, "fr rr tx"),
+        2 => is_among(word, 0x1040000_00140040, "fr rr tx"),
         3 => is_among(
             word,
-            0xde37c,
+            0x3d991d6_000de37c,
             "bds beg bla cos cut div est exh fix hwy itd map mid mts new nso off pcl pud \
              rds sub",
         ),
         4 => is_among(
             word,
-            0x953152,
+            0x1470ae_00953152,
             "area desc farm full home long mete plat prtn rear toge tpob txlt wide",
         ),
         5 => is_among(
             word,
-            0x1d305e,
+            0x1cd200_001d305e,
             "after begin cabin calls condo descr draft front legal links metes pivot portn \
              right sales secti toget towns twnst",
         ),
         6 => is_among(
             word,
-            0x5eb0ee,
+            0x298d1b0_005eb0ee,
             "around before burial cancel change errors farmed fenced gravel lapsed meadow \
              meters middle mining option outlot quarry radius revise sectio slough staked \
              street strips taxlot togeth townsh tracks tracts villas",
         ),
         7 => is_among(
             word,
-            0x3c31fe,
+            0x1c1230_003c31fe,
             "acreage bottoms central compare corners corrals dryland estates expired \
              feedlot grounds hatched lateral meander ranchos replace rescind streets \
              townshi twnsite uplands",
         ),
         8 => is_among(
             word,
-            0xdc8228,
+            0xc4030_00dc8228,
             "cropland exchange included interior occupied orchards outlined riparian \
              surveyed tillable vineyard wetlands",
         ),
         9 => is_among(
             word,
-            0x502be,
+            0x184030_000502be,
             "amendment buildings continues described drillsite elevation graveyard \
              inholders irrigated pumphouse ranchette",
         ),
-        10 => is_among(word, 0xc0004, "bottomland ranchettes supplement"),
-        11 => is_among(word, 0x80018, "conveyances description schoolhouse"),
+        10 => is_among(word, 0x180010_000c0004, "bottomland ranchettes supplement"),
+        11 => is_among(
+            word,
+            0x84020_00080018,
+            "conveyances description schoolhouse",
+        ),
         _ => false,
     }
 }
@@ -132,15 +140,15 @@ pub fn limits_land(word: &[u8]) -> bool {
 /// Words for what may be reserved in all of the land.
 pub fn is_of_estate(word: &[u8]) -> bool {
     match word.len() {
-        3 => is_among(word, 0x8080, "gas oil"),
-        4 => is_among(word, 0xa008, "coal mins ores"),
-        6 => is_among(word, 0x20, "estate"),
-        7 => is_among(word, 0x242000, "mineral royalty uranium"),
-        8 => is_among(word, 0x2000, "minerals"),
-        9 => is_among(word, 0x10000, "phosphate"),
-        10 => is_among(word, 0x80, "geothermal"),
-        11 => is_among(word, 0x40, "fissionable"),
-        12 => is_among(word, 0x100, "hydrocarbons"),
+        3 => is_among(word, 0x81000_00008080, "gas oil"),
+        4 => is_among(word, 0x81000_0000a008, "coal mins ores"),
+        6 => is_among(word, 0x20_00000020, "estate"),
+        7 => is_among(word, 0x2003000_00242000, "mineral royalty uranium"),
+        8 => is_among(word, 0x80000_00002000, "minerals"),
+        9 => is_among(word, 0x20_00010000, "phosphate"),
+        10 => is_among(word, 0x1000_00000080, "geothermal"),
+        11 => is_among(word, 0x20_00000040, "fissionable"),
+        12 => is_among(word, 0x80000_00000100, "hydrocarbons"),
         _ => false,
     }
 }
@@ -148,15 +156,15 @@ pub fn is_of_estate(word: &[u8]) -> bool {
 /// Words for what goes with land, and is no land.
 pub fn is_of_appurtenance(word: &[u8]) -> bool {
     match word.len() {
-        5 => is_among(word, 0x8c0000, "right stock water"),
-        6 => is_among(word, 0x8c0020, "egress rights shares waters"),
-        7 => is_among(word, 0x210, "ditches ingress"),
-        8 => is_among(word, 0x60, "easement fixtures"),
-        9 => is_among(word, 0x100024, "buildings easements tenements"),
-        10 => is_among(word, 0x10000, "privileges"),
-        11 => is_among(word, 0x2, "appurtenant"),
-        12 => is_among(word, 0x202, "appurtenance improvements"),
-        13 => is_among(word, 0x102, "appurtenances hereditaments"),
+        5 => is_among(word, 0x140800_008c0000, "right stock water"),
+        6 => is_among(word, 0x80000_008c0020, "egress rights shares waters"),
+        7 => is_among(word, 0x80000_00000210, "ditches ingress"),
+        8 => is_among(word, 0x180000_00000060, "easement fixtures"),
+        9 => is_among(word, 0x80000_00100024, "buildings easements tenements"),
+        10 => is_among(word, 0x80000_00010000, "privileges"),
+        11 => is_among(word, 0x100000_00000002, "appurtenant"),
+        12 => is_among(word, 0x80020_00000202, "appurtenance improvements"),
+        13 => is_among(word, 0x80000_00000102, "appurtenances hereditaments"),
         _ => false,
     }
 }
@@ -164,20 +172,20 @@ pub fn is_of_appurtenance(word: &[u8]) -> bool {
 /// The words of `according to the official plat of the Government survey thereof`.
 pub fn is_of_survey(word: &[u8]) -> bool {
     match word.len() {
-        1 => is_among(word, 0x285000, ", . s u"),
-        2 => is_among(word, 0x308204, "by in of on to us"),
-        3 => is_among(word, 0x100004, "blm the"),
-        4 => is_among(word, 0x910c0, "file govt land plat said"),
-        5 => is_among(word, 0x11040, "filed lands plats"),
-        6 => is_among(word, 0x288000, "office states survey united"),
-        7 => is_among(word, 0x100080, "general therein thereof"),
+        1 => is_among(word, 0x285000_00285000, ", . s u"),
+        2 => is_among(word, 0x208c040_00308204, "by in of on to us"),
+        3 => is_among(word, 0x2020_00100004, "blm the"),
+        4 => is_among(word, 0x100030_000910c0, "file govt land plat said"),
+        5 => is_among(word, 0x80010_00011040, "filed lands plats"),
+        6 => is_among(word, 0x2080030_00288000, "office states survey united"),
+        7 => is_among(word, 0x5040_00100080, "general therein thereof"),
         8 => is_among(
             word,
-            0xc8002,
+            0x41010_000c8002,
             "approved official original recorded returned surveyor",
         ),
-        9 => is_among(word, 0x12, "according dependent"),
-        10 => is_among(word, 0x80, "government"),
+        9 => is_among(word, 0x100080_00000012, "according dependent"),
+        10 => is_among(word, 0x100000_00000080, "government"),
         _ => false,
     }
 }
@@ -185,24 +193,32 @@ pub fn is_of_survey(word: &[u8]) -> bool {
 /// Words for a place in land: what is reserved or granted there is land.
 pub fn is_site(word: &[u8]) -> bool {
     match word.len() {
-        2 => is_among(word, 0x40000, "rr"),
-        3 => is_among(word, 0x10004, "bed pit"),
+        2 => is_among(word, 0x40000_00040000, "rr"),
+        3 => is_among(word, 0x100010_00010004, "bed pit"),
         4 => is_among(
             word,
-            0x253140,
+            0x103130_00253140,
             "farm hill home lake mill much plot road unit",
         ),
         5 => is_among(
             word,
-            0x50058,
+            0xc5930_00050058,
             "cabin canal creek ditch field place river roads",
         ),
-        6 => is_among(word, 0xa208c, "burial church ground meadow quarry street"),
-        7 => is_among(word, 0xc010a, "acreage corrals highway railway streets"),
-        8 => is_among(word, 0x40100, "homesite railroad"),
-        9 => is_among(word, 0x90, "drillsite graveyard"),
-        10 => is_among(word, 0x80000, "schoolyard"),
-        11 => is_among(word, 0x80000, "schoolhouse"),
+        6 => is_among(
+            word,
+            0x2901110_000a208c,
+            "burial church ground meadow quarry street",
+        ),
+        7 => is_among(
+            word,
+            0x2080020_000c010a,
+            "acreage corrals highway railway streets",
+        ),
+        8 => is_among(word, 0x30_00040100, "homesite railroad"),
+        9 => is_among(word, 0x30_00000090, "drillsite graveyard"),
+        10 => is_among(word, 0x10_00080000, "schoolyard"),
+        11 => is_among(word, 0x20_00080000, "schoolhouse"),
         _ => false,
     }
 }
@@ -210,13 +226,17 @@ pub fn is_site(word: &[u8]) -> bool {
 /// Words that name land, other than a right.
 pub fn is_land_by_name(word: &[u8]) -> bool {
     match word.len() {
-        3 => is_among(word, 0x4, "bed"),
-        4 => is_among(word, 0x2040, "farm mill"),
-        5 => is_among(word, 0x11040, "field lands place"),
-        6 => is_among(word, 0x1a2080, "ground meadow mining quarry street tracts"),
-        7 => is_among(word, 0x2, "acreage"),
-        8 => is_among(word, 0x10000, "property"),
-        9 => is_among(word, 0x40000, "reservoir"),
+        3 => is_among(word, 0x10_00000004, "bed"),
+        4 => is_among(word, 0x3000_00002040, "farm mill"),
+        5 => is_among(word, 0x80030_00011040, "field lands place"),
+        6 => is_among(
+            word,
+            0x2980090_001a2080,
+            "ground meadow mining quarry street tracts",
+        ),
+        7 => is_among(word, 0x20_00000002, "acreage"),
+        8 => is_among(word, 0x2000000_00010000, "property"),
+        9 => is_among(word, 0x40000_00040000, "reservoir"),
         _ => false,
     }
 }

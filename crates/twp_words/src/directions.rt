@@ -26,28 +26,28 @@ pub fn letters_of(word: &[u8]) -> Option<&'static [u8]> {
             None
         }
         8 => {
-            if is_among(word, 0x4000, "norteast northeat notheast") {
+            if is_among(word, 0x100000_00004000, "norteast northeat notheast") {
                 return Some(b"NE");
             }
-            if is_among(word, 0x4000, "norhwest nortwest nothwest") {
+            if is_among(word, 0x100000_00004000, "norhwest nortwest nothwest") {
                 return Some(b"NW");
             }
-            if is_among(word, 0x80000, "sotheast souteast") {
+            if is_among(word, 0x100000_00080000, "sotheast souteast") {
                 return Some(b"SE");
             }
-            if is_among(word, 0x80000, "sothwest souhwest soutwest") {
+            if is_among(word, 0x100000_00080000, "sothwest souhwest soutwest") {
                 return Some(b"SW");
             }
             None
         }
         9 => {
-            if is_among(word, 0x4000, "norhteast northeast") {
+            if is_among(word, 0x100000_00004000, "norhteast northeast") {
                 return Some(b"NE");
             }
-            if is_among(word, 0x4000, "northwest northwset") {
+            if is_among(word, 0x100000_00004000, "northwest northwset") {
                 return Some(b"NW");
             }
-            if is_among(word, 0x80000, "souhteast southeast") {
+            if is_among(word, 0x100000_00080000, "souhteast southeast") {
                 return Some(b"SE");
             }
             if is_same(word, b"southwest") {
@@ -64,11 +64,11 @@ pub fn is_worn_corner(word: &[u8]) -> bool {
     match word.len() {
         8 => is_among(
             word,
-            0x84000,
+            0x100000_00084000,
             "norhwest norteast northeat nortwest notheast nothwest sotheast sothwest \
              souhwest souteast soutwest",
         ),
-        9 => is_among(word, 0x84000, "norhteast northwset souhteast"),
+        9 => is_among(word, 0x100000_00084000, "norhteast northwset souhteast"),
         _ => false,
     }
 }
@@ -76,18 +76,18 @@ pub fn is_worn_corner(word: &[u8]) -> bool {
 /// Words with which a step of a part begins, or which it has: sides, corners, halves, and quarters, also with a slip.
 pub fn is_step_word(word: &[u8]) -> bool {
     match word.len() {
-        4 => is_among(word, 0x800120, "east half west"),
-        5 => is_among(word, 0x84000, "north south"),
-        7 => is_among(word, 0x20000, "quarter"),
+        4 => is_among(word, 0x100040_00800120, "east half west"),
+        5 => is_among(word, 0x100_00084000, "north south"),
+        7 => is_among(word, 0x40000_00020000, "quarter"),
         8 => is_among(
             word,
-            0x84000,
+            0x100000_00084000,
             "norhwest norteast northeat nortwest notheast nothwest sotheast sothwest \
              souhwest souteast soutwest",
         ),
         9 => is_among(
             word,
-            0x84000,
+            0x100000_00084000,
             "norhteast northeast northwest northwset souhteast southeast southwest",
         ),
         _ => false,
@@ -97,9 +97,9 @@ pub fn is_step_word(word: &[u8]) -> bool {
 /// Words for a half, and abbreviations.
 pub fn is_half(word: &[u8]) -> bool {
     match word.len() {
-        1 => is_among(word, 0x100, "h"),
-        2 => is_among(word, 0x100, "hf"),
-        4 => is_among(word, 0x100, "half"),
+        1 => is_among(word, 0x100_00000100, "h"),
+        2 => is_among(word, 0x40_00000100, "hf"),
+        4 => is_among(word, 0x40_00000100, "half"),
         _ => false,
     }
 }
@@ -107,7 +107,7 @@ pub fn is_half(word: &[u8]) -> bool {
 /// Words for a half, and no abbreviations.
 pub fn is_half_name(word: &[u8]) -> bool {
     match word.len() {
-        4 => is_among(word, 0x100, "half"),
+        4 => is_among(word, 0x40_00000100, "half"),
         _ => false,
     }
 }
@@ -115,11 +115,11 @@ pub fn is_half_name(word: &[u8]) -> bool {
 /// Words for a quarter, and abbreviations.
 pub fn is_quarter(word: &[u8]) -> bool {
     match word.len() {
-        2 => is_among(word, 0x20000, "qr"),
-        3 => is_among(word, 0x20000, "qtr"),
-        4 => is_among(word, 0x20000, "quar"),
-        6 => is_among(word, 0x20000, "quater"),
-        7 => is_among(word, 0x20000, "quarter"),
+        2 => is_among(word, 0x40000_00020000, "qr"),
+        3 => is_among(word, 0x40000_00020000, "qtr"),
+        4 => is_among(word, 0x40000_00020000, "quar"),
+        6 => is_among(word, 0x40000_00020000, "quater"),
+        7 => is_among(word, 0x40000_00020000, "quarter"),
         _ => false,
     }
 }
@@ -127,8 +127,8 @@ pub fn is_quarter(word: &[u8]) -> bool {
 /// The word for a quarter, and the abbreviation that everybody writes.
 pub fn is_quarter_name(word: &[u8]) -> bool {
     match word.len() {
-        3 => is_among(word, 0x20000, "qtr"),
-        7 => is_among(word, 0x20000, "quarter"),
+        3 => is_among(word, 0x40000_00020000, "qtr"),
+        7 => is_among(word, 0x40000_00020000, "quarter"),
         _ => false,
     }
 }
@@ -136,10 +136,10 @@ pub fn is_quarter_name(word: &[u8]) -> bool {
 /// Words for a section with a slip, or as scanning leaves them.
 pub fn is_worn_section(word: &[u8]) -> bool {
     match word.len() {
-        6 => is_among(word, 0x80000, "secton"),
+        6 => is_among(word, 0x4000_00080000, "secton"),
         7 => is_among(
             word,
-            0x80000,
+            0x244000_00080000,
             "seciton seclion sectior sectiou sectlon sectoin seotion",
         ),
         _ => false,

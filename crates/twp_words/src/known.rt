@@ -7,43 +7,47 @@ use crate::same::is_among;
 /// Words of which a remark after land has at least one, if it has no number of a lease or a record.
 pub fn is_known(word: &[u8]) -> bool {
     match word.len() {
-        2 => is_among(word, 0x2851152, "ag do fo hd lp pd ps ri wi yr"),
+        2 => is_among(word, 0xd8290_02851152, "ag do fo hd lp pd ps ri wi yr"),
         3 => is_among(
             word,
-            0x23573f6,
+            0x71d723a_023573f6,
             "ada blm dle dry exp fee grz hbp inc int irr llc ltd mer min nri pat pls rel \
              res thx usa yrs",
         ),
         4 => is_among(
             word,
-            0x28a008,
+            0x194220_0028a008,
             "case corp cult mgmt mins open orri srhe usfs",
         ),
         5 => is_among(
             word,
-            0x18108e,
+            0x85b20_0018108e,
             "adams boise bonus clark gross latah lemhi state teton total",
         ),
         6 => is_among(
             word,
-            0x15842e,
+            0x3c503a_0015842e,
             "active blaine bureau canyon cassia closed custer elmore jerome office oneida \
              owyhee patent public rental thanks",
         ),
         7 => is_among(
             word,
-            0x520cc,
+            0x23068a0_000520cc,
             "bannock bingham caribou fremont gooding grazing madison minimum payette \
              private royalty",
         ),
         8 => is_among(
             word,
-            0x82012,
+            0x140022_00082012,
             "assignor district duchesne minidoka shoshone",
         ),
-        9 => is_among(word, 0x420, "endowment jefferson"),
-        10 => is_among(word, 0x2206, "authorized bonneville irrigation management"),
-        11 => is_among(word, 0x40000, "reclamation"),
+        9 => is_among(word, 0x104000_00000420, "endowment jefferson"),
+        10 => is_among(
+            word,
+            0x104030_00002206,
+            "authorized bonneville irrigation management",
+        ),
+        11 => is_among(word, 0x4000_00040000, "reclamation"),
         _ => false,
     }
 }

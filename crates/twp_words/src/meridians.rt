@@ -6,15 +6,15 @@ use crate::same::{is_among, is_same};
 /// Names of meridians of one word.
 pub fn is_meridian(word: &[u8]) -> bool {
     match word.len() {
-        3 => is_among(word, 0x200000, "ute"),
-        4 => is_among(word, 0x2000, "mont"),
-        5 => is_among(word, 0x180044, "boise fifth first sixth third"),
-        6 => is_among(word, 0x284240, "fourth indian navajo second uintah"),
-        7 => is_among(word, 0x2008, "choctaw montana"),
-        8 => is_among(word, 0x2108, "cimarron humboldt michigan"),
-        9 => is_among(word, 0x11008, "chickasaw louisiana principal"),
-        10 => is_among(word, 0x800100, "huntsville willamette"),
-        11 => is_among(word, 0x100000, "tallahassee"),
+        3 => is_among(word, 0x20_00200000, "ute"),
+        4 => is_among(word, 0x100000_00002000, "mont"),
+        5 => is_among(word, 0x100130_00180044, "boise fifth first sixth third"),
+        6 => is_among(word, 0xc110_00284240, "fourth indian navajo second uintah"),
+        7 => is_among(word, 0x800002_00002008, "choctaw montana"),
+        8 => is_among(word, 0x104000_00002108, "cimarron humboldt michigan"),
+        9 => is_among(word, 0x801002_00011008, "chickasaw louisiana principal"),
+        10 => is_among(word, 0x20_00800100, "huntsville willamette"),
+        11 => is_among(word, 0x20_00100000, "tallahassee"),
         _ => false,
     }
 }
@@ -86,9 +86,9 @@ pub fn is_meridian_of_two(first: &[u8], second: &[u8]) -> bool {
 /// Words before the word for a meridian, besides its name.
 pub fn is_before_meridian(word: &[u8]) -> bool {
     match word.len() {
-        4 => is_among(word, 0x10004, "base prin"),
-        7 => is_among(word, 0x80000, "special"),
-        9 => is_among(word, 0x10000, "principal"),
+        4 => is_among(word, 0x4020_00010004, "base prin"),
+        7 => is_among(word, 0x1000_00080000, "special"),
+        9 => is_among(word, 0x1000_00010000, "principal"),
         _ => false,
     }
 }
@@ -96,10 +96,10 @@ pub fn is_before_meridian(word: &[u8]) -> bool {
 /// Names of meridians that are written without the word for it after a township and range.
 pub fn is_bare_meridian(word: &[u8]) -> bool {
     match word.len() {
-        5 => is_among(word, 0x4, "boise"),
-        6 => is_among(word, 0x200000, "uintah"),
-        8 => is_among(word, 0x100, "humboldt"),
-        10 => is_among(word, 0x800000, "willamette"),
+        5 => is_among(word, 0x20_00000004, "boise"),
+        6 => is_among(word, 0x100_00200000, "uintah"),
+        8 => is_among(word, 0x100000_00000100, "humboldt"),
+        10 => is_among(word, 0x20_00800000, "willamette"),
         _ => false,
     }
 }
@@ -107,10 +107,10 @@ pub fn is_bare_meridian(word: &[u8]) -> bool {
 /// Letters for a meridian.
 pub fn are_meridian_letters(word: &[u8]) -> bool {
     match word.len() {
-        2 => is_among(word, 0xa10044, "bm fm pm um wm"),
-        3 => is_among(word, 0x28200c, "bhm crm mdm mpm sbm slm usm"),
-        4 => is_among(word, 0x86080, "gsrm mdbm nmpm sbbm slbm"),
-        5 => is_among(word, 0x80, "gsrbm"),
+        2 => is_among(word, 0x2000_00a10044, "bm fm pm um wm"),
+        3 => is_among(word, 0x2000_0028200c, "bhm crm mdm mpm sbm slm usm"),
+        4 => is_among(word, 0x2000_00086080, "gsrm mdbm nmpm sbbm slbm"),
+        5 => is_among(word, 0x2000_00000080, "gsrbm"),
         _ => false,
     }
 }
@@ -121,30 +121,30 @@ pub fn is_state(word: &[u8]) -> bool {
     match word.len() {
         2 => is_among(
             word,
-            0xa8ea4a,
+            0x65cf812_00a8ea4a,
             "ak ar az ca co fl ia id ks mn mt nd nm nv ok sd ut wa wy",
         ),
-        3 => is_among(word, 0x804842, "ala ark fla kan nev wis wyo"),
+        3 => is_among(word, 0x48c802_00804842, "ala ark fla kan nev wis wyo"),
         4 => is_among(
             word,
-            0x20ea0a,
+            0x41cc182_0020ea0a,
             "ariz colo iowa kans mich minn mont nebr ohio okla oreg utah",
         ),
-        5 => is_among(word, 0x208, "calif idaho"),
-        6 => is_among(word, 0xc802, "alaska kansas nevada oregon"),
+        5 => is_among(word, 0x8040_00000208, "calif idaho"),
+        6 => is_among(word, 0x84002_0000c802, "alaska kansas nevada oregon"),
         7 => is_among(
             word,
-            0x802242,
+            0x82_00802242,
             "alabama arizona florida indiana montana wyoming",
         ),
         8 => is_among(
             word,
-            0xe20a,
+            0x8c202_0000e20a,
             "arkansas colorado illinois michigan missouri nebraska oklahoma",
         ),
-        9 => is_among(word, 0x803000, "louisiana minnesota wisconsin"),
-        10 => is_among(word, 0x800008, "california washington"),
-        11 => is_among(word, 0x2000, "mississippi"),
+        9 => is_among(word, 0x4002_00803000, "louisiana minnesota wisconsin"),
+        10 => is_among(word, 0x4002_00800008, "california washington"),
+        11 => is_among(word, 0x200_00002000, "mississippi"),
         _ => false,
     }
 }

@@ -6,9 +6,9 @@ use crate::same::is_among;
 /// Words for whose a right is.
 pub fn is_whose(word: &[u8]) -> bool {
     match word.len() {
-        2 => is_among(word, 0x2000, "my"),
-        3 => is_among(word, 0x8100, "her his our"),
-        5 => is_among(word, 0x100000, "their"),
+        2 => is_among(word, 0x2000000_00002000, "my"),
+        3 => is_among(word, 0xc0000_00008100, "her his our"),
+        5 => is_among(word, 0x40000_00100000, "their"),
         _ => false,
     }
 }
@@ -16,9 +16,9 @@ pub fn is_whose(word: &[u8]) -> bool {
 /// Words for who has an interest.
 pub fn is_owner(word: &[u8]) -> bool {
     match word.len() {
-        6 => is_among(word, 0x81000, "lessor seller"),
-        7 => is_among(word, 0x1080, "grantor lessors"),
-        8 => is_among(word, 0x80, "grantors"),
+        6 => is_among(word, 0x40000_00081000, "lessor seller"),
+        7 => is_among(word, 0xc0000_00001080, "grantor lessors"),
+        8 => is_among(word, 0x80000_00000080, "grantors"),
         _ => false,
     }
 }
@@ -26,10 +26,10 @@ pub fn is_owner(word: &[u8]) -> bool {
 /// Words that say of which kind acreage is.
 pub fn is_net_or_gross(word: &[u8]) -> bool {
     match word.len() {
-        3 => is_among(word, 0x4000, "net"),
-        5 => is_among(word, 0x100080, "gross total"),
-        6 => is_among(word, 0x10000, "pooled"),
-        7 => is_among(word, 0x2000, "mineral"),
+        3 => is_among(word, 0x100000_00004000, "net"),
+        5 => is_among(word, 0x81000_00100080, "gross total"),
+        6 => is_among(word, 0x10_00010000, "pooled"),
+        7 => is_among(word, 0x1000_00002000, "mineral"),
         _ => false,
     }
 }
@@ -37,9 +37,9 @@ pub fn is_net_or_gross(word: &[u8]) -> bool {
 /// Words that begin an exception.
 pub fn begins_exception(word: &[u8]) -> bool {
     match word.len() {
-        4 => is_among(word, 0x81000, "less save"),
-        6 => is_among(word, 0x20, "except"),
-        9 => is_among(word, 0x20, "excepting exception excluding"),
+        4 => is_among(word, 0x80020_00081000, "less save"),
+        6 => is_among(word, 0x100000_00000020, "except"),
+        9 => is_among(word, 0x4080_00000020, "excepting exception excluding"),
         _ => false,
     }
 }
@@ -47,12 +47,12 @@ pub fn begins_exception(word: &[u8]) -> bool {
 /// Words by which land is excepted.
 pub fn excepts_land(word: &[u8]) -> bool {
     match word.len() {
-        2 => is_among(word, 0x1020, "ex ls"),
-        3 => is_among(word, 0x20, "exc"),
-        4 => is_among(word, 0x1000, "less"),
-        5 => is_among(word, 0x2000, "minus"),
-        6 => is_among(word, 0x20, "except"),
-        9 => is_among(word, 0x20, "excepting excluding exclusive"),
+        2 => is_among(word, 0x1080000_00001020, "ex ls"),
+        3 => is_among(word, 0x8_00000020, "exc"),
+        4 => is_among(word, 0x80000_00001000, "less"),
+        5 => is_among(word, 0x80000_00002000, "minus"),
+        6 => is_among(word, 0x100000_00000020, "except"),
+        9 => is_among(word, 0xa0_00000020, "excepting excluding exclusive"),
         _ => false,
     }
 }
@@ -60,10 +60,10 @@ pub fn excepts_land(word: &[u8]) -> bool {
 /// Words for years and months.
 pub fn is_of_time(word: &[u8]) -> bool {
     match word.len() {
-        2 => is_among(word, 0x2002000, "mo yr"),
-        3 => is_among(word, 0x2000000, "yrs"),
-        4 => is_among(word, 0x2000000, "year"),
-        5 => is_among(word, 0x2000000, "years"),
+        2 => is_among(word, 0x48000_02002000, "mo yr"),
+        3 => is_among(word, 0x80000_02000000, "yrs"),
+        4 => is_among(word, 0x40000_02000000, "year"),
+        5 => is_among(word, 0x80000_02000000, "years"),
         _ => false,
     }
 }
@@ -71,13 +71,13 @@ pub fn is_of_time(word: &[u8]) -> bool {
 /// Words with which parentheses begin that refer to something, or say what became of the land.
 pub fn begins_reference(word: &[u8]) -> bool {
     match word.len() {
-        2 => is_among(word, 0x4, "bk"),
-        3 => is_among(word, 0xc0000, "rec see"),
-        4 => is_among(word, 0x204, "book inst"),
-        6 => is_among(word, 0x200, "issued"),
-        7 => is_among(word, 0x10000, "pending"),
-        8 => is_among(word, 0x10002, "acquired patented"),
-        9 => is_among(word, 0x8, "custodial"),
+        2 => is_among(word, 0x800_00000004, "bk"),
+        3 => is_among(word, 0x28_000c0000, "rec see"),
+        4 => is_among(word, 0x100800_00000204, "book inst"),
+        6 => is_among(word, 0x10_00000200, "issued"),
+        7 => is_among(word, 0x80_00010000, "pending"),
+        8 => is_among(word, 0x10_00010002, "acquired patented"),
+        9 => is_among(word, 0x1000_00000008, "custodial"),
         _ => false,
     }
 }
@@ -87,15 +87,19 @@ pub fn is_of_record(word: &[u8]) -> bool {
     match word.len() {
         3 => is_among(
             word,
-            0x49e452,
+            0x255508c_0049e452,
             "apr aug dec feb jan jul jun mar may nov oct par sep vol",
         ),
-        4 => is_among(word, 0x86400, "july june misc note sept"),
-        5 => is_among(word, 0x2002, "april march"),
-        6 => is_among(word, 0x2, "august"),
-        7 => is_among(word, 0x8408, "comment january october"),
-        8 => is_among(word, 0x4052, "addendum december february november"),
-        9 => is_among(word, 0x90000, "paragraph september"),
+        4 => is_among(word, 0x2100028_00086400, "july june misc note sept"),
+        5 => is_among(word, 0x1100_00002002, "april march"),
+        6 => is_among(word, 0x100000_00000002, "august"),
+        7 => is_among(word, 0x2140000_00008408, "comment january october"),
+        8 => is_among(
+            word,
+            0x2042000_00004052,
+            "addendum december february november",
+        ),
+        9 => is_among(word, 0x40100_00090000, "paragraph september"),
         _ => false,
     }
 }
@@ -105,15 +109,15 @@ pub fn is_month(word: &[u8]) -> bool {
     match word.len() {
         3 => is_among(
             word,
-            0x8e452,
+            0x255508c_0008e452,
             "apr aug dec feb jan jul jun mar may nov oct sep",
         ),
-        4 => is_among(word, 0x80400, "july june sept"),
-        5 => is_among(word, 0x2002, "april march"),
-        6 => is_among(word, 0x2, "august"),
-        7 => is_among(word, 0x8400, "january october"),
-        8 => is_among(word, 0x4050, "december february november"),
-        9 => is_among(word, 0x80000, "september"),
+        4 => is_among(word, 0x2100020_00080400, "july june sept"),
+        5 => is_among(word, 0x1100_00002002, "april march"),
+        6 => is_among(word, 0x100000_00000002, "august"),
+        7 => is_among(word, 0x2040000_00008400, "january october"),
+        8 => is_among(word, 0x2040000_00004050, "december february november"),
+        9 => is_among(word, 0x40000_00080000, "september"),
         _ => false,
     }
 }
@@ -121,58 +125,58 @@ pub fn is_month(word: &[u8]) -> bool {
 /// Words of parts of land, of what is taken out of it, and of corrections.
 pub fn says_partial(word: &[u8]) -> bool {
     match word.len() {
-        2 => is_among(word, 0x2112048, "cf ff ms pb tl tr yd"),
+        2 => is_among(word, 0xc1054_02112048, "cf ff ms pb tl tr yd"),
         3 => is_among(
             word,
-            0x29dd372,
+            0x29df018_029dd372,
             "add dlc don ely exc fel fnl fsl fwl hes isn lss nil nly now out prt ptl pts \
              rem sct sic sly sur tbd too top was wly yds",
         ),
         4 => is_among(
             word,
-            0x89eb3e,
+            0x1978b0_0089eb3e,
             "aren back cont didn drop excl hasn idem kept more nope omit orig outs past \
              same sctn shld some subd wasn",
         ),
         5 => is_among(
             word,
-            0x2b9f176,
+            0x21cc1b0_02b9f176,
             "added apart bench ditto doesn exept forty fract haven house lower maybe meets \
              metes never owned piece short taken third under upper weren wrong yards",
         ),
         6 => is_among(
             word,
-            0x3d303c,
+            0x21c60b0_003d303c,
             "beyond bottom cannot center deduct deeded denied eighty longer middle mostly \
              partly placer retain saving should sliver square thirds thirty twenty unsure",
         ),
         7 => is_among(
             word,
-            0x4ca27a,
+            0x1c01b0_004ca27a,
             "adjoins amended another correct dropped exclude further instead meaning \
              mistake omitted retains revised scratch vacated",
         ),
         8 => is_among(
             word,
-            0xbd903a,
+            0x2087030_00bd903a,
             "actually canceled cemetery conveyed corrects deducted eastside excluded \
              excludes likewise original previous rejected retained stricken triangle \
              upstream westside withheld",
         ),
         9 => is_among(
             word,
-            0x5022c,
+            0x21840b0_0005022c,
             "bordering condemned continued erroneous exclusion illegible incorrect \
              partially rescinded",
         ),
         10 => is_among(
             word,
-            0x190030,
+            0x2082010_00190030,
             "downstream exclusions previously protracted segregated superseded terminated",
         ),
-        11 => is_among(word, 0x80200, "incorrectly subdivision"),
-        12 => is_among(word, 0x2000, "misdescribed"),
-        13 => is_among(word, 0x2, "alternatively"),
+        11 => is_among(word, 0x2004000_00080200, "incorrectly subdivision"),
+        12 => is_among(word, 0x10_00002000, "misdescribed"),
+        13 => is_among(word, 0x2000000_00000002, "alternatively"),
         _ => false,
     }
 }

@@ -5,22 +5,26 @@ pub fn is_same(word: &[u8], text: &[u8]) -> bool {
     word == text
 }
 
-/// Whether a word is one of these words, which all have as many bytes as it has, and a space between them. A list in
-/// code calls this with a row of words for each length: so only the few words of this length are compared, and they are
-/// proved at once, not one by one. Rows that a `match` returned would become a table of pointers, each of which is set at
-/// every start of the program. The number before the words has a bit for the first byte of each of them,
-/// which rules out most words before any is compared.
+/// Whether a word is one of these words, which all have as many bytes as it has, and a space between them. A list
+/// in code calls this with a row of words for each length: so only the few words of this length are compared, and
+/// they are proved at once, not one by one. Rows that a `match` returned would become a table of pointers, each of
+/// which is set at every start of the program. The number before the words has a bit for the first byte of each of
+/// them, and one for the last byte, which rules out most words before any is compared.
 #[inline(always)]
-pub(crate) fn is_among(word: &[u8], heads: u32, words: &str) -> bool {
-    is_head(word, heads) && index_among(word, words).is_some()
+pub(crate) fn is_among(word: &[u8], edges: u64, words: &str) -> bool {
+    has_edges(word, edges) && index_among(word, words).is_some()
 }
 
-/// Whether a number has the bit of a word's first byte: that of the byte's low five bits.
+/// Whether a number has the bit of a word's first byte: that of the byte's low five bits; and 32 bits higher, that
+/// of its last byte.
 #[inline(always)]
-fn is_head(word: &[u8], heads: u32) -> bool {
-    match word {
-        [first, ..] => heads >> (*first % 32) & 1 == 1,
-        [] => false,
+fn has_edges(word: &[u8], edges: u64) -> bool {
+    match (word.first(), word.last()) {
+        (Some(first), Some(last)) => {
+            let (head, tail) = (*first % 32, *last % 32);
+            (edges >> head) & (edges >> (tail + 32)) & 1 == 1
+        }
+        _ => false,
     }
 }
 
@@ -50,8 +54,8 @@ fn is_row(row: &[u8], word: &[u8]) -> bool {
 
 /// The value of a word, if it is one of these words, which have these values.
 #[inline(always)]
-pub(crate) fn value_among(word: &[u8], heads: u32, words: &str, values: &[u8]) -> Option<u64> {
-    if !is_head(word, heads) {
+pub(crate) fn value_among(word: &[u8], edges: u64, words: &str, values: &[u8]) -> Option<u64> {
+    if !has_edges(word, edges) {
         return None;
     }
     let at = index_among(word, words)?;
