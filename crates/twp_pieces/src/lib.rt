@@ -10,6 +10,7 @@ mod interests;
 mod joints;
 mod labels;
 mod lands;
+mod lowercase;
 mod meridians;
 mod pieces;
 mod serials;

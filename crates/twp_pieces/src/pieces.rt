@@ -1,6 +1,7 @@
 //! The pieces of a text: its tokens, and the characters that begin none.
 
 use crate::cutting::{Gap, Piece, cut, has_break};
+use crate::lowercase::in_lowercase;
 use std::alloc::{AllocError, Global};
 use twp_grammar::Kind;
 
@@ -21,7 +22,7 @@ pub fn plus(index: usize, count: usize) -> usize {
 impl<'a> Pieces<'a> {
     /// The pieces of a text.
     pub fn of(alloc: Global, text: &'a [u8]) -> Result<Pieces<'a>, AllocError> {
-        let lower = text.to_ascii_lowercase(alloc)?;
+        let lower = in_lowercase(alloc, text)?;
         let list = cut(alloc, text, lower.as_slice())?;
         Ok(Pieces { text, lower, list })
     }
