@@ -61,16 +61,16 @@ impl Gap {
 }
 
 impl Piece {
-    /// A piece of a text in lowercase from one place up to another, after a gap.
+    /// A piece of so many bytes at a place of a text in lowercase, after a gap.
     #[inline(always)]
-    fn between(lower: &[u8], start: usize, end: usize, kind: Kind, gap: Gap) -> Piece {
+    fn at(lower: &[u8], start: usize, size: usize, kind: Kind, gap: Gap) -> Piece {
         Piece {
             kind,
-            size: u16::try_from(end.saturating_sub(start)).unwrap_or(u16::MAX),
+            size: u16::try_from(size).unwrap_or(u16::MAX),
             gap,
             first: lower.get(start).copied().unwrap_or(0),
             start,
-            end,
+            end: plus(start, size),
         }
     }
 
@@ -113,34 +113,31 @@ pub(crate) fn cut(alloc: Global, text: &[u8], lower: &[u8]) -> Result<Vec<Piece>
             continue;
         }
         let gap = Gap::between(text, end, start);
-        end = at;
+        let mut whole = size;
         if matches!(kind, Kind::BadByte) {
             unknown = plus(unknown, 1);
             if unknown > UNKNOWN_MOST {
                 break;
             }
-            end = end_of_character(text, start);
+            whole = size_at(text, start);
         } else {
             unknown = 0;
         }
+        let piece = Piece::at(lower, start, whole, kind, gap);
+        end = piece.end;
         if may_be_two(kind, text, start, size) {
-            push_token(
-                &mut list,
-                text,
-                lower,
-                Piece::between(lower, start, end, kind, gap),
-            )?;
-            continue;
+            push_token(&mut list, text, lower, piece)?;
+        } else {
+            list.push(piece)?;
         }
-        list.push(Piece::between(lower, start, end, kind, gap))?;
     }
     Ok(list)
 }
 
-/// Where the character ends that begins no token, at a place of a text.
-fn end_of_character(text: &[u8], start: usize) -> usize {
+/// How many bytes the character at a place of a text has.
+fn size_at(text: &[u8], start: usize) -> usize {
     let rest = text.get(start..).unwrap_or(b"");
-    plus(start, size_of_character(rest, rest.len()))
+    size_of_character(rest, rest.len())
 }
 
 /// Whether a token at a place of a text may be two pieces: most aren't, by their kind or their size.
@@ -175,8 +172,8 @@ fn push_token(
     };
     let (front, rest) = bytes.split_at(first.min(bytes.len()));
     let middle = plus(start, front.len());
-    list.push(Piece::between(lower, start, middle, kind_of(front, kind), gap))?;
-    list.push(Piece::between(lower, middle, end, kind_of(rest, kind), Gap::Nothing))?;
+    list.push(Piece::at(lower, start, front.len(), kind_of(front, kind), gap))?;
+    list.push(Piece::at(lower, middle, rest.len(), kind_of(rest, kind), Gap::Nothing))?;
     Ok(())
 }
 
