@@ -29,6 +29,9 @@ const PHRASES_MOST: usize = 8;
 impl<'a> Plan<'a> {
     /// Whether each acreage that the text states may be that of the land beside it.
     pub fn acreage_fits(&mut self, list: &[Placed]) -> bool {
+        if self.counts.acreages == 0 {
+            return true;
+        }
         for index in 0..list.len() {
             let Some(placed) = list.get(index) else {
                 break;

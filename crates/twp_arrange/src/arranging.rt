@@ -1,6 +1,6 @@
 //! How the phrases of a text go together: which land belongs to which section, and what is left out or moved.
 
-use crate::placed::{Placed, Role, has_except};
+use crate::placed::{Placed, Role};
 use crate::plan::Plan;
 use std::alloc::{AllocError, Global};
 use std::mem;
@@ -25,9 +25,14 @@ impl<'a> Plan<'a> {
                 section: None,
             })?;
         }
-        self.place_headings(&mut list);
-        self.share_sections(&mut list);
-        if has_except(list.as_slice()) {
+        if self.counts.headings > 0 {
+            self.place_headings(&mut list);
+        }
+        if self.counts.lists > 0 {
+            self.share_sections(&mut list);
+        }
+        let has_except = self.counts.exceptions > 0;
+        if has_except {
             self.doubt_exceptions(list.as_slice());
         }
         match first {
@@ -35,7 +40,7 @@ impl<'a> Plan<'a> {
             Some(_) => self.place_land_before(&mut list),
             None => self.draft.doubt(),
         }
-        if has_except(list.as_slice()) {
+        if has_except {
             self.doubt_whole_exceptions(list.as_slice());
         }
         Ok(list)

@@ -10,19 +10,38 @@ use twp_rules::Rule;
 impl<'a> Plan<'a> {
     /// Doubts phrases that aren't sure together.
     pub(crate) fn doubt_together(&mut self) {
-        if self.has_land_missing()
-            || self.has_empty_place()
-            || self.has_other_parcel()
-            || self.has_loose_section()
-            || self.has_other_tract()
-            || self.has_unsure_neighbors()
-            || self.has_part_of_part()
-            || self.has_section_aside()
-            || self.has_closer_land()
-            || self.has_corner_without_fraction()
+        if self.has_empty_place()
+            || self.are_unsure_together()
+            || self.has_unsure_label()
+            || self.has_unsure_section()
         {
             self.draft.doubt();
         }
+    }
+
+    /// Whether parts, or phrases beside each other, aren't sure together. A single part is beside no other one,
+    /// and what is beside a phrase is doubted only where something is left out, or for lots before a section.
+    fn are_unsure_together(&self) -> bool {
+        let counts = self.counts;
+        (counts.parts > 0 && self.has_part_of_part())
+            || (counts.parts > 1 && self.has_corner_without_fraction())
+            || ((counts.asides > 0 || counts.lots > 0) && self.has_unsure_neighbors())
+    }
+
+    /// Whether labels aren't sure with the rest of the text. Most texts have none.
+    fn has_unsure_label(&self) -> bool {
+        if self.counts.labels == 0 {
+            return self.draft.has_remark && self.has_land_missing();
+        }
+        self.has_land_missing() || self.has_other_parcel() || self.has_other_tract()
+    }
+
+    /// Whether it isn't sure which land the sections have. A single section has all of it, unless an exception
+    /// from it may be of other land.
+    fn has_unsure_section(&self) -> bool {
+        let counts = self.counts;
+        (counts.sections > 1 && (self.has_loose_section() || self.has_section_aside()))
+            || ((counts.sections > 1 || counts.exceptions > 0) && self.has_closer_land())
     }
 
     /// Whether some land may be missing. A word that isn't known may be what was meant by it: with remarks,
@@ -183,7 +202,8 @@ impl<'a> Plan<'a> {
             if phrase.names != Names::Part {
                 continue;
             }
-            let is_said = self.has_word(phrase, b"said")
+            // Within a part, `said` is after an `of`.
+            let is_said = (phrase.form == Form::WithOf && self.has_word(phrase, b"said"))
                 || self
                     .draft
                     .pieces
