@@ -1,12 +1,10 @@
 //! Acreage that a text states. It may differ from that of the land, which counts; but with a quarter of it, or less, or
 //! nine tenths where a figure in acres follows an aliquot part, the text may mean a part of this land, or other land.
 
-use crate::placed::{Placed, Role};
 use crate::plan::Plan;
-use twp_draft::{Names, Phrase};
+use twp_draft::{LeftOut, Names, Phrase, Placed, Role};
 use twp_grammar::Kind;
 use twp_pieces::{is_acres, is_of_count, plus, value_of_count};
-use twp_rules::Rule;
 
 /// The nominal area of a section, in hundredths of an acre.
 const SECTION: u64 = 64_000;
@@ -36,7 +34,7 @@ impl<'a> Plan<'a> {
             let Some(placed) = list.get(index) else {
                 break;
             };
-            if placed.phrase.names != Names::Nothing(Rule::Acreage) {
+            if placed.phrase.names != Names::Nothing(LeftOut::Acreage) {
                 continue;
             }
             if let (Some(acreage), Some(beside)) = (
@@ -97,7 +95,7 @@ impl<'a> Plan<'a> {
         for placed in list.get(..index).unwrap_or(&[]) {
             let phrase = placed.phrase;
             match phrase.names {
-                Names::Nothing(Rule::Acreage) => {
+                Names::Nothing(LeftOut::Acreage) => {
                     sum = 0;
                     last = 0;
                 }

@@ -1,11 +1,9 @@
 //! Land that follows its sections, as in `Sec. 14: NE; Sec. 15: all`.
 
-use crate::placed::{Placed, Role};
 use crate::plan::Plan;
-use twp_draft::{Form, Names, Phrase};
+use twp_draft::{Form, LeftOut, Names, Phrase, Placed, Role};
 use twp_grammar::Kind;
 use twp_pieces::plus;
-use twp_rules::Rule;
 
 /// A group of land: the section, and what is known of its land so far.
 #[derive(Clone, Copy)]
@@ -226,7 +224,7 @@ impl<'a> Plan<'a> {
         for placed in list {
             let phrase = placed.phrase;
             match phrase.names {
-                Names::Heading | Names::Nothing(Rule::Meridian) => {}
+                Names::Heading | Names::Nothing(LeftOut::Meridian) => {}
                 Names::All => joined = None,
                 Names::Sections if joined.is_none() || joined == Some(phrase.first) => {
                     let is_and = matches!(pieces.kind(phrase.end), Kind::And)

@@ -1,30 +1,17 @@
 //! How the phrases of a text go together: which land belongs to which section, and what is left out or moved.
 
-use crate::placed::{Placed, Role};
 use crate::plan::Plan;
 use std::alloc::{AllocError, Global};
 use std::mem;
-use twp_draft::{Names, Phrase, Span};
+use twp_draft::{Names, Phrase, Placed, Role, Span};
 use twp_grammar::Kind;
 use twp_pieces::plus;
 
 impl<'a> Plan<'a> {
     /// The phrases with what becomes of them. They are no longer in the draft.
     pub fn arranged(&mut self, alloc: Global) -> Result<Vec<Placed>, AllocError> {
-        let mut list = Vec::with_capacity(alloc, self.draft.phrases.len())?;
         let first = self.first_of_land();
-        let phrases = mem::replace(&mut self.draft.phrases, Vec::new(alloc));
-        for phrase in phrases {
-            let role = match phrase.names {
-                Names::Nothing(_) => Role::LeftOut,
-                _ => Role::Kept(0),
-            };
-            list.push(Placed {
-                phrase,
-                role,
-                section: None,
-            })?;
-        }
+        let mut list = mem::replace(&mut self.draft.phrases, Vec::new(alloc));
         if self.counts.headings > 0 {
             self.place_headings(&mut list);
         }
@@ -48,7 +35,8 @@ impl<'a> Plan<'a> {
 
     /// What the first phrase of a section and its land names.
     fn first_of_land(&self) -> Option<Names> {
-        for phrase in &self.draft.phrases {
+        for placed in &self.draft.phrases {
+            let phrase = &placed.phrase;
             if !matches!(phrase.names, Names::Nothing(_) | Names::Heading) {
                 return Some(phrase.names);
             }

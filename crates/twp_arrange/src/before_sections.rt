@@ -1,8 +1,7 @@
 //! Land before its sections, as in `NE of Sec. 14`.
 
-use crate::placed::{Placed, Role};
 use crate::plan::Plan;
-use twp_draft::{Form, Names, Phrase, Span};
+use twp_draft::{Form, Names, Phrase, Placed, Role, Span};
 use twp_grammar::Kind;
 
 /// What was found before a phrase.

@@ -2,10 +2,9 @@
 //! `Lots 1-4, 6 PM`.
 
 use crate::plan::Plan;
-use twp_draft::{Names, Phrase};
+use twp_draft::{LeftOut, Names, Phrase};
 use twp_grammar::Kind;
 use twp_pieces::plus;
-use twp_rules::Rule;
 
 /// The most lots of a section.
 const LOTS_MOST: u16 = 7;
@@ -15,7 +14,8 @@ impl<'a> Plan<'a> {
     pub(crate) fn has_unsure_neighbors(&self) -> bool {
         let mut before: Option<&Phrase> = None;
         let mut meridian: Option<u16> = None;
-        for phrase in &self.draft.phrases {
+        for placed in &self.draft.phrases {
+            let phrase = &placed.phrase;
             if let Some(before) = before {
                 if self.are_unsure_neighbors(before, phrase) {
                     return true;
@@ -35,9 +35,9 @@ impl<'a> Plan<'a> {
     /// Whether two phrases that follow each other aren't sure.
     fn are_unsure_neighbors(&self, one: &Phrase, other: &Phrase) -> bool {
         match (one.names, other.names) {
-            (Names::Part, Names::Nothing(rule)) => self.may_be_of_name(one, other, rule),
-            (Names::Nothing(rule), Names::Part) => self.may_be_state(one, other, rule),
-            (Names::Sections | Names::Lots, Names::Nothing(Rule::Meridian)) => {
+            (Names::Part, Names::Nothing(aside)) => self.may_be_of_name(one, other, aside),
+            (Names::Nothing(aside), Names::Part) => self.may_be_state(one, other, aside),
+            (Names::Sections | Names::Lots, Names::Nothing(LeftOut::Meridian)) => {
                 one.end == other.first && self.is_bare_word_of_meridian(other.first)
             }
             (Names::Lots, Names::Sections) => self.may_be_lot(one, other),
@@ -54,16 +54,16 @@ impl<'a> Plan<'a> {
 
     /// Whether a bare part may be of a region, or of somebody's name, which follows it, as in `SE Wyoming`,
     /// `NW Land Co.`, or `W2 Royalty`.
-    fn may_be_of_name(&self, part: &Phrase, after: &Phrase, rule: Rule) -> bool {
+    fn may_be_of_name(&self, part: &Phrase, after: &Phrase, aside: LeftOut) -> bool {
         if part.end != after.first || !self.is_bare(part) {
             return false;
         }
         let pieces = &self.draft.pieces;
         let is_word = matches!(pieces.kind(after.first), Kind::Other)
             && !pieces.begins_line(after.first);
-        match rule {
-            Rule::Meridian => is_word && pieces.names_state(after.first),
-            Rule::Label => {
+        match aside {
+            LeftOut::Meridian => is_word && pieces.names_state(after.first),
+            LeftOut::Label => {
                 pieces.is(after.first, b"lease")
                     || pieces.is(after.first, b"royalty")
                     || pieces.is(after.first, b"minerals")
@@ -75,17 +75,17 @@ impl<'a> Plan<'a> {
 
     /// Whether a bare `NE` may be Nebraska: after a meridian or a county; after a comma and a name with
     /// another comma, or at the end of the line; or after the word for a state.
-    fn may_be_state(&self, before: &Phrase, part: &Phrase, rule: Rule) -> bool {
+    fn may_be_state(&self, before: &Phrase, part: &Phrase, aside: LeftOut) -> bool {
         let pieces = &self.draft.pieces;
         let is_after_comma = pieces.is(before.end, b",") && plus(before.end, 1) == part.first;
         let is_alone = part.end >= pieces.len() || pieces.begins_line(part.end);
-        let follows = match rule {
-            Rule::Meridian => {
+        let follows = match aside {
+            LeftOut::Meridian => {
                 is_after_comma
                     || before.end == part.first
                     || (pieces.is(before.end, b"|") && plus(before.end, 1) == part.first)
             }
-            Rule::Label => {
+            LeftOut::Label => {
                 (is_after_comma
                     && (is_alone || self.has_word(before, b",") || self.is_after_comma(before)))
                     || self.has_word(before, b"state")
@@ -134,7 +134,7 @@ impl<'a> Plan<'a> {
     /// The number that a meridian is known by, as that of a register, or of the 6th Principal Meridian.
     fn number_of_meridian(&self, phrase: &Phrase) -> Option<u16> {
         match phrase.names {
-            Names::Nothing(Rule::Meridian) => self.draft.pieces.number(phrase.first),
+            Names::Nothing(LeftOut::Meridian) => self.draft.pieces.number(phrase.first),
             _ => None,
         }
     }

@@ -15,10 +15,13 @@ impl<'a> Plan<'a> {
             else {
                 break;
             };
+            let (corner, part) = (&corner.phrase, &part.phrase);
             let is_list = part.first == plus(corner.end, 1);
             if is_list && self.is_bare_corner(*corner) && self.begins_with_fraction(*part) {
                 let goes_on = match phrases.get(plus(index, 2)) {
-                    Some(more) => more.names == Names::Part && more.first == part.end,
+                    Some(more) => {
+                        more.phrase.names == Names::Part && more.phrase.first == part.end
+                    }
                     None => false,
                 };
                 if goes_on || self.draft.steps_of(*part).len() > 1 {

@@ -144,7 +144,7 @@ impl<'a> Plan<'a> {
     pub(crate) fn has_closer_land(&self) -> bool {
         let mut found = Found::new();
         for index in 0..self.draft.phrases.len() {
-            let Some(phrase) = self.draft.phrases.get(index).copied() else {
+            let Some(phrase) = self.draft.phrases.get(index).map(|placed| placed.phrase) else {
                 break;
             };
             match phrase.names {
@@ -245,8 +245,8 @@ impl<'a> Plan<'a> {
             }
             longest = longest.or_longer(self.break_before(index));
             if let [aside, more @ ..] = rest {
-                if aside.first == index {
-                    next = aside.end;
+                if aside.phrase.first == index {
+                    next = aside.phrase.end;
                     rest = more;
                     continue;
                 }
@@ -264,12 +264,12 @@ impl<'a> Plan<'a> {
     /// The distance that white space before a piece makes.
     fn break_before(&self, index: usize) -> Distance {
         let pieces = &self.draft.pieces;
-        if pieces.has_before(index, b'\n') {
-            Distance::Line
-        } else if pieces.has_before(index, b'\t') {
-            Distance::Cell
-        } else {
+        if !pieces.has_break_before(index) {
             Distance::Space
+        } else if pieces.has_before(index, b'\n') {
+            Distance::Line
+        } else {
+            Distance::Cell
         }
     }
 

@@ -1,8 +1,7 @@
 //! Land that is excepted from one of several parts, as in `S/2, NW/4 less SW/4`.
 
-use crate::placed::Placed;
 use crate::plan::Plan;
-use twp_draft::{Names, Phrase};
+use twp_draft::{Names, Phrase, Placed};
 use twp_pieces::plus;
 
 /// The most phrases among which a part is looked for that is excepted as a whole.

@@ -1,11 +1,9 @@
 //! What joins two phrases, and whether it is sure what that means.
 
-use crate::placed::{Placed, Role};
 use crate::plan::Plan;
-use twp_draft::{Form, Names, Phrase, PlacedStep};
+use twp_draft::{Form, LeftOut, Names, Phrase, Placed, PlacedStep, Role};
 use twp_grammar::Kind;
 use twp_pieces::plus;
-use twp_rules::Rule;
 
 /// What has to be between two phrases.
 #[derive(Clone, Copy, PartialEq, Eq)]
@@ -95,14 +93,14 @@ impl<'a> Plan<'a> {
             // Nor is one in the cell for aliquot parts.
             Joining::Nothing
                 if before.names == Names::Lots
-                    && is_left_out_after(before, left_out, Rule::Label)
+                    && is_left_out_after(before, left_out, LeftOut::Label)
                     && pieces.end_of_column_label(before.end).is_some() => false,
-            Joining::Nothing if are_parts && is_left_out_after(before, left_out, Rule::Acreage) => {
+            Joining::Nothing
+                if are_parts && is_left_out_after(before, left_out, LeftOut::Acreage) => {
                 !pieces.begins_column(after.first)
             }
-            Joining::Nothing if are_parts && is_left_out_after(before, left_out, Rule::Label) => {
-                !self.are_tracts(before)
-            }
+            Joining::Nothing if are_parts && is_left_out_after(before, left_out, LeftOut::Label) =>
+                { !self.are_tracts(before) }
             Joining::Nothing => !has_section(left_out),
             Joining::Stop
                 if before.names == Names::Lots
@@ -113,7 +111,7 @@ impl<'a> Plan<'a> {
             Joining::And => {
                 are_parts
                     && before.form != after.form
-                    && !is_left_out_after(before, left_out, Rule::Repeated)
+                    && !is_left_out_after(before, left_out, LeftOut::Repeated)
             }
             Joining::Comma if are_parts => {
                 self.are_comma_cells(before, after) || self.may_share(before, after)
@@ -288,12 +286,12 @@ fn has_opposite(first: &[u8], second: &[u8], side: u8, other: u8) -> bool {
         || (first.contains(&other) && second.contains(&side))
 }
 
-/// Whether one phrase is left out by a rule after a part, as the parentheses in `the East Half (E/2)`, or the
+/// Whether one phrase is left out after a part, as the parentheses in `the East Half (E/2)`, or the
 /// acreage in `NENE 40.00`.
-fn is_left_out_after(before: &Phrase, left_out: &[Placed], rule: Rule) -> bool {
+fn is_left_out_after(before: &Phrase, left_out: &[Placed], aside: LeftOut) -> bool {
     match left_out {
         [placed] => {
-            placed.phrase.first == before.end && placed.phrase.names == Names::Nothing(rule)
+            placed.phrase.first == before.end && placed.phrase.names == Names::Nothing(aside)
         }
         _ => false,
     }

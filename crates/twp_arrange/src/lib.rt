@@ -18,5 +18,6 @@ mod sharing;
 mod together;
 
 pub use joining::{Between, Gap, Joining, is_joint, is_written, mark_between};
-pub use placed::{Placed, Role, has_except};
+pub use placed::has_except;
 pub use plan::Plan;
+pub use twp_draft::{Placed, Role};

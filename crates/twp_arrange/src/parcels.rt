@@ -1,16 +1,16 @@
 //! The numbers of parcels, in which a township and a section are written, as in `RP02N03W092400`.
 
 use crate::plan::Plan;
-use twp_draft::{Names, Span};
+use twp_draft::{LeftOut, Names, Span};
 use twp_grammar::Kind;
 use twp_pieces::{plus, value_of};
-use twp_rules::Rule;
 
 impl<'a> Plan<'a> {
     /// Whether the number of a parcel has another township or section than the text.
     pub(crate) fn has_other_parcel(&self) -> bool {
-        for phrase in &self.draft.phrases {
-            if phrase.names != Names::Nothing(Rule::Label) {
+        for placed in &self.draft.phrases {
+            let phrase = &placed.phrase;
+            if phrase.names != Names::Nothing(LeftOut::Label) {
                 continue;
             }
             for index in phrase.first..phrase.end {
@@ -44,7 +44,8 @@ impl<'a> Plan<'a> {
         let section = value_of(digits.get(..2).unwrap_or(digits));
         let mut is_found = false;
         let mut has_section = false;
-        for phrase in &self.draft.phrases {
+        for placed in &self.draft.phrases {
+            let phrase = &placed.phrase;
             match phrase.names {
                 Names::Heading => {
                     let is_tier = self.tier_of(*phrase, 0).map(|tier| tier.0)

@@ -1,8 +1,7 @@
 //! What a text is to become: its phrases, and what was found of how they go together.
 
-use twp_draft::{Draft, Names, Phrase};
+use twp_draft::{Draft, LeftOut, Names, Phrase, Placed};
 use twp_pieces::plus;
-use twp_rules::Rule;
 
 /// The phrases of a text, which are arranged.
 #[derive(Drop)]
@@ -16,8 +15,8 @@ pub struct Plan<'a> {
     pub acreage: Option<u64>,
 }
 
-/// How many phrases of some kinds a text has. They are counted once: most questions are about phrases that most
-/// texts don't have, or have once.
+/// How many phrases of some kinds a text has. They are counted once, since most questions are about phrases that
+/// most texts don't have, or have only once.
 #[derive(Clone, Copy)]
 pub(crate) struct Counts {
     pub(crate) headings: usize,
@@ -35,7 +34,7 @@ pub(crate) struct Counts {
 
 impl Counts {
     /// Those of some phrases.
-    fn of(phrases: &[Phrase]) -> Counts {
+    fn of(phrases: &[Placed]) -> Counts {
         let mut counts = Counts {
             headings: 0,
             sections: 0,
@@ -47,8 +46,8 @@ impl Counts {
             labels: 0,
             acreages: 0,
         };
-        for phrase in phrases {
-            counts.add(phrase);
+        for placed in phrases {
+            counts.add(&placed.phrase);
         }
         counts
     }
@@ -67,10 +66,13 @@ impl Counts {
             Names::Lots => self.lots = plus(self.lots, 1),
             Names::All => {}
             Names::Except => self.exceptions = plus(self.exceptions, 1),
-            Names::Nothing(rule) => {
+            Names::Nothing(left_out) => {
                 self.asides = plus(self.asides, 1);
-                self.labels = plus(self.labels, usize::from(matches!(rule, Rule::Label)));
-                self.acreages = plus(self.acreages, usize::from(matches!(rule, Rule::Acreage)));
+                self.labels = plus(self.labels, usize::from(matches!(left_out, LeftOut::Label)));
+                self.acreages = plus(
+                    self.acreages,
+                    usize::from(matches!(left_out, LeftOut::Acreage)),
+                );
             }
         }
     }

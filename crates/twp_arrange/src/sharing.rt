@@ -1,8 +1,7 @@
 //! Several sections with the same parts, as in `Secs. 14, 15: NE`.
 
-use crate::placed::{Placed, Role};
 use crate::plan::Plan;
-use twp_draft::Names;
+use twp_draft::{Names, Placed, Role};
 use twp_grammar::Kind;
 use twp_pieces::plus;
 

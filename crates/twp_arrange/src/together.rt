@@ -2,10 +2,9 @@
 //! isn't.
 
 use crate::plan::Plan;
-use twp_draft::{Form, Names, Phrase};
+use twp_draft::{Form, LeftOut, Names, Phrase};
 use twp_grammar::Kind;
 use twp_pieces::{begins_terms, plus};
-use twp_rules::Rule;
 
 impl<'a> Plan<'a> {
     /// Doubts phrases that aren't sure together.
@@ -19,8 +18,8 @@ impl<'a> Plan<'a> {
         }
     }
 
-    /// Whether parts, or phrases beside each other, aren't sure together. A single part is beside no other one,
-    /// and what is beside a phrase is doubted only where something is left out, or for lots before a section.
+    /// Whether parts, or phrases beside each other, aren't sure together. A single part is beside no other, and
+    /// what is beside a phrase is doubted only where something is left out, and for lots before a section.
     fn are_unsure_together(&self) -> bool {
         let counts = self.counts;
         (counts.parts > 0 && self.has_part_of_part())
@@ -37,7 +36,7 @@ impl<'a> Plan<'a> {
     }
 
     /// Whether it isn't sure which land the sections have. A single section has all of it, unless an exception
-    /// from it may be of other land.
+    /// may be of other land.
     fn has_unsure_section(&self) -> bool {
         let counts = self.counts;
         (counts.sections > 1 && (self.has_loose_section() || self.has_section_aside()))
@@ -53,7 +52,8 @@ impl<'a> Plan<'a> {
         let mut is_land = false;
         let mut has_status = false;
         let mut is_labelled = false;
-        for phrase in &self.draft.phrases {
+        for placed in &self.draft.phrases {
+            let phrase = &placed.phrase;
             match phrase.names {
                 Names::Sections => {
                     sections = plus(sections, 1);
@@ -65,7 +65,7 @@ impl<'a> Plan<'a> {
                     is_land = true;
                     is_labelled = false;
                 }
-                Names::Nothing(Rule::Label) => {
+                Names::Nothing(LeftOut::Label) => {
                     let is_label = pieces.is_label_of_tract(phrase.first);
                     if is_label && is_labelled {
                         return true;
@@ -87,7 +87,8 @@ impl<'a> Plan<'a> {
         let mut section: Option<&Phrase> = None;
         let mut is_first = true;
         let mut is_before = false;
-        for phrase in &self.draft.phrases {
+        for placed in &self.draft.phrases {
+            let phrase = &placed.phrase;
             match phrase.names {
                 Names::Sections => {
                     if self.is_list_cut(phrase) || self.is_place_empty(section) {
@@ -101,7 +102,7 @@ impl<'a> Plan<'a> {
                     section = None;
                     is_first = false;
                 }
-                Names::Nothing(Rule::Acreage) => {
+                Names::Nothing(LeftOut::Acreage) => {
                     if self.is_before_gap(section) {
                         return true;
                     }
@@ -156,7 +157,8 @@ impl<'a> Plan<'a> {
         // Whether a township was next to such a number, and another one followed it.
         let mut is_beside = false;
         let mut is_twice = false;
-        for phrase in &self.draft.phrases {
+        for placed in &self.draft.phrases {
+            let phrase = &placed.phrase;
             match phrase.names {
                 Names::Sections => {
                     let is_bare = matches!(self.draft.pieces.kind(phrase.first), Kind::Number(_));
@@ -198,7 +200,8 @@ impl<'a> Plan<'a> {
     fn has_part_of_part(&self) -> bool {
         let mut parts: usize = 0;
         let mut before: Option<&Phrase> = None;
-        for phrase in &self.draft.phrases {
+        for placed in &self.draft.phrases {
+            let phrase = &placed.phrase;
             if phrase.names != Names::Part {
                 continue;
             }
@@ -240,7 +243,8 @@ impl<'a> Plan<'a> {
         let mut is_land_first = false;
         // The index after a section and its colon.
         let mut colon: Option<usize> = None;
-        for phrase in &self.draft.phrases {
+        for placed in &self.draft.phrases {
+            let phrase = &placed.phrase;
             match phrase.names {
                 Names::Sections => {
                     sections = plus(sections, 1);
@@ -269,7 +273,8 @@ impl<'a> Plan<'a> {
         let mut has_label = false;
         let mut is_first = false;
         let mut is_other = false;
-        for phrase in &self.draft.phrases {
+        for placed in &self.draft.phrases {
+            let phrase = &placed.phrase;
             match phrase.names {
                 Names::Sections => is_other = false,
                 Names::Part | Names::Lots | Names::All => {
@@ -278,11 +283,11 @@ impl<'a> Plan<'a> {
                     }
                     is_first = is_first || !has_label;
                 }
-                Names::Nothing(Rule::Label) if self.draft.pieces.is_label_of_tract(phrase.first) =>
-                    {
-                        has_label = true;
-                        is_other = is_first;
-                    }
+                Names::Nothing(LeftOut::Label)
+                    if self.draft.pieces.is_label_of_tract(phrase.first) => {
+                    has_label = true;
+                    is_other = is_first;
+                }
                 _ => {}
             }
         }

@@ -21,14 +21,46 @@ pub enum Names {
     All,
     /// `except`, or words like it: what follows is not of the land.
     Except,
-    /// Something that is left out by a rule.
-    Nothing(Rule),
+    /// Something that is left out.
+    Nothing(LeftOut),
 }
 
-/// A phrase of a text.
+/// What is left out, by the rule for it. It isn't the rule itself, since some rules contain two places, with which
+/// each phrase would be a third larger.
+#[derive(Clone, Copy, PartialEq, Eq)]
+pub enum LeftOut {
+    Word,
+    /// A mark or a letter of a heading, or the name of a column.
+    Heading,
+    MovedHeading,
+    Meridian,
+    Acreage,
+    Label,
+    /// Land that was named before.
+    Repeated,
+}
+
+impl LeftOut {
+    /// The rule by which it is left out.
+    pub fn rule(self) -> Rule {
+        match self {
+            LeftOut::Word => Rule::Word,
+            LeftOut::Heading => Rule::Heading,
+            LeftOut::MovedHeading => Rule::MovedHeading,
+            LeftOut::Meridian => Rule::Meridian,
+            LeftOut::Acreage => Rule::Acreage,
+            LeftOut::Label => Rule::Label,
+            LeftOut::Repeated => Rule::Repeated,
+        }
+    }
+}
+
+/// A phrase of a text. Its small fields are together, so that it takes less room.
 #[derive(Clone, Copy)]
 pub struct Phrase {
     pub names: Names,
+    /// How it is written.
+    pub form: Form,
     /// The index of its first piece.
     pub first: usize,
     /// The index after its last piece.
@@ -39,8 +71,33 @@ pub struct Phrase {
     pub steps: Span,
     /// Its numbers, if it names sections or lots, or a township and range.
     pub numbers: Span,
-    /// How it is written.
-    pub form: Form,
+}
+
+/// What becomes of a phrase.
+#[derive(Clone, Copy, PartialEq, Eq)]
+pub enum Role {
+    /// It stays, in the group of a section, which is counted.
+    Kept(usize),
+    /// It is left out.
+    LeftOut,
+}
+
+/// A phrase with what becomes of it.
+#[derive(Clone, Copy)]
+pub struct Placed {
+    pub phrase: Phrase,
+    pub role: Role,
+    /// The numbers of its section, which is written before it: it is left out where it is, or the land is
+    /// excepted.
+    pub section: Option<Span>,
+}
+
+/// What the search has to know of the last phrase that names sections.
+#[derive(Clone, Copy)]
+pub struct LastSection {
+    /// The index of its first piece.
+    pub first: usize,
+    pub numbers: Span,
 }
 
 /// From one index up to another.
@@ -111,7 +168,8 @@ pub struct Again<'a> {
 #[derive(Drop)]
 pub struct Draft<'a> {
     pub pieces: Pieces<'a>,
-    pub phrases: Vec<Phrase>,
+    /// The phrases from left to right. What becomes of each is settled when all of them are known.
+    pub phrases: Vec<Placed>,
     /// The changes in them. One by which white space within a part is left out may be of several bytes, each
     /// of which is to be left out by a change of its own.
     pub changes: Vec<Change<'a>>,
@@ -123,12 +181,12 @@ pub struct Draft<'a> {
     pub fractional: Vec<usize>,
     /// An excepted part that may be of the section, or of the part before it.
     pub thereof: Option<Thereof>,
+    /// The last section, or sections, that were found.
+    pub last_section: Option<LastSection>,
     /// Whether text was left out as a remark.
     pub has_remark: bool,
     /// Whether something was found that makes the text unsure, or that isn't land.
     pub is_unsure: bool,
-    /// The last section that was found.
-    pub last_section: Option<Phrase>,
     /// Whether memory was refused for something, which is then missing.
     pub(crate) lacks_memory: bool,
 }
@@ -172,9 +230,9 @@ impl<'a> Draft<'a> {
             },
             fractional: Vec::new(alloc),
             thereof: None,
+            last_section: None,
             has_remark: false,
             is_unsure: false,
-            last_section: None,
             lacks_memory: false,
         })
     }

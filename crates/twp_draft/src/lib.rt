@@ -10,6 +10,9 @@ mod numerals;
 mod phrases;
 mod steps;
 
-pub use draft::{Again, Draft, Extent, Form, Names, Numeral, Phrase, PlacedStep, Said, Span};
+pub use draft::{
+    Again, Draft, Extent, Form, LastSection, LeftOut, Names, Numeral, Phrase, Placed, PlacedStep,
+    Role, Said, Span,
+};
 pub use finds_phrases::FindsPhrases;
 pub use steps::Thereof;

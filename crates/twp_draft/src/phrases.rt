@@ -1,12 +1,13 @@
 //! The phrases of a draft.
 
-use crate::draft::{Draft, Extent, Form, Names, Phrase, Span};
+use crate::draft::{Draft, Extent, Form, Names, Phrase, Placed, Role, Span};
 
 impl<'a> Draft<'a> {
     /// A phrase of some pieces, with what was added after an extent.
     pub fn phrase(&self, names: Names, first: usize, end: usize, from: Extent) -> Phrase {
         Phrase {
             names,
+            form: Form::Plain,
             first,
             end,
             changes: Span {
@@ -21,21 +22,29 @@ impl<'a> Draft<'a> {
                 first: from.numbers,
                 end: self.numbers.len(),
             },
-            form: Form::Plain,
         }
     }
 
     /// The phrase before.
     pub fn last_names(&self) -> Option<Names> {
         match self.phrases.last() {
-            Some(phrase) => Some(phrase.names),
+            Some(placed) => Some(placed.phrase.names),
             None => None,
         }
     }
 
     /// Adds a phrase.
     pub fn add_phrase(&mut self, phrase: Phrase) {
-        if self.phrases.push(phrase).is_err() {
+        let role = match phrase.names {
+            Names::Nothing(_) => Role::LeftOut,
+            _ => Role::Kept(0),
+        };
+        let placed = Placed {
+            phrase,
+            role,
+            section: None,
+        };
+        if self.phrases.push(placed).is_err() {
             self.lacks_memory = true;
         }
     }
@@ -57,8 +66,8 @@ impl<'a> Draft<'a> {
 
     /// Notes how the phrase that was added last is written.
     pub fn note_form(&mut self, form: Form) {
-        if let Some(phrase) = self.phrases.last_mut() {
-            phrase.form = form;
+        if let Some(placed) = self.phrases.last_mut() {
+            placed.phrase.form = form;
         }
     }
 }

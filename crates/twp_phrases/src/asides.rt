@@ -1,11 +1,10 @@
 //! What is left out: the meridian, acreage, labels, and land that is repeated in parentheses.
 
 use crate::finder::Finder;
-use twp_draft::Names;
+use twp_draft::{LeftOut, Names};
 use twp_grammar::Kind;
 use twp_pieces::plus;
 use twp_remarks::end_of_trailer;
-use twp_rules::Rule;
 
 /// The number of a township's last section: a number up to this in parentheses isn't acreage.
 const SECTIONS: u16 = 36;
@@ -16,8 +15,8 @@ impl<'a> Finder<'a> {
     pub(crate) fn aside(&mut self, index: usize) -> Option<usize> {
         let from = self.draft.extent();
         let pieces = &self.draft.pieces;
-        if let Some((rule, end)) = self.end_of_aside(index) {
-            return Some(self.draft.add(Names::Nothing(rule), index, end, from));
+        if let Some((left_out, end)) = self.end_of_aside(index) {
+            return Some(self.draft.add(Names::Nothing(left_out), index, end, from));
         }
         if matches!(pieces.kind(index), Kind::Number(_)) {
             return None;
@@ -62,7 +61,7 @@ impl<'a> Finder<'a> {
         }
         let last = plus(end, usize::from(is_closed));
         self.draft
-            .add(Names::Nothing(Rule::Repeated), index, last, from);
+            .add(Names::Nothing(LeftOut::Repeated), index, last, from);
         self.draft.add_said(first, end, from);
         Some(last)
     }
@@ -96,13 +95,13 @@ impl<'a> Finder<'a> {
             || pieces.begins_line(index)
     }
 
-    /// What is left out at an index, if it doesn't repeat land: its rule, and where it ends.
-    fn end_of_aside(&self, index: usize) -> Option<(Rule, usize)> {
+    /// What is left out at an index, if it doesn't repeat land, and where it ends.
+    fn end_of_aside(&self, index: usize) -> Option<(LeftOut, usize)> {
         let pieces = &self.draft.pieces;
         // After all of a section, or after acreage, the dash may be a minus.
         let may_be_minus = matches!(
             self.draft.last_names(),
-            Some(Names::All | Names::Nothing(Rule::Acreage))
+            Some(Names::All | Names::Nothing(LeftOut::Acreage))
         );
         let is_figure = pieces.number(index).is_some();
         if !is_figure {
@@ -116,42 +115,42 @@ impl<'a> Finder<'a> {
             return if is_figure && is_other {
                 None
             } else {
-                Some((Rule::Acreage, end))
+                Some((LeftOut::Acreage, end))
             };
         }
         if let Some(end) = pieces.end_of_first_serial(index) {
-            return Some((Rule::Label, end));
+            return Some((LeftOut::Label, end));
         }
         // A mark begins nothing else, but for the one after a question.
         if matches!(pieces.kind(index), Kind::BadByte) && !pieces.is_question_mark(index) {
             return None;
         }
         if let Some(end) = pieces.end_of_meridian(index) {
-            return Some((Rule::Meridian, end));
+            return Some((LeftOut::Meridian, end));
         }
         if self.draft.last_names() == Some(Names::Heading) {
             if let Some(end) = pieces.end_of_bare_meridian(index) {
-                return Some((Rule::Meridian, end));
+                return Some((LeftOut::Meridian, end));
             }
         }
         if self.names_land {
             if self.draft.last_names() != Some(Names::Sections) {
                 if let Some(end) = pieces.end_of_share_in_cell(index) {
-                    return Some((Rule::Label, end));
+                    return Some((LeftOut::Label, end));
                 }
             }
             if let Some(end) = pieces.end_of_last_figure(index) {
-                return Some((Rule::Acreage, end));
+                return Some((LeftOut::Acreage, end));
             }
             if let Some(end) = end_of_trailer(&self.draft.pieces, index) {
-                return Some((Rule::Label, end));
+                return Some((LeftOut::Label, end));
             }
         }
         if is_figure && !pieces.begins_line(index) {
             return None;
         }
         let end = pieces.end_of_label(index)?;
-        Some((Rule::Label, end))
+        Some((LeftOut::Label, end))
     }
 
     /// Whether a word or a mark before an index adds what follows, which may then be of other land.
@@ -166,23 +165,27 @@ impl<'a> Finder<'a> {
     }
 
     /// The same, of what begins with a word for a column, or with a mark.
-    fn end_of_marked(&self, index: usize, may_be_minus: bool) -> Option<(Rule, usize)> {
+    fn end_of_marked(&self, index: usize, may_be_minus: bool) -> Option<(LeftOut, usize)> {
         let pieces = &self.draft.pieces;
         if let Some(end) = pieces.end_of_column_label(index) {
             let is_part = pieces.is(plus(index, 1), b"part");
-            let rule = if is_part { Rule::Heading } else { Rule::Label };
-            return Some((rule, end));
+            let left_out = if is_part {
+                LeftOut::Heading
+            } else {
+                LeftOut::Label
+            };
+            return Some((left_out, end));
         }
         if let Some(end) = self.end_of_figure(index) {
-            return Some((Rule::Acreage, end));
+            return Some((LeftOut::Acreage, end));
         }
         if self.names_land && !may_be_minus {
             if let Some(end) = pieces.end_of_dashed_acreage(index) {
-                return Some((Rule::Acreage, end));
+                return Some((LeftOut::Acreage, end));
             }
         }
         let end = pieces.end_of_file_number(index)?;
-        Some((Rule::Label, end))
+        Some((LeftOut::Label, end))
     }
 
     /// Where a number in parentheses at an index ends, which is the acreage of the part before it.
@@ -206,9 +209,7 @@ impl<'a> Finder<'a> {
     fn repeated(&mut self, index: usize) -> Option<usize> {
         let from = self.draft.extent();
         let first = self.draft.pieces.after_being(plus(index, 1));
-        let Some(before) = self.draft.phrases.last().copied() else {
-            return None;
-        };
+        let before = self.draft.last_names()?;
         let land = if matches!(self.draft.pieces.kind(first), Kind::All) {
             plus(first, 1)
         } else {
@@ -220,7 +221,7 @@ impl<'a> Finder<'a> {
             None
         };
         let close = acreage.unwrap_or(land);
-        let is_land = matches!(before.names, Names::Part | Names::Lots);
+        let is_land = matches!(before, Names::Part | Names::Lots);
         let mark: &'static [u8] = if self.draft.pieces.is(index, b"[") {
             b"]"
         } else {
@@ -234,7 +235,7 @@ impl<'a> Finder<'a> {
         self.draft.shrink_changes(from);
         Some(
             self.draft
-                .add(Names::Nothing(Rule::Repeated), index, end, from),
+                .add(Names::Nothing(LeftOut::Repeated), index, end, from),
         )
     }
 

@@ -1,7 +1,7 @@
 //! Sections without a word for them: `S14 T2N R3W`, `14-2N-3W`, `14: NENE`.
 
 use crate::finder::Finder;
-use twp_draft::{Form, Names, Numeral};
+use twp_draft::{Form, LeftOut, Names, Numeral};
 use twp_grammar::Kind;
 use twp_pieces::plus;
 use twp_rules::Rule;
@@ -124,8 +124,9 @@ impl<'a> Finder<'a> {
 
     /// Whether one of the last phrases is the label of a tract, so that a number may be one, too.
     fn is_among_tracts(&self) -> bool {
-        for phrase in self.draft.phrases.iter().rev().take(PHRASES_MOST) {
-            if phrase.names == Names::Nothing(Rule::Label)
+        for placed in self.draft.phrases.iter().rev().take(PHRASES_MOST) {
+            let phrase = &placed.phrase;
+            if phrase.names == Names::Nothing(LeftOut::Label)
                 && self.draft.pieces.is_label_of_tract(phrase.first)
             {
                 return true;

@@ -133,7 +133,7 @@ impl<'a> Finder<'a> {
         let mut has_section = self.begins_with_section();
         for back in 1..plus(self.draft.phrases.len(), 1) {
             let place = self.draft.phrases.len().saturating_sub(back);
-            let Some(phrase) = self.draft.phrases.get(place).copied() else {
+            let Some(phrase) = self.draft.phrases.get(place).map(|placed| placed.phrase) else {
                 break;
             };
             match phrase.names {
@@ -156,7 +156,8 @@ impl<'a> Finder<'a> {
 
     /// Whether the land of the text follows its sections.
     fn begins_with_section(&self) -> bool {
-        for phrase in &self.draft.phrases {
+        for placed in &self.draft.phrases {
+            let phrase = &placed.phrase;
             if !matches!(phrase.names, Names::Nothing(_) | Names::Heading) {
                 return phrase.names == Names::Sections;
             }

@@ -2,7 +2,7 @@
 //! `Township Two North, Range Three West`.
 
 use crate::finder::Finder;
-use twp_draft::{Names, Numeral};
+use twp_draft::{LeftOut, Names, Numeral};
 use twp_grammar::Kind;
 use twp_pieces::plus;
 use twp_rules::Rule;
@@ -15,7 +15,7 @@ impl<'a> Finder<'a> {
         let next = self.after_words_for_heading(index);
         if let Some(end) = self.draft.pieces.after_same_township(next) {
             self.draft.shrink(from);
-            let names = Names::Nothing(Rule::MovedHeading);
+            let names = Names::Nothing(LeftOut::MovedHeading);
             return Some(self.draft.add(names, index, end, from));
         }
         let has_word = self.has_township_word(next);

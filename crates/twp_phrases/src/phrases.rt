@@ -3,7 +3,7 @@
 use crate::finder::Finder;
 use crate::parts::Part;
 use crate::sought::{OF_NUMBERS, OF_WORDS, Sought};
-use twp_draft::Names;
+use twp_draft::{LastSection, Names, Placed};
 use twp_grammar::Kind;
 use twp_pieces::plus;
 
@@ -41,7 +41,7 @@ impl<'a> Finder<'a> {
 
     /// Notes what the phrase that was added last names.
     fn note_phrase(&mut self) {
-        let Some(phrase) = self.draft.phrases.last() else {
+        let Some(Placed { phrase, .. }) = self.draft.phrases.last() else {
             return;
         };
         if matches!(phrase.names, Names::Nothing(_)) {
@@ -49,7 +49,10 @@ impl<'a> Finder<'a> {
         }
         self.names_land = self.names_land || !matches!(phrase.names, Names::Heading);
         if matches!(phrase.names, Names::Sections) {
-            self.draft.last_section = Some(*phrase);
+            self.draft.last_section = Some(LastSection {
+                first: phrase.first,
+                numbers: phrase.numbers,
+            });
         }
         // Land at some depths, and other land.
         if self.has_depths {

@@ -1,7 +1,7 @@
 //! Rows of registers: `08 0020N 0030W 014 ALIQ NENE`, `ID 8 2N 3W 14 A NENE`, `ID080020N0030W0SN140 ANENE`.
 
 use crate::finder::Finder;
-use twp_draft::{Names, Numeral};
+use twp_draft::{LeftOut, Names, Numeral};
 use twp_grammar::Kind;
 use twp_pieces::plus;
 use twp_rules::Rule;
@@ -27,7 +27,7 @@ impl<'a> Finder<'a> {
         let pieces = &self.draft.pieces;
         let next = plus(index, 1);
         let is_code = pieces.has_digits(index, 1) || pieces.has_digits(index, 2);
-        let is_after_label = last == Some(Names::Nothing(Rule::Label));
+        let is_after_label = last == Some(Names::Nothing(LeftOut::Label));
         let tier = if pieces.is(next, b"t") {
             plus(next, 1)
         } else {
@@ -36,11 +36,11 @@ impl<'a> Finder<'a> {
         let is_after_row = pieces.is(index.saturating_sub(1), b";");
         let is_row = (pieces.begins_line(index) || is_after_label || is_after_row)
             && pieces.has_digits(tier, 4);
-        let is_after_state = last == Some(Names::Nothing(Rule::Meridian));
+        let is_after_state = last == Some(Names::Nothing(LeftOut::Meridian));
         if !is_code || !(is_row || is_after_state) || !self.end_of_heading(next).is_some() {
             return None;
         }
-        let names = Names::Nothing(Rule::Meridian);
+        let names = Names::Nothing(LeftOut::Meridian);
         Some(self.draft.add(names, index, next, from))
     }
 
@@ -63,7 +63,7 @@ impl<'a> Finder<'a> {
         let from = self.draft.extent();
         Some(
             self.draft
-                .add(Names::Nothing(Rule::Heading), index, next, from),
+                .add(Names::Nothing(LeftOut::Heading), index, next, from),
         )
     }
 

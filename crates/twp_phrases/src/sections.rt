@@ -103,7 +103,8 @@ impl<'a> Finder<'a> {
     /// How many parts and lots follow the last section so far.
     fn count_of_parts(&self) -> usize {
         let mut count: usize = 0;
-        for phrase in &self.draft.phrases {
+        for placed in &self.draft.phrases {
+            let phrase = &placed.phrase;
             count = match phrase.names {
                 Names::Part | Names::Lots => plus(count, 1),
                 Names::Sections | Names::All => 0,

@@ -1,11 +1,10 @@
 //! Remarks, and what makes a phrase unsure: an empty place in a list, and parts that may be something else.
 
 use crate::finder::Finder;
-use twp_draft::Names;
+use twp_draft::{LeftOut, Names, Placed};
 use twp_grammar::Kind;
 use twp_pieces::plus;
 use twp_remarks::{Position, begins_depths, end_of_remark};
-use twp_rules::Rule;
 
 impl<'a> Finder<'a> {
     /// Whether a comma or a semicolon at an index has nothing before it, so that something may be missing
@@ -34,11 +33,13 @@ impl<'a> Finder<'a> {
     /// Whether the name of the column for aliquot parts is before an index.
     pub(crate) fn is_after_label(&self, index: usize) -> bool {
         match self.draft.phrases.last() {
-            Some(phrase) => {
-                matches!(phrase.names, Names::Nothing(Rule::Heading | Rule::Label))
-                    && phrase.end == index
-                    && self.draft.pieces.end_of_column_label(phrase.first) == Some(index)
-            }
+            Some(Placed { phrase, .. }) => match phrase.names {
+                Names::Nothing(LeftOut::Heading | LeftOut::Label) => {
+                    phrase.end == index
+                        && self.draft.pieces.end_of_column_label(phrase.first) == Some(index)
+                }
+                _ => false,
+            },
             None => false,
         }
     }
@@ -67,7 +68,7 @@ impl<'a> Finder<'a> {
         let from = self.draft.extent();
         Some(
             self.draft
-                .add(Names::Nothing(Rule::Label), index, end, from),
+                .add(Names::Nothing(LeftOut::Label), index, end, from),
         )
     }
 
@@ -148,7 +149,7 @@ impl<'a> Finder<'a> {
         let pieces = &self.draft.pieces;
         let letters = pieces.bytes(first);
         let is_after_capital = match self.draft.phrases.last() {
-            Some(before) => {
+            Some(Placed { phrase: before, .. }) => {
                 before.names == Names::Part
                     && matches!(pieces.bytes(before.first), [b'A'..=b'Z', ..])
             }
@@ -163,7 +164,7 @@ impl<'a> Finder<'a> {
     pub(crate) fn is_after_one_lot(&self) -> bool {
         let pieces = &self.draft.pieces;
         match self.draft.phrases.last() {
-            Some(phrase) => {
+            Some(Placed { phrase, .. }) => {
                 phrase.names == Names::Lots
                     && phrase.numbers.end.saturating_sub(phrase.numbers.first) == 1
                     && !(pieces.is(phrase.first, b"l") || pieces.is(phrase.first, b"lot"))

@@ -2,7 +2,7 @@
 
 use crate::finder::Finder;
 use crate::parts::Part;
-use twp_draft::Names;
+use twp_draft::{LeftOut, Names};
 use twp_grammar::Kind;
 use twp_pieces::plus;
 use twp_rules::Rule;
@@ -58,7 +58,7 @@ impl<'a> Finder<'a> {
         next = self.after_lands(next);
         // Sections from one to another are whole, and so they stay where they are.
         let names = if self.draft.pieces.is_before_range(next) {
-            Names::Nothing(Rule::Word)
+            Names::Nothing(LeftOut::Word)
         } else {
             Names::All
         };

@@ -285,7 +285,7 @@ impl<'p, 'a> Writer<'p, 'a> {
     /// Leaves out a phrase, with the white space before it, but for words that a rule looks at as a whole.
     fn write_left_out(&mut self, placed: &Placed, out: &mut Outline<'a>) {
         let rule = match placed.phrase.names {
-            Names::Nothing(rule) => rule,
+            Names::Nothing(left_out) => left_out.rule(),
             Names::Heading => Rule::MovedHeading,
             _ => Rule::MovedSection,
         };
