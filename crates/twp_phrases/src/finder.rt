@@ -8,7 +8,12 @@ pub struct Phrases;
 
 impl FindsPhrases for Phrases {
     fn phrases_of<'a>(alloc: Global, text: &'a [u8]) -> Result<Draft<'a>, AllocError> {
-        let mut finder = Finder::new(alloc, text)?;
+        let mut finder = Finder {
+            draft: Draft::new(alloc, text)?,
+            names_land: false,
+            has_depths: false,
+            has_open: false,
+        };
         finder.add_phrases();
         finder.draft.all_added()?;
         Ok(finder.draft)
@@ -27,16 +32,4 @@ pub(crate) struct Finder<'a> {
     pub(crate) has_depths: bool,
     /// Whether a parenthesis before land is open.
     pub(crate) has_open: bool,
-}
-
-impl<'a> Finder<'a> {
-    /// A search in a text that has not begun.
-    fn new(alloc: Global, text: &'a [u8]) -> Result<Finder<'a>, AllocError> {
-        Ok(Finder {
-            draft: Draft::new(alloc, text)?,
-            names_land: false,
-            has_depths: false,
-            has_open: false,
-        })
-    }
 }

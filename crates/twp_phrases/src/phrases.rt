@@ -10,6 +10,14 @@ use twp_pieces::plus;
 /// The most pieces that join two phrases.
 const JOINING_MOST: usize = 16;
 
+/// What a piece begins.
+#[derive(Clone, Copy)]
+enum Beginning {
+    Nothing,
+    /// A phrase, most often of this kind.
+    Phrase(Option<Sought>),
+}
+
 impl<'a> Finder<'a> {
     /// Adds the phrases to the draft. Where a piece is in none, and doesn't join them, the text isn't sure, nor
     /// where many pieces join two of them.
@@ -22,11 +30,11 @@ impl<'a> Finder<'a> {
             if self.draft.is_unsure {
                 return;
             }
-            if self.begins_none(here) {
-                self.join(here, index);
-                continue;
-            }
-            match self.phrase_at(here) {
+            let found = match self.beginning(here) {
+                Beginning::Nothing => None,
+                Beginning::Phrase(likely) => self.phrase_at(here, likely),
+            };
+            match found {
                 Some(end) => {
                     index = end;
                     self.note_phrase();
@@ -132,61 +140,58 @@ impl<'a> Finder<'a> {
 
     /// Adds the phrase at an index, which is looked for first as the kind that most such pieces begin, and
     /// then as the others: the index after it.
-    fn phrase_at(&mut self, index: usize) -> Option<usize> {
+    fn phrase_at(&mut self, index: usize, likely: Option<Sought>) -> Option<usize> {
         let from = self.draft.extent();
-        let mut kind = self.likely_kind(index);
+        if let Some(likely) = likely {
+            if let Some(end) = self.phrase_of_kind(likely, index) {
+                return Some(end);
+            }
+            self.draft.shrink(from);
+        }
         let kinds: &[Sought] = match self.draft.pieces.kind(index) {
             Kind::Number(_) => &OF_NUMBERS,
             _ => &OF_WORDS,
         };
-        for next in 0..plus(kinds.len(), 1) {
-            if let Some(sought) = kind {
-                if let Some(end) = self.phrase_of_kind(sought, index) {
-                    return Some(end);
-                }
-                self.draft.shrink(from);
+        for sought in kinds {
+            if let Some(end) = self.phrase_of_kind(*sought, index) {
+                return Some(end);
             }
-            kind = kinds.get(next).copied();
+            self.draft.shrink(from);
         }
         None
     }
 
-    /// Whether the piece at an index begins no phrase: most marks, and words that only join two of them.
-    fn begins_none(&self, index: usize) -> bool {
+    /// What the piece at an index begins: most marks, and words that only join two phrases, begin none.
+    fn beginning(&self, index: usize) -> Beginning {
         let pieces = &self.draft.pieces;
+        let next = plus(index, 1);
         match pieces.kind(index) {
-            Kind::Comma | Kind::Semicolon | Kind::Stop | Kind::Colon => true,
-            Kind::And => !pieces.is(plus(index, 1), b"containing"),
-            Kind::Half | Kind::Quarter => index > 0,
-            Kind::Of => self.is_before_land(index),
-            Kind::Other => pieces.is(index, b"in") && self.is_before_land(index),
-            Kind::BadByte => !pieces.may_begin_phrase(index),
-            _ => false,
-        }
-    }
-
-    /// The kind of phrase that most pieces like the one at an index begin.
-    fn likely_kind(&self, index: usize) -> Option<Sought> {
-        let pieces = &self.draft.pieces;
-        match pieces.kind(index) {
-            Kind::Sec => Some(Sought::Sections),
-            Kind::Lot => Some(Sought::Lots),
-            Kind::All if self.is_after_all(plus(index, 1)) => Some(Sought::All),
-            Kind::T => Some(Sought::Heading),
-            Kind::Corner(_) => Some(Sought::Part),
-            Kind::NorthSouth(_) | Kind::EastWest(_) if !pieces.is(plus(index, 1), b".") => {
-                Some(Sought::HalfOrSection)
+            Kind::Comma | Kind::Semicolon | Kind::Stop | Kind::Colon => Beginning::Nothing,
+            Kind::And if !pieces.is(next, b"containing") => Beginning::Nothing,
+            Kind::Half | Kind::Quarter if index > 0 => Beginning::Nothing,
+            Kind::Of if self.is_before_land(index) => Beginning::Nothing,
+            Kind::BadByte if !pieces.may_begin_phrase(index) => Beginning::Nothing,
+            Kind::Other if pieces.is(index, b"in") && self.is_before_land(index) => {
+                Beginning::Nothing
             }
-            Kind::Other => self.likely_kind_of_word(index),
-            Kind::The if pieces.begins_land(plus(index, 1)) => Some(Sought::Part),
+            Kind::Other => Beginning::Phrase(self.likely_kind_of_word(index)),
+            Kind::Sec => Beginning::Phrase(Some(Sought::Sections)),
+            Kind::Lot => Beginning::Phrase(Some(Sought::Lots)),
+            Kind::All if self.is_after_all(next) => Beginning::Phrase(Some(Sought::All)),
+            Kind::T => Beginning::Phrase(Some(Sought::Heading)),
+            Kind::Corner(_) => Beginning::Phrase(Some(Sought::Part)),
+            Kind::NorthSouth(_) | Kind::EastWest(_) if !pieces.is(next, b".") => {
+                Beginning::Phrase(Some(Sought::HalfOrSection))
+            }
+            Kind::The if pieces.begins_land(next) => Beginning::Phrase(Some(Sought::Part)),
             Kind::Number(_) if self.begins_tier_or_register(index) => {
-                Some(Sought::RegisterOrHeading)
+                Beginning::Phrase(Some(Sought::RegisterOrHeading))
             }
-            _ => None,
+            _ => Beginning::Phrase(None),
         }
     }
 
-    /// The same, of a word that no description has.
+    /// The kind of phrase that a word begins most often, which no description has.
     fn likely_kind_of_word(&self, index: usize) -> Option<Sought> {
         let pieces = &self.draft.pieces;
         if pieces.begins_step(index) {
