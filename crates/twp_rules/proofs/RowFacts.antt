@@ -1,17 +1,19 @@
 -- What is before the marks of a row, and after them.
-use Rattle.std.proofs.Common.{◌≡◌, ◌==◌, ◌&&◌, ◌<◌, ◌≤◌, ◌+◌, ◌∙◌, sym, Bool, true, false, List, [], ◌∷◌, ℕ}
+use Rattle.std.proofs.Common.{◌≡◌, ◌==◌, ◌||◌, ◌&&◌, ◌<◌, ◌≤◌, ◌+◌, ◌∙◌, sym, Bool, true, false, List, []}
+use Rattle.std.proofs.Common.{◌∷◌, ℕ}
 use Rattle.std.proofs.Common.{zero, suc, refl}
-use Rattle.std.proofs.Common.{subst, add-one, arith, length, drop, slice_index_or}
+use Rattle.std.proofs.Common.{◌-◌, ap, subst, add-one, arith, length, drop, slice_index, slice_index_or}
 use Rattle.std.proofs.Math.Seq.{drop-cons}
 use Rattle.std.proofs.lemmas.Bool.{eqb-true, eq-eqb, false≢true}
-use Rattle.std.proofs.lemmas.List.{length-map}
+use Rattle.std.proofs.lemmas.List.{get_or-map, length-map}
+use Rattle.std.proofs.Math.ListN.{get_or-map as get_or-map_as}
 use Rattle.std.specs.Char.{to_ascii_lowercase}
 use Rattle.std.specs.Str.{str_to_ascii_lowercase}
 use Rattle.twp_grammar.specs.Tokens.{same_bytes}
 use Rattle.twp_rules.specs.Rules.{is_entry}
 use Rattle.twp_rules.specs.Lists.{after, before}
-use Rattle.twp_rules.specs.steps.Rows.{entry_of}
-use Rattle.twp_rules.proofs.SameTexts.{both}
+use Rattle.twp_rules.specs.steps.Rows.{entry_of, has_last}
+use Rattle.twp_rules.proofs.SameTexts.{both, same_tells}
 
 -- nothing is before a mark at the beginning
 ends_here : (mark : ℕ) (row : List ℕ) (at : ℕ) → slice_index_or row at mark ≡ mark
@@ -147,3 +149,64 @@ other_head mark (x ∷ xs) (byte ∷ bytes) low other = by_test (byte == mark) r
         → same_bytes (str_to_ascii_lowercase (x ∷ xs)) (before mark (byte ∷ bytes)) ≡ false
     by_test true e = rw e refl
     by_test false e = rw e (by_same (to_ascii_lowercase x == byte) refl)
+
+-- a text before a mark has the row's bytes
+byte_is : (mark : ℕ) (text row : List ℕ) (at : ℕ) → at < length text
+    → same_bytes text (before mark row) ≡ true → slice_index_or row at mark ≡ slice_index_or text at mark
+byte_is mark [] row at within h = absurd (omega arith)
+byte_is mark (x ∷ text) [] at within h = cc
+byte_is mark (x ∷ text) (byte ∷ bytes) zero within h = by_test (byte == mark) refl
+  where
+    by_test : (t : Bool) → (byte == mark) ≡ t → byte ≡ x
+    by_test true e = absurd (false≢true (rw e at h))
+    by_test false e =
+        sym (eqb-true x byte (both (x == byte) (same_bytes text (before mark bytes)) (rw e at h)).0)
+byte_is mark (x ∷ text) (byte ∷ bytes) (suc at) within h =
+    by_test (byte_is mark text bytes at (omega arith)) (byte == mark) refl
+  where
+    by_test :
+        (same_bytes text (before mark bytes) ≡ true
+        → slice_index_or bytes at mark ≡ slice_index_or text at mark)
+        → (t : Bool) → (byte == mark) ≡ t → slice_index_or bytes at mark ≡ slice_index_or text at mark
+    by_test more true e = absurd (false≢true (rw e at h))
+    by_test more false e = more (both (x == byte) (same_bytes text (before mark bytes)) (rw e at h)).1
+
+-- of two that are both false, the second is
+second_is : (one other : Bool) → (one || other) ≡ false → other ≡ false
+second_is true other h = cc h
+second_is false other h = h
+
+-- a word whose last byte is not at its place in a row is not what is before the row's mark
+pub other_end : (mark : ℕ) (seen row : List ℕ) → has_last mark row seen ≡ false
+    → same_bytes (str_to_ascii_lowercase seen) (before mark row) ≡ false
+other_end mark [] row other = absurd (false≢true (sym other))
+other_end mark (x ∷ xs) row other =
+    by_test (same_bytes (str_to_ascii_lowercase (x ∷ xs)) (before mark row)) refl
+  where
+    by_test : (t : Bool) → same_bytes (str_to_ascii_lowercase (x ∷ xs)) (before mark row) ≡ t → t ≡ false
+    by_test true e =
+        let size = length-map (x ∷ xs) to_ascii_lowercase in
+        let at = length (x ∷ xs) - 1 in
+        let is = byte_is mark (str_to_ascii_lowercase (x ∷ xs)) row at (omega arith) e in
+        let low = get_or-map to_ascii_lowercase (x ∷ xs) at 0 mark (omega arith) in
+        let not_last = second_is (length (x ∷ xs) == 0)
+        (slice_index_or row at mark == to_ascii_lowercase (slice_index (x ∷ xs) at)) other in
+        absurd (false≢true (sym not_last ∙ eq-eqb (slice_index_or row at mark)
+        (to_ascii_lowercase (slice_index (x ∷ xs) at)) (is ∙ low)))
+    by_test false e = refl
+
+-- a word with another byte at an index is not what is before a row's mark, which is no capital letter
+pub other_at : (index mark : ℕ) (word row : List ℕ)
+    → to_ascii_lowercase mark ≡ mark
+    → (slice_index_or (before mark row) index mark ≡ to_ascii_lowercase (slice_index_or word index mark) → ⊥)
+    → same_bytes (str_to_ascii_lowercase word) (before mark row) ≡ false
+other_at index mark word row low other =
+    by_test (same_bytes (str_to_ascii_lowercase word) (before mark row)) refl
+  where
+    by_test : (t : Bool) → same_bytes (str_to_ascii_lowercase word) (before mark row) ≡ t → t ≡ false
+    by_test true e =
+        absurd (other (ap (λ (xs : List ℕ). slice_index_or xs index mark)
+        (sym (same_tells (str_to_ascii_lowercase word) (before mark row) e))
+        ∙ ap (λ (m : ℕ). slice_index_or (str_to_ascii_lowercase word) index m) (sym low)
+        ∙ get_or-map_as to_ascii_lowercase word index mark))
+    by_test false e = refl

@@ -33,23 +33,8 @@ pub(crate) fn is_allowed(text: &[u8], change: &Change<'_>) -> bool
         (slice_range text.now change.now.start change.now.end) change.now.written.now }
 {
     let (start, end) = (change.start, change.end);
-    allows(
-        change.rule,
-        text,
-        start,
-        end,
-        &text[start..end],
-        change.written,
-    )
-}
-
-/// Whether a rule allows to write something instead of a text, from one place up to another.
-fn allows(rule: Rule, text: &[u8], start: usize, end: usize, seen: &[u8], written: &[u8]) -> bool
-    requires order { start ≤ end }
-    requires within { end ≤ length text.now }
-    ensures { result ≡ allows rule text.now start end seen.now written.now }
-{
-    match rule {
+    let (seen, written) = (&text[start..end], change.written);
+    match change.rule {
         Rule::Half => is_half_mark(seen, written) && has_sides(before(text, start)),
         Rule::Quarter => is_quarter_mark(seen, written) && has_corners(before(text, start)),
         Rule::Direction => is_direction(seen, written) && is_whole_word(text, start, end),
@@ -102,7 +87,7 @@ fn allows(rule: Rule, text: &[u8], start: usize, end: usize, seen: &[u8], writte
                 && is_whole_word(text, start, end)
                 && is_no_exception(before(text, start), seen)
         }
-        _ => are_same(written, b"") && may_be_left_out(rule, seen, after(text, end)),
+        _ => are_same(written, b"") && may_be_left_out(change.rule, seen, after(text, end)),
     }
 }
 

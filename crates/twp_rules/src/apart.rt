@@ -1,16 +1,16 @@
 //! What changes keep apart: parts that have something between them.
-ghost use Rattle.std.specs.Prelude.{not, ◌≡◌, ◌≤◌, ◌&&◌, [], ◌∷◌, true, length};
-ghost use Rattle.twp_rules.specs.Changes.{seen};
+ghost use Rattle.std.specs.Prelude.{not, ◌≡◌, ◌≤◌, ◌&&◌, [], ◌∷◌, true, length, map};
+ghost use Rattle.twp_rules.specs.Changes.{AreChangesFrom, seen};
 ghost use Rattle.twp_rules.specs.Edges.{is_one_of};
 ghost use Rattle.twp_rules.specs.Rules.{solid_before};
 ghost use Rattle.twp_rules.specs.Words.{apart_marks};
-ghost use Rattle.twp_rules.specs.Apart.{inserts_comma, parts_run, begins_with_step, ends_after, ends_step};
+ghost use Rattle.twp_rules.specs.Apart.{first_seam, inserts_comma, keep_apart, parts_run, begins_with_step, ends_after, ends_step};
 ghost use Rattle.twp_rules.specs.Apart.{is_article, is_apart_at, is_blank, is_within_part};
 ghost use Rattle.twp_rules.specs.Apart.{loses, loses_by, loses_seen};
 ghost use Rattle.twp_rules.specs.Apart.{seam_after, seam_with};
 
-use crate::change::Change;
-use crate::context::{before, solid_before};
+use crate::change::{Change, between};
+use crate::context::{after, before, solid_before};
 use crate::endings::beside::*;
 use crate::figures::{is_white, without_white};
 use crate::keeping::rest_of;
@@ -20,9 +20,32 @@ use crate::same::{are_same, begins_with, is_text};
 use crate::seam::Seam;
 use crate::words::land::*;
 
+/// Whether changes keep parts apart.
+#[tactic(auto, using(crate::proofs::ChangeFacts::next_apart, crate::proofs::ChangeFacts::start_within, crate::proofs::ChangeFacts::end_within))]
+pub(crate) fn keep_apart(text: &[u8], changes: &[Change<'_>]) -> bool
+    requires { AreChangesFrom 0 text.now (map seen changes.now) }
+    ensures { result ≡ true → keep_apart text.now 0 first_seam (map seen changes.now) ≡ true }
+{
+    let mut at = 0;
+    let mut seam = Seam {
+        ends_step: false,
+        lost: false,
+    };
+    for change in changes {
+        let gap = between(text, at, change.start);
+        let near = seam_after(seam, gap);
+        if !is_apart(text, seam, near, gap, change) {
+            return false;
+        }
+        seam = seam_with(text, near, change);
+        at = change.end;
+    }
+    is_apart_at(seam, after(text, at))
+}
+
 /// Whether the text before a change, and the text that the change writes, are each kept apart from what was written
 /// before them, and no run of steps is split.
-pub(crate) fn is_apart(text: &[u8], seam: Seam, near: Seam, gap: &[u8], change: &Change<'_>) -> bool
+fn is_apart(text: &[u8], seam: Seam, near: Seam, gap: &[u8], change: &Change<'_>) -> bool
     requires { change.now.start ≤ length text.now }
     ensures { result ≡ (is_apart_at seam gap.now && is_apart_at near change.now.written.now
         && not (parts_run text.now near (seen change.now))) }
@@ -52,14 +75,14 @@ fn inserts_comma(change: &Change<'_>) -> bool
 }
 
 /// Whether no step at a seam is joined to one that something separated from it.
-pub(crate) fn is_apart_at(seam: Seam, bytes: &[u8]) -> bool
+fn is_apart_at(seam: Seam, bytes: &[u8]) -> bool
     ensures { result ≡ is_apart_at seam bytes.now }
 {
     !(seam.ends_step && seam.lost && begins_with_step(without_white(bytes)))
 }
 
 /// The seam after more bytes.
-pub(crate) fn seam_after(seam: Seam, bytes: &[u8]) -> Seam
+fn seam_after(seam: Seam, bytes: &[u8]) -> Seam
     ensures { result ≡ seam_after seam bytes.now }
 {
     Seam {
@@ -69,7 +92,7 @@ pub(crate) fn seam_after(seam: Seam, bytes: &[u8]) -> Seam
 }
 
 /// The seam after a change.
-pub(crate) fn seam_with(text: &[u8], seam: Seam, change: &Change<'_>) -> Seam
+fn seam_with(text: &[u8], seam: Seam, change: &Change<'_>) -> Seam
     requires order { change.now.start ≤ change.now.end }
     requires within { change.now.end ≤ length text.now }
     ensures { result ≡ seam_with text.now seam (seen change.now) }
@@ -128,7 +151,7 @@ fn is_after_mark(text: &[u8], at: usize) -> bool
     ensures { result ≡ is_one_of (solid_before text.now at ∷ []) ((0 ∷ []) ∷ apart_marks) }
 {
     let solid = solid_before(text, at);
-    solid == 0 || is_in_apart_marks(&[solid])
+    solid == 0 || is_in_apart_marks(solid)
 }
 
 /// Whether a rule leaves out what may be between two parts.

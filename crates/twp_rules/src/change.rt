@@ -4,12 +4,10 @@ ghost use Rattle.twp_rules.specs.Changes.{AreChangesFrom, changed_from, seen};
 ghost use Rattle.twp_rules.specs.Moves.{MayBeMade};
 
 use crate::allowed::is_allowed;
-use crate::apart::{is_apart, is_apart_at, seam_after, seam_with};
-use crate::keeping::{copied_by, fits, role_after};
+use crate::apart::keep_apart;
+use crate::keeping::keep_numbers;
 use crate::moves::is_moved_text_written;
-use crate::role::Role;
 use crate::rule::Rule;
-use crate::seam::Seam;
 use std::alloc::{AllocError, Global};
 
 /// A change of a text: bytes are left out, and others are written instead.
@@ -70,49 +68,29 @@ fn after(text: &[u8], from: usize) -> &[u8]
 }
 
 /// Whether changes are from left to right, don't overlap, are allowed by their rules, keep numbers, keep parts apart,
-/// and write what they move.
-#[tactic(auto, using(crate::proofs::ChangeFacts::next_numbers, crate::proofs::ChangeFacts::next_apart))]
+/// and write what they move. Each is looked for by itself, in a loop of its own.
 pub fn are_changes(text: &[u8], changes: &[Change<'_>]) -> bool
     ensures { result ≡ true → MayBeMade text.now (map seen changes.now) }
 {
+    are_allowed(text, changes)
+        && keep_numbers(text, changes)
+        && keep_apart(text, changes)
+        && is_moved_text_written(text, changes)
+}
+
+/// Whether changes are from left to right, don't overlap, and are allowed by their rules.
+fn are_allowed(text: &[u8], changes: &[Change<'_>]) -> bool
+    ensures { result ≡ true → AreChangesFrom 0 text.now (map seen changes.now) }
+{
     let mut at = 0;
-    let mut role = Role::Nothing;
-    let mut copied = 0;
-    let mut seam = Seam {
-        ends_step: false,
-        lost: false,
-    };
-    let mut more = changes;
     for change in changes {
-        more = rest_of(more);
         if change.start < at || change.end < change.start || text.len() < change.end {
             return false;
         }
         if !is_allowed(text, change) {
             return false;
         }
-        if !fits(text, role, at, copied, change, more) {
-            return false;
-        }
-        let gap = between(text, at, change.start);
-        let near = seam_after(seam, gap);
-        if !is_apart(text, seam, near, gap, change) {
-            return false;
-        }
-        seam = seam_with(text, near, change);
-        role = role_after(role, change);
-        copied = copied_by(copied, change.rule);
         at = change.end;
     }
-    is_apart_at(seam, after(text, at)) && is_moved_text_written(text, changes)
-}
-
-/// Changes without the first one.
-fn rest_of<'a, 'b>(changes: &'b [Change<'a>]) -> &'b [Change<'a>]
-    ensures { result.now ≡ drop 1 changes.now }
-{
-    match changes {
-        [_, rest @ ..] => rest,
-        [] => changes,
-    }
+    true
 }

@@ -28,7 +28,7 @@ pub(crate) fn is_township(rest: &[u8]) -> bool
     ensures { result ≡ is_township rest.now }
 {
     let digits = digits_of(rest);
-    digits.len() >= 1 && digits.len() <= 4 && is_in_north_south(&[mark_after_digits(rest)])
+    digits.len() >= 1 && digits.len() <= 4 && is_north_south(mark_after_digits(rest))
 }
 
 /// Whether zeros at a place are before the other digits of a number.

@@ -31,6 +31,9 @@ fn keep_steps(made: &[u8], changes: &[Change<'_>]) -> bool
 {
     let mut run: Option<Run> = None;
     for change in changes {
+        if run.is_none() && !matches!(change.rule, Rule::CopiedStep(_, _)) {
+            continue;
+        }
         if !fits_run(made, changes, run, change.start, change.rule) {
             return false;
         }

@@ -1,12 +1,12 @@
 //! What changes keep of numbers, one after another: whether they are whole, and what the text says of them.
 ghost use Rattle.std.specs.Prelude.{◌≡◌, ◌≤◌, ◌&&◌, IsTrue, true, drop, length, map};
-ghost use Rattle.twp_rules.specs.Changes.{seen};
+ghost use Rattle.twp_rules.specs.Changes.{AreChangesFrom, seen};
 ghost use Rattle.twp_rules.specs.declared.role.Role.TheVariants.{Nothing};
 ghost use Rattle.twp_rules.specs.declared.rule.Rule.TheVariants.{Heading};
 ghost use Rattle.twp_rules.specs.Keeping.{after_fraction_digit, after_parenthesis, begins_whole_copy, copied_by, ends_whole_copy};
 ghost use Rattle.twp_rules.specs.Keeping.{fits_by, fits_copy};
 ghost use Rattle.twp_rules.specs.Keeping.{has_its_side, is_copy, is_damaged_digit, is_said_at};
-ghost use Rattle.twp_rules.specs.Keeping.{is_said_if_section, next_copies_at, next_copies_from};
+ghost use Rattle.twp_rules.specs.Keeping.{is_said_if_section, keep_numbers, next_copies_at, next_copies_from};
 ghost use Rattle.twp_rules.specs.Keeping.{role_after, role_by};
 ghost use Rattle.twp_rules.specs.Keeping.{side_after, without_parentheses, without_zeros};
 
@@ -21,8 +21,35 @@ use crate::same::are_same;
 use crate::words::numbers::*;
 use crate::words::sides::*;
 
+/// Whether changes keep numbers.
+#[tactic(auto, using(crate::proofs::ChangeFacts::next_numbers, crate::proofs::ChangeFacts::start_within))]
+pub(crate) fn keep_numbers(text: &[u8], changes: &[Change<'_>]) -> bool
+    requires { AreChangesFrom 0 text.now (map seen changes.now) }
+    ensures { result ≡ true → keep_numbers text.now Nothing 0 0 (map seen changes.now) ≡ true }
+{
+    let mut role = Role::Nothing;
+    let mut place = 0;
+    let mut copied = 0;
+    for index in 0..changes.len() {
+        let change = &changes[index];
+        match change.rule {
+            Rule::Copied(_, _) | Rule::Heading | Rule::SectionWord | Rule::Comma => {
+                let (_, more) = changes.split_at(index + 1);
+                if !fits(text, role, place, copied, change, more) {
+                    return false;
+                }
+                role = role_after(role, change);
+                copied = copied_by(copied, change.rule);
+            }
+            _ => role = Role::Nothing,
+        }
+        place = change.end;
+    }
+    true
+}
+
 /// What a number is that is copied after a change.
-pub(crate) fn role_after(role: Role, change: &Change<'_>) -> Role
+fn role_after(role: Role, change: &Change<'_>) -> Role
     ensures { result ≡ role_after role (seen change.now) }
 {
     let inserts = change.start == change.end;
@@ -55,7 +82,7 @@ fn role_of_heading(written: &[u8]) -> Role
 }
 
 /// Where the last number that was copied ends in the text.
-pub(crate) fn copied_by(copied: usize, rule: Rule) -> usize
+fn copied_by(copied: usize, rule: Rule) -> usize
     ensures { result ≡ copied_by copied rule }
 {
     match rule {
@@ -65,7 +92,7 @@ pub(crate) fn copied_by(copied: usize, rule: Rule) -> usize
 }
 
 /// Whether what a change writes of numbers fits what was written before it.
-pub(crate) fn fits(
+fn fits(
     text: &[u8],
     role: Role,
     place: usize,
@@ -180,7 +207,7 @@ fn is_damaged_digit(text: &[u8], at: usize) -> bool
     requires { at ≤ length text.now }
     ensures { result ≡ is_damaged_digit text.now at }
 {
-    is_in_damaged_digits(&[byte_at(text, at)])
+    is_in_damaged_digits(byte_at(text, at))
         && byte_before(text, at).is_ascii_digit()
         && !byte_at(text, at + 1).is_ascii_alphabetic()
 }

@@ -83,7 +83,7 @@ fn is_row_number(seen: &[u8], after: &[u8]) -> bool
     let number = without_white(seen);
     let next = without_spaces(after);
     are_same(digits_of(number), number)
-        && is_in_cell_marks(&[byte_at(next, 0)])
+        && is_in_cell_marks(byte_at(next, 0))
         && is_no_land_word(word_of(without_white(rest_after(next))))
 }
 

@@ -148,7 +148,7 @@ fn number_names_township(digits: &[u8], after: &[u8]) -> bool
 pub fn is_side(byte: u8) -> bool
     ensures { result ≡ is_side byte }
 {
-    is_in_north_south(&[byte]) || is_in_east_west(&[byte])
+    is_north_south(byte) || is_east_west(byte)
 }
 
 /// Whether a word is corners alone.
@@ -170,9 +170,9 @@ fn is_of_corner(is_first: bool, byte: u8) -> bool
     ensures { result ≡ (if is_first then is_one_of (byte ∷ []) north_south else is_one_of (byte ∷ []) east_west) }
 {
     if is_first {
-        is_in_north_south(&[byte])
+        is_north_south(byte)
     } else {
-        is_in_east_west(&[byte])
+        is_east_west(byte)
     }
 }
 
@@ -195,7 +195,7 @@ fn is_of_something_else(seen: &[u8], at: usize, name: &[u8]) -> bool
     let after = from(rest, digits.len());
     is_no_section(digits)
         || is_in_numbered_words(name)
-        || is_in_marks_before_codes(&[byte_before(seen, at)])
+        || is_in_marks_before_codes(byte_before(seen, at))
         || goes_on(name, after)
         || is_in_units(word_of(without_white(after)))
 }
@@ -218,10 +218,10 @@ fn goes_on(name: &[u8], after: &[u8]) -> bool
 {
     let next = byte_at(after, 0);
     next.is_ascii_alphabetic()
-        || is_in_code_marks(&[next])
-        || (is_in_figure_marks(&[next]) && byte_at(after, 1).is_ascii_digit())
-        || (is_in_date_marks(&[next])
-            && (!are_same(name, b"") || is_in_date_marks(&[mark_after_digits(rest_after(after))])))
+        || is_in_code_marks(next)
+        || (is_in_figure_marks(next) && byte_at(after, 1).is_ascii_digit())
+        || (is_in_date_marks(next)
+            && (!are_same(name, b"") || is_in_date_marks(mark_after_digits(rest_after(after)))))
 }
 
 /// The byte after the digits with which a text begins.

@@ -123,7 +123,7 @@ pub(crate) fn without_location_marks(text: &[u8]) -> &[u8]
     ensures { result.now ≡ without_location_marks text.now }
 {
     for index in 0..text.len() {
-        if !is_white(text[index]) && !is_in_location_marks(&[text[index]]) {
+        if !is_white(text[index]) && !is_in_location_marks(text[index]) {
             return from(text, index);
         }
     }
@@ -203,7 +203,7 @@ pub(crate) fn is_apart(text: &[u8], at: usize) -> bool
     let solid = solid_before(text, at);
     matches!(near, 0 | b'\t' | b'\n')
         || solid == 0
-        || is_in_apart_marks(&[solid])
+        || is_in_apart_marks(solid)
         || has_words_apart(before(text, at))
 }
 
@@ -212,5 +212,5 @@ fn is_before_land_mark(rest: &[u8]) -> bool
     ensures { result ≡ is_before_land_mark rest.now }
 {
     let next = without_spaces(rest);
-    is_in_before_land_marks(&[byte_at(next, 0)]) || has_dash_fronts(next)
+    is_in_before_land_marks(byte_at(next, 0)) || has_dash_fronts(next)
 }

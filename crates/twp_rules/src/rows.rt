@@ -1,8 +1,9 @@
 //! Rows of the rules' tables, and what is in them. A table is an array of rows, and a row is an array of bytes, without
 //! a pointer, since each pointer of static data is set at every start of the program. All rows of a table have as many
 //! bytes, filled up with `_`. One function goes through the rows of all tables of a kind, so a row is data, and needs
-//! no proof of its own. The number with a table has a bit for the first byte of each row: with a wrong number, the
-//! proof fails.
+//! no proof of its own. The numbers with a table have a bit for the first byte of each row, for the second, and for the
+//! third: with a wrong number, the proof fails. The few tables in which most changes are looked up are written out
+//! instead, which takes a third of the instructions, and a proof of each.
 ghost use Rattle.std.specs.Prelude.{◌≡◌, ◌-◌, true, drop, length, slice_index_or};
 ghost use Rattle.std.specs.List.{list_any};
 ghost use Rattle.std.specs.Char.{to_ascii_lowercase};
@@ -11,7 +12,8 @@ ghost use Rattle.twp_grammar.specs.Tokens.{same_bytes};
 ghost use Rattle.twp_rules.specs.Edges.{begins_with, ends_with};
 ghost use Rattle.twp_rules.specs.Rules.{is_entry};
 ghost use Rattle.twp_rules.specs.Lists.{before};
-ghost use Rattle.twp_rules.specs.steps.Rows.{end_of, entry_of, front_of, have_ends, have_fronts, have_heads, is_head};
+ghost use Rattle.twp_rules.specs.steps.Rows.{end_of, entry_of, front_of, has_last};
+ghost use Rattle.twp_rules.specs.steps.Rows.{have_at, have_ends, have_fronts, have_heads, is_head};
 
 use crate::same::{begins_with, ends_with};
 
@@ -22,23 +24,32 @@ pub(crate) fn is_among<const N: usize>(
     seen: &[u8],
     written: &[u8],
     heads: u32,
+    seconds: u32,
+    thirds: u32,
     rows: &[[u8; N]],
 ) -> bool
-    requires { have_heads 61 heads rows.now ≡ true }
+    requires heads { have_heads 61 heads rows.now ≡ true }
+    requires seconds { have_at 1 61 seconds rows.now ≡ true }
+    requires thirds { have_at 2 61 thirds rows.now ≡ true }
     ensures { result ≡ list_any (λ row. is_entry seen.now written.now (entry_of row)) rows.now }
 {
-    let first = byte_or(seen, 0, b'=').to_ascii_lowercase();
-    if !is_head(heads, first) {
+    if !is_head(heads, byte_or(seen, 0, b'=')) {
         return false;
     }
-    is_some_row(seen, first, written, rows)
+    if !is_head(seconds, byte_or(seen, 1, b'=')) {
+        return false;
+    }
+    if !is_head(thirds, byte_or(seen, 2, b'=')) {
+        return false;
+    }
+    is_some_row(seen, written, rows)
 }
 
 /// The same, for any table.
-fn is_some_row<const N: usize>(seen: &[u8], first: u8, written: &[u8], rows: &[[u8; N]]) -> bool
-    requires { first ≡ to_ascii_lowercase (slice_index_or seen.now 0 61) }
+fn is_some_row<const N: usize>(seen: &[u8], written: &[u8], rows: &[[u8; N]]) -> bool
     ensures { result ≡ list_any (λ row. is_entry seen.now written.now (entry_of row)) rows.now }
 {
+    let first = byte_or(seen, 0, b'=').to_ascii_lowercase();
     for row in rows {
         if is_row(seen, first, written, row) {
             return true;
@@ -49,22 +60,35 @@ fn is_some_row<const N: usize>(seen: &[u8], first: u8, written: &[u8], rows: &[[
 
 /// Whether a word is one of the rows, which are in lowercase, as in `*b"lots____"`.
 #[inline(always)]
-pub(crate) fn is_one_of<const N: usize>(word: &[u8], heads: u32, rows: &[[u8; N]]) -> bool
-    requires { have_heads 95 heads rows.now ≡ true }
+pub(crate) fn is_one_of<const N: usize>(
+    word: &[u8],
+    heads: u32,
+    seconds: u32,
+    thirds: u32,
+    rows: &[[u8; N]],
+) -> bool
+    requires heads { have_heads 95 heads rows.now ≡ true }
+    requires seconds { have_at 1 95 seconds rows.now ≡ true }
+    requires thirds { have_at 2 95 thirds rows.now ≡ true }
     ensures { result ≡ list_any (λ row. same_bytes (str_to_ascii_lowercase word.now) (front_of row)) rows.now }
 {
-    let first = byte_or(word, 0, b'_').to_ascii_lowercase();
-    if !is_head(heads, first) {
+    if !is_head(heads, byte_or(word, 0, b'_')) {
         return false;
     }
-    is_some_word(word, first, rows)
+    if !is_head(seconds, byte_or(word, 1, b'_')) {
+        return false;
+    }
+    if !is_head(thirds, byte_or(word, 2, b'_')) {
+        return false;
+    }
+    is_some_word(word, rows)
 }
 
 /// The same, for any table.
-fn is_some_word<const N: usize>(word: &[u8], first: u8, rows: &[[u8; N]]) -> bool
-    requires { first ≡ to_ascii_lowercase (slice_index_or word.now 0 95) }
+fn is_some_word<const N: usize>(word: &[u8], rows: &[[u8; N]]) -> bool
     ensures { result ≡ list_any (λ row. same_bytes (str_to_ascii_lowercase word.now) (front_of row)) rows.now }
 {
+    let first = byte_or(word, 0, b'_').to_ascii_lowercase();
     for row in rows {
         if is_front(word, first, row) {
             return true;
@@ -172,11 +196,14 @@ fn is_row_by_parts(seen: &[u8], written: &[u8], row: &[u8]) -> bool
 
 /// Whether a text in lowercase is what is before a mark of a row, or all of it. Most rows are ruled out by their length.
 #[inline(always)]
-#[tactic(auto, using(crate::proofs::RowFacts::other_size, crate::proofs::RowFacts::no_more_lower))]
+#[tactic(auto, using(crate::proofs::RowFacts::other_size, crate::proofs::RowFacts::other_end, crate::proofs::RowFacts::no_more_lower))]
 fn is_before(row: &[u8], mark: u8, seen: &[u8]) -> bool
     ensures { result ≡ same_bytes (str_to_ascii_lowercase seen.now) (before mark row.now) }
 {
     if byte_or(row, seen.len(), mark) != mark {
+        return false;
+    }
+    if !has_last(row, mark, seen) {
         return false;
     }
     for index in 0..seen.len() {
@@ -189,6 +216,15 @@ fn is_before(row: &[u8], mark: u8, seen: &[u8]) -> bool
         }
     }
     true
+}
+
+/// Whether a row has the last byte of a text at its place.
+#[inline(always)]
+fn has_last(row: &[u8], mark: u8, seen: &[u8]) -> bool
+    ensures { result ≡ has_last mark row.now seen.now }
+{
+    seen.is_empty()
+        || byte_or(row, seen.len() - 1, mark) == seen[seen.len() - 1].to_ascii_lowercase()
 }
 
 /// Whether a text is what is before the filling of the rest of a row. Most are ruled out by their length.

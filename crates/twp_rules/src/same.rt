@@ -3,6 +3,8 @@ ghost use Rattle.std.specs.Prelude.{◌≡◌};
 ghost use Rattle.std.specs.Str.{str_to_ascii_lowercase};
 ghost use Rattle.twp_grammar.specs.Tokens.{same_bytes};
 ghost use Rattle.twp_rules.specs.Edges.{begins_with, ends_with};
+ghost use Rattle.twp_rules.specs.Rules.{is_entry};
+ghost use Rattle.twp_rules.specs.Tables.{◌⇒◌};
 
 /// Whether two texts are the same.
 #[tactic(auto, using(crate::proofs::SameTexts::is_same))]
@@ -12,7 +14,16 @@ pub fn are_same(one: &[u8], other: &[u8]) -> bool
     one == other
 }
 
+/// Whether a rule looks at this text, with its letters in lowercase, and writes the other.
+#[inline(always)]
+pub(crate) fn is_entry(seen: &[u8], text: &[u8], written: &[u8], instead: &[u8]) -> bool
+    ensures { result ≡ is_entry seen.now written.now (text.now ⇒ instead.now) }
+{
+    is_text(seen, text) && are_same(written, instead)
+}
+
 /// Whether a text, with its letters in lowercase, is another one.
+#[inline(always)]
 #[tactic(auto, using(crate::proofs::SameTexts::other_length))]
 pub(crate) fn is_text(seen: &[u8], text: &[u8]) -> bool
     ensures { result ≡ same_bytes (str_to_ascii_lowercase seen.now) text.now }
@@ -29,6 +40,7 @@ pub(crate) fn is_text(seen: &[u8], text: &[u8]) -> bool
 }
 
 /// Whether a text, with its letters in lowercase, ends with another one.
+#[inline(always)]
 pub fn ends_with(seen: &[u8], end: &[u8]) -> bool
     ensures { result ≡ ends_with seen.now end.now }
 {
@@ -40,6 +52,7 @@ pub fn ends_with(seen: &[u8], end: &[u8]) -> bool
 }
 
 /// Whether a text, with its letters in lowercase, begins with another one.
+#[inline(always)]
 pub fn begins_with(seen: &[u8], front: &[u8]) -> bool
     ensures { result ≡ begins_with seen.now front.now }
 {

@@ -30,7 +30,13 @@ static MERIDIAN_LETTERS: [[u8; 21]; 7] = [
 pub(crate) fn is_in_meridian_letters(seen: &[u8]) -> bool
     ensures { result ≡ is_one_of seen.now meridian_letters }
 {
-    is_one_of(seen, 0x0088_4000, &MERIDIAN_LETTERS)
+    is_one_of(
+        seen,
+        0x0088_4000,
+        0x0010_c001,
+        0x0024_2003,
+        &MERIDIAN_LETTERS,
+    )
 }
 
 /// The texts `but_what` of the specification.
@@ -80,7 +86,7 @@ static DASH_MARKS: [[u8; 3]; 3] = [*b"-__", *b"\xE2\x80\x93", *b"\xE2\x80\x94"];
 pub(crate) fn is_in_dash_marks(seen: &[u8]) -> bool
     ensures { result ≡ is_one_of seen.now dash_marks }
 {
-    is_one_of(seen, 0x0000_2004, &DASH_MARKS)
+    is_one_of(seen, 0x0000_2004, 0x8000_0001, 0x8018_0000, &DASH_MARKS)
 }
 
 /// Whether a text begins with one of them.

@@ -5,31 +5,40 @@ ghost use Rattle.twp_rules.specs.Endings.{corners, digits, heading_ends, section
 ghost use Rattle.twp_rules.specs.Endings.{worn_section_ends};
 
 use crate::rows::ends_with_one;
+use crate::same::ends_with;
 
-/// The texts `sides` of the specification.
-static SIDES: [[u8; 5]; 12] = [
-    *b"____n", *b"____s", *b"____e", *b"____w", *b"___n.", *b"___s.", *b"___e.", *b"___w.",
-    *b"north", *b"south", *b"_east", *b"_west",
-];
-
-/// Whether a text ends with one of them.
+/// Whether a text ends with one of the texts `sides` of the specification.
 pub(crate) fn has_sides(seen: &[u8]) -> bool
     ensures { result ≡ ends_with_one seen.now sides }
 {
-    ends_with_one(seen, 0x0098_4120, &SIDES)
+    ends_with(seen, b"n")
+        || ends_with(seen, b"s")
+        || ends_with(seen, b"e")
+        || ends_with(seen, b"w")
+        || ends_with(seen, b"n.")
+        || ends_with(seen, b"s.")
+        || ends_with(seen, b"e.")
+        || ends_with(seen, b"w.")
+        || ends_with(seen, b"north")
+        || ends_with(seen, b"south")
+        || ends_with(seen, b"east")
+        || ends_with(seen, b"west")
 }
 
-/// The texts `corners` of the specification.
-static CORNERS: [[u8; 4]; 10] = [
-    *b"__ne", *b"__nw", *b"__se", *b"__sw", *b"__e.", *b"__w.", *b"east", *b"west", *b"__ e",
-    *b"__ w",
-];
-
-/// Whether a text ends with one of them.
+/// Whether a text ends with one of the texts `corners` of the specification.
 pub(crate) fn has_corners(seen: &[u8]) -> bool
     ensures { result ≡ ends_with_one seen.now corners }
 {
-    ends_with_one(seen, 0x0090_4020, &CORNERS)
+    ends_with(seen, b"ne")
+        || ends_with(seen, b"nw")
+        || ends_with(seen, b"se")
+        || ends_with(seen, b"sw")
+        || ends_with(seen, b"e.")
+        || ends_with(seen, b"w.")
+        || ends_with(seen, b"east")
+        || ends_with(seen, b"west")
+        || ends_with(seen, b" e")
+        || ends_with(seen, b" w")
 }
 
 /// The texts `digits` of the specification.

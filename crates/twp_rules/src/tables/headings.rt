@@ -6,24 +6,20 @@ ghost use Rattle.twp_rules.specs.Tables.{lot_words, more_numerals, numerals, sec
 ghost use Rattle.twp_rules.specs.Tables.{worn_lot_words, worn_section_words, zeros};
 
 use crate::rows::is_among;
+use crate::same::is_entry;
 
-/// The table `headings` of the specification.
-static HEADINGS: [[u8; 9]; 8] = [
-    *b"=T. _____",
-    *b"= R. ____",
-    *b"=R. _____",
-    *b"= _______",
-    *b"= N., R. ",
-    *b"= S., R. ",
-    *b"= E., ___",
-    *b"= W., ___",
-];
-
-/// Whether this is a row of it: what it looks at, and what it writes.
+/// Whether this is a row of the table `headings` of the specification: what it looks at, and what it writes.
 pub(crate) fn is_in_headings(seen: &[u8], written: &[u8]) -> bool
     ensures { result ≡ is_among seen.now written.now headings }
 {
-    is_among(seen, written, 0x2000_0000, &HEADINGS)
+    is_entry(seen, b"", written, b"T. ")
+        || is_entry(seen, b"", written, b" R. ")
+        || is_entry(seen, b"", written, b"R. ")
+        || is_entry(seen, b"", written, b" ")
+        || is_entry(seen, b"", written, b" N., R. ")
+        || is_entry(seen, b"", written, b" S., R. ")
+        || is_entry(seen, b"", written, b" E., ")
+        || is_entry(seen, b"", written, b" W., ")
 }
 
 /// The table `heading_words` of the specification.
@@ -48,7 +44,14 @@ static HEADING_WORDS: [[u8; 14]; 14] = [
 pub(crate) fn is_in_heading_words(seen: &[u8], written: &[u8]) -> bool
     ensures { result ≡ is_among seen.now written.now heading_words }
 {
-    is_among(seen, written, 0x0015_c202, &HEADING_WORDS)
+    is_among(
+        seen,
+        written,
+        0x0015_c202,
+        0x20a9_d0c2,
+        0x2089_62a0,
+        &HEADING_WORDS,
+    )
 }
 
 /// The table `heading_marks` of the specification.
@@ -60,29 +63,31 @@ static HEADING_MARKS: [[u8; 3]; 7] = [
 pub(crate) fn is_in_heading_marks(seen: &[u8], written: &[u8]) -> bool
     ensures { result ≡ is_among seen.now written.now heading_marks }
 {
-    is_among(seen, written, 0x1c00_f000, &HEADING_MARKS)
+    is_among(
+        seen,
+        written,
+        0x1c00_f000,
+        0x2000_0000,
+        0x2000_0000,
+        &HEADING_MARKS,
+    )
 }
 
-/// The table `section_words` of the specification.
-static SECTION_WORDS: [[u8; 12]; 11] = [
-    *b"=sec. ______",
-    *b"=secs. _____",
-    *b"s=sec. _____",
-    *b"sect=sec____",
-    *b"sect=secs___",
-    *b"sects=secs__",
-    *b"sec=secs____",
-    *b"section=secs",
-    *b",=._________",
-    *b"\xC2\xA7=sec______",
-    *b"\xC2\xA7=secs_____",
-];
-
-/// Whether this is a row of it: what it looks at, and what it writes.
+/// Whether this is a row of the table `section_words` of the specification: what it looks at, and what it writes.
 pub(crate) fn is_in_section_words(seen: &[u8], written: &[u8]) -> bool
     ensures { result ≡ is_among seen.now written.now section_words }
 {
-    is_among(seen, written, 0x2008_1004, &SECTION_WORDS)
+    is_entry(seen, b"", written, b"sec. ")
+        || is_entry(seen, b"", written, b"secs. ")
+        || is_entry(seen, b"s", written, b"sec. ")
+        || is_entry(seen, b"sect", written, b"sec")
+        || is_entry(seen, b"sect", written, b"secs")
+        || is_entry(seen, b"sects", written, b"secs")
+        || is_entry(seen, b"sec", written, b"secs")
+        || is_entry(seen, b"section", written, b"secs")
+        || is_entry(seen, b",", written, b".")
+        || is_entry(seen, b"\xC2\xA7", written, b"sec")
+        || is_entry(seen, b"\xC2\xA7", written, b"secs")
 }
 
 /// The table `worn_section_words` of the specification.
@@ -104,7 +109,14 @@ static WORN_SECTION_WORDS: [[u8; 11]; 11] = [
 pub(crate) fn is_in_worn_section_words(seen: &[u8], written: &[u8]) -> bool
     ensures { result ≡ is_among seen.now written.now worn_section_words }
 {
-    is_among(seen, written, 0x0008_0000, &WORN_SECTION_WORDS)
+    is_among(
+        seen,
+        written,
+        0x0008_0000,
+        0x0000_0028,
+        0x0000_8028,
+        &WORN_SECTION_WORDS,
+    )
 }
 
 /// The table `lot_words` of the specification.
@@ -129,7 +141,14 @@ static LOT_WORDS: [[u8; 11]; 14] = [
 pub(crate) fn is_in_lot_words(seen: &[u8], written: &[u8]) -> bool
     ensures { result ≡ is_among seen.now written.now lot_words }
 {
-    is_among(seen, written, 0x0038_5080, &LOT_WORDS)
+    is_among(
+        seen,
+        written,
+        0x0038_5080,
+        0x2030_9100,
+        0x2048_2020,
+        &LOT_WORDS,
+    )
 }
 
 /// The table `worn_lot_words` of the specification.
@@ -139,7 +158,14 @@ static WORN_LOT_WORDS: [[u8; 9]; 2] = [*b"iot=lot__", *b"iots=lots"];
 pub(crate) fn is_in_worn_lot_words(seen: &[u8], written: &[u8]) -> bool
     ensures { result ≡ is_among seen.now written.now worn_lot_words }
 {
-    is_among(seen, written, 0x0000_0200, &WORN_LOT_WORDS)
+    is_among(
+        seen,
+        written,
+        0x0000_0200,
+        0x0000_8000,
+        0x0010_0000,
+        &WORN_LOT_WORDS,
+    )
 }
 
 /// The table `lot_marks` of the specification.
@@ -149,7 +175,14 @@ static LOT_MARKS: [[u8; 4]; 5] = [*b"'=__", *b"\xE2\x80\x99=", *b".=__", *b"#=__
 pub(crate) fn is_in_lot_marks(seen: &[u8], written: &[u8]) -> bool
     ensures { result ≡ is_among seen.now written.now lot_marks }
 {
-    is_among(seen, written, 0x0400_408c, &LOT_MARKS)
+    is_among(
+        seen,
+        written,
+        0x0400_408c,
+        0x2000_0001,
+        0x2200_0000,
+        &LOT_MARKS,
+    )
 }
 
 /// The table `numerals` of the specification.
@@ -172,7 +205,14 @@ static NUMERALS: [[u8; 9]; 12] = [
 pub(crate) fn is_in_numerals(seen: &[u8], written: &[u8]) -> bool
     ensures { result ≡ is_among seen.now written.now numerals }
 {
-    is_among(seen, written, 0x0018_c060, &NUMERALS)
+    is_among(
+        seen,
+        written,
+        0x0018_c060,
+        0x0080_d320,
+        0x0164_c0a0,
+        &NUMERALS,
+    )
 }
 
 /// The table `more_numerals` of the specification.
@@ -196,7 +236,14 @@ static MORE_NUMERALS: [[u8; 12]; 13] = [
 pub(crate) fn is_in_more_numerals(seen: &[u8], written: &[u8]) -> bool
     ensures { result ≡ is_among seen.now written.now more_numerals }
 {
-    is_among(seen, written, 0x0018_4060, &MORE_NUMERALS)
+    is_among(
+        seen,
+        written,
+        0x0018_4060,
+        0x0080_8320,
+        0x0160_42e0,
+        &MORE_NUMERALS,
+    )
 }
 
 /// The table `zeros` of the specification.
@@ -206,7 +253,7 @@ static ZEROS: [[u8; 4]; 3] = [*b"0=__", *b"00=_", *b"000="];
 pub(crate) fn is_in_zeros(seen: &[u8], written: &[u8]) -> bool
     ensures { result ≡ is_among seen.now written.now zeros }
 {
-    is_among(seen, written, 0x0001_0000, &ZEROS)
+    is_among(seen, written, 0x0001_0000, 0x2001_0000, 0x2001_0000, &ZEROS)
 }
 
 /// The table `fraction_digits` of the specification.
@@ -216,5 +263,12 @@ static FRACTION_DIGITS: [[u8; 2]; 1] = [*b"0="];
 pub(crate) fn is_in_fraction_digits(seen: &[u8], written: &[u8]) -> bool
     ensures { result ≡ is_among seen.now written.now fraction_digits }
 {
-    is_among(seen, written, 0x0001_0000, &FRACTION_DIGITS)
+    is_among(
+        seen,
+        written,
+        0x0001_0000,
+        0x2000_0000,
+        0x2000_0000,
+        &FRACTION_DIGITS,
+    )
 }

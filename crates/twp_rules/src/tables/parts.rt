@@ -5,26 +5,22 @@ ghost use Rattle.twp_rules.specs.Tables.{damaged_corners, damages, directions, h
 ghost use Rattle.twp_rules.specs.Tables.{quarters, worn_directions, worn_halves, worn_quarters};
 
 use crate::rows::is_among;
+use crate::same::is_entry;
 
-/// The table `halves` of the specification.
-static HALVES: [[u8; 12]; 10] = [
-    *b"2=1/2_______",
-    *b"/2=1/2______",
-    *b"half=1/2____",
-    *b"one-half=1/2",
-    *b"one half=1/2",
-    *b"1\xE2\x81\x842=1/2___",
-    *b"/ 2=1/2_____",
-    *b"1-2=1/2_____",
-    *b"h.=1/2______",
-    *b"\xC2\xB9\xE2\x81\x84\xE2\x82\x82=1/2",
-];
-
-/// Whether this is a row of it: what it looks at, and what it writes.
+/// Whether this is a row of the table `halves` of the specification: what it looks at, and what it writes.
 pub(crate) fn is_in_halves(seen: &[u8], written: &[u8]) -> bool
     ensures { result ≡ is_among seen.now written.now halves }
 {
-    is_among(seen, written, 0x0006_8104, &HALVES)
+    is_entry(seen, b"2", written, b"1/2")
+        || is_entry(seen, b"/2", written, b"1/2")
+        || is_entry(seen, b"half", written, b"1/2")
+        || is_entry(seen, b"one-half", written, b"1/2")
+        || is_entry(seen, b"one half", written, b"1/2")
+        || is_entry(seen, b"1\xE2\x81\x842", written, b"1/2")
+        || is_entry(seen, b"/ 2", written, b"1/2")
+        || is_entry(seen, b"1-2", written, b"1/2")
+        || is_entry(seen, b"h.", written, b"1/2")
+        || is_entry(seen, b"\xC2\xB9\xE2\x81\x84\xE2\x82\x82", written, b"1/2")
 }
 
 /// The table `worn_halves` of the specification.
@@ -48,28 +44,30 @@ static WORN_HALVES: [[u8; 12]; 13] = [
 pub(crate) fn is_in_worn_halves(seen: &[u8], written: &[u8]) -> bool
     ensures { result ≡ is_among seen.now written.now worn_halves }
 {
-    is_among(seen, written, 0x3246_12a6, &WORN_HALVES)
+    is_among(
+        seen,
+        written,
+        0x3246_12a6,
+        0x2004_8001,
+        0x2604_0000,
+        &WORN_HALVES,
+    )
 }
 
-/// The table `quarters` of the specification.
-static QUARTERS: [[u8; 15]; 10] = [
-    *b"=1/4___________",
-    *b"4=1/4__________",
-    *b"/4=1/4_________",
-    *b"quarter=1/4____",
-    *b"one-quarter=1/4",
-    *b"one quarter=1/4",
-    *b"1\xE2\x81\x844=1/4______",
-    *b"/ 4=1/4________",
-    *b"1-4=1/4________",
-    *b"\xC2\xB9\xE2\x81\x84\xE2\x82\x84=1/4___",
-];
-
-/// Whether this is a row of it: what it looks at, and what it writes.
+/// Whether this is a row of the table `quarters` of the specification: what it looks at, and what it writes.
 pub(crate) fn is_in_quarters(seen: &[u8], written: &[u8]) -> bool
     ensures { result ≡ is_among seen.now written.now quarters }
 {
-    is_among(seen, written, 0x2012_8004, &QUARTERS)
+    is_entry(seen, b"", written, b"1/4")
+        || is_entry(seen, b"4", written, b"1/4")
+        || is_entry(seen, b"/4", written, b"1/4")
+        || is_entry(seen, b"quarter", written, b"1/4")
+        || is_entry(seen, b"one-quarter", written, b"1/4")
+        || is_entry(seen, b"one quarter", written, b"1/4")
+        || is_entry(seen, b"1\xE2\x81\x844", written, b"1/4")
+        || is_entry(seen, b"/ 4", written, b"1/4")
+        || is_entry(seen, b"1-4", written, b"1/4")
+        || is_entry(seen, b"\xC2\xB9\xE2\x81\x84\xE2\x82\x84", written, b"1/4")
 }
 
 /// The table `quarter_abbreviations` of the specification.
@@ -84,7 +82,14 @@ static QUARTER_ABBREVIATIONS: [[u8; 8]; 4] = [
 pub(crate) fn is_in_quarter_abbreviations(seen: &[u8], written: &[u8]) -> bool
     ensures { result ≡ is_among seen.now written.now quarter_abbreviations }
 {
-    is_among(seen, written, 0x0002_4000, &QUARTER_ABBREVIATIONS)
+    is_among(
+        seen,
+        written,
+        0x0002_4000,
+        0x2014_0000,
+        0x2004_4000,
+        &QUARTER_ABBREVIATIONS,
+    )
 }
 
 /// The table `worn_quarters` of the specification.
@@ -108,7 +113,14 @@ static WORN_QUARTERS: [[u8; 12]; 13] = [
 pub(crate) fn is_in_worn_quarters(seen: &[u8], written: &[u8]) -> bool
     ensures { result ≡ is_among seen.now written.now worn_quarters }
 {
-    is_among(seen, written, 0x7242_12a6, &WORN_QUARTERS)
+    is_among(
+        seen,
+        written,
+        0x7242_12a6,
+        0x2030_8001,
+        0x2210_0002,
+        &WORN_QUARTERS,
+    )
 }
 
 /// The table `directions` of the specification.
@@ -131,7 +143,14 @@ static DIRECTIONS: [[u8; 13]; 12] = [
 pub(crate) fn is_in_directions(seen: &[u8], written: &[u8]) -> bool
     ensures { result ≡ is_among seen.now written.now directions }
 {
-    is_among(seen, written, 0x0088_4020, &DIRECTIONS)
+    is_among(
+        seen,
+        written,
+        0x0088_4020,
+        0x0000_8022,
+        0x002c_0000,
+        &DIRECTIONS,
+    )
 }
 
 /// The table `worn_directions` of the specification.
@@ -156,7 +175,14 @@ static WORN_DIRECTIONS: [[u8; 12]; 14] = [
 pub(crate) fn is_in_worn_directions(seen: &[u8], written: &[u8]) -> bool
     ensures { result ≡ is_among seen.now written.now worn_directions }
 {
-    is_among(seen, written, 0x0008_4000, &WORN_DIRECTIONS)
+    is_among(
+        seen,
+        written,
+        0x0008_4000,
+        0x0000_8000,
+        0x0034_0000,
+        &WORN_DIRECTIONS,
+    )
 }
 
 /// The table `damages` of the specification.
@@ -166,7 +192,14 @@ static DAMAGES: [[u8; 3]; 3] = [*b"l=1", *b"i=1", *b"o=0"];
 pub(crate) fn is_in_damages(seen: &[u8], written: &[u8]) -> bool
     ensures { result ≡ is_among seen.now written.now damages }
 {
-    is_among(seen, written, 0x0000_9200, &DAMAGES)
+    is_among(
+        seen,
+        written,
+        0x0000_9200,
+        0x2000_0000,
+        0x2000_0000,
+        &DAMAGES,
+    )
 }
 
 /// The table `damaged_corners` of the specification.
@@ -176,5 +209,12 @@ static DAMAGED_CORNERS: [[u8; 3]; 2] = [*b"5=S", *b"8=S"];
 pub(crate) fn is_in_damaged_corners(seen: &[u8], written: &[u8]) -> bool
     ensures { result ≡ is_among seen.now written.now damaged_corners }
 {
-    is_among(seen, written, 0x0120_0000, &DAMAGED_CORNERS)
+    is_among(
+        seen,
+        written,
+        0x0120_0000,
+        0x2000_0000,
+        0x2000_0000,
+        &DAMAGED_CORNERS,
+    )
 }

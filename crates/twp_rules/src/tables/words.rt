@@ -26,7 +26,14 @@ static EXCEPTIONS: [[u8; 18]; 13] = [
 pub(crate) fn is_in_exceptions(seen: &[u8], written: &[u8]) -> bool
     ensures { result ≡ is_among seen.now written.now exceptions }
 {
-    is_among(seen, written, 0x0088_3024, &EXCEPTIONS)
+    is_among(
+        seen,
+        written,
+        0x0088_3024,
+        0x0128_0262,
+        0x2058_4028,
+        &EXCEPTIONS,
+    )
 }
 
 /// The table `little_words` of the specification.
@@ -48,7 +55,14 @@ static LITTLE_WORDS: [[u8; 12]; 11] = [
 pub(crate) fn is_in_little_words(seen: &[u8], written: &[u8]) -> bool
     ensures { result ≡ is_among seen.now written.now little_words }
 {
-    is_among(seen, written, 0x0098_8222, &LITTLE_WORDS)
+    is_among(
+        seen,
+        written,
+        0x0098_8222,
+        0x0000_5162,
+        0x2010_9238,
+        &LITTLE_WORDS,
+    )
 }
 
 /// The table `more_little_words` of the specification.
@@ -71,7 +85,14 @@ static MORE_LITTLE_WORDS: [[u8; 11]; 12] = [
 pub(crate) fn is_in_more_little_words(seen: &[u8], written: &[u8]) -> bool
     ensures { result ≡ is_among seen.now written.now more_little_words }
 {
-    is_among(seen, written, 0x0011_1070, &MORE_LITTLE_WORDS)
+    is_among(
+        seen,
+        written,
+        0x0011_1070,
+        0x2124_8122,
+        0x2004_603e,
+        &MORE_LITTLE_WORDS,
+    )
 }
 
 /// The table `joining_words` of the specification.
@@ -92,5 +113,12 @@ static JOINING_WORDS: [[u8; 14]; 10] = [
 pub(crate) fn is_in_joining_words(seen: &[u8], written: &[u8]) -> bool
     ensures { result ≡ is_among seen.now written.now joining_words }
 {
-    is_among(seen, written, 0x0090_4226, &JOINING_WORDS)
+    is_among(
+        seen,
+        written,
+        0x0090_4226,
+        0x0160_d200,
+        0x0018_20a8,
+        &JOINING_WORDS,
+    )
 }

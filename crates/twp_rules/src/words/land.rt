@@ -1,5 +1,5 @@
 //! The words and marks that name land, are within a part, or set a number apart from land.
-ghost use Rattle.std.specs.Prelude.{◌≡◌};
+ghost use Rattle.std.specs.Prelude.{◌≡◌, [], ◌∷◌};
 ghost use Rattle.twp_rules.specs.Edges.{is_one_of};
 ghost use Rattle.twp_rules.specs.Words.{land_words, number_letters, first_words, cell_marks, apart_marks};
 ghost use Rattle.twp_rules.specs.Words.{before_land_marks, words_in_parts};
@@ -32,7 +32,7 @@ static LAND_WORDS: [[u8; 9]; 18] = [
 pub(crate) fn is_in_land_words(word: &[u8]) -> bool
     ensures { result ≡ is_one_of word.now land_words }
 {
-    is_one_of(word, 0x0008_5000, &LAND_WORDS)
+    is_one_of(word, 0x0008_5000, 0x0090_8020, 0x803c_0008, &LAND_WORDS)
 }
 
 /// The texts `number_letters` of the specification.
@@ -42,7 +42,7 @@ static NUMBER_LETTERS: [[u8; 2]; 5] = [*b"l_", *b"gl", *b"t_", *b"r_", *b"s_"];
 pub(crate) fn is_in_number_letters(word: &[u8]) -> bool
     ensures { result ≡ is_one_of word.now number_letters }
 {
-    is_one_of(word, 0x001c_1080, &NUMBER_LETTERS)
+    is_one_of(word, 0x001c_1080, 0x8000_1000, 0x8000_0000, &NUMBER_LETTERS)
 }
 
 /// The texts `first_words` of the specification.
@@ -77,39 +77,31 @@ static FIRST_WORDS: [[u8; 9]; 24] = [
 pub(crate) fn is_in_first_words(word: &[u8]) -> bool
     ensures { result ≡ is_one_of word.now first_words }
 {
-    is_one_of(word, 0x0098_50a2, &FIRST_WORDS)
+    is_one_of(word, 0x0098_50a2, 0x8010_d122, 0x803c_9220, &FIRST_WORDS)
 }
 
-/// The texts `cell_marks` of the specification.
-static CELL_MARKS: [[u8; 1]; 2] = [*b"|", *b"\t"];
-
-/// Whether a text is one of them.
-pub(crate) fn is_in_cell_marks(word: &[u8]) -> bool
-    ensures { result ≡ is_one_of word.now cell_marks }
+/// Whether a byte is one of the texts `cell_marks` of the specification.
+pub(crate) fn is_in_cell_marks(byte: u8) -> bool
+    ensures { result ≡ is_one_of (byte ∷ []) cell_marks }
 {
-    is_one_of(word, 0x1000_0200, &CELL_MARKS)
+    matches!(byte, b'|' | b'\t')
 }
 
-/// The texts `apart_marks` of the specification.
-static APART_MARKS: [[u8; 1]; 11] = [
-    *b",", *b";", *b":", *b".", *b"|", *b"(", *b")", *b"-", *b"&", *b"+", *b"\"",
-];
-
-/// Whether a word is one of them.
-pub(crate) fn is_in_apart_marks(word: &[u8]) -> bool
-    ensures { result ≡ is_one_of word.now apart_marks }
+/// Whether a byte is one of the texts `apart_marks` of the specification.
+pub(crate) fn is_in_apart_marks(byte: u8) -> bool
+    ensures { result ≡ is_one_of (byte ∷ []) apart_marks }
 {
-    is_one_of(word, 0x1c00_7b44, &APART_MARKS)
+    matches!(
+        byte,
+        b',' | b';' | b':' | b'.' | b'|' | b'(' | b')' | b'-' | b'&' | b'+' | b'"'
+    )
 }
 
-/// The texts `before_land_marks` of the specification.
-static BEFORE_LAND_MARKS: [[u8; 1]; 5] = [*b":", *b"-", *b"|", *b"(", *b"\t"];
-
-/// Whether a word is one of them.
-pub(crate) fn is_in_before_land_marks(word: &[u8]) -> bool
-    ensures { result ≡ is_one_of word.now before_land_marks }
+/// Whether a byte is one of the texts `before_land_marks` of the specification.
+pub(crate) fn is_in_before_land_marks(byte: u8) -> bool
+    ensures { result ≡ is_one_of (byte ∷ []) before_land_marks }
 {
-    is_one_of(word, 0x1400_2300, &BEFORE_LAND_MARKS)
+    matches!(byte, b':' | b'-' | b'|' | b'(' | b'\t')
 }
 
 /// The texts `words_in_parts` of the specification.
@@ -119,5 +111,5 @@ static WORDS_IN_PARTS: [[u8; 2]; 3] = [*b"of", *b"\\_", *b"/_"];
 pub(crate) fn is_in_words_in_parts(word: &[u8]) -> bool
     ensures { result ≡ is_one_of word.now words_in_parts }
 {
-    is_one_of(word, 0x1000_8000, &WORDS_IN_PARTS)
+    is_one_of(word, 0x1000_8000, 0x8000_0040, 0x8000_0000, &WORDS_IN_PARTS)
 }

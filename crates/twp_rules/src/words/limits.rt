@@ -15,7 +15,7 @@ static SHARE_WORDS: [[u8; 8]; 4] = [*b"half____", *b"halves__", *b"quarter_", *b
 pub(crate) fn is_in_share_words(word: &[u8]) -> bool
     ensures { result ≡ is_one_of word.now share_words }
 {
-    is_one_of(word, 0x0002_0100, &SHARE_WORDS)
+    is_one_of(word, 0x0002_0100, 0x0020_0002, 0x0000_1002, &SHARE_WORDS)
 }
 
 /// The texts `taking_words` of the specification.
@@ -41,7 +41,7 @@ static TAKING_WORDS: [[u8; 10]; 15] = [
 pub(crate) fn is_in_taking_words(word: &[u8]) -> bool
     ensures { result ≡ is_one_of word.now taking_words }
 {
-    is_one_of(word, 0x0088_5024, &TAKING_WORDS)
+    is_one_of(word, 0x0088_5024, 0x0120_8222, 0x8058_0008, &TAKING_WORDS)
 }
 
 /// The texts `more_taking_words` of the specification.
@@ -64,7 +64,13 @@ static MORE_TAKING_WORDS: [[u8; 12]; 12] = [
 pub(crate) fn is_in_more_taking_words(word: &[u8]) -> bool
     ensures { result ≡ is_one_of word.now more_taking_words }
 {
-    is_one_of(word, 0x00cc_a05c, &MORE_TAKING_WORDS)
+    is_one_of(
+        word,
+        0x00cc_a05c,
+        0x0020_a222,
+        0x0014_7200,
+        &MORE_TAKING_WORDS,
+    )
 }
 
 /// The texts `portion_words` of the specification.
@@ -90,7 +96,7 @@ static PORTION_WORDS: [[u8; 8]; 15] = [
 pub(crate) fn is_in_portion_words(word: &[u8]) -> bool
     ensures { result ≡ is_one_of word.now portion_words }
 {
-    is_one_of(word, 0x0019_100c, &PORTION_WORDS)
+    is_one_of(word, 0x0019_100c, 0x0030_9002, 0x8104_c812, &PORTION_WORDS)
 }
 
 /// The texts `bound_words` of the specification.
@@ -115,7 +121,7 @@ static BOUND_WORDS: [[u8; 9]; 14] = [
 pub(crate) fn is_in_bound_words(word: &[u8]) -> bool
     ensures { result ≡ is_one_of word.now bound_words }
 {
-    is_one_of(word, 0x0090_9206, &BOUND_WORDS)
+    is_one_of(word, 0x0090_9206, 0x0220_d33c, 0x003c_96a0, &BOUND_WORDS)
 }
 
 /// The texts `measure_words` of the specification.
@@ -136,7 +142,7 @@ static MEASURE_WORDS: [[u8; 10]; 10] = [
 pub(crate) fn is_in_measure_words(word: &[u8]) -> bool
     ensures { result ≡ is_one_of word.now measure_words }
 {
-    is_one_of(word, 0x0005_1048, &MEASURE_WORDS)
+    is_one_of(word, 0x0005_1048, 0x0010_8320, 0x8000_c232, &MEASURE_WORDS)
 }
 
 /// The texts `record_limits` of the specification.
@@ -146,7 +152,7 @@ static RECORD_LIMITS: [[u8; 6]; 2] = [*b"survey", *b"part__"];
 pub(crate) fn is_in_record_limits(word: &[u8]) -> bool
     ensures { result ≡ is_one_of word.now record_limits }
 {
-    is_one_of(word, 0x0009_0000, &RECORD_LIMITS)
+    is_one_of(word, 0x0009_0000, 0x0020_0002, 0x0004_0000, &RECORD_LIMITS)
 }
 
 /// The texts `reserving_words` of the specification.
@@ -156,7 +162,13 @@ static RESERVING_WORDS: [[u8; 9]; 1] = [*b"excepting"];
 pub(crate) fn is_in_reserving_words(word: &[u8]) -> bool
     ensures { result ≡ is_one_of word.now reserving_words }
 {
-    is_one_of(word, 0x0000_0020, &RESERVING_WORDS)
+    is_one_of(
+        word,
+        0x0000_0020,
+        0x0100_0000,
+        0x0000_0008,
+        &RESERVING_WORDS,
+    )
 }
 
 /// The texts `depth_limits` of the specification.
@@ -174,7 +186,7 @@ static DEPTH_LIMITS: [[u8; 7]; 7] = [
 pub(crate) fn is_in_depth_limits(word: &[u8]) -> bool
     ensures { result ≡ is_one_of word.now depth_limits }
 {
-    is_one_of(word, 0x0080_0046, &DEPTH_LIMITS)
+    is_one_of(word, 0x0080_0046, 0x0010_8224, 0x8010_9020, &DEPTH_LIMITS)
 }
 
 /// The texts `lease_limits` of the specification.
@@ -184,7 +196,7 @@ static LEASE_LIMITS: [[u8; 9]; 1] = [*b"remaining"];
 pub(crate) fn is_in_lease_limits(word: &[u8]) -> bool
     ensures { result ≡ is_one_of word.now lease_limits }
 {
-    is_one_of(word, 0x0004_0000, &LEASE_LIMITS)
+    is_one_of(word, 0x0004_0000, 0x0000_0020, 0x0000_2000, &LEASE_LIMITS)
 }
 
 /// The texts `acreage_limits` of the specification.
@@ -194,7 +206,7 @@ static ACREAGE_LIMITS: [[u8; 4]; 1] = [*b"less"];
 pub(crate) fn is_in_acreage_limits(word: &[u8]) -> bool
     ensures { result ≡ is_one_of word.now acreage_limits }
 {
-    is_one_of(word, 0x0000_1000, &ACREAGE_LIMITS)
+    is_one_of(word, 0x0000_1000, 0x0000_0020, 0x0008_0000, &ACREAGE_LIMITS)
 }
 
 /// The texts `mineral_words` of the specification.
@@ -213,7 +225,7 @@ static MINERAL_WORDS: [[u8; 12]; 8] = [
 pub(crate) fn is_in_mineral_words(word: &[u8]) -> bool
     ensures { result ≡ is_one_of word.now mineral_words }
 {
-    is_one_of(word, 0x0004_a188, &MINERAL_WORDS)
+    is_one_of(word, 0x0004_a188, 0x0200_8222, 0x0208_d012, &MINERAL_WORDS)
 }
 
 /// The texts `depth_words` of the specification.
@@ -235,7 +247,7 @@ static DEPTH_WORDS: [[u8; 13]; 11] = [
 pub(crate) fn is_in_depth_words(word: &[u8]) -> bool
     ensures { result ≡ is_one_of word.now depth_words }
 {
-    is_one_of(word, 0x000c_0054, &DEPTH_WORDS)
+    is_one_of(word, 0x000c_0054, 0x0030_8222, 0x800d_00a4, &DEPTH_WORDS)
 }
 
 /// The texts `further_exceptions` of the specification.
@@ -251,5 +263,11 @@ static FURTHER_EXCEPTIONS: [[u8; 9]; 5] = [
 pub(crate) fn is_in_further_exceptions(word: &[u8]) -> bool
     ensures { result ≡ is_one_of word.now further_exceptions }
 {
-    is_one_of(word, 0x0080_4020, &FURTHER_EXCEPTIONS)
+    is_one_of(
+        word,
+        0x0080_4020,
+        0x0100_8200,
+        0x0010_0008,
+        &FURTHER_EXCEPTIONS,
+    )
 }

@@ -1,5 +1,5 @@
 //! The words for numbers, and the words and marks that say what a number is of.
-ghost use Rattle.std.specs.Prelude.{◌≡◌};
+ghost use Rattle.std.specs.Prelude.{◌≡◌, [], ◌∷◌};
 ghost use Rattle.twp_rules.specs.Edges.{is_one_of};
 ghost use Rattle.twp_rules.specs.Words.{numbered_words, units, code_marks, figure_marks, date_marks};
 ghost use Rattle.twp_rules.specs.Words.{marks_before_codes, number_words, one_to_nine, damaged_digits};
@@ -75,7 +75,7 @@ static NUMBERED_WORDS: [[u8; 10]; 60] = [
 pub(crate) fn is_in_numbered_words(word: &[u8]) -> bool
     ensures { result ≡ is_one_of word.now numbered_words }
 {
-    is_one_of(word, 0x0079_f67e, &NUMBERED_WORDS)
+    is_one_of(word, 0x0079_f67e, 0x81bd_daba, 0x825d_f3ae, &NUMBERED_WORDS)
 }
 
 /// The texts `units` of the specification.
@@ -89,47 +89,35 @@ static UNITS: [[u8; 6]; 18] = [
 pub(crate) fn is_in_units(word: &[u8]) -> bool
     ensures { result ≡ is_one_of word.now units }
 {
-    is_one_of(word, 0x0209_60c2, &UNITS)
+    is_one_of(word, 0x0209_60c2, 0x8014_a128, 0x801c_8022, &UNITS)
 }
 
-/// The texts `code_marks` of the specification.
-static CODE_MARKS: [[u8; 1]; 3] = [*b"/", *b"%", *b"'"];
-
-/// Whether a word is one of them.
-pub(crate) fn is_in_code_marks(word: &[u8]) -> bool
-    ensures { result ≡ is_one_of word.now code_marks }
+/// Whether a byte is one of the texts `code_marks` of the specification.
+pub(crate) fn is_in_code_marks(byte: u8) -> bool
+    ensures { result ≡ is_one_of (byte ∷ []) code_marks }
 {
-    is_one_of(word, 0x0000_80a0, &CODE_MARKS)
+    matches!(byte, b'/' | b'%' | b'\'')
 }
 
-/// The texts `figure_marks` of the specification.
-static FIGURE_MARKS: [[u8; 1]; 2] = [*b".", *b","];
-
-/// Whether a word is one of them.
-pub(crate) fn is_in_figure_marks(word: &[u8]) -> bool
-    ensures { result ≡ is_one_of word.now figure_marks }
+/// Whether a byte is one of the texts `figure_marks` of the specification.
+pub(crate) fn is_in_figure_marks(byte: u8) -> bool
+    ensures { result ≡ is_one_of (byte ∷ []) figure_marks }
 {
-    is_one_of(word, 0x0000_5000, &FIGURE_MARKS)
+    matches!(byte, b'.' | b',')
 }
 
-/// The texts `date_marks` of the specification.
-static DATE_MARKS: [[u8; 1]; 1] = [*b"-"];
-
-/// Whether a word is one of them.
-pub(crate) fn is_in_date_marks(word: &[u8]) -> bool
-    ensures { result ≡ is_one_of word.now date_marks }
+/// Whether a byte is one of the texts `date_marks` of the specification.
+pub(crate) fn is_in_date_marks(byte: u8) -> bool
+    ensures { result ≡ is_one_of (byte ∷ []) date_marks }
 {
-    is_one_of(word, 0x0000_2000, &DATE_MARKS)
+    matches!(byte, b'-')
 }
 
-/// The texts `marks_before_codes` of the specification.
-static MARKS_BEFORE_CODES: [[u8; 1]; 5] = [*b"#", *b"$", *b"/", *b".", *b"-"];
-
-/// Whether a word is one of them.
-pub(crate) fn is_in_marks_before_codes(word: &[u8]) -> bool
-    ensures { result ≡ is_one_of word.now marks_before_codes }
+/// Whether a byte is one of the texts `marks_before_codes` of the specification.
+pub(crate) fn is_in_marks_before_codes(byte: u8) -> bool
+    ensures { result ≡ is_one_of (byte ∷ []) marks_before_codes }
 {
-    is_one_of(word, 0x0000_e018, &MARKS_BEFORE_CODES)
+    matches!(byte, b'#' | b'$' | b'/' | b'.' | b'-')
 }
 
 /// The texts `number_words` of the specification.
@@ -164,7 +152,7 @@ static NUMBER_WORDS: [[u8; 9]; 24] = [
 pub(crate) fn is_in_number_words(word: &[u8]) -> bool
     ensures { result ≡ is_one_of word.now number_words }
 {
-    is_one_of(word, 0x0018_d260, &NUMBER_WORDS)
+    is_one_of(word, 0x0018_d260, 0x8080_d320, 0x8164_c2e0, &NUMBER_WORDS)
 }
 
 /// The texts `one_to_nine` of the specification.
@@ -177,17 +165,14 @@ static ONE_TO_NINE: [[u8; 5]; 9] = [
 pub(crate) fn is_in_one_to_nine(word: &[u8]) -> bool
     ensures { result ≡ is_one_of word.now one_to_nine }
 {
-    is_one_of(word, 0x0018_c060, &ONE_TO_NINE)
+    is_one_of(word, 0x0018_c060, 0x0080_c320, 0x0164_c0a0, &ONE_TO_NINE)
 }
 
-/// The texts `damaged_digits` of the specification.
-static DAMAGED_DIGITS: [[u8; 1]; 3] = [*b"l", *b"i", *b"o"];
-
-/// Whether a word is one of them.
-pub(crate) fn is_in_damaged_digits(word: &[u8]) -> bool
-    ensures { result ≡ is_one_of word.now damaged_digits }
+/// Whether a byte is one of the texts `damaged_digits` of the specification, in either case.
+pub(crate) fn is_in_damaged_digits(byte: u8) -> bool
+    ensures { result ≡ is_one_of (byte ∷ []) damaged_digits }
 {
-    is_one_of(word, 0x0000_9200, &DAMAGED_DIGITS)
+    matches!(byte.to_ascii_lowercase(), b'l' | b'i' | b'o')
 }
 
 /// The texts `numeral_words` of the specification.
@@ -219,5 +204,5 @@ static NUMERAL_WORDS: [[u8; 9]; 21] = [
 pub(crate) fn is_in_numeral_words(word: &[u8]) -> bool
     ensures { result ≡ is_one_of word.now numeral_words }
 {
-    is_one_of(word, 0x0018_c060, &NUMERAL_WORDS)
+    is_one_of(word, 0x0018_c060, 0x0080_d320, 0x0164_c2e0, &NUMERAL_WORDS)
 }

@@ -1,11 +1,12 @@
 //! The words of sections, townships, and ranges, and the names of columns.
-ghost use Rattle.std.specs.Prelude.{◌≡◌};
+ghost use Rattle.std.specs.Prelude.{◌≡◌, [], ◌∷◌};
 ghost use Rattle.twp_rules.specs.Edges.{is_one_of};
 ghost use Rattle.twp_rules.specs.Words.{column_words, moved_section_words, moved_heading_words};
 ghost use Rattle.twp_rules.specs.Words.{section_names, list_words, location_marks, township_words};
 ghost use Rattle.twp_rules.specs.Words.{tier_words, range_words};
 
 use crate::rows::is_one_of;
+use crate::same::is_text;
 
 /// The texts `column_words` of the specification.
 static COLUMN_WORDS: [[u8; 11]; 37] = [
@@ -52,7 +53,7 @@ static COLUMN_WORDS: [[u8; 11]; 37] = [
 pub(crate) fn is_in_column_words(word: &[u8]) -> bool
     ensures { result ≡ is_one_of word.now column_words }
 {
-    is_one_of(word, 0x001c_f0da, &COLUMN_WORDS)
+    is_one_of(word, 0x001c_f0da, 0x82b4_d2ea, 0x82bd_e3ee, &COLUMN_WORDS)
 }
 
 /// The texts `moved_section_words` of the specification.
@@ -99,7 +100,13 @@ static MOVED_SECTION_WORDS: [[u8; 10]; 36] = [
 pub(crate) fn is_in_moved_section_words(word: &[u8]) -> bool
     ensures { result ≡ is_one_of word.now moved_section_words }
 {
-    is_one_of(word, 0x0018_c266, &MOVED_SECTION_WORDS)
+    is_one_of(
+        word,
+        0x0018_c266,
+        0x8024_d16a,
+        0x801c_b23a,
+        &MOVED_SECTION_WORDS,
+    )
 }
 
 /// The texts `moved_heading_words` of the specification.
@@ -138,38 +145,39 @@ static MOVED_HEADING_WORDS: [[u8; 8]; 28] = [
 pub(crate) fn is_in_moved_heading_words(word: &[u8]) -> bool
     ensures { result ≡ is_one_of word.now moved_heading_words }
 {
-    is_one_of(word, 0x009c_c222, &MOVED_HEADING_WORDS)
+    is_one_of(
+        word,
+        0x009c_c222,
+        0x80a5_d1e2,
+        0x80ad_72b0,
+        &MOVED_HEADING_WORDS,
+    )
 }
 
-/// The texts `section_names` of the specification.
-static SECTION_NAMES: [[u8; 8]; 20] = [
-    *b"sec_____",
-    *b"secs____",
-    *b"sect____",
-    *b"sects___",
-    *b"section_",
-    *b"sections",
-    *b"scc_____",
-    *b"sce_____",
-    *b"seo_____",
-    *b"ec______",
-    *b"ection__",
-    *b"sn______",
-    *b"secton__",
-    *b"sectlon_",
-    *b"sectoin_",
-    *b"seciton_",
-    *b"sectiou_",
-    *b"seclion_",
-    *b"seotion_",
-    *b"sectior_",
-];
-
-/// Whether a word is one of them.
+/// Whether a word is one of the texts `section_names` of the specification.
 pub(crate) fn is_in_section_names(word: &[u8]) -> bool
     ensures { result ≡ is_one_of word.now section_names }
 {
-    is_one_of(word, 0x0008_0020, &SECTION_NAMES)
+    is_text(word, b"sec")
+        || is_text(word, b"secs")
+        || is_text(word, b"sect")
+        || is_text(word, b"sects")
+        || is_text(word, b"section")
+        || is_text(word, b"sections")
+        || is_text(word, b"scc")
+        || is_text(word, b"sce")
+        || is_text(word, b"seo")
+        || is_text(word, b"ec")
+        || is_text(word, b"ection")
+        || is_text(word, b"sn")
+        || is_text(word, b"secton")
+        || is_text(word, b"sectlon")
+        || is_text(word, b"sectoin")
+        || is_text(word, b"seciton")
+        || is_text(word, b"sectiou")
+        || is_text(word, b"seclion")
+        || is_text(word, b"seotion")
+        || is_text(word, b"sectior")
 }
 
 /// The texts `list_words` of the specification.
@@ -196,17 +204,14 @@ static LIST_WORDS: [[u8; 9]; 16] = [
 pub(crate) fn is_in_list_words(word: &[u8]) -> bool
     ensures { result ≡ is_one_of word.now list_words }
 {
-    is_one_of(word, 0x0010_c226, &LIST_WORDS)
+    is_one_of(word, 0x0010_c226, 0x0024_d122, 0x801c_3238, &LIST_WORDS)
 }
 
-/// The texts `location_marks` of the specification.
-static LOCATION_MARKS: [[u8; 1]; 5] = [*b",", *b".", *b"-", *b"|", *b"/"];
-
-/// Whether a word is one of them.
-pub(crate) fn is_in_location_marks(word: &[u8]) -> bool
-    ensures { result ≡ is_one_of word.now location_marks }
+/// Whether a byte is one of the texts `location_marks` of the specification.
+pub(crate) fn is_in_location_marks(byte: u8) -> bool
+    ensures { result ≡ is_one_of (byte ∷ []) location_marks }
 {
-    is_one_of(word, 0x1000_f000, &LOCATION_MARKS)
+    matches!(byte, b',' | b'.' | b'-' | b'|' | b'/')
 }
 
 /// The texts `township_words` of the specification.
@@ -222,25 +227,19 @@ static TOWNSHIP_WORDS: [[u8; 8]; 5] = [
 pub(crate) fn is_in_township_words(word: &[u8]) -> bool
     ensures { result ≡ is_one_of word.now township_words }
 {
-    is_one_of(word, 0x0010_0200, &TOWNSHIP_WORDS)
+    is_one_of(word, 0x0010_0200, 0x8081_c000, 0x8081_0000, &TOWNSHIP_WORDS)
 }
 
-/// The texts `tier_words` of the specification.
-static TIER_WORDS: [[u8; 1]; 1] = [*b"t"];
-
-/// Whether a word is one of them.
+/// Whether a word is one of the texts `tier_words` of the specification.
 pub(crate) fn is_in_tier_words(word: &[u8]) -> bool
     ensures { result ≡ is_one_of word.now tier_words }
 {
-    is_one_of(word, 0x0010_0000, &TIER_WORDS)
+    is_text(word, b"t")
 }
 
-/// The texts `range_words` of the specification.
-static RANGE_WORDS: [[u8; 1]; 1] = [*b"r"];
-
-/// Whether a word is one of them.
+/// Whether a word is one of the texts `range_words` of the specification.
 pub(crate) fn is_in_range_words(word: &[u8]) -> bool
     ensures { result ≡ is_one_of word.now range_words }
 {
-    is_one_of(word, 0x0004_0000, &RANGE_WORDS)
+    is_text(word, b"r")
 }

@@ -1,9 +1,21 @@
-use Rattle.twp_rules.proofs.HeadFacts.{no_entry}
+use Rattle.twp_rules.proofs.HeadFacts.{no_entry, no_entry_at}
 use Rattle.twp_rules.proofs.rows.is_among.Goals as goal
 
 pub returns-then-not-is_head : goal.returns-then-not-is_head
 returns-then-not-is_head g c =
-    no_entry c.args.heads c.to_ascii_lowercase-first.result c.byte_or.result c.is_head.result c.args.seen.now
+    no_entry c.args.heads c.byte_or.result c.is_head.result c.args.seen.now
     c.args.written.now
-    c.args.rows.now c.requires c.byte_or.ensures c.to_ascii_lowercase-first.ensures.value c.is_head.ensures
+    c.args.rows.now c.requires.heads c.byte_or.ensures c.is_head.ensures
     c.if-not-is_head.true
+
+pub returns-then-not-is_head-2 : goal.returns-then-not-is_head-2
+returns-then-not-is_head-2 g c =
+    no_entry_at 1 c.args.seconds c.byte_or-2.result c.is_head-2.result c.args.seen.now c.args.written.now
+    c.args.rows.now c.requires.seconds c.byte_or-2.ensures c.is_head-2.ensures
+    c.if-not-is_head-2.true
+
+pub returns-then-not-is_head-3 : goal.returns-then-not-is_head-3
+returns-then-not-is_head-3 g c =
+    no_entry_at 2 c.args.thirds c.byte_or-3.result c.is_head-3.result c.args.seen.now c.args.written.now
+    c.args.rows.now c.requires.thirds c.byte_or-3.ensures c.is_head-3.ensures
+    c.if-not-is_head-3.true
