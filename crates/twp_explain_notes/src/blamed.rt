@@ -1,19 +1,15 @@
 //! Which fields of a refused record of field notes are to blame.
-ghost use Rattle.std.specs.Prelude.{◌≡◌, ◌≢◌, ◌<◌, ◌↔◌, ◌⊎◌, length, codes, IsTrue, SomeIff};
-ghost use Rattle.std.specs.Char.{digit_value};
-ghost use Rattle.twp_measure.specs.LengthTexts.{IsShortNumber};
-ghost use Rattle.twp_grid.specs.Finding.{Finds};
+ghost use Rattle.std.specs.Prelude.{◌≡◌, ◌≢◌, ◌↔◌, ◌⊎◌, length, codes, IsTrue};
 ghost use Rattle.twp_notes.specs.Records.{field};
-ghost use Rattle.twp_notes.specs.FieldNotes.{FIELDS, heading, IsSectionText, IsTownshipRecord};
+ghost use Rattle.twp_notes.specs.FieldNotes.{FIELDS, heading, IsTownshipRecord};
 ghost use Rattle.twp_notes.specs.NotesFaults.{HasNone, HasNoLength, HasNoSection};
 ghost use Rattle.twp_diagnose.specs.RecordFields.{fields_in};
 ghost use Rattle.twp_explain_notes.specs.Blamed.{AreBlamed, IsNoDistance, IsNoSection, IsNotOfTownship};
 ghost use Rattle.twp_explain_notes.specs.Blamed.{one_field, IsTownshipText};
 
 use twp_diagnose::{Record, is_text};
-use twp_grid::Section;
 use twp_measure::Length;
-use twp_notes::{FIELDS, NotesFault};
+use twp_notes::{FIELDS, NotesFault, section_of, short_number};
 
 /// Fields of a record, from one to another, counted from 0.
 #[derive(Clone, Copy, PartialEq, Eq)]
@@ -97,7 +93,7 @@ fn unlike_township(record: &Record<'_>) -> usize
 fn no_section(record: &Record<'_>) -> usize
     ensures { HasNoSection (fields_in «record».now) → IsNoSection (fields_in «record».now) result }
 {
-    match section_in(record.text(1)) {
+    match section_of(record.text(1)) {
         Some(_) => 2,
         None => 1,
     }
@@ -128,39 +124,5 @@ fn is_township_number(text: &[u8]) -> bool
     match short_number(text) {
         Some(number) => 1 <= number && number <= 99,
         None => false,
-    }
-}
-
-/// The section of a number in one or two digits.
-pub(crate) fn section_in(text: &[u8]) -> Option<Section>
-    ensures { Finds result (IsSectionText text.now) }
-{
-    Section::new(short_number(text)?)
-}
-
-/// The number that one or two digits spell.
-#[tactic(auto, using(twp_notes::proofs::FieldFacts::one_digit, twp_notes::proofs::FieldFacts::two_digits))]
-fn short_number(text: &[u8]) -> Option<u8>
-    ensures { Finds result (IsShortNumber text.now) }
-{
-    match text {
-        [ones] => digit(*ones),
-        [tens, ones] => {
-            let tens = digit(*tens)?;
-            let ones = digit(*ones)?;
-            Some(10 * tens + ones)
-        }
-        _ => None,
-    }
-}
-
-/// The value of a digit.
-fn digit(byte: u8) -> Option<u8>
-    ensures { SomeIff result (digit_value byte < 10) (digit_value byte) }
-{
-    if byte.is_ascii_digit() {
-        Some(byte - b'0')
-    } else {
-        None
     }
 }

@@ -1,12 +1,11 @@
 //! Records of field notes that have too few fields or too many: how that came about, where nothing
 //! else can be meant.
 
-use crate::blamed::section_in;
 use crate::half_mile_hints::{Distances, is_in_limits};
 use twp_diagnose::{Record, is_short_number, thousandths_of};
 use twp_grid::{Line, Run};
 use twp_measure::Length;
-use twp_notes::FIELDS;
+use twp_notes::{FIELDS, section_of};
 
 /// Whether the third field is left out, which is empty on the township boundary: a line lies there
 /// beside the record's section, and the fields that follow may be its distances. No neighbor is
@@ -56,11 +55,11 @@ fn line_beside(record: &Record<'_>, neighbor: &[u8]) -> Option<Line> {
         b"W" => Run::West,
         _ => return None,
     };
-    let section = section_in(record.text(1))?;
+    let section = section_of(record.text(1))?;
     if neighbor.is_empty() {
         return Line::find(run, section, None);
     }
-    Line::find(run, section, Some(section_in(neighbor)?))
+    Line::find(run, section, Some(section_of(neighbor)?))
 }
 
 /// The length that a field is, in thousandths of a chain.

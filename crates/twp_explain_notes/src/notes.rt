@@ -7,7 +7,7 @@ ghost use Rattle.twp_explain_notes.specs.OtherRecords.{IsOtherRecord};
 ghost use Rattle.twp_explain_notes.specs.steps.EarlierRecords.{IsEarlierOf, IsEarlierRecord};
 ghost use Rattle.twp_explain_notes.specs.steps.EarlierRecords.{place_of_record};
 
-use crate::blamed::{blamed, section_in};
+use crate::blamed::blamed;
 use crate::lines::{write_names, write_side};
 use crate::note_faults::write_fault;
 use crate::note_hints::advice_on;
@@ -15,7 +15,7 @@ use std::alloc::{AllocError, Global};
 use twp_diagnose::{Finding, Given, Location, OtherPlace, Record, line_in};
 use twp_excerpt::Span;
 use twp_grid::{Line, Refusal, Run, Section};
-use twp_notes::NotesFault;
+use twp_notes::{NotesFault, section_of};
 
 /// The explanation of a fault of field notes.
 pub(crate) fn find(
@@ -182,7 +182,7 @@ fn first_of_line(
 
 /// Appends which way the line runs that is between these sections, where it runs the other way.
 fn write_other_run(record: &Record<'_>, out: &mut String) -> Result<(), AllocError> {
-    let Some(section) = section_in(record.text(1)) else {
+    let Some(section) = section_of(record.text(1)) else {
         return Ok(());
     };
     let (run, advice) = if record.text(0) == b"N".as_slice() {
@@ -203,5 +203,5 @@ fn line_beside(run: Run, section: Section, neighbor: &[u8]) -> Option<Line> {
     if neighbor.is_empty() {
         return Line::find(run, section, None);
     }
-    Line::find(run, section, Some(section_in(neighbor)?))
+    Line::find(run, section, Some(section_of(neighbor)?))
 }
