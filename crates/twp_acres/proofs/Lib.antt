@@ -4,6 +4,8 @@ pub mod StopFacts
 pub mod OneAnswer
 pub mod OnePlat
 pub mod OneAccountAnswer
+pub mod AcresRuns
+pub mod ClarityFacts
 pub mod TractSums
 pub mod OneReport
 pub mod OnPlatFacts

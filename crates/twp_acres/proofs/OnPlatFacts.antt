@@ -2,7 +2,7 @@
 use Rattle.std.proofs.Common.{◌≡◌, ℕ, List, Bool, Option, Result, Ok, Err, subst}
 use Rattle.std.proofs.Common.{inl, inr, arith}
 use Rattle.std.specs.Prelude.{IfOk, IfErr}
-use Rattle.twp_measure.specs.Areas.{Fraction}
+use Rattle.twp_measure.specs.Areas.{Fraction, IsRounded}
 use Rattle.twp_grid.specs.Places.{PLACE_DIGITS}
 use Rattle.twp_grid.specs.Townships.{Designation}
 use Rattle.twp_grid.specs.declared.refusal.Refusal.{Refusal}
@@ -13,11 +13,11 @@ use Rattle.twp_plat.specs.declared.account.Account.TheVariants.{Exact, Plat}
 use Rattle.twp_plat.proofs.AreaLaws.{one_land_area}
 use Rattle.twp_plat.proofs.PlatLaws.{one_plat_area}
 use Rattle.twp_answers.specs.Answers.{ArePlatted, Describe, IsNoDescription, IsLandOnPlat, IsRefusal}
-use Rattle.twp_answers.specs.Answers.{refusal_line}
+use Rattle.twp_answers.specs.Answers.{acres_line, refusal_line}
 use Rattle.twp_acres.specs.AccountAnswers.{HasAcresBy, IsAcresAnswerBy}
 use Rattle.twp_acres.specs.NormalAnswers.{IsNormalAnswer, IsNormalForm}
 use Rattle.twp_answers.specs.PlatAnswers.{IsPrintedPlat}
-use Rattle.twp_answers.specs.OnPlats.{HasAcresOn, HasNormalOn, IsTextOfPlat, StopsOn}
+use Rattle.twp_answers.specs.OnPlats.{HasAcresOn, HasAreaOn, HasNormalOn, IsTextOfPlat, StopsOn}
 use Rattle.twp_acres.specs.OnPlatLaws.{AcresOnAreOfNotes, NormalOnIsOfNotes, TextOfPlatIsOfNotes}
 use Rattle.twp_acres.specs.OnPlatLaws.{RefusalOnIsOfNotes, AnsweredOrRefusedOn, OneAreaOn}
 use Rattle.twp_acres.specs.Runs.{AnswerRelation, ReadsTwo}
@@ -52,6 +52,16 @@ stop_refused Answers township d (stop.Refused refusal) (Ok answer) is answers re
 stop_refused Answers township d (stop.Refused refusal) (Err fault) is answers refused = tt
 stop_refused Answers township d (stop.Failed fault) (Ok answer) is answers refused = absurd answers
 stop_refused Answers township d (stop.Failed fault) (Err answered) is answers refused = tt
+
+-- the answer that accepts has the acres of the area that was found
+pub area_accepted : (account : Account) (plat : TownshipPlat) (d : List ℕ) (area : Fraction) (h : ℕ)
+    (r : Result Answer RunFault)
+    → HasAreaOn plat d account area → IsRounded area h
+    → IfOk r (λ answer. (answer.text.items ≡ acres_line h) × (answer.verdict ≡ verdict.Accepted))
+    → IfOk r (λ answer. IsAcresAnswerOn account plat d answer.text.items answer.verdict)
+area_accepted account plat d area h (Ok answer) found rounded is =
+    rw is.1 (h, record { area = area; area_is = found; rounded = rounded }, is.0)
+area_accepted account plat d area h (Err fault) found rounded is = tt
 
 -- land on the plat of the notes
 abbrev land_on : (notes d : List ℕ) (plat : TownshipPlat) (places : ℕ → ℕ → ℕ → Bool)

@@ -13,19 +13,18 @@ ghost use Rattle.twp_acres.specs.steps.OnPlatSteps.{IsAcresAnswerOn};
 use crate::answer::{Answer, answer_stop};
 use crate::texts::read_texts;
 use std::alloc::Global;
-use twp_answers::{RunFault, Verdict, acres_noting, write_acres_line};
+use twp_answers::{RunFault, Verdict, area_described, read_noting, write_acres_line};
 use twp_grid::Source;
 use twp_plat::{Account, Plat};
 use twp_read::Clarity;
 
 /// The answer for field notes and a description. The description is read only if the notes make a
-/// plat. Notes whether a place in the description may be doubtful.
+/// plat.
 pub fn answer_of<N: Source, D: Source>(
     alloc: Global,
     notes: &mut N,
     description: &mut D,
     account: Account,
-    clarity: &mut Clarity,
 ) -> Result<Answer, RunFault>
     requires notes { N.has_failed notes.old ≡ false }
     requires description { D.has_failed description.old ≡ false }
@@ -38,18 +37,11 @@ pub fn answer_of<N: Source, D: Source>(
         MakePlat (description.new ≡ description.old)
         (λ n d. IfOk result (λ answer.
         IsAcresAnswerBy account n d answer.text.items answer.verdict)) }
-    ensures clear { (d : List ℕ) → D.remaining description.old ≡ Some d
-        → clarity.new ≡ Clarity.Clear → HasNoDoubtfulPlace d }
+    ensures clear { IfOk result (λ answer. (d : List ℕ) → D.remaining description.old ≡ Some d
+        → answer.clarity ≡ Clarity.Clear → HasNoDoubtfulPlace d) }
 {
-    *clarity = Clarity::Unclear;
     match read_texts(alloc, notes, description) {
-        Ok(read) => answer_on(
-            alloc,
-            &read.plat,
-            read.description.as_slice(),
-            account,
-            clarity,
-        ),
+        Ok(read) => answer_on(alloc, &read.plat, read.description.as_slice(), account),
         Err(stop) => answer_stop(alloc, stop),
     }
 }
@@ -60,23 +52,28 @@ fn answer_on(
     plat: &Plat,
     description: &[u8],
     account: Account,
-    clarity: &mut Clarity,
 ) -> Result<Answer, RunFault>
     ensures answer { IfOk result (λ answer.
         IsAcresAnswerOn account plat.now description.now answer.text.items answer.verdict) }
     ensures memory { IfErr result (λ fault. fault ≡ RunFault.Memory) }
-    ensures clear { clarity.new ≡ Clarity.Clear → HasNoDoubtfulPlace description.now }
+    ensures clear { IfOk result (λ answer.
+        answer.clarity ≡ Clarity.Clear → HasNoDoubtfulPlace description.now) }
 {
-    match acres_noting(alloc, plat, description, account, clarity) {
-        Ok(hundredths) => accept(alloc, hundredths),
+    let noted = match read_noting(alloc, description) {
+        Ok(noted) => noted,
+        Err(stop) => return answer_stop(alloc, stop),
+    };
+    match area_described(plat, &noted.description, account) {
+        Ok(area) => accept(alloc, area.hundredths(), noted.clarity),
         Err(stop) => answer_stop(alloc, stop),
     }
 }
 
 /// The answer that accepts: the line of a number of hundredths of an acre.
-fn accept(alloc: Global, hundredths: u64) -> Result<Answer, RunFault>
+fn accept(alloc: Global, hundredths: u64, clarity: Clarity) -> Result<Answer, RunFault>
     ensures answer { IfOk result (λ answer.
         (answer.text.items ≡ acres_line hundredths) × (answer.verdict ≡ Verdict.Accepted)) }
+    ensures clarity { IfOk result (λ answer. answer.clarity ≡ clarity) }
     ensures memory { IfErr result (λ fault. fault ≡ RunFault.Memory) }
 {
     let mut text = Vec::new(alloc);
@@ -84,5 +81,6 @@ fn accept(alloc: Global, hundredths: u64) -> Result<Answer, RunFault>
     Ok(Answer {
         text,
         verdict: Verdict::Accepted,
+        clarity,
     })
 }

@@ -6,18 +6,22 @@ use itoa::Buffer;
 use std::alloc::{AllocError, Global};
 use twp_answers::{RunFault, Stop, Verdict};
 use twp_grid::Refusal;
+use twp_read::Clarity;
 
 /// The answer of a run.
 #[derive(Drop)]
 pub struct Answer {
     pub text: Vec<u8>,
     pub verdict: Verdict,
+    /// Whether a place in the descriptions that the run accepts may be doubtful.
+    pub clarity: Clarity,
 }
 
 /// The answer of a run that stopped: its refusal, or no answer if it failed.
 #[tactic(auto, using(crate::proofs::StopFacts::answers_refusal))]
 pub fn answer_stop(alloc: Global, stop: Stop) -> Result<Answer, RunFault>
     ensures answer { AnswersStop stop result }
+    ensures unclear { IfOk result (λ answer. answer.clarity ≡ Clarity.Unclear) }
 {
     match stop {
         Stop::Refused(refusal) => refuse(alloc, refusal),
@@ -29,6 +33,7 @@ pub fn answer_stop(alloc: Global, stop: Stop) -> Result<Answer, RunFault>
 fn refuse(alloc: Global, refusal: Refusal) -> Result<Answer, RunFault>
     ensures answer { IfOk result (λ answer.
         (answer.text.items ≡ refusal_line refusal) × (answer.verdict ≡ Verdict.Refused refusal)) }
+    ensures unclear { IfOk result (λ answer. answer.clarity ≡ Clarity.Unclear) }
     ensures memory { IfErr result (λ fault. fault ≡ RunFault.Memory) }
 {
     let mut text = Vec::new(alloc);
@@ -36,6 +41,7 @@ fn refuse(alloc: Global, refusal: Refusal) -> Result<Answer, RunFault>
     Ok(Answer {
         text,
         verdict: Verdict::Refused(refusal),
+        clarity: Clarity::Unclear,
     })
 }
 

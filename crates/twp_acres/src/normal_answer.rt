@@ -12,18 +12,17 @@ ghost use Rattle.twp_acres.specs.steps.OnPlatSteps.{IsNormalAnswerOn};
 use crate::answer::{Answer, answer_stop};
 use crate::texts::read_texts;
 use std::alloc::Global;
-use twp_answers::{RunFault, Verdict, normal_noting};
+use twp_answers::{RunFault, Verdict, normal_described, read_noting};
 use twp_grid::Source;
 use twp_plat::Plat;
 use twp_read::Clarity;
 
 /// The answer for field notes and a description: the canonical text of the land. The description is
-/// read only if the notes make a plat. Notes whether a place in the description may be doubtful.
+/// read only if the notes make a plat.
 pub fn answer_of<N: Source, D: Source>(
     alloc: Global,
     notes: &mut N,
     description: &mut D,
-    clarity: &mut Clarity,
 ) -> Result<Answer, RunFault>
     requires notes { N.has_failed notes.old ≡ false }
     requires description { D.has_failed description.old ≡ false }
@@ -35,32 +34,32 @@ pub fn answer_of<N: Source, D: Source>(
     ensures answer { ReadsTwo (N.remaining notes.old) (D.remaining description.old)
         MakePlat (description.new ≡ description.old)
         (λ n d. IfOk result (λ answer. IsNormalAnswer n d answer.text.items answer.verdict)) }
-    ensures clear { (d : List ℕ) → D.remaining description.old ≡ Some d
-        → clarity.new ≡ Clarity.Clear → HasNoDoubtfulPlace d }
+    ensures clear { IfOk result (λ answer. (d : List ℕ) → D.remaining description.old ≡ Some d
+        → answer.clarity ≡ Clarity.Clear → HasNoDoubtfulPlace d) }
 {
-    *clarity = Clarity::Unclear;
     match read_texts(alloc, notes, description) {
-        Ok(read) => answer_on(alloc, &read.plat, read.description.as_slice(), clarity),
+        Ok(read) => answer_on(alloc, &read.plat, read.description.as_slice()),
         Err(stop) => answer_stop(alloc, stop),
     }
 }
 
 /// The answer for a description on a plat.
-fn answer_on(
-    alloc: Global,
-    plat: &Plat,
-    description: &[u8],
-    clarity: &mut Clarity,
-) -> Result<Answer, RunFault>
+fn answer_on(alloc: Global, plat: &Plat, description: &[u8]) -> Result<Answer, RunFault>
     ensures answer { IfOk result (λ answer.
         IsNormalAnswerOn plat.now description.now answer.text.items answer.verdict) }
     ensures memory { IfErr result (λ fault. fault ≡ RunFault.Memory) }
-    ensures clear { clarity.new ≡ Clarity.Clear → HasNoDoubtfulPlace description.now }
+    ensures clear { IfOk result (λ answer.
+        answer.clarity ≡ Clarity.Clear → HasNoDoubtfulPlace description.now) }
 {
-    match normal_noting(alloc, plat, description, clarity) {
+    let noted = match read_noting(alloc, description) {
+        Ok(noted) => noted,
+        Err(stop) => return answer_stop(alloc, stop),
+    };
+    match normal_described(alloc, plat, &noted.description) {
         Ok(text) => Ok(Answer {
             text,
             verdict: Verdict::Accepted,
+            clarity: noted.clarity,
         }),
         Err(stop) => answer_stop(alloc, stop),
     }

@@ -12,6 +12,7 @@ use std::alloc::Global;
 use twp_answers::{RunFault, Verdict, print_plat, read_plat};
 use twp_grid::Source;
 use twp_plat::Plat;
+use twp_read::Clarity;
 
 /// The answer for field notes: the printed plat, or the refusal.
 pub fn answer_of<N: Source>(alloc: Global, notes: &mut N) -> Result<Answer, RunFault>
@@ -38,5 +39,7 @@ fn accept(alloc: Global, plat: &Plat) -> Result<Answer, RunFault>
     Ok(Answer {
         text,
         verdict: Verdict::Accepted,
+        // There is no description.
+        clarity: Clarity::Clear,
     })
 }

@@ -12,7 +12,7 @@ ghost use Rattle.twp_acres.specs.steps.Stages.{ReadsOnPlat, same_fault};
 
 use crate::answer::{Answer, answer_stop, write_refusal};
 use std::alloc::Global;
-use twp_answers::{RunFault, TRACTS_LIMIT, TractFault, Verdict, account_noting, read_plat};
+use twp_answers::{RunFault, TRACTS_LIMIT, TractFault, Verdict, account_of_tracts, read_plat};
 use twp_grid::Source;
 use twp_notes::read_whole;
 use twp_plat::Plat;
@@ -23,7 +23,6 @@ pub fn answer_of<N: Source, T: Source>(
     alloc: Global,
     notes: &mut N,
     tracts: &mut T,
-    clarity: &mut Clarity,
 ) -> Result<Answer, RunFault>
     requires notes { N.has_failed notes.old ≡ false }
     requires tracts { T.has_failed tracts.old ≡ false }
@@ -35,12 +34,11 @@ pub fn answer_of<N: Source, T: Source>(
     ensures answer { ReadsTwo (N.remaining notes.old) (T.remaining tracts.old)
         MakePlat (tracts.new ≡ tracts.old)
         (λ n t. IfOk result (λ answer. IsReportAnswer n t answer.text.items answer.verdict)) }
-    ensures clear { (t : List ℕ) → T.remaining tracts.old ≡ Some t
-        → clarity.new ≡ Clarity.Clear → IsClearList t }
+    ensures clear { IfOk result (λ answer. (t : List ℕ) → T.remaining tracts.old ≡ Some t
+        → answer.clarity ≡ Clarity.Clear → IsClearList t) }
 {
-    *clarity = Clarity::Unclear;
     match read_plat(alloc, notes) {
-        Ok(plat) => report_on(alloc, &plat, tracts, clarity),
+        Ok(plat) => report_on(alloc, &plat, tracts),
         Err(stop) => answer_stop(alloc, stop),
     }
 }
@@ -48,29 +46,24 @@ pub fn answer_of<N: Source, T: Source>(
 /// The answer for a list of tracts on a plat.
 // Not inlined, because otherwise its reader would be on the stack while the notes are read.
 #[inline(never)]
-fn report_on<T: Source>(
-    alloc: Global,
-    plat: &Plat,
-    tracts: &mut T,
-    clarity: &mut Clarity,
-) -> Result<Answer, RunFault>
+fn report_on<T: Source>(alloc: Global, plat: &Plat, tracts: &mut T) -> Result<Answer, RunFault>
     requires { T.has_failed tracts.old ≡ false }
     ensures reads { ReadsUpTo same_fault TRACTS_LIMIT
         (used (T.remaining tracts.old) (T.remaining tracts.new) (T.has_failed tracts.new))
         result }
     ensures answer { Reads (T.remaining tracts.old) (λ t.
         IfOk result (λ answer. AnswersList plat.now t answer.text.items answer.verdict)) }
-    ensures clear { (t : List ℕ) → T.remaining tracts.old ≡ Some t
-        → clarity.new ≡ Clarity.Clear → IsClearList t }
+    ensures clear { IfOk result (λ answer. (t : List ℕ) → T.remaining tracts.old ≡ Some t
+        → answer.clarity ≡ Clarity.Clear → IsClearList t) }
 {
-    *clarity = Clarity::Unclear;
     let Some(bytes) = read_whole(alloc, tracts, TRACTS_LIMIT as usize)? else {
         return refuse_list(alloc, TractFault::TractsTooLarge);
     };
-    match account_noting(alloc, plat, bytes.as_slice(), clarity) {
-        Ok(text) => Ok(Answer {
-            text,
+    match account_of_tracts(alloc, plat, bytes.as_slice()) {
+        Ok(account) => Ok(Answer {
+            text: account.text,
             verdict: Verdict::Accepted,
+            clarity: account.clarity,
         }),
         Err(fault) => refuse_list(alloc, fault),
     }
@@ -82,6 +75,7 @@ fn refuse_list(alloc: Global, fault: TractFault) -> Result<Answer, RunFault>
     ensures answer { IfOk result (λ answer. (verdict_of fault ≡ Some answer.verdict)
         × (answer.verdict ≢ Verdict.Accepted)
         × (answer.text.items ≡ refusal_lines answer.verdict)) }
+    ensures unclear { IfOk result (λ answer. answer.clarity ≡ Clarity.Unclear) }
     ensures memory { IfErr result (λ failed. failed ≡ RunFault.Memory) }
 {
     let Some(refusal) = fault.refusal() else {
@@ -95,5 +89,6 @@ fn refuse_list(alloc: Global, fault: TractFault) -> Result<Answer, RunFault>
     Ok(Answer {
         text,
         verdict: fault.verdict().unwrap(),
+        clarity: Clarity::Unclear,
     })
 }

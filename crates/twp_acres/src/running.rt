@@ -6,10 +6,11 @@ ghost use Rattle.twp_grid.specs.declared.refusal.Refusal.{Refusal};
 ghost use Rattle.twp_notes.specs.FieldNotes.{NOTES_MOST};
 ghost use Rattle.twp_grid.specs.Devices.{TakesFirst};
 ghost use Rattle.twp_read.specs.Doubts.{HasNoDoubtfulPlace};
+ghost use Rattle.twp_read.specs.declared.doubt.Clarity.{Clarity};
 ghost use Rattle.twp_read.specs.TextFaults.{TEXT_LIMIT};
 ghost use Rattle.twp_answers.specs.Answers.{IsRefusal, refusal_line};
 ghost use Rattle.twp_answers.specs.Answers.{HasAcres, IsAcresAnswer, acres_line};
-ghost use Rattle.twp_acres.specs.AccountAnswers.{IsAcresAnswerBy};
+ghost use Rattle.twp_acres.specs.AccountAnswers.{HasAcresBy, IsAcresAnswerBy};
 ghost use Rattle.twp_answers.specs.PlatAnswers.{IsPlatAnswer};
 ghost use Rattle.twp_acres.specs.NormalAnswers.{IsNormalAnswer};
 ghost use Rattle.twp_answers.specs.ReportAnswers.{IsReportAnswer};
@@ -19,13 +20,13 @@ ghost use Rattle.twp_answers.specs.Uses.{Reads, used};
 ghost use Rattle.twp_acres.specs.Runs.{AppendsFront, IsAnswered, IsRun, RunsOnPlat};
 
 use crate::answer::Answer;
+use crate::ran::Ran;
 use crate::writing::write_whole;
 use crate::{acres_answer, normal_answer, plat_answer, report_answer};
 use std::alloc::Global;
 use twp_answers::{RunFault, Verdict};
 use twp_grid::{Sink, Source};
 use twp_plat::Account;
-use twp_read::Clarity;
 
 /// Writes the acres of the land described, if the field notes make a plat and the parts of the
 /// description lie on it without overlapping: the exact sum of interpolated areas over the land's
@@ -67,7 +68,7 @@ pub fn run_acres<N: Source, D: Source, W: Sink>(
         (used (W.contents out.old) (W.contents out.new) (W.has_failed out.new))
         (description.new ≡ description.old) result }
 {
-    run_acres_as(alloc, notes, description, out, Account::Exact)
+    run_acres_noting(alloc, notes, description, out, Account::Exact).outcome
 }
 
 /// Writes the acres of the land described as `run_acres` does, but counts each whole lot by the
@@ -94,38 +95,56 @@ pub fn run_acres_as<N: Source, D: Source, W: Sink>(
         (used (W.contents out.old) (W.contents out.new) (W.has_failed out.new))
         (description.new ≡ description.old) result }
 {
-    let mut clarity = Clarity::Unclear;
-    run_acres_noting(alloc, notes, description, out, account, &mut clarity)
+    run_acres_noting(alloc, notes, description, out, account).outcome
 }
 
-/// Writes the acres of the land described as `run_acres_as` does, and notes whether the description may have
-/// a place that can be read in two ways.
+/// Writes the acres of the land described, by an account, and notes whether the description may have a place
+/// that can be read in two ways. By the exact account, its clauses are those of `run_acres`. The program calls
+/// this function; `run_acres` and `run_acres_as` return its outcome.
 pub fn run_acres_noting<N: Source, D: Source, W: Sink>(
     alloc: Global,
     notes: &mut N,
     description: &mut D,
     out: &mut W,
     account: Account,
-    clarity: &mut Clarity,
-) -> Result<Verdict, RunFault>
+) -> Ran
     requires notes { N.has_failed notes.old ≡ false }
     requires description { D.has_failed description.old ≡ false }
     requires out { W.has_failed out.old ≡ false }
 
-    // As each run of two texts, with the acres by the account, or the refusal.
+    // For any two texts: the acres of the land described, by the account, if there is such land ..
+    ensures acres { (n d : List ℕ)
+        → N.remaining notes.old ≡ Some n → D.remaining description.old ≡ Some d
+        → (hundredths : ℕ) → HasAcresBy account n d hundredths
+        → IsAnswered (W.contents out.old) (W.contents out.new)
+        (acres_line hundredths) Verdict.Accepted result.outcome }
+
+    // .. and the numbered refusal of the first fault, at its place, if there is none.
+    ensures refusals { (n d : List ℕ)
+        → N.remaining notes.old ≡ Some n → D.remaining description.old ≡ Some d
+        → (refusal : Refusal) → IsRefusal n d refusal
+        → IsAnswered (W.contents out.old) (W.contents out.new)
+        (refusal_line refusal) (Verdict.Refused refusal) result.outcome }
+
+    // As for each run on two texts.
     ensures run { RunsOnPlat (IsAcresAnswerBy account) TEXT_LIMIT
         (used (N.remaining notes.old) (N.remaining notes.new) (N.has_failed notes.new))
         (used (D.remaining description.old) (D.remaining description.new)
         (D.has_failed description.new))
         (used (W.contents out.old) (W.contents out.new) (W.has_failed out.new))
-        (description.new ≡ description.old) result }
+        (description.new ≡ description.old) result.outcome }
 
     // What is noted as clear has no doubtful place.
     ensures clear { (d : List ℕ) → D.remaining description.old ≡ Some d
-        → clarity.new ≡ Clarity.Clear → HasNoDoubtfulPlace d }
+        → result.clarity ≡ Clarity.Clear → HasNoDoubtfulPlace d }
 {
-    let answer = acres_answer::answer_of(alloc, notes, description, account, clarity)?;
-    write_answer(out, &answer)
+    match acres_answer::answer_of(alloc, notes, description, account) {
+        Ok(answer) => Ran {
+            outcome: write_answer(out, &answer),
+            clarity: answer.clarity,
+        },
+        Err(fault) => Ran::failed(fault),
+    }
 }
 
 /// Writes the plat that field notes make: for each section, the acreage of its lots and of the
@@ -192,8 +211,7 @@ pub fn run_normal<N: Source, D: Source, W: Sink>(
         (used (W.contents out.old) (W.contents out.new) (W.has_failed out.new))
         (description.new ≡ description.old) result }
 {
-    let mut clarity = Clarity::Unclear;
-    run_normal_noting(alloc, notes, description, out, &mut clarity)
+    run_normal_noting(alloc, notes, description, out).outcome
 }
 
 /// Writes the canonical text of the land described as `run_normal` does, and notes whether the description
@@ -203,26 +221,30 @@ pub fn run_normal_noting<N: Source, D: Source, W: Sink>(
     notes: &mut N,
     description: &mut D,
     out: &mut W,
-    clarity: &mut Clarity,
-) -> Result<Verdict, RunFault>
+) -> Ran
     requires notes { N.has_failed notes.old ≡ false }
     requires description { D.has_failed description.old ≡ false }
     requires out { W.has_failed out.old ≡ false }
 
-    // As each run of two texts, with the canonical text of the land described, or the refusal.
+    // As for each run on two texts, with the canonical text of the land described, or the refusal.
     ensures run { RunsOnPlat IsNormalAnswer TEXT_LIMIT
         (used (N.remaining notes.old) (N.remaining notes.new) (N.has_failed notes.new))
         (used (D.remaining description.old) (D.remaining description.new)
         (D.has_failed description.new))
         (used (W.contents out.old) (W.contents out.new) (W.has_failed out.new))
-        (description.new ≡ description.old) result }
+        (description.new ≡ description.old) result.outcome }
 
     // What is noted as clear has no doubtful place.
     ensures clear { (d : List ℕ) → D.remaining description.old ≡ Some d
-        → clarity.new ≡ Clarity.Clear → HasNoDoubtfulPlace d }
+        → result.clarity ≡ Clarity.Clear → HasNoDoubtfulPlace d }
 {
-    let answer = normal_answer::answer_of(alloc, notes, description, clarity)?;
-    write_answer(out, &answer)
+    match normal_answer::answer_of(alloc, notes, description) {
+        Ok(answer) => Ran {
+            outcome: write_answer(out, &answer),
+            clarity: answer.clarity,
+        },
+        Err(fault) => Ran::failed(fault),
+    }
 }
 
 /// Writes the account of a list of tracts, if the field notes make a plat and the list is a list of
@@ -249,8 +271,7 @@ pub fn run_report<N: Source, T: Source, W: Sink>(
         (used (W.contents out.old) (W.contents out.new) (W.has_failed out.new))
         (tracts.new ≡ tracts.old) result }
 {
-    let mut clarity = Clarity::Unclear;
-    run_report_noting(alloc, notes, tracts, out, &mut clarity)
+    run_report_noting(alloc, notes, tracts, out).outcome
 }
 
 /// Writes the account of a list of tracts as `run_report` does, and notes whether a description in it may
@@ -260,25 +281,29 @@ pub fn run_report_noting<N: Source, T: Source, W: Sink>(
     notes: &mut N,
     tracts: &mut T,
     out: &mut W,
-    clarity: &mut Clarity,
-) -> Result<Verdict, RunFault>
+) -> Ran
     requires notes { N.has_failed notes.old ≡ false }
     requires tracts { T.has_failed tracts.old ≡ false }
     requires out { W.has_failed out.old ≡ false }
 
-    // As each run of two texts, with the account of the list, or the refusal.
+    // As for each run on two texts, with the account of the list, or the refusal.
     ensures run { RunsOnPlat IsReportAnswer TRACTS_LIMIT
         (used (N.remaining notes.old) (N.remaining notes.new) (N.has_failed notes.new))
         (used (T.remaining tracts.old) (T.remaining tracts.new) (T.has_failed tracts.new))
         (used (W.contents out.old) (W.contents out.new) (W.has_failed out.new))
-        (tracts.new ≡ tracts.old) result }
+        (tracts.new ≡ tracts.old) result.outcome }
 
     // In a list that is noted as clear, no description of a tract has a doubtful place.
     ensures clear { (t : List ℕ) → T.remaining tracts.old ≡ Some t
-        → clarity.new ≡ Clarity.Clear → IsClearList t }
+        → result.clarity ≡ Clarity.Clear → IsClearList t }
 {
-    let answer = report_answer::answer_of(alloc, notes, tracts, clarity)?;
-    write_answer(out, &answer)
+    match report_answer::answer_of(alloc, notes, tracts) {
+        Ok(answer) => Ran {
+            outcome: write_answer(out, &answer),
+            clarity: answer.clarity,
+        },
+        Err(fault) => Ran::failed(fault),
+    }
 }
 
 /// Writes an answer, and returns its verdict.

@@ -8,7 +8,7 @@ ghost use Rattle.twp_answers.specs.Names.{has_name};
 ghost use Rattle.twp_answers.specs.Tracts.{description_in, name_in};
 
 use crate::names::Names;
-use crate::stages::describe_noting;
+use crate::stages::describe_into;
 use crate::stop::Stop;
 use crate::tract::tract_of;
 use crate::tract_fault::TractFault;
@@ -70,22 +70,14 @@ impl<L: Land> EarlierTracts<L> {
         if !self.names.add(tract.name)? {
             return Err(TractFault::NameRepeated(number));
         }
-        let mut clarity = Clarity::Unclear;
-        match describe_noting(
-            alloc,
-            &mut self.tract,
-            township,
-            tract.description,
-            &mut clarity,
-        ) {
-            Ok(()) => {}
-            Err(Stop::Refused(inner)) => {
-                return Err(TractFault::TractRefused { at: number, inner });
+        match describe_into(alloc, &mut self.tract, township, tract.description) {
+            Ok(clarity) => {
+                self.clarity = both(self.clarity, clarity);
+                Ok(tract.name)
             }
-            Err(Stop::Failed(_)) => return Err(TractFault::Memory),
+            Err(Stop::Refused(inner)) => Err(TractFault::TractRefused { at: number, inner }),
+            Err(Stop::Failed(_)) => Err(TractFault::Memory),
         }
-        self.clarity = both(self.clarity, clarity);
-        Ok(tract.name)
     }
 
     /// Adds the land of the tract that was read, whose record has this number.

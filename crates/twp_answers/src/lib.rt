@@ -26,12 +26,14 @@ pub use acres_line::write_acres_line;
 pub use each_tract::{TractAnswer, each_on};
 pub use earlier_tracts::EarlierTracts;
 pub use on_land::{acres_of, land_of};
-pub use on_plat::{account_on, acres_noting, acres_on, area_on, normal_noting, normal_on};
+pub use on_plat::{
+    account_on, acres_on, area_described, area_on, normal_described, normal_on, read_noting,
+};
 pub use overlaps::{TractOverlap, overlaps_on};
 pub use plat_text::print_plat;
 pub use stages::read_plat;
 pub use stop::Stop;
 pub use tract::is_heading;
 pub use tract_fault::{TRACTS_LIMIT, TRACTS_MOST, TractFault};
-pub use tracts::{FIRST_TRACT, account_noting, account_of as account_of_tracts};
+pub use tracts::{FIRST_TRACT, ListAccount, account_of as account_of_tracts};
 pub use verdict::{RunFault, Verdict};

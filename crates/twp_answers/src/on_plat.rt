@@ -14,7 +14,7 @@ use std::alloc::Global;
 use twp_land::{Land, Lanes, OneLanes};
 use twp_measure::Area;
 use twp_plat::{Account, Plat, area_by};
-use twp_read::{Clarity, Description};
+use twp_read::{Clarity, Description, Noted};
 use twp_resolve::{names_one_section, resolve_if_room, resolve_into};
 use twp_spell::{spell, spell_set};
 
@@ -30,23 +30,7 @@ pub fn acres_on(
     ensures { AnswersOn (HasAcresOn plat.now description.now account)
         plat.now description.now result }
 {
-    let mut clarity = Clarity::Unclear;
-    acres_noting(alloc, plat, description, account, &mut clarity)
-}
-
-/// The same, and notes whether a place in the description may be doubtful.
-pub fn acres_noting(
-    alloc: Global,
-    plat: &Plat,
-    description: &[u8],
-    account: Account,
-    clarity: &mut Clarity,
-) -> Result<u64, Stop>
-    ensures acres { AnswersOn (HasAcresOn plat.now description.now account)
-        plat.now description.now result }
-    ensures clear { clarity.new ≡ Clarity.Clear → HasNoDoubtfulPlace description.now }
-{
-    let area = area_noting(alloc, plat, description, account, clarity)?;
+    let area = area_on(alloc, plat, description, account)?;
     Ok(area.hundredths())
 }
 
@@ -60,35 +44,51 @@ pub fn area_on(
     ensures { AnswersOn (HasAreaOn plat.now description.now account)
         plat.now description.now result }
 {
-    let mut clarity = Clarity::Unclear;
-    area_noting(alloc, plat, description, account, &mut clarity)
+    let noted = read_noting(alloc, description)?;
+    area_described(plat, &noted.description, account)
 }
 
-/// The same, and notes whether a place in the description may be doubtful.
-fn area_noting(
-    alloc: Global,
-    plat: &Plat,
-    description: &[u8],
-    account: Account,
-    clarity: &mut Clarity,
-) -> Result<Area, Stop>
-    ensures area { AnswersOn (HasAreaOn plat.now description.now account)
+/// The canonical text of the land described on a plat, or why there is none, as for `acres_on`.
+pub fn normal_on(alloc: Global, plat: &Plat, description: &[u8]) -> Result<Vec<u8>, Stop>
+    ensures { AnswersOn (λ text. HasNormalOn plat.now description.now text.items)
         plat.now description.now result }
-    ensures clear { clarity.new ≡ Clarity.Clear → HasNoDoubtfulPlace description.now }
 {
-    let read = read_noting(alloc, description, clarity)?;
-    if !names_one_section(&read) {
-        return area_in_all(plat, &read, account);
+    let noted = read_noting(alloc, description)?;
+    normal_described(alloc, plat, &noted.description)
+}
+
+/// Reads a description, and notes whether a place in it may be doubtful.
+pub fn read_noting(alloc: Global, description: &[u8]) -> Result<Noted, Stop>
+    ensures read { IfOk result (λ noted. IsReadAs description.now noted.description) }
+    ensures stopped { IfErr result (λ stop. (township : Designation)
+        → StopsOn township description.now stop) }
+    ensures clear { IfOk result (λ noted.
+        noted.clarity ≡ Clarity.Clear → HasNoDoubtfulPlace description.now) }
+{
+    Ok(Description::read_noting(alloc, description)?)
+}
+
+/// The area of the land that a description which was read names on a plat, by an account.
+pub fn area_described(
+    plat: &Plat,
+    description: &Description,
+    account: Account,
+) -> Result<Area, Stop>
+    ensures { (text : List ℕ) → IsReadAs text description.now
+        → AnswersOn (HasAreaOn plat.now text account) plat.now text result }
+{
+    if !names_one_section(description) {
+        return area_in_all(plat, description, account);
     }
     let mut land = OneLanes::empty();
-    if !resolve_if_room(&mut land, &read, plat.township())? {
-        return area_in_all(plat, &read, account);
+    if !resolve_if_room(&mut land, description, plat.township())? {
+        return area_in_all(plat, description, account);
     }
     Ok(area_by(account, plat, &land))
 }
 
-/// The same for a description that was read, in however many sections it names land. The set of land
-/// is cleared where this function begins, which land in one section doesn't need.
+/// The same in however many sections it names land. The set of land is cleared where this function
+/// begins, which land in one section doesn't need.
 #[inline(never)]
 fn area_in_all(plat: &Plat, description: &Description, account: Account) -> Result<Area, Stop>
     ensures { (text : List ℕ) → IsReadAs text description.now
@@ -99,38 +99,26 @@ fn area_in_all(plat: &Plat, description: &Description, account: Account) -> Resu
     Ok(area_by(account, plat, &lanes))
 }
 
-/// The canonical text of the land described on a plat, or why there is none, as for `acres_on`.
-pub fn normal_on(alloc: Global, plat: &Plat, description: &[u8]) -> Result<Vec<u8>, Stop>
-    ensures { AnswersOn (λ text. HasNormalOn plat.now description.now text.items)
-        plat.now description.now result }
-{
-    let mut clarity = Clarity::Unclear;
-    normal_noting(alloc, plat, description, &mut clarity)
-}
-
-/// The same, and notes whether a place in the description may be doubtful.
-pub fn normal_noting(
+/// The canonical text of the land that a description which was read names on a plat.
+pub fn normal_described(
     alloc: Global,
     plat: &Plat,
-    description: &[u8],
-    clarity: &mut Clarity,
+    description: &Description,
 ) -> Result<Vec<u8>, Stop>
-    ensures text { AnswersOn (λ text. HasNormalOn plat.now description.now text.items)
-        plat.now description.now result }
-    ensures clear { clarity.new ≡ Clarity.Clear → HasNoDoubtfulPlace description.now }
+    ensures { (text : List ℕ) → IsReadAs text description.now
+        → AnswersOn (λ written. HasNormalOn plat.now text written.items) plat.now text result }
 {
-    let read = read_noting(alloc, description, clarity)?;
-    if !names_one_section(&read) {
-        return normal_in_all(alloc, plat, &read);
+    if !names_one_section(description) {
+        return normal_in_all(alloc, plat, description);
     }
     let mut land = OneLanes::empty();
-    if !resolve_if_room(&mut land, &read, plat.township())? {
-        return normal_in_all(alloc, plat, &read);
+    if !resolve_if_room(&mut land, description, plat.township())? {
+        return normal_in_all(alloc, plat, description);
     }
     Ok(spell_set(alloc, &land, plat.township())?)
 }
 
-/// The same for a description that was read, as for its area.
+/// The same in however many sections it names land, as for its area.
 #[inline(never)]
 fn normal_in_all(alloc: Global, plat: &Plat, description: &Description) -> Result<Vec<u8>, Stop>
     ensures { (text : List ℕ) → IsReadAs text description.now
@@ -141,23 +129,6 @@ fn normal_in_all(alloc: Global, plat: &Plat, description: &Description) -> Resul
     Ok(spell(alloc, &lanes, plat.township())?)
 }
 
-/// Reads a description, and notes whether a place in it may be doubtful.
-fn read_noting(
-    alloc: Global,
-    description: &[u8],
-    clarity: &mut Clarity,
-) -> Result<Description, Stop>
-    ensures read { IfOk result (IsReadAs description.now) }
-    ensures stopped { IfErr result (λ stop. (township : Designation)
-        → StopsOn township description.now stop) }
-    ensures clear { clarity.new ≡ Clarity.Clear → HasNoDoubtfulPlace description.now }
-{
-    *clarity = Clarity::Unclear;
-    let noted = Description::read_noting(alloc, description)?;
-    *clarity = noted.clarity;
-    Ok(noted.description)
-}
-
 /// The text of the account of a list of tracts on a plat, or the list's first fault.
 pub fn account_on(alloc: Global, plat: &Plat, list: &[u8]) -> Result<Vec<u8>, TractFault>
     ensures account { IfOk result (λ text. IsAccountOf plat.now list.now text.items) }
@@ -166,5 +137,6 @@ pub fn account_on(alloc: Global, plat: &Plat, list: &[u8]) -> Result<Vec<u8>, Tr
     if list.len() > TRACTS_LIMIT as usize {
         return Err(TractFault::TractsTooLarge);
     }
-    account_of(alloc, plat, list)
+    let account = account_of(alloc, plat, list)?;
+    Ok(account.text)
 }

@@ -96,7 +96,7 @@ fn land_of_record<L: Land>(
     };
     let mut land = L::empty();
     match describe_into(alloc, &mut land, township, tract.description) {
-        Ok(()) => Ok(Some(land)),
+        Ok(_) => Ok(Some(land)),
         Err(Stop::Refused(_)) => Ok(None),
         Err(Stop::Failed(_)) => Err(AllocError),
     }

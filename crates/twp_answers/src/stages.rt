@@ -1,5 +1,5 @@
 //! The stages of an answer: the plat of field notes, and the land of a description on a plat.
-ghost use Rattle.std.specs.Prelude.{◌≡◌, false, OnOk, IfErr};
+ghost use Rattle.std.specs.Prelude.{◌≡◌, false, OnOk, IfOk, IfErr};
 ghost use Rattle.twp_grid.specs.Places.{PLACE_DIGITS};
 ghost use Rattle.twp_grid.specs.Lands.{HasWholeLots};
 ghost use Rattle.twp_notes.specs.FieldNotes.{NOTES_MOST};
@@ -32,36 +32,21 @@ pub fn read_plat<N: Source>(alloc: Global, notes: &mut N) -> Result<Plat, Stop>
     Ok(Plat::protract(&notes)?)
 }
 
-/// Sets `land` to that of a description, on the plat of a township. Its previous content is lost.
+/// Sets `land` to that of a description, on the plat of a township, and returns whether a place in the
+/// description may be doubtful. The previous content of `land` is lost.
 pub fn describe_into<L: Land>(
     alloc: Global,
     land: &mut L,
     township: Township,
     text: &[u8],
-) -> Result<(), Stop>
+) -> Result<Clarity, Stop>
     ensures memory { IfErr result (λ stop. IfFailed stop (λ fault. fault ≡ RunFault.Memory)) }
     ensures land { IsDescribed (λ _. L.places land.new) township text.now result }
     ensures whole_lots { OnOk result (HasWholeLots PLACE_DIGITS (L.places land.new)) }
+    ensures clear { IfOk result (λ clarity.
+        clarity ≡ Clarity.Clear → HasNoDoubtfulPlace text.now) }
 {
-    let mut clarity = Clarity::Unclear;
-    describe_noting(alloc, land, township, text, &mut clarity)
-}
-
-/// The same, and notes whether a place in the text may be doubtful.
-pub fn describe_noting<L: Land>(
-    alloc: Global,
-    land: &mut L,
-    township: Township,
-    text: &[u8],
-    clarity: &mut Clarity,
-) -> Result<(), Stop>
-    ensures memory { IfErr result (λ stop. IfFailed stop (λ fault. fault ≡ RunFault.Memory)) }
-    ensures land { IsDescribed (λ _. L.places land.new) township text.now result }
-    ensures whole_lots { OnOk result (HasWholeLots PLACE_DIGITS (L.places land.new)) }
-    ensures clear { clarity.new ≡ Clarity.Clear → HasNoDoubtfulPlace text.now }
-{
-    *clarity = Clarity::Unclear;
     let noted = Description::read_noting(alloc, text)?;
-    *clarity = noted.clarity;
-    Ok(resolve_into(land, &noted.description, township)?)
+    resolve_into(land, &noted.description, township)?;
+    Ok(noted.clarity)
 }

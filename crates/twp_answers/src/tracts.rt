@@ -25,30 +25,23 @@ pub const FIRST_TRACT: u32 = 2;
 /// Room is reserved at the start for one name for each of this many bytes; most tracts take more.
 const BYTES_TO_NAME: usize = 32;
 
-/// The text of the account of a list of tracts on a plat, or the list's first fault. The list is
-/// within its limit of bytes.
-pub fn account_of(alloc: Global, plat: &Plat, bytes: &[u8]) -> Result<Vec<u8>, TractFault>
-    requires { length bytes.now ≤ TRACTS_LIMIT }
-    ensures account { IfOk result (λ text. IsAccountOf plat.now bytes.now text.items) }
-    ensures fault { IfErr result (AnswersFault plat.now.township bytes.now) }
-{
-    let mut clarity = Clarity::Unclear;
-    account_noting(alloc, plat, bytes, &mut clarity)
+/// The account of a list of tracts.
+#[derive(Drop)]
+pub struct ListAccount {
+    pub text: Vec<u8>,
+    /// Whether a place in a description of the list may be doubtful.
+    pub clarity: Clarity,
 }
 
-/// The same, and notes whether a place in a description of the list may be doubtful.
-pub fn account_noting(
-    alloc: Global,
-    plat: &Plat,
-    bytes: &[u8],
-    clarity: &mut Clarity,
-) -> Result<Vec<u8>, TractFault>
+/// The account of a list of tracts on a plat, or the list's first fault. The list is within its
+/// limit of bytes.
+pub fn account_of(alloc: Global, plat: &Plat, bytes: &[u8]) -> Result<ListAccount, TractFault>
     requires { length bytes.now ≤ TRACTS_LIMIT }
-    ensures account { IfOk result (λ text. IsAccountOf plat.now bytes.now text.items) }
+    ensures account { IfOk result (λ account. IsAccountOf plat.now bytes.now account.text.items) }
     ensures fault { IfErr result (AnswersFault plat.now.township bytes.now) }
-    ensures clear { clarity.new ≡ Clarity.Clear → IsClearList bytes.now }
+    ensures clear { IfOk result (λ account.
+        account.clarity ≡ Clarity.Clear → IsClearList bytes.now) }
 {
-    *clarity = Clarity::Unclear;
     // Borrowed where it is made, because moving it would copy its buffers.
     let records = &mut Records::new(alloc, bytes);
     let mut row = ByteRecord::new(alloc);
@@ -66,8 +59,10 @@ pub fn account_noting(
     )?;
     take_tracts(alloc, plat, records, &mut row, &mut account)?;
     account.totals.write(&mut account.text)?;
-    *clarity = account.tracts.clarity;
-    Ok(account.text)
+    Ok(ListAccount {
+        text: account.text,
+        clarity: account.tracts.clarity,
+    })
 }
 
 /// Adds the tracts of the remaining records, which come after the heading, to an account without

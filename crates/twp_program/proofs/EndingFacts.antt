@@ -9,7 +9,7 @@ use Rattle.twp_acres.specs.Runs.{IsRun, RunsOnPlat}
 use Rattle.twp_answers.specs.declared.verdict.Verdict.{Verdict}
 use Rattle.twp_answers.specs.declared.verdict.RunFault.{RunFault}
 use Rattle.twp_answers.specs.declared.verdict.RunFault.TheVariants.{Read, Write, Memory}
-use Rattle.twp_program.specs.Endings.{AnswerTo, EndsAs, EndsRun, FailsOn, IsJoinedVerdict, IsRunFailure}
+use Rattle.twp_program.specs.Endings.{AnswerTo, EndsAs, FailsOn, IsJoinedVerdict, IsRunFailure}
 use Rattle.twp_program.specs.Endings.{IsVerdictOf, RunsOnNotes}
 use Rattle.twp_task.specs.Joined.{joined_description, joined_notes}
 use Rattle.twp_task.specs.Statuses.{ending_of, ending_of_fault, failing}
@@ -39,37 +39,32 @@ ends_as_fault words fault.Memory is = tt
 
 -- a run on two files gives the answer of its task
 pub task_answers : (task : Task) (most : ℕ) (notes second out : Use) (unread : Type 0)
-    (r : Result Verdict Failure)
-    → EndsRun (RunsOnPlat (AnswerTo task) most notes second out unread) r
-    → IfOk r (IsVerdictOf task)
-task_answers task most notes second out unread r (Ok verdict, promise, is) =
-    let ran = promise.ran in
-    rw is (record {
-      first = ran.first_bytes;
-      second = ran.second_bytes;
-      answer = ran.holds.answer;
-      answers = ran.holds.answers;
-    })
-task_answers task most notes second out unread r (Err fault, promise, is) = rw is tt
-
--- if it fails, that is the task's failure
-pub task_fails : (task : Task) (Promise : Result Verdict RunFault → Type 0)
-    (r : Result Verdict Failure) → EndsRun Promise r → IfErr r (FailsOn task)
-task_fails task Promise r (Ok verdict, promise, is) = rw is tt
-task_fails task Promise r (Err fault, promise, is) = rw is tt
+    (ran : Result Verdict RunFault)
+    → RunsOnPlat (AnswerTo task) most notes second out unread ran
+    → IfOk (failing ran) (IsVerdictOf task)
+task_answers task most notes second out unread (Ok verdict) run = record {
+  first = run.ran.first_bytes;
+  second = run.ran.second_bytes;
+  answer = run.ran.holds.answer;
+  answers = run.ran.holds.answers;
+}
+task_answers task most notes second out unread (Err fault) run = tt
 
 -- a run on notes alone gives the answer of the plat's task
-pub plat_answers : (name : Text) (notes out : Use) (r : Result Verdict Failure)
-    → EndsRun (RunsOnNotes IsPlatAnswer notes out) r → IfOk r (IsVerdictOf (Plat name))
-plat_answers name notes out r (Ok verdict, promise, is) =
-    let ran = promise.ran in
-    rw is (record {
-      first = ran.bytes;
-      second = ran.bytes;
-      answer = ran.holds.answer;
-      answers = ran.holds.answers;
-    })
-plat_answers name notes out r (Err fault, promise, is) = rw is tt
+pub plat_answers : (name : Text) (notes out : Use) (ran : Result Verdict RunFault)
+    → RunsOnNotes IsPlatAnswer notes out ran → IfOk (failing ran) (IsVerdictOf (Plat name))
+plat_answers name notes out (Ok verdict) run = record {
+  first = run.ran.bytes;
+  second = run.ran.bytes;
+  answer = run.ran.holds.answer;
+  answers = run.ran.holds.answers;
+}
+plat_answers name notes out (Err fault) run = tt
+
+-- if a run fails, that is the task's failure
+pub task_fails : (task : Task) (ran : Result Verdict RunFault) → IfErr (failing ran) (FailsOn task)
+task_fails task (Ok verdict) = tt
+task_fails task (Err fault) = tt
 
 -- the outcome of the run on joined input is a verdict on it, or a fault of the run
 pub joined_answers : (explained old new : Option (List ℕ)) (ran : Result Verdict RunFault)

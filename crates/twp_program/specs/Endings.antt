@@ -17,7 +17,6 @@ use Rattle.twp_answers.specs.declared.verdict.Verdict.{Verdict}
 use Rattle.twp_answers.specs.declared.verdict.RunFault.{RunFault}
 use Rattle.twp_answers.specs.declared.verdict.RunFault.TheVariants.{Read, Write, Memory}
 use Rattle.twp_task.specs.Joined.{joined_description, joined_notes}
-use Rattle.twp_task.specs.Statuses.{failing}
 use Rattle.twp_task.specs.Tasks.{HasKindAt, IsFaultOf, IsTaskOf}
 use Rattle.twp_task.specs.declared.ending.Ending.{Ending}
 use Rattle.twp_task.specs.declared.ending.Ending.TheVariants.{Answered, Helps, Misused, Failed}
@@ -64,10 +63,6 @@ pub record RunsOnNotes (Answers : List ℕ → AnswerRelation) (notes out : Use)
   pub most : TakesAtMost notes.old notes.new (NOTES_MOST + 1)
   pub exact : notes.has_failed ≡ false → result ≢ Err Memory
       → TakesFirst notes.old notes.new (NOTES_MOST + 1)
-
--- The outcome is that of a run which keeps this promise.
-abbrev pub EndsRun : (Result Verdict RunFault → Type 0) → Result Verdict Failure → Type 0
-EndsRun Promise result = (ran : Result Verdict RunFault) × Promise ran × (result ≡ failing ran)
 
 -- the words ask for some task
 abbrev pub AskForTask : List Text → Type 0

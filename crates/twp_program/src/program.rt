@@ -13,7 +13,6 @@ use std::{env, io};
 use twp_acres::{RunFault, Verdict};
 use twp_explain_text::Suggests;
 use twp_grid::Device;
-use twp_read::Clarity;
 use twp_task::{Ended, Ending, Failure, Kept, NO_ANSWER, outcome_of, read_task, run_joined_noting};
 
 /// Runs the program, and reports on standard error why there is no answer. It returns the ending
@@ -78,10 +77,9 @@ fn run_standard_input<S: Suggests, R: Input + Print + Eprint + AllocGlobal>(
 {
     let mut input = Kept::new(rt.alloc(), Device::new(rt.reader()));
     let mut out = Device::new(io::writer(rt));
-    let mut clarity = Clarity::Unclear;
-    let outcome = outcome_of(run_joined_noting(rt.alloc(), &mut input, &mut out, &mut clarity));
-    show_joined::<S, _, _>(rt, &outcome, clarity, &input);
-    outcome
+    let ran = run_joined_noting(rt.alloc(), &mut input, &mut out);
+    show_joined::<S, _, _>(rt, &ran, &input);
+    outcome_of(ran.outcome)
 }
 
 /// Does the task that the words of a command line ask for, the first of which is the program's

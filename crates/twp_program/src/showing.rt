@@ -11,13 +11,13 @@ ghost use Rattle.twp_program.specs.ShownExplanations.{ShowsText};
 
 use crate::files::{OpenedNotes, OpenedText};
 use std::alloc::Global;
-use twp_acres::{Account, Verdict};
+use twp_acres::{Account, Ran, RunFault, Verdict};
 use twp_diagnose::{Explanation, Given};
 use twp_explain::{explain_land, explain_list, explain_plat};
 use twp_explain_doubts::{Note, note_land, note_list};
 use twp_explain_text::Suggests;
 use twp_read::Clarity;
-use twp_task::{Failure, Kept, split_at_line_feed};
+use twp_task::{Kept, split_at_line_feed};
 
 /// The name of standard input in messages.
 const STANDARD_INPUT: &str = "standard input";
@@ -26,7 +26,7 @@ const STANDARD_INPUT: &str = "standard input";
 #[inline(never)]
 pub(crate) fn show_plat<R: Eprint + AllocGlobal, N>(
     rt: &R,
-    outcome: &Result<Verdict, Failure>,
+    outcome: &Result<Verdict, RunFault>,
     notes: &OpenedNotes<Kept<N>>,
 ) {
     if let Some(verdict) = refused(outcome) {
@@ -39,18 +39,17 @@ pub(crate) fn show_plat<R: Eprint + AllocGlobal, N>(
 #[inline(never)]
 pub(crate) fn show_land<S: Suggests, R: Eprint + AllocGlobal, N, D>(
     rt: &R,
-    outcome: &Result<Verdict, Failure>,
-    clarity: Clarity,
+    ran: &Ran,
     notes: &OpenedNotes<Kept<N>>,
     description: &OpenedText<Kept<D>>,
     account: Account,
 ) {
-    if let Some(verdict) = refused(outcome) {
+    if let Some(verdict) = refused(&ran.outcome) {
         explain(
             rt,
             of_land::<S, _, _>(rt.alloc(), notes, description, verdict),
         );
-    } else if may_be_noted(outcome, clarity) {
+    } else if may_be_noted(ran) {
         show_note(rt, note_of_land(rt.alloc(), notes, description, account));
     }
 }
@@ -60,14 +59,13 @@ pub(crate) fn show_land<S: Suggests, R: Eprint + AllocGlobal, N, D>(
 #[inline(never)]
 pub(crate) fn show_list<S: Suggests, R: Eprint + AllocGlobal, N, T>(
     rt: &R,
-    outcome: &Result<Verdict, Failure>,
-    clarity: Clarity,
+    ran: &Ran,
     notes: &OpenedNotes<Kept<N>>,
     tracts: &OpenedText<Kept<T>>,
 ) {
-    if let Some(verdict) = refused(outcome) {
+    if let Some(verdict) = refused(&ran.outcome) {
         explain(rt, of_list::<S, _, _>(rt.alloc(), notes, tracts, verdict));
-    } else if may_be_noted(outcome, clarity) {
+    } else if may_be_noted(ran) {
         show_note(rt, note_of_list(rt.alloc(), notes, tracts));
     }
 }
@@ -76,19 +74,18 @@ pub(crate) fn show_list<S: Suggests, R: Eprint + AllocGlobal, N, T>(
 #[inline(never)]
 pub(crate) fn show_joined<S: Suggests, R: Eprint + AllocGlobal, I>(
     rt: &R,
-    outcome: &Result<Verdict, Failure>,
-    clarity: Clarity,
+    ran: &Ran,
     input: &Kept<I>,
 ) {
-    if let Some(verdict) = refused(outcome) {
+    if let Some(verdict) = refused(&ran.outcome) {
         explain(rt, of_joined::<S, _>(rt.alloc(), input, verdict));
-    } else if may_be_noted(outcome, clarity) {
+    } else if may_be_noted(ran) {
         show_note(rt, note_of_joined(rt.alloc(), input));
     }
 }
 
 /// The verdict of a run that refused its input.
-fn refused(outcome: &Result<Verdict, Failure>) -> Option<Verdict>
+fn refused(outcome: &Result<Verdict, RunFault>) -> Option<Verdict>
     ensures { IfSome result (λ verdict. (outcome.now ≡ Ok verdict) × (verdict ≢ Accepted)) }
 {
     match outcome {
@@ -98,10 +95,11 @@ fn refused(outcome: &Result<Verdict, Failure>) -> Option<Verdict>
 }
 
 /// Whether a run accepted its input, and a place in it may be doubtful.
-fn may_be_noted(outcome: &Result<Verdict, Failure>, clarity: Clarity) -> bool
-    ensures { IsTrue result ↔ ((outcome.now ≡ Ok Accepted) × (clarity ≡ Clarity.Unclear)) }
+fn may_be_noted(ran: &Ran) -> bool
+    ensures { IsTrue result ↔ ((ran.now.outcome ≡ Ok Accepted)
+        × (ran.now.clarity ≡ Clarity.Unclear)) }
 {
-    matches!(outcome, Ok(Verdict::Accepted)) && clarity == Clarity::Unclear
+    matches!(ran.outcome, Ok(Verdict::Accepted)) && ran.clarity == Clarity::Unclear
 }
 
 /// The note on a description.

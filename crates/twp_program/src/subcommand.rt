@@ -9,7 +9,7 @@ ghost use Rattle.twp_answers.specs.ReportAnswers.{IsReportAnswer};
 ghost use Rattle.twp_answers.specs.Uses.{used};
 ghost use Rattle.twp_acres.specs.Runs.{RunsOnPlat};
 ghost use Rattle.twp_answers.specs.Tracts.{TRACTS_LIMIT};
-ghost use Rattle.twp_program.specs.Endings.{EndsRun, FailsOn, IsVerdictOf, RunsOnNotes};
+ghost use Rattle.twp_program.specs.Endings.{FailsOn, IsVerdictOf, RunsOnNotes};
 
 use crate::files::{OpenedNotes, OpenedText, open_notes, open_text};
 use crate::showing::{show_land, show_list, show_plat};
@@ -17,11 +17,11 @@ use std::alloc::Global;
 use std::io;
 use std::rt::Files;
 use twp_acres::{
-    Account, Verdict, run_acres_noting, run_normal_noting, run_plat, run_report_noting,
+    Account, Ran, RunFault, Verdict, run_acres_noting, run_normal_noting, run_plat,
+    run_report_noting,
 };
 use twp_explain_text::Suggests;
 use twp_grid::{Device, Sink, Source};
-use twp_read::Clarity;
 use twp_task::{Failure, Name, Task, outcome_of};
 
 /// Opens the files of a task, in order, and runs it.
@@ -57,7 +57,7 @@ fn open_plat<R: Files + Print + Eprint + AllocGlobal>(
     let mut out = Device::new(io::writer(rt));
     let outcome = plat(rt.alloc(), &mut notes, &mut out);
     show_plat(rt, &outcome, &notes);
-    outcome
+    outcome_of(outcome)
 }
 
 /// `acres [--account ACCOUNT] NOTES DESCRIPTION`
@@ -74,17 +74,9 @@ fn open_acres<S: Suggests, R: Files + Print + Eprint + AllocGlobal>(
     let mut notes = open_notes(rt, notes)?;
     let mut description = open_text(rt, description)?;
     let mut out = Device::new(io::writer(rt));
-    let mut clarity = Clarity::Unclear;
-    let outcome = acres(
-        rt.alloc(),
-        &mut notes,
-        &mut description,
-        &mut out,
-        account,
-        &mut clarity,
-    );
-    show_land::<S, _, _, _>(rt, &outcome, clarity, &notes, &description, account);
-    outcome
+    let ran = acres(rt.alloc(), &mut notes, &mut description, &mut out, account);
+    show_land::<S, _, _, _>(rt, &ran, &notes, &description, account);
+    outcome_of(ran.outcome)
 }
 
 /// `normal NOTES DESCRIPTION`
@@ -100,16 +92,9 @@ fn open_normal<S: Suggests, R: Files + Print + Eprint + AllocGlobal>(
     let mut notes = open_notes(rt, notes)?;
     let mut description = open_text(rt, description)?;
     let mut out = Device::new(io::writer(rt));
-    let mut clarity = Clarity::Unclear;
-    let outcome = normal(
-        rt.alloc(),
-        &mut notes,
-        &mut description,
-        &mut out,
-        &mut clarity,
-    );
-    show_land::<S, _, _, _>(rt, &outcome, clarity, &notes, &description, Account::Exact);
-    outcome
+    let ran = normal(rt.alloc(), &mut notes, &mut description, &mut out);
+    show_land::<S, _, _, _>(rt, &ran, &notes, &description, Account::Exact);
+    outcome_of(ran.outcome)
 }
 
 /// `report NOTES TRACTS`
@@ -125,10 +110,9 @@ fn open_report<S: Suggests, R: Files + Print + Eprint + AllocGlobal>(
     let mut notes = open_notes(rt, notes)?;
     let mut tracts = open_text(rt, tracts)?;
     let mut out = Device::new(io::writer(rt));
-    let mut clarity = Clarity::Unclear;
-    let outcome = report(rt.alloc(), &mut notes, &mut tracts, &mut out, &mut clarity);
-    show_list::<S, _, _, _>(rt, &outcome, clarity, &notes, &tracts);
-    outcome
+    let ran = report(rt.alloc(), &mut notes, &mut tracts, &mut out);
+    show_list::<S, _, _, _>(rt, &ran, &notes, &tracts);
+    outcome_of(ran.outcome)
 }
 
 /// Writes the plat of opened notes.
@@ -137,15 +121,15 @@ fn plat<N: Source, W: Sink>(
     alloc: Global,
     notes: &mut OpenedNotes<N>,
     out: &mut W,
-) -> Result<Verdict, Failure>
+) -> Result<Verdict, RunFault>
     requires notes { N.has_failed notes.old.source ≡ false }
     requires out { W.has_failed out.old ≡ false }
-    ensures { EndsRun (RunsOnNotes IsPlatAnswer
+    ensures { RunsOnNotes IsPlatAnswer
         (used (N.remaining notes.old.source) (N.remaining notes.new.source)
         (N.has_failed notes.new.source))
-        (used (W.contents out.old) (W.contents out.new) (W.has_failed out.new))) result }
+        (used (W.contents out.old) (W.contents out.new) (W.has_failed out.new)) result }
 {
-    outcome_of(run_plat(alloc, &mut notes.source, out))
+    run_plat(alloc, &mut notes.source, out)
 }
 
 /// Writes the acres of an opened description on the plat of opened notes, by an account.
@@ -156,27 +140,25 @@ fn acres<N: Source, D: Source, W: Sink>(
     description: &mut OpenedText<D>,
     out: &mut W,
     account: Account,
-    clarity: &mut Clarity,
-) -> Result<Verdict, Failure>
+) -> Ran
     requires notes { N.has_failed notes.old.source ≡ false }
     requires description { D.has_failed description.old.source ≡ false }
     requires out { W.has_failed out.old ≡ false }
-    ensures { EndsRun (RunsOnPlat (IsAcresAnswerBy account) TEXT_LIMIT
+    ensures { RunsOnPlat (IsAcresAnswerBy account) TEXT_LIMIT
         (used (N.remaining notes.old.source) (N.remaining notes.new.source)
         (N.has_failed notes.new.source))
         (used (D.remaining description.old.source) (D.remaining description.new.source)
         (D.has_failed description.new.source))
         (used (W.contents out.old) (W.contents out.new) (W.has_failed out.new))
-        (description.new.source ≡ description.old.source)) result }
+        (description.new.source ≡ description.old.source) result.outcome }
 {
-    outcome_of(run_acres_noting(
+    run_acres_noting(
         alloc,
         &mut notes.source,
         &mut description.source,
         out,
         account,
-        clarity,
-    ))
+    )
 }
 
 /// Writes the canonical text of an opened description on the plat of opened notes.
@@ -186,21 +168,20 @@ fn normal<N: Source, D: Source, W: Sink>(
     notes: &mut OpenedNotes<N>,
     description: &mut OpenedText<D>,
     out: &mut W,
-    clarity: &mut Clarity,
-) -> Result<Verdict, Failure>
+) -> Ran
     requires notes { N.has_failed notes.old.source ≡ false }
     requires description { D.has_failed description.old.source ≡ false }
     requires out { W.has_failed out.old ≡ false }
-    ensures { EndsRun (RunsOnPlat IsNormalAnswer TEXT_LIMIT
+    ensures { RunsOnPlat IsNormalAnswer TEXT_LIMIT
         (used (N.remaining notes.old.source) (N.remaining notes.new.source)
         (N.has_failed notes.new.source))
         (used (D.remaining description.old.source) (D.remaining description.new.source)
         (D.has_failed description.new.source))
         (used (W.contents out.old) (W.contents out.new) (W.has_failed out.new))
-        (description.new.source ≡ description.old.source)) result }
+        (description.new.source ≡ description.old.source) result.outcome }
 {
     let (source, text) = (&mut notes.source, &mut description.source);
-    outcome_of(run_normal_noting(alloc, source, text, out, clarity))
+    run_normal_noting(alloc, source, text, out)
 }
 
 /// Writes the account of an opened list of tracts on the plat of opened notes.
@@ -210,18 +191,17 @@ fn report<N: Source, T: Source, W: Sink>(
     notes: &mut OpenedNotes<N>,
     tracts: &mut OpenedText<T>,
     out: &mut W,
-    clarity: &mut Clarity,
-) -> Result<Verdict, Failure>
+) -> Ran
     requires notes { N.has_failed notes.old.source ≡ false }
     requires tracts { T.has_failed tracts.old.source ≡ false }
     requires out { W.has_failed out.old ≡ false }
-    ensures { EndsRun (RunsOnPlat IsReportAnswer TRACTS_LIMIT
+    ensures { RunsOnPlat IsReportAnswer TRACTS_LIMIT
         (used (N.remaining notes.old.source) (N.remaining notes.new.source)
         (N.has_failed notes.new.source))
         (used (T.remaining tracts.old.source) (T.remaining tracts.new.source)
         (T.has_failed tracts.new.source))
         (used (W.contents out.old) (W.contents out.new) (W.has_failed out.new))
-        (tracts.new.source ≡ tracts.old.source)) result }
+        (tracts.new.source ≡ tracts.old.source) result.outcome }
 {
-    outcome_of(run_report_noting(alloc, &mut notes.source, &mut tracts.source, out, clarity))
+    run_report_noting(alloc, &mut notes.source, &mut tracts.source, out)
 }

@@ -3,6 +3,8 @@ ghost use Rattle.std.specs.Prelude.{IsErrOf, IsOkUnless};
 ghost use Rattle.std.specs.List.{before_first, after_first, position_or_len};
 ghost use Rattle.twp_grid.specs.Devices.{TakesAtMost};
 ghost use Rattle.twp_grid.specs.Devices.{TakesFirst};
+ghost use Rattle.twp_read.specs.Doubts.{HasNoDoubtfulPlace};
+ghost use Rattle.twp_read.specs.declared.doubt.Clarity.{Clarity};
 ghost use Rattle.twp_answers.specs.Answers.{IsAcresAnswer};
 ghost use Rattle.twp_task.specs.Joined.{JOINED_MOST, joined_notes, joined_description};
 ghost use Rattle.twp_answers.specs.Uses.{Reads};
@@ -10,10 +12,9 @@ ghost use Rattle.twp_acres.specs.Runs.{IsRun};
 
 use memchr::memchr;
 use std::alloc::Global;
-use twp_acres::{Account, RunFault, Verdict, run_acres_noting};
+use twp_acres::{Account, Ran, RunFault, Verdict, run_acres_noting};
 use twp_grid::{Bytes, Sink, Source};
 use twp_notes::read_up_to;
-use twp_read::Clarity;
 
 /// The most bytes of joined input: a description, a line feed, and one byte more than notes can
 /// have.
@@ -59,47 +60,49 @@ pub fn run_joined<R: Source, W: Sink>(
         → IsRun (IsAcresAnswer (joined_notes bytes) (joined_description bytes))
         (W.contents out.old) (W.contents out.new) result }
 {
-    let mut clarity = Clarity::Unclear;
-    run_joined_noting(alloc, input, out, &mut clarity)
+    run_joined_noting(alloc, input, out).outcome
 }
 
-/// The same, and notes whether the description may have a place that can be read in two ways.
+/// Answers joined input as `run_joined` does, with the same clauses, and notes whether the description may
+/// have a place that can be read in two ways.
 #[inline(never)]
-pub fn run_joined_noting<R: Source, W: Sink>(
-    alloc: Global,
-    input: &mut R,
-    out: &mut W,
-    clarity: &mut Clarity,
-) -> Result<Verdict, RunFault>
+pub fn run_joined_noting<R: Source, W: Sink>(alloc: Global, input: &mut R, out: &mut W) -> Ran
     requires input { R.has_failed input.old ≡ false }
     requires out { W.has_failed out.old ≡ false }
 
-    // A fault of a device is answered exactly where that device failed in this call.
-    ensures read { IsErrOf result RunFault.Read ↔ (R.has_failed input.new ≡ true) }
-    ensures write { IsErrOf result RunFault.Write ↔ (W.has_failed out.new ≡ true) }
+    // A device's fault is returned exactly if that device failed in this call.
+    ensures read { IsErrOf result.outcome RunFault.Read ↔ (R.has_failed input.new ≡ true) }
+    ensures write { IsErrOf result.outcome RunFault.Write ↔ (W.has_failed out.new ≡ true) }
 
-    // Reading ends with the last byte that is used, if not before.
+    // Reading ends at most with the last byte that is used.
     ensures most { TakesAtMost (R.remaining input.old) (R.remaining input.new) JOINED_MOST }
 
-    // It ends just there or at the end of the input, where the reader doesn't fail and no memory is
-    // refused.
-    ensures exact { R.has_failed input.new ≡ false → result ≢ Err RunFault.Memory
+    // It ends exactly there or at the end of the input, if the reader does not fail and memory does
+    // not run out.
+    ensures exact { R.has_failed input.new ≡ false → result.outcome ≢ Err RunFault.Memory
         → TakesFirst (R.remaining input.old) (R.remaining input.new) JOINED_MOST }
 
-    // What was written is the answer to what was read, whatever the devices explain of it.
+    // The text that was written is the answer for the bytes that were read, whether or not they are
+    // known.
     ensures ran { Reads (R.remaining input.old) (λ bytes.
         IsRun (IsAcresAnswer (joined_notes bytes) (joined_description bytes))
-        (W.contents out.old) (W.contents out.new) result) }
+        (W.contents out.old) (W.contents out.new) result.outcome) }
 
-    // The same for a source that tells its bytes, in single facts.
+    // The same for a source whose bytes are known, in single facts.
     ensures answers { R.has_failed input.new ≡ false → W.has_failed out.new ≡ false
-        → IsOkUnless result RunFault.Memory }
+        → IsOkUnless result.outcome RunFault.Memory }
     ensures told { (bytes : List ℕ) → R.remaining input.old ≡ Some bytes
         → IsRun (IsAcresAnswer (joined_notes bytes) (joined_description bytes))
-        (W.contents out.old) (W.contents out.new) result }
+        (W.contents out.old) (W.contents out.new) result.outcome }
+
+    // What is noted as clear has no doubtful place.
+    ensures clear { (bytes : List ℕ) → R.remaining input.old ≡ Some bytes
+        → result.clarity ≡ Clarity.Clear → HasNoDoubtfulPlace (joined_description bytes) }
 {
-    *clarity = Clarity::Unclear;
-    let bytes = read_up_to(alloc, input, MOST_BYTES)?;
+    let bytes = match read_up_to(alloc, input, MOST_BYTES) {
+        Ok(bytes) => bytes,
+        Err(fault) => return Ran::failed(RunFault::from(fault)),
+    };
     let (description, notes) = split_at_line_feed(bytes.as_slice());
     run_acres_noting(
         alloc,
@@ -107,7 +110,6 @@ pub fn run_joined_noting<R: Source, W: Sink>(
         &mut Bytes::new(description),
         out,
         Account::Exact,
-        clarity,
     )
 }
 

@@ -1,9 +1,11 @@
 -- The texts that were read do not change, and a stop is answered with its refusal.
 use Rattle.std.proofs.Common.{refl}
+use Rattle.twp_read.specs.Doubts.{HasNoDoubtfulPlace}
 use Rattle.twp_read.specs.TextFaults.{TEXT_LIMIT}
 use Rattle.twp_answers.specs.Answers.{IsRefusal}
 use Rattle.twp_acres.specs.AccountAnswers.{IsAcresAnswerBy}
 use Rattle.twp_acres.specs.steps.OnPlatSteps.{IsAcresAnswerOn}
+use Rattle.twp_acres.proofs.ClarityFacts.{says_nothing_of, says_of_two}
 use Rattle.twp_acres.proofs.OnPlatFacts.{acres_answered, answered_of_two}
 use Rattle.twp_acres.proofs.StopFacts.{accepted_on_plat, refused_of_two, stopped_on_plat}
 use Rattle.twp_acres.proofs.acres_answer.answer_of.Goals as goal
@@ -29,3 +31,13 @@ pub returns-in-Err-clause-answer : goal.returns-in-Err-clause-answer
 returns-in-Err-clause-answer g c =
     refused_of_two _ _ _ _ IsRefusal (IsAcresAnswerBy c.args.account) c.in-Err.stop c.answer_stop.result
     c.in-Err.ensures.texts c.answer_stop.ensures.answer (λ n d refusal is. (is, refl))
+
+pub returns-in-Ok-clause-clear : goal.returns-in-Ok-clause-clear
+returns-in-Ok-clause-clear g c =
+    says_of_two _ _ _ _ c.in-Ok.read.plat c.in-Ok.read.description.items c.answer_on.result
+    c.in-Ok.ensures.texts (rw c.as_slice.ensures.value at c.answer_on.ensures.clear)
+
+pub returns-in-Err-clause-clear : goal.returns-in-Err-clause-clear
+returns-in-Err-clause-clear g c =
+    says_nothing_of c.answer_stop.result (g.D.Source.remaining c.args.description.now)
+    (λ d. HasNoDoubtfulPlace d) c.answer_stop.ensures.unclear

@@ -6,6 +6,8 @@ use Rattle.twp_answers.specs.Answers.{IsNoPlat}
 use Rattle.twp_answers.specs.Tracts.{TRACTS_LIMIT}
 use Rattle.twp_answers.specs.ReportAnswers.{IsReportAnswer}
 use Rattle.twp_acres.specs.steps.Stages.{same_fault}
+use Rattle.twp_answers.specs.ClearTracts.{IsClearList}
+use Rattle.twp_acres.proofs.ClarityFacts.{says_nothing_of}
 use Rattle.twp_acres.proofs.StopFacts.{first_stopped, refused_of_first, second_read, stopped_on_plat}
 use Rattle.twp_acres.proofs.report_answer.answer_of.Goals as goal
 
@@ -25,3 +27,8 @@ pub returns-in-Err-clause-answer : goal.returns-in-Err-clause-answer
 returns-in-Err-clause-answer g c =
     refused_of_first _ _ _ _ IsNoPlat IsReportAnswer c.in-Err.stop c.answer_stop.result
     c.in-Err.ensures.plat c.answer_stop.ensures.answer (λ n t refusal is. inl (is, refl)) refl
+
+pub returns-in-Err-clause-clear : goal.returns-in-Err-clause-clear
+returns-in-Err-clause-clear g c =
+    says_nothing_of c.answer_stop.result (g.T.Source.remaining c.args.tracts.now) (λ t. IsClearList t)
+    c.answer_stop.ensures.unclear

@@ -2,6 +2,8 @@
 use Rattle.std.proofs.Common.{[]}
 use Rattle.std.specs.Prelude.{unwrap_or}
 use Rattle.std.proofs.lemmas.Result.{err_from_is_err_and}
+use Rattle.twp_answers.specs.ClearTracts.{IsClearList}
+use Rattle.twp_acres.proofs.ClarityFacts.{says_nothing_of}
 use Rattle.twp_acres.proofs.RunFacts.{some_bytes, if_ok}
 use Rattle.twp_answers.specs.declared.tract_fault.TractFault.TheVariants.{TractsTooLarge}
 use Rattle.twp_answers.proofs.FirstTractFaults.{large_first, list_refused}
@@ -23,3 +25,13 @@ returns-in_default-clause-answer g c =
           list_refused c.args.plat.now read.0 answer.text.items answer.verdict TractsTooLarge
           (large_first c.args.plat.now.township read.0 read.2) is.0 is.1 is.2);
     }
+
+pub returns-in_default-clause-clear : goal.returns-in_default-clause-clear
+returns-in_default-clause-clear g c =
+    says_nothing_of c.refuse_list.result (g.T.Source.remaining c.args.tracts.now) (λ t. IsClearList t)
+    c.refuse_list.ensures.unclear
+
+pub returns-clause-clear : goal.returns-clause-clear
+returns-clause-clear g c =
+    says_nothing_of c.refuse_list-in-Err.result (g.T.Source.remaining c.args.tracts.now) (λ t. IsClearList t)
+    c.refuse_list-in-Err.ensures.unclear

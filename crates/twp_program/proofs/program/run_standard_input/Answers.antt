@@ -4,8 +4,9 @@ use Rattle.twp_program.proofs.program.run_standard_input.Goals as goal
 
 pub returns-clause-answers : goal.returns-clause-answers
 returns-clause-answers g c =
-    rw c.outcome_of-outcome.ensures
-    (joined_answers _ _ _ c.run_joined_noting.result c.run_joined_noting.ensures.ran)
+    rw c.outcome_of.ensures
+    (joined_answers _ _ _ c.run_joined_noting-ran.result.outcome c.run_joined_noting-ran.ensures.ran)
 
 pub returns-clause-fails : goal.returns-clause-fails
-returns-clause-fails g c = rw c.outcome_of-outcome.ensures (joined_fails c.run_joined_noting.result)
+returns-clause-fails g c =
+    rw c.outcome_of.ensures (joined_fails c.run_joined_noting-ran.result.outcome)

@@ -5,8 +5,10 @@ use Rattle.twp_program.proofs.subcommand.open_acres.Goals as goal
 
 pub returns-clause-answers : goal.returns-clause-answers
 returns-clause-answers g c =
-    task_answers (Acres c.args.notes c.args.description c.args.account) _ _ _ _ _ _ c.acres-outcome.ensures
+    rw c.outcome_of.ensures (task_answers (Acres c.args.notes c.args.description c.args.account) _ _ _ _ _
+    c.acres-ran.result.outcome c.acres-ran.ensures)
 
 pub returns-clause-fails : goal.returns-clause-fails
 returns-clause-fails g c =
-    task_fails (Acres c.args.notes c.args.description c.args.account) _ _ c.acres-outcome.ensures
+    rw c.outcome_of.ensures
+    (task_fails (Acres c.args.notes c.args.description c.args.account) c.acres-ran.result.outcome)

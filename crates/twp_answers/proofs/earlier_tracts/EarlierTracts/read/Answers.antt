@@ -3,8 +3,8 @@ use Rattle.std.proofs.Common.{refl}
 use Rattle.twp_answers.proofs.TractFacts.{is_anew}
 use Rattle.twp_answers.proofs.earlier_tracts.EarlierTracts.read.Goals as goal
 
-pub returns-clause-read : goal.returns-clause-read
-returns-clause-read g c =
+pub returns-in-Ok-clause-read : goal.returns-in-Ok-clause-read
+returns-in-Ok-clause-read g c =
     let tract = c.in-Some.ensures in
     record {
       is_record = tract.0;

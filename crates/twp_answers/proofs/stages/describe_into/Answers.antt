@@ -1,7 +1,7 @@
 -- Items that do not lie on the plat are refused for their fault.
 use Rattle.std.proofs.lemmas.Result.{err_from_is_err_and}
 use Rattle.twp_answers.proofs.StopsOnPlat.{stopped_by_places, places_never_fail}
-use Rattle.twp_answers.proofs.stages.describe_noting.Goals as goal
+use Rattle.twp_answers.proofs.stages.describe_into.Goals as goal
 
 pub returns-in_err-resolve_into-clause-memory : goal.returns-in_err-resolve_into-clause-memory
 returns-in_err-resolve_into-clause-memory g c =

@@ -6,7 +6,7 @@ use Rattle.twp_notes.specs.Records.{records_left}
 use Rattle.twp_answers.specs.ClearTracts.{AreClearTracts}
 use Rattle.twp_answers.proofs.TallyFacts.{no_tally, accepted}
 use Rattle.twp_answers.proofs.FirstTractFaults.{after_of_word, first_refused}
-use Rattle.twp_answers.proofs.tracts.account_noting.Goals as goal
+use Rattle.twp_answers.proofs.tracts.account_of.Goals as goal
 
 pub returns-in_err-take_tracts-clause-fault : goal.returns-in_err-take_tracts-clause-fault
 returns-in_err-take_tracts-clause-fault c =
