@@ -43,15 +43,14 @@ test:
 ## e2e            build the program, and test it on files, pipes, and devices
 e2e: township
 	@cd crates/twp_trials && rt run -- write-acres 3905 2 > /dev/null
-	@cd crates/twp_readings && rt run > /dev/null
 	@sh tests/e2e.sh
 
 ## descriptions   build the programs, and measure which descriptions, as people write them, have the right reading
 # Last, that none of them is read as other land if it is damaged.
 descriptions: township
-	@cd crates/twp_readings && rt run > /dev/null
+	@cd crates/twp_trials && rt run -- write-acres 3905 2 > /dev/null
 	@for author in $$(sed '1d; s/\t.*//' tests/descriptions/floors.tsv); do \
-		python3 tests/descriptions/suggested.py ./township crates/twp_readings/out/twp_readings \
+		python3 tests/descriptions/suggested.py ./township crates/twp_trials/out/twp_trials \
 			tests/descriptions/$$author.tsv || exit 1; \
 	done
 	@python3 tests/descriptions/mutated.py

@@ -1,14 +1,14 @@
 #!/bin/sh
-# Counts the instructions that a reading takes: what callgrind counts within readings_of, when the program of
-# crates/twp_readings reads a line. Reading and printing the lines isn't counted. First seven texts, each as the mean of
-# ten lines, since the allocator takes more for the first; then the mean of each set of descriptions in
-# tests/descriptions; then 65,536 bytes of one thing, the instructions for each byte, and the most memory in KiB. The
-# counts are compared with bench/expected-readings: the status is 1 if one is more than 1.02 times the expected one, or
-# if memory is more than 8 MiB. `--write` writes the file.
+# Counts the instructions that a reading takes: what callgrind counts within readings_of, when `twp_trials readings`
+# reads a line. Reading and printing the lines isn't counted. First seven texts, each as the mean of ten lines, since
+# the allocator takes more for the first; then the mean of each set of descriptions in tests/descriptions; then 65,536
+# bytes of one thing, the instructions for each byte, and the most memory in KiB. The counts are compared with
+# bench/expected-readings: the status is 1 if one is more than 1.02 times the expected one, or if memory is more than 8
+# MiB. `--write` writes the file.
 set -eu
 cd "$(dirname "$0")/.."
-program=crates/twp_readings/out/twp_readings
-[ -x "$program" ] || (cd crates/twp_readings && rt run < /dev/null > /dev/null)
+program=crates/twp_trials/out/twp_trials
+[ -x "$program" ] || (cd crates/twp_trials && rt run -- readings < /dev/null > /dev/null)
 work=$(mktemp -d)
 trap 'rm -rf "$work"' EXIT
 # The C library clears and copies by wide stores, so that each instruction counts once.
@@ -16,7 +16,7 @@ once=glibc.cpu.x86_rep_stosb_threshold=1000000:glibc.cpu.x86_rep_movsb_threshold
 # The instructions of each line of a file, on average.
 count() {
     env -i PATH="$PATH" GLIBC_TUNABLES="$once" valgrind --tool=callgrind --callgrind-out-file=/dev/null \
-        --toggle-collect=twp_readings::read_text "$program" < "$1" 2>&1 >/dev/null |
+        --toggle-collect=twp_trials::readings::read_text "$program" readings < "$1" 2>&1 >/dev/null |
         sed -n 's/.*Collected : *//p' > "$work/count"
     echo $(($(cat "$work/count") / $(wc -l < "$1")))
 }
@@ -31,7 +31,7 @@ int main(int count, char **words)
     struct rusage used;
     pid_t child = vfork();
     if (child == 0) {
-        execv(words[count - 1], words + 1);
+        execv(words[1], words + 1);
         _exit(1);
     }
     wait4(child, NULL, 0, &used);
@@ -41,7 +41,7 @@ int main(int count, char **words)
 C
 "${CC:-cc}" -O2 -o "$work/memory" "$work/memory.c"
 memory() {
-    env -i "$work/memory" "$program" < "$1" 2>&1 > /dev/null
+    env -i "$work/memory" "$program" readings < "$1" 2>&1 > /dev/null
 }
 : > "$work/counts"
 while IFS= read -r text; do

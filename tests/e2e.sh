@@ -1,7 +1,6 @@
 #!/bin/sh
 # Tests ./township, or the program that is named, as people use it, and the documents and the installation that go with
-# it; twp_trials is taken from its crate, or is named second; twp_readings is taken from its crate. The last line counts
-# all tests: 'N passed, 0 failed'.
+# it; twp_trials is taken from its crate, or is named second. The last line counts all tests: 'N passed, 0 failed'.
 . "$(dirname "$0")/lib.sh"
 name_programs "$@"
 tests=$root/tests/program
@@ -14,15 +13,14 @@ begin growths sh "$tests/growths.sh" "$program" "$calls"
 # Descriptions as people write them: the land that is accepted, where the advice leads, and how they are read.
 if python=$(sh "$root/tools/python_with.sh" argparse); then
     begin descriptions "$python" "$root/tests/descriptions/check.py" "$program"
-    reader=$root/crates/twp_readings/out/twp_readings
     # How the descriptions of each author are read, and where the advice on the refused ones leads: it must never lead to
     # wrong land.
     for author in $(sed '1d; s/\t.*//' "$root/tests/descriptions/floors.tsv"); do
         rows=$root/tests/descriptions/$author.tsv
-        begin "$author" "$python" "$root/tests/descriptions/suggested.py" "$program" "$reader" "$rows"
+        begin "$author" "$python" "$root/tests/descriptions/suggested.py" "$program" "$calls" "$rows"
         begin "followed-$author" "$python" "$root/tests/descriptions/follow.py" "$program" "$rows"
     done
-    begin mutated "$python" "$root/tests/descriptions/mutated.py" "$program" "$reader"
+    begin mutated "$python" "$root/tests/descriptions/mutated.py" "$program" "$calls"
 else
     skip 'the descriptions, since there is no Python here'
 fi

@@ -26,7 +26,7 @@ WORDS = "crates/twp_words/words.tsv"
 CLASSES = "crates/twp_words/classes.tsv"
 SOURCES = "crates/twp_words/src"
 SPECS = "crates/twp_rules/specs"
-SIGNS = "crates/twp_explain_text/src/hints/signs.rt"
+SIGNS = "crates/twp_sentences/src/descriptions/hints/signs.rt"
 DOCUMENT = "docs/DESCRIPTIONS.md"
 
 #: The list of words in the document: what they are, and their classes.

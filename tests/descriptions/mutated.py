@@ -3,7 +3,7 @@
 
     python3 tests/descriptions/mutated.py [PROGRAM [READER]]
 
-PROGRAM is the path of `township`, by default ./township, and READER the program of crates/twp_readings. The rows are
+PROGRAM is the path of `township`, by default ./township, and READER the program of crates/twp_trials. The rows are
 those of each .tsv file in this folder that have one reading, which is the land understood. A mutant is a row's text
 with one damage. The places of the damages are drawn with a fixed seed, for each row and kind by itself, so that a new
 row leaves the mutants of the others as they are.
@@ -448,7 +448,7 @@ def all_readings(texts, reader):
         with tempfile.TemporaryFile() as file:
             file.write(b"".join(lines[:count]))
             file.seek(0)
-            run = subprocess.run([reader], stdin=file, stdout=subprocess.PIPE, check=True)
+            run = subprocess.run([reader, "readings"], stdin=file, stdout=subprocess.PIPE, check=True)
         output += run.stdout.decode().split("\n")[:-1]
         del lines[:count]
     found = []

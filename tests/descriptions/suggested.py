@@ -3,9 +3,9 @@
 
     python3 tests/descriptions/suggested.py [--record] [PROGRAM [READER [ROWS]]]
 
-PROGRAM is the path of `township`, by default ./township. READER is the program of crates/twp_readings, which prints
-the readings of descriptions. ROWS is a file in the form of written.tsv, which is the default. The land of each reading
-is compared with the land understood, on the field notes of samples/b1.csv.
+PROGRAM is the path of `township`, by default ./township. READER is the program of crates/twp_trials; with
+the word `readings`, it prints the readings of descriptions. ROWS is a file in the form of written.tsv, which is the
+default. The land of each reading is compared with the land understood, on the field notes of samples/b1.csv.
 
 A row fails, as wrong,
 - if it has readings, but none of them is the land understood;
@@ -34,7 +34,7 @@ from check import FOLDER, ROWS, Program  # noqa: E402
 from floors import floor_faults  # noqa: E402
 from follow import rows_in  # noqa: E402
 
-READER = FOLDER.parent.parent / "crates" / "twp_readings" / "out" / "twp_readings"
+READER = FOLDER.parent.parent / "crates" / "twp_trials" / "out" / "twp_trials"
 RECORD = FOLDER / "outcomes.tsv"
 OUTCOMES = ["as written", "one", "several", "refused", "none", "wrong"]
 KINDS = ["expressible", "ambiguous", "not expressible"]
@@ -44,7 +44,7 @@ COLUMNS = ["file", "kind", "rows"] + OUTCOMES + ["readings of several"]
 def readings_of(rows, reader):
     """The texts of the readings of each row, by the program that prints them."""
     texts = "".join(row.description.replace("\n", r"\n").replace("\t", r"\t") + "\n" for row in rows)
-    run = subprocess.run([reader], input=texts.encode(), capture_output=True, check=True)
+    run = subprocess.run([reader, "readings"], input=texts.encode(), capture_output=True, check=True)
     lines = [line for line in run.stdout.decode().split("\n") if line and not line.startswith("  ")]
     found = []
     at = 0

@@ -156,7 +156,7 @@ done < offered
 {
     find "$root/crates" -path '*/src/*' -name '*.rt' -exec \
         sed -n 's/^ *[A-Za-z]*Fault::\([A-Za-z]*\).* => (\([0-9][0-9]*\), .*/\2 \1/p' {} +
-    sed -n 's/^ *Refusal { number: \([0-9][0-9]*\), at }$/\1 Lacking/p' "$root/crates/twp_lots/src/lacking.rt"
+    sed -n 's/^ *Refusal { number: \([0-9][0-9]*\), at }$/\1 Lacking/p' "$root/crates/twp_plat/src/lots/lacking.rt"
 } | sort > in_code
 {
     sed -n 's/^| \([0-9][0-9]*\) | \([A-Z][A-Za-z]*\) |.*/\1 \2/p' "$docs/REFUSALS.md"

@@ -1,4 +1,4 @@
-# Readings in SQL: the worked examples of crates/twp_readings, and descriptions from practice, with the land that an
+# Readings in SQL: the worked examples of crates/twp_trials, and descriptions from practice, with the land that an
 # examiner understands.
 new_database readings
 sql -d readings -v notes="$(cat "$root/samples/b1.csv")" << 'END' > "$work/lost"
@@ -8,16 +8,17 @@ CREATE TABLE examples (id serial, text text);
 CREATE TABLE written (id text, source text, weight text, description text, land text, forms text);
 END
 # COPY reads \n and \t in these files as what they stand for. Other backslashes are doubled for it.
-sql -d readings -c 'COPY examples (text) FROM STDIN' < "$root/crates/twp_readings/stdin"
+sed '1,/^$/d' "$root/crates/twp_trials/stdin" > "$work/examples"
+sql -d readings -c 'COPY examples (text) FROM STDIN' < "$work/examples"
 sed '1d; s/\\/\\\\/g; s/\\\\\([nt]\)/\\\1/g' "$root/tests/descriptions/written.tsv" | sql -d readings -c 'COPY written FROM STDIN'
-all_read 'the worked examples' "$(wc -l < "$root/crates/twp_readings/stdin")" \
+all_read 'the worked examples' "$(wc -l < "$work/examples")" \
     "$(sql -d readings -c 'SELECT count(*) FROM examples')"
 all_read 'descriptions from practice' "$(sed 1d "$root/tests/descriptions/written.tsv" | wc -l)" \
     "$(sql -d readings -c 'SELECT count(*) FROM written')"
 
 # For each example, how many readings there are, and each reading, with the phrases of what it assumes. Readings are on
 # one line here, with single spaces.
-sed 's/^\(  .*`\): [^`]*$/\1/; s/\\[nt]/ /g; s/\(.\)  */\1 /g' "$root/crates/twp_readings/stdout" > "$work/wanted"
+sed '1,/^$/d; s/^\(  .*`\): [^`]*$/\1/; s/\\[nt]/ /g; s/\(.\)  */\1 /g' "$root/crates/twp_trials/stdout" > "$work/wanted"
 sql -d readings << 'END' > "$work/found"
 SELECT line
 FROM examples, LATERAL (

@@ -160,7 +160,7 @@ def listing(reading, chosen):
 
 def kit_crates(sources):
     """The crates of the kit that the runs depend on, directly or not."""
-    below, waiting = set(), ["twp_acres"]
+    below, waiting = set(), ["twp_answers"]
     while waiting:
         waiting += (new := set(sources.crates.get(waiting.pop(), [])) - below)
         below |= new

@@ -36,9 +36,9 @@ LIMITS = (
         {"crates/twp_answers/src/tract_fault.rt": r"const TRACTS_LIMIT: u32 = ", HEADER: r"#define TOWNSHIP_LIST_MOST "},
     ),
     Limit(
-        "crates/twp_lots/specs/LotRecords.antt",
+        "crates/twp_plat/specs/LotRecords.antt",
         "LOTS_TEXT_MOST",
-        {"crates/twp_lots/src/fault.rt": r"const MOST_BYTES: u32 = ", HEADER: r"#define TOWNSHIP_LOTS_TEXT_MOST "},
+        {"crates/twp_plat/src/lots/fault.rt": r"const MOST_BYTES: u32 = ", HEADER: r"#define TOWNSHIP_LOTS_TEXT_MOST "},
     ),
     Limit(
         "crates/twp_answers/specs/Tracts.antt",
@@ -70,7 +70,7 @@ NO_SENTENCES = {"docs/BENCHMARKS.md", "docs/PERFORMANCE.md", "docs/TRUST.md"}
 
 #: What is read of standard input: a description, a line feed, and one byte more than notes may have.
 JOINED = {
-    "crates/twp_task/src/joined.rt": r"const MOST_BYTES: usize = ",
+    "crates/twp_program/src/joined.rt": r"const MOST_BYTES: usize = ",
     "tests/library/c/case_records.py": r"^JOINED_MOST = ",
     "bindings/python/tests/test_cases.py": r"^JOINED_MOST = ",
 }

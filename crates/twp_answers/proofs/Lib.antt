@@ -12,3 +12,7 @@ pub mod EachFacts
 pub mod OverlapFacts
 pub mod FirstTractFaults
 pub mod TractAreas
+pub mod RunFacts
+pub mod UnitedFigures
+pub mod LotFigures
+pub mod FirstLotTractFaults

@@ -13,4 +13,16 @@ pub mod ReportAnswers
 pub mod AccountFigures
 pub mod EachTract
 pub mod Overlaps
+pub mod Runs
+pub mod AccountAnswers
+pub mod NormalAnswers
+pub mod Laws
+pub mod NormalLaws
+pub mod TractLaws
+pub mod OnLandLaws
+pub mod OnPlatLaws
+pub mod FinerPlaces
+pub mod LotLands
+pub mod LotAccounts
+pub mod LotTractFaults
 pub mod steps

@@ -3,3 +3,7 @@ pub mod PassedFaults
 pub mod TractTaking
 pub mod EachTaking
 pub mod OverlapTaking
+pub mod RunStops
+pub mod Stages
+pub mod OnPlatSteps
+pub mod LotTaking

@@ -3,11 +3,10 @@ ghost use Rattle.std.specs.Prelude.{◌≡◌, ◌≢◌};
 ghost use Rattle.twp_calls.specs.Answers.{ACCEPTED};
 ghost use Rattle.twp_calls.specs.Figures.{IsFiguresCall};
 ghost use Rattle.twp_calls.specs.ManyAnswers.{IsManyCall};
-ghost use Rattle.twp_many.specs.FullAnswers.{IsFullCall};
+ghost use Rattle.twp_calls.specs.FullAnswers.{IsFullCall};
 
 use std::alloc::Global;
-use twp_calls::{TownshipAnswer, TownshipPlat, TownshipPlatFigures};
-use twp_many::TownshipFullAnswer;
+use twp_calls::{TownshipAnswer, TownshipFullAnswer, TownshipPlat, TownshipPlatFigures};
 
 /// The figures that the printed plat shows: of each lot, of each section, and of the township.
 #[unsafe(no_mangle)]
@@ -53,5 +52,5 @@ pub extern "C" fn township_answer_many(
         answers.old answers.new result }
     ensures kept { result.verdict ≢ ACCEPTED → answers.new ≡ answers.old }
 {
-    twp_many::township_answer_many(alloc, plat, descriptions, offsets, account, answers)
+    twp_calls::township_answer_many(alloc, plat, descriptions, offsets, account, answers)
 }

@@ -1,5 +1,5 @@
 //! The library that C calls, and what is built on C: `include/township.h` documents each call. Each hands
-//! what it is given to the call of the same name in `twp_calls` or `twp_many`.
+//! what it is given to the call of the same name in `twp_calls`.
 #![tactic(auto)]
 
 mod explaining;

@@ -5,8 +5,8 @@ use Rattle.std.proofs.Common.{length-append}
 use Rattle.twp_diagnose.specs.ShownMessages.{ShowsIn}
 use Rattle.twp_diagnose.specs.declared.explanation.Explanation.{Explanation}
 use Rattle.twp_diagnose.specs.declared.given.Given.{Given}
-use Rattle.twp_explain_doubts.specs.ShownNotes.{ShowsNoteIn}
-use Rattle.twp_explain_doubts.specs.declared.note.Note.{Note}
+use Rattle.twp_explain.specs.ShownNotes.{ShowsNoteIn}
+use Rattle.twp_explain.specs.declared.note.Note.{Note}
 use Rattle.twp_calls.specs.Answers.{ACCEPTED, IsRefused, bare}
 use Rattle.twp_calls.specs.Calls.{Answers, IsPut, no_memory, put, not_put}
 use Rattle.twp_calls.specs.ExplanationParts.{ArePartsOf, ArePartsOfNote}

@@ -13,3 +13,4 @@ pub mod PartFacts
 pub mod PlaceFacts
 pub mod SuggestionFacts
 pub mod WritingFacts
+pub mod FullFacts

@@ -2,16 +2,16 @@
 use Rattle.std.proofs.Common.{◌≡◌, ℕ, Bool, List, Option, Some, None, IfSome, refl, sym, subst}
 use Rattle.twp_grid.specs.Places.{PLACE_DIGITS}
 use Rattle.twp_grid.specs.declared.refusal.Refusal.{Refusal}
-use Rattle.twp_lots.specs.LotAreas.{IsFirstLacking}
-use Rattle.twp_lots.specs.LotTables.{ReturnedLots}
-use Rattle.twp_lots.specs.LotsFaults.{IsFirstFault, lacking_refusal, refusal_of}
-use Rattle.twp_lots.specs.declared.fault.LotsFault.{LotsFault}
+use Rattle.twp_plat.specs.LotAreas.{IsFirstLacking}
+use Rattle.twp_plat.specs.LotTables.{ReturnedLots}
+use Rattle.twp_plat.specs.LotsFaults.{IsFirstFault, lacking_refusal, refusal_of}
+use Rattle.twp_plat.specs.declared.lots.fault.LotsFault.{LotsFault}
 use Rattle.twp_answers.specs.declared.stop.Stop.{Stop}
 use Rattle.twp_answers.specs.declared.stop.Stop.TheVariants as stop
 use Rattle.twp_calls.specs.Answers.{answer_of_refusal, refused, stopped}
 use Rattle.twp_calls.specs.Calls.{Answers, IsRefusedFor, no_memory, refused_for}
 use Rattle.twp_calls.specs.LotCalls.{AreNoLots}
-use Rattle.twp_lot_account.specs.LotLands.{HasNoLotAreaOf, IsLackingLot}
+use Rattle.twp_answers.specs.LotLands.{HasNoLotAreaOf, IsLackingLot}
 use Rattle.twp_calls.specs.declared.answer.TownshipAnswer.{TownshipAnswer}
 use Rattle.twp_calls.specs.steps.LotSteps.{StopsByLots}
 

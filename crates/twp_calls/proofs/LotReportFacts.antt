@@ -2,15 +2,15 @@
 use Rattle.std.proofs.Common.{◌≡◌, ℕ, ◌<◌, ◌≤◌, List, [], ◌∷◌, length, get_or, Option, Some, None, IfSome}
 use Rattle.std.proofs.Common.{refl, sym, ◌∙◌, subst, inl, inr, arith}
 use Rattle.std.specs.List.{SameFrom}
-use Rattle.twp_lots.specs.LotTables.{ReturnedLots}
+use Rattle.twp_plat.specs.LotTables.{ReturnedLots}
 use Rattle.twp_notes.specs.Records.{Fields, record_at}
 use Rattle.twp_answers.specs.TractFaults.{verdict_of}
 use Rattle.twp_answers.specs.declared.account_figures.TractFigure.{TractFigure}
 use Rattle.twp_answers.specs.declared.tract_fault.TractFault.{TractFault}
 use Rattle.twp_answers.specs.declared.verdict.Verdict.{Verdict}
-use Rattle.twp_lot_account.specs.LotAccounts.{AreFiguresByLots, AreTractAcres, IsAccountByLots}
-use Rattle.twp_lot_account.specs.LotAccounts.{IsFigureByLots}
-use Rattle.twp_lot_account.specs.LotTractFaults.{AnswersFaultByLots, IsFirstFaultByLots}
+use Rattle.twp_answers.specs.LotAccounts.{AreFiguresByLots, AreTractAcres, IsAccountByLots}
+use Rattle.twp_answers.specs.LotAccounts.{IsFigureByLots}
+use Rattle.twp_answers.specs.LotTractFaults.{AnswersFaultByLots, IsFirstFaultByLots}
 use Rattle.twp_calls.specs.Accounts.{tract_count}
 use Rattle.twp_calls.specs.Answers.{accepted_acres, answer_of_fault, answer_of_verdict, with_text}
 use Rattle.twp_calls.specs.Answers.{without_room}

@@ -7,8 +7,8 @@ use Rattle.twp_plat.specs.declared.account.Account.TheVariants.{Exact}
 use Rattle.twp_answers.specs.OnPlats.{HasAreaOn}
 use Rattle.twp_answers.specs.ReportAnswers.{IsAccountOf}
 use Rattle.twp_diagnose.specs.declared.given.Given.{Given}
-use Rattle.twp_explain_doubts.specs.ShownNotes.{IsNoteOf, ShowsNoteIn}
-use Rattle.twp_explain_doubts.specs.declared.note.Note.{Note}
+use Rattle.twp_explain.specs.ShownNotes.{IsNoteOf, ShowsNoteIn}
+use Rattle.twp_explain.specs.declared.note.Note.{Note}
 use Rattle.twp_calls.specs.Answers.{ACCEPTED, IsRefused}
 use Rattle.twp_calls.specs.Calls.{Answers, IsPut, accepted, no_memory, put, not_put}
 use Rattle.twp_calls.specs.Explanations.{IsOfArea, IsOfAccount, located_at}

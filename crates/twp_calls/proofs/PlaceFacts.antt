@@ -18,7 +18,7 @@ use Rattle.twp_answers.specs.OnPlats.{StopsOn}
 use Rattle.twp_answers.specs.declared.stop.Stop.{Stop}
 use Rattle.twp_answers.specs.declared.stop.Stop.TheVariants as stop
 use Rattle.twp_answers.proofs.OneAnswer.{one_description_refusal}
-use Rattle.twp_explain_text.specs.ShownPlaces.{TOO_LARGE}
+use Rattle.twp_sentences.specs.ShownPlaces.{TOO_LARGE}
 use Rattle.twp_diagnose.specs.Spots.{MOST_BYTES, IsSpotIn}
 use Rattle.twp_diagnose.specs.declared.explanation.Explanation.{Explanation}
 use Rattle.twp_diagnose.specs.declared.given.Given.{Given}

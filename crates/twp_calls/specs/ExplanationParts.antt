@@ -10,8 +10,8 @@ use Rattle.twp_diagnose.specs.declared.explanation.Explanation.{Explanation}
 use Rattle.twp_diagnose.specs.declared.explanation.OtherPlace.{OtherPlace}
 use Rattle.twp_diagnose.specs.declared.location.Location.{Location}
 use Rattle.twp_diagnose.specs.declared.location.Location.TheVariants.{Whole, Line, Field, Part}
-use Rattle.twp_explain_doubts.specs.NoteMarks.{IsSentenceOf}
-use Rattle.twp_explain_doubts.specs.declared.note.Note.{Note}
+use Rattle.twp_explain.specs.NoteMarks.{IsSentenceOf}
+use Rattle.twp_explain.specs.declared.note.Note.{Note}
 use Rattle.twp_calls.specs.declared.explanation.TownshipExplanation.{TownshipExplanation}
 
 -- what is shown of the input: nothing, a line, or underlined bytes

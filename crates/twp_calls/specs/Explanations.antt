@@ -17,10 +17,10 @@ use Rattle.twp_answers.specs.TractFaults.{IsFirstTractFault, refusal_of, verdict
 use Rattle.twp_answers.specs.declared.tract_fault.TractFault.{TractFault}
 use Rattle.twp_answers.specs.declared.verdict.Verdict.{Verdict}
 use Rattle.twp_read.specs.Doubts.{HasNoDoubtfulPlace}
-use Rattle.twp_explain_text.specs.ShownPlaces.{TOO_LARGE}
-use Rattle.twp_explain_doubts.specs.ShownNotes.{IsOfFirst}
+use Rattle.twp_sentences.specs.ShownPlaces.{TOO_LARGE}
+use Rattle.twp_explain.specs.ShownNotes.{IsOfFirst}
 use Rattle.twp_diagnose.specs.declared.explanation.Explanation.{Explanation}
-use Rattle.twp_explain_doubts.specs.declared.note.Note.{Note}
+use Rattle.twp_explain.specs.declared.note.Note.{Note}
 use Rattle.twp_calls.specs.Answers.{ACCEPTED, IsRefused, bare, refused, verdict_answer}
 use Rattle.twp_calls.specs.Calls.{Answers, IsPut, OnPlat}
 use Rattle.twp_calls.specs.declared.answer.TownshipAnswer.{TownshipAnswer}

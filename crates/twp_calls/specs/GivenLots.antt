@@ -1,6 +1,6 @@
 -- Lot tables as plain data, which may be valid or not.
 use Rattle.std.specs.Prelude.{◌≡◌}
-use Rattle.twp_lots.specs.LotTables.{ReturnedLots, IsLotTable}
+use Rattle.twp_plat.specs.LotTables.{ReturnedLots, IsLotTable}
 use Rattle.twp_calls.specs.GivenTownships.{IsGivenTownship, given_designation}
 use Rattle.twp_calls.specs.declared.lots.TownshipLots.{TownshipLots as GivenLots}
 

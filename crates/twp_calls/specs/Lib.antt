@@ -20,4 +20,5 @@ pub mod ShownTexts
 pub mod ExplanationParts
 pub mod Explanations
 pub mod WrittenNotes
+pub mod FullAnswers
 pub mod steps

@@ -2,11 +2,11 @@
 use Rattle.std.specs.Prelude.{◌≡◌, ◌⊎◌, ℕ, List, Bool, Some}
 use Rattle.twp_measure.specs.Areas.{Fraction, IsRounded}
 use Rattle.twp_grid.specs.declared.refusal.Refusal.{Refusal}
-use Rattle.twp_lots.specs.LotRecords.{AreLots}
-use Rattle.twp_lots.specs.LotTables.{ReturnedLots}
-use Rattle.twp_lots.specs.LotsFaults.{IsFirstFault, refusal_of}
-use Rattle.twp_lots.specs.declared.fault.LotsFault.{LotsFault}
-use Rattle.twp_lot_account.specs.LotLands.{HasLotArea, HasLotAreaOf, HasNoLotAreaOf, IsLackingLot}
+use Rattle.twp_plat.specs.LotRecords.{AreLots}
+use Rattle.twp_plat.specs.LotTables.{ReturnedLots}
+use Rattle.twp_plat.specs.LotsFaults.{IsFirstFault, refusal_of}
+use Rattle.twp_plat.specs.declared.lots.fault.LotsFault.{LotsFault}
+use Rattle.twp_answers.specs.LotLands.{HasLotArea, HasLotAreaOf, HasNoLotAreaOf, IsLackingLot}
 use Rattle.twp_calls.specs.Answers.{ACCEPTED, NO_LOTS, bare, accepted_acres}
 use Rattle.twp_calls.specs.Calls.{Answers, IsFractionOf, IsRefusedFor}
 use Rattle.twp_calls.specs.GivenLots.{IsGivenLots, IsNoGivenLots, given_lots}

@@ -1,15 +1,15 @@
 -- The account of a list of tracts by a lot table, as numbers.
 use Rattle.std.specs.Prelude.{◌≡◌, ◌⊎◌, ℕ, ◌<◌, ◌≤◌, List, length, take, slice_index_or, Some}
 use Rattle.std.specs.List.{SameFrom}
-use Rattle.twp_lots.specs.LotTables.{ReturnedLots}
+use Rattle.twp_plat.specs.LotTables.{ReturnedLots}
 use Rattle.twp_notes.specs.Records.{Fields, record_at}
 use Rattle.twp_answers.specs.TractFaults.{verdict_of}
 use Rattle.twp_answers.specs.Tracts.{IsTractList, name_in, tract_records}
 use Rattle.twp_answers.specs.declared.account_figures.TractFigure.{TractFigure}
 use Rattle.twp_answers.specs.declared.tract_fault.TractFault.{TractFault}
 use Rattle.twp_answers.specs.declared.verdict.Verdict.{Verdict}
-use Rattle.twp_lot_account.specs.LotAccounts.{AreTractAcres, IsAccountByLots, IsTotalByLots}
-use Rattle.twp_lot_account.specs.LotTractFaults.{IsFirstFaultByLots}
+use Rattle.twp_answers.specs.LotAccounts.{AreTractAcres, IsAccountByLots, IsTotalByLots}
+use Rattle.twp_answers.specs.LotTractFaults.{IsFirstFaultByLots}
 use Rattle.twp_calls.specs.Accounts.{tract_count}
 use Rattle.twp_calls.specs.Answers.{accepted_acres, verdict_answer, with_text, without_room}
 use Rattle.twp_calls.specs.Calls.{Answers}

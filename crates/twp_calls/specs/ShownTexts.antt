@@ -2,9 +2,9 @@
 use Rattle.std.specs.Prelude.{◌≡◌, ℕ, List}
 use Rattle.twp_diagnose.specs.declared.given.Given.{Given}
 use Rattle.twp_diagnose.specs.ShownMessages.{ShowsIn}
-use Rattle.twp_explain_doubts.specs.ShownNotes.{ShowsNoteIn}
+use Rattle.twp_explain.specs.ShownNotes.{ShowsNoteIn}
 use Rattle.twp_diagnose.specs.declared.explanation.Explanation.{Explanation}
-use Rattle.twp_explain_doubts.specs.declared.note.Note.{Note}
+use Rattle.twp_explain.specs.declared.note.Note.{Note}
 use Rattle.twp_calls.specs.ExplanationParts.{ArePartsOf, ArePartsOfNote}
 use Rattle.twp_calls.specs.Explanations.{IsNotePut, PutsExplanation}
 use Rattle.twp_calls.specs.Names.{IsNameOf}

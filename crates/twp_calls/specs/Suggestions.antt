@@ -9,8 +9,8 @@ use Rattle.twp_suggest.specs.declared.assumptions.Assumption.TheVariants.{SaidBe
 use Rattle.twp_suggest.specs.declared.assumptions.Assumption.TheVariants.{NoMissingComma}
 use Rattle.twp_rules.specs.Changes.{seen}
 use Rattle.twp_rules.specs.declared.change.Change.{Change}
-use Rattle.twp_described.specs.declared.manner.Manner.{Manner}
-use Rattle.twp_described.specs.declared.manner.Manner.TheVariants.{Changed, LotsNamed, Remainder}
+use Rattle.twp_suggest.specs.declared.meaning.manner.Manner.{Manner}
+use Rattle.twp_suggest.specs.declared.meaning.manner.Manner.TheVariants.{Changed, LotsNamed, Remainder}
 use Rattle.twp_suggest.specs.declared.reading.Reading.{Reading}
 use Rattle.twp_rules.specs.declared.rule.Rule.{Rule}
 use Rattle.twp_rules.specs.declared.rule.Rule.TheVariants.{Half, Quarter, Direction, Numeral, Copied}

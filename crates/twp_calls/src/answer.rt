@@ -2,12 +2,12 @@
 ghost use Rattle.std.specs.Prelude.{◌≡◌};
 ghost use Rattle.twp_calls.specs.Answers.{bare, accepted_acres, refused, tract_refused};
 ghost use Rattle.twp_calls.specs.Answers.{stopped, answer_of_fault, answer_of_refusal};
-ghost use Rattle.twp_lots.specs.LotsFaults.{refusal_of};
+ghost use Rattle.twp_plat.specs.LotsFaults.{refusal_of};
 
 use crate::verdict;
 use twp_answers::{Stop, TractFault};
 use twp_grid::Refusal;
-use twp_lots::LotsFault;
+use twp_plat::LotsFault;
 
 /// What a call answers: what a verdict doesn't speak of is 0, but `NO_ROOM` keeps what there was to
 /// say.

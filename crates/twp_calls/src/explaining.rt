@@ -20,10 +20,12 @@ use std::alloc::{AllocError, Global};
 use twp_answers::{Stop, account_on, area_on};
 use twp_diagnose::{Explanation, Given};
 use twp_excerpt::Spot;
-use twp_explain::{explain_description, explain_notes, explain_tracts};
-use twp_explain_doubts::{Note, note_description, note_tracts};
-use twp_perhaps::OnlyReading;
+use twp_explain::{
+    Note, explain_description, explain_notes, explain_tracts, note_description, note_tracts,
+};
+use twp_phrases::Phrases;
 use twp_plat::Account;
+use twp_suggest::OnlyReading;
 
 /// What a text is called that has no name of its own.
 const UNNAMED: &str = "input";
@@ -88,7 +90,7 @@ pub fn township_explain_description_parts(
         Err(Stop::Failed(_)) => return TownshipAnswer::bare(NO_MEMORY),
         Err(Stop::Refused(refusal)) => TownshipAnswer::of_refusal(refusal),
     };
-    match explain_description::<OnlyReading>(alloc, plat.township(), &file) {
+    match explain_description::<OnlyReading<Phrases>>(alloc, plat.township(), &file) {
         Ok(Some(explained)) => put_explained(alloc, refused, &explained, text, explanation),
         Ok(None) => TownshipAnswer::bare(NO_MEMORY),
         Err(_) => TownshipAnswer::bare(NO_MEMORY),
@@ -127,7 +129,7 @@ pub fn township_explain_list_parts(
         return TownshipAnswer::bare(NO_MEMORY);
     };
     let refused = TownshipAnswer::of_fault(fault);
-    match explain_tracts::<OnlyReading>(alloc, &plat, &file) {
+    match explain_tracts::<OnlyReading<Phrases>>(alloc, &plat, &file) {
         Ok(Some(explained)) => put_explained(
             alloc,
             refused,

@@ -7,7 +7,7 @@ ghost use Rattle.twp_calls.specs.ExplanationParts.{other_record, shown_bytes, sh
 use std::alloc::{AllocError, Global};
 use twp_diagnose::{Explanation, Location, OtherPlace};
 use twp_excerpt::{Parts, Span};
-use twp_explain_doubts::{Note, without_mark};
+use twp_explain::{Note, without_mark};
 use twp_read::{Description, TextFault};
 
 /// Nothing of the input is shown; a line is named; or bytes are underlined.

@@ -1,10 +1,12 @@
 //! What the library for C answers: a plat is plain data, answers are plain data too, and texts go to
-//! the caller's memory. `include/township.h` documents each call; `twp_c` gives them to C.
+//! the caller's memory. One call answers many descriptions, each with its acres, its canonical text, and
+//! whether there is a note on it. `include/township.h` documents each call; `twp_c` gives them to C.
 #![tactic(auto)]
 
 mod account;
 mod account_call;
 mod answer;
+mod answer_many;
 mod answering;
 mod combining;
 mod designation;
@@ -14,6 +16,7 @@ mod explaining_texts;
 mod explanation;
 mod figures;
 mod fraction;
+mod full_answer;
 mod land;
 mod land_answers;
 mod land_parts;
@@ -34,6 +37,7 @@ mod writing;
 
 pub use account_call::{TownshipTotals, TownshipTract, township_account};
 pub use answer::TownshipAnswer;
+pub use answer_many::township_answer_many;
 pub use answering::{
     township_acres, township_area, township_normal, township_print, township_read, township_report,
 };
@@ -50,6 +54,7 @@ pub use explaining_texts::{
 pub use explanation::TownshipExplanation;
 pub use figures::{TownshipPlatFigures, township_figures};
 pub use fraction::TownshipFraction;
+pub use full_answer::TownshipFullAnswer;
 pub use land::TownshipLand;
 pub use land_answers::{
     township_land_acres, township_land_area, township_land_read, township_land_text,

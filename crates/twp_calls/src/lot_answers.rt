@@ -14,8 +14,8 @@ use crate::verdict::{ACCEPTED, NO_LAND, NO_LOTS, OTHER_TOWNSHIP};
 use std::alloc::Global;
 use twp_answers::{Stop, land_of};
 use twp_grid::Bytes;
-use twp_lots::{LotTable, area_by_lots};
 use twp_measure::Area;
+use twp_plat::{LotTable, area_by_lots};
 
 /// Reads a lot table.
 pub fn township_lots_read(alloc: Global, table: &[u8], lots: &mut TownshipLots) -> TownshipAnswer

@@ -3,7 +3,7 @@ ghost use Rattle.std.specs.Prelude.{◌≡◌, MatchOption};
 ghost use Rattle.twp_calls.specs.GivenLots.{IsGivenLots, IsNoGivenLots, given_lots};
 
 use crate::designation::TownshipDesignation;
-use twp_lots::{LOTS, LotTable};
+use twp_plat::{LOTS, LotTable};
 
 /// The parts of a lot table, whether they are valid or not.
 #[repr(C)]

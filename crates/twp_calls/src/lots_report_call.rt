@@ -1,7 +1,7 @@
 //! The account of a list of tracts by a lot table, as numbers.
 ghost use Rattle.std.specs.Prelude.{◌≡◌, ◌≢◌, List, ℕ};
-ghost use Rattle.twp_lots.specs.LotTables.{ReturnedLots};
-ghost use Rattle.twp_lot_account.specs.LotAccounts.{IsAccountByLots};
+ghost use Rattle.twp_plat.specs.LotTables.{ReturnedLots};
+ghost use Rattle.twp_answers.specs.LotAccounts.{IsAccountByLots};
 ghost use Rattle.twp_calls.specs.Answers.{ACCEPTED, answer};
 ghost use Rattle.twp_calls.specs.LotReports.{HasAccountByLots, IsLotsReportCall};
 
@@ -11,8 +11,7 @@ use crate::lots::TownshipLots;
 use crate::many::counted;
 use crate::verdict::{ACCEPTED, NO_LOTS, NO_ROOM};
 use std::alloc::Global;
-use twp_answers::TractFigure;
-use twp_lot_account::account_by_lots;
+use twp_answers::{TractFigure, account_by_lots};
 
 /// The account of a list of tracts by a lot table: the tracts and their number, and the total.
 pub fn township_lots_report(

@@ -5,8 +5,9 @@
 #![tactic(auto)]
 
 use std::process::ExitCode;
-use twp_perhaps::OnlyReading;
+use twp_phrases::Phrases;
+use twp_suggest::OnlyReading;
 
 fn main(rt: HostRuntime) -> ExitCode {
-    ExitCode::from(twp_program::run::<OnlyReading, _>(&rt).status)
+    ExitCode::from(twp_program::run::<OnlyReading<Phrases>, _>(&rt).status)
 }

@@ -4,7 +4,8 @@ pub mod SharedText
 pub mod Sights
 pub mod Origins
 pub mod Spots
-pub mod steps
 pub mod RecordFields
 pub mod Findings
 pub mod ShownMessages
+pub mod Suggestions
+pub mod steps

@@ -18,6 +18,7 @@ mod quoted;
 mod records;
 mod shared_land;
 mod sight;
+mod suggests;
 
 pub use explanation::{Explanation, OtherPlace};
 pub use fields::{is_text, write_count};
@@ -34,3 +35,4 @@ pub use quoted::write_quoted;
 pub use records::{Record, text_in};
 pub use shared_land::{Shared, shared_land_text};
 pub use sight::{Surroundings, TokenAt};
+pub use suggests::{Suggested, Suggestion, Suggests};

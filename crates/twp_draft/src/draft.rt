@@ -3,7 +3,7 @@
 use crate::steps::Thereof;
 use std::alloc::{AllocError, Global};
 use std::mem;
-use twp_pieces::{Pieces, plus};
+use twp_asides::{Pieces, plus};
 use twp_rules::{Change, Rule};
 
 /// What a phrase names.

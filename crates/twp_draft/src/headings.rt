@@ -1,7 +1,7 @@
 //! Townships and ranges where they are written again: `T. 2 N., R. 3 W., `.
 
 use crate::draft::{Draft, Numeral, Phrase};
-use twp_pieces::plus;
+use twp_asides::plus;
 use twp_rules::Rule;
 
 impl<'a> Draft<'a> {

@@ -1,8 +1,8 @@
 //! Numbers in digits and in words.
 
 use crate::draft::{Draft, Numeral};
+use twp_asides::{plus, tens_of, value_of, value_of_count};
 use twp_grammar::Kind;
-use twp_pieces::{plus, tens_of, value_of, value_of_count};
 use twp_rules::Rule;
 
 /// The numbers of one digit.

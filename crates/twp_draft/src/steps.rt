@@ -1,7 +1,7 @@
 //! The steps of aliquot parts, and whether those of two parts are the same.
 
 use crate::draft::{Draft, Phrase, PlacedStep, Span};
-use twp_pieces::plus;
+use twp_asides::plus;
 
 /// An excepted part with `thereof` that ends with the steps of the part before it, as in
 /// `the SW1/4, except the N1/2 of the SW1/4 thereof`: it may be of the section, or of that part.

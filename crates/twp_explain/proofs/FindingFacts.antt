@@ -21,9 +21,9 @@ use Rattle.twp_answers.specs.declared.verdict.Verdict.{Verdict}
 use Rattle.twp_answers.specs.declared.verdict.Verdict.TheVariants.{Refused}
 use Rattle.twp_answers.proofs.OneAnswer.{not_platted, not_described, one_plat_refusal, one_refusal, one_plat}
 use Rattle.twp_read.specs.declared.fault.TextFault.TheVariants as text
-use Rattle.twp_explain_text.specs.OtherPlaces.{IsOtherPlace}
-use Rattle.twp_explain_text.specs.ShownPlaces.{IfShown}
-use Rattle.twp_explain_text.specs.Underlined.{EndsWithFault, EndsWithSign}
+use Rattle.twp_sentences.specs.OtherPlaces.{IsOtherPlace}
+use Rattle.twp_sentences.specs.ShownPlaces.{IfShown}
+use Rattle.twp_sentences.specs.Underlined.{EndsWithFault, EndsWithSign}
 use Rattle.twp_explain.specs.FoundFaults.{ShowsFound}
 use Rattle.twp_explain.specs.Refusals.{IsOfNone, IsNotOf, DescribeLand}
 use Rattle.twp_diagnose.specs.Findings.{IfFinds, IfFound}

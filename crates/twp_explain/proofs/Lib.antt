@@ -4,3 +4,4 @@ pub mod MessageFacts
 pub mod ShownFacts
 pub mod SharingFacts
 pub mod TractFacts
+pub mod NoteFacts

@@ -15,8 +15,8 @@ use Rattle.twp_diagnose.specs.declared.finding.Failure.TheVariants as stop
 use Rattle.twp_diagnose.specs.declared.given.Given.{Given}
 use Rattle.twp_diagnose.specs.declared.location.Location.{Location}
 use Rattle.twp_diagnose.proofs.SpotFacts.{same_spot}
-use Rattle.twp_explain_text.specs.ShownPlaces.{BeginsAt, ShowsRefused, as_a_whole, there, at_the_end}
-use Rattle.twp_explain_text.specs.ShownPlaces.{TOO_LARGE}
+use Rattle.twp_sentences.specs.ShownPlaces.{BeginsAt, ShowsRefused, as_a_whole, there, at_the_end}
+use Rattle.twp_sentences.specs.ShownPlaces.{TOO_LARGE}
 use Rattle.twp_diagnose.specs.declared.explanation.OtherPlace.{OtherPlace}
 use Rattle.twp_diagnose.specs.declared.origin.Origin.{Origin}
 use Rattle.twp_explain.specs.FoundFaults.{IsMessageOf, ShowsFound, ShowsLand, ShowsLandIn}

@@ -4,7 +4,7 @@ use Rattle.std.specs.List.{AllPass}
 use Rattle.twp_excerpt.specs.Spots.{is_white, end_of}
 use Rattle.twp_excerpt.specs.declared.spot.Spot.{Spot}
 use Rattle.twp_grid.specs.declared.refusal.Refusal.{Refusal}
-use Rattle.twp_explain_text.specs.ShownPlaces.{TOO_LARGE}
+use Rattle.twp_sentences.specs.ShownPlaces.{TOO_LARGE}
 use Rattle.twp_diagnose.specs.Spots.{MOST_BYTES, IsSpotIn, IsSpotOf}
 use Rattle.twp_diagnose.specs.declared.explanation.Explanation.{Explanation}
 use Rattle.twp_diagnose.specs.declared.given.Given.{Given}

@@ -20,9 +20,9 @@ use Rattle.twp_diagnose.specs.declared.finding.Failure.TheVariants.{Found, Memor
 use Rattle.twp_diagnose.specs.declared.given.Given.{Given}
 use Rattle.twp_diagnose.specs.declared.location.Location.{Location}
 use Rattle.twp_diagnose.specs.declared.origin.Origin.{Origin}
-use Rattle.twp_explain_text.specs.OtherPlaces.{IsOtherPlace}
-use Rattle.twp_explain_text.specs.ShownPlaces.{ShowsRefused}
-use Rattle.twp_explain_text.specs.Underlined.{EndsWithFault, EndsWithSign}
+use Rattle.twp_sentences.specs.OtherPlaces.{IsOtherPlace}
+use Rattle.twp_sentences.specs.ShownPlaces.{ShowsRefused}
+use Rattle.twp_sentences.specs.Underlined.{EndsWithFault, EndsWithSign}
 
 -- of a text that isn't read, the sign at fault is underlined, and there is no other place
 pub record IsOfText (origin : Origin) (text : List ℕ) (refusal : Refusal) (place : Location)

@@ -4,4 +4,6 @@ pub mod ExplainedPlaces
 pub mod FoundFaults
 pub mod BlamedTracts
 pub mod OtherTracts
+pub mod ShownNotes
+pub mod NoteMarks
 pub mod steps

@@ -1,2 +1,3 @@
 -- What private functions promise one another.
 pub mod Sharing
+pub mod ListDoubts

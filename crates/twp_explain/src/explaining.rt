@@ -12,15 +12,14 @@ ghost use Rattle.twp_answers.specs.declared.verdict.Verdict.TheVariants.{Refused
 
 use std::alloc::{AllocError, Global};
 use twp_answers::Verdict;
-use twp_diagnose::{Explanation, Failure, Given, Origin};
-use twp_explain_notes::{stop_of_notes, stop_of_plat};
-use twp_explain_text::{Suggests, stop_of_places, stop_of_text};
+use twp_diagnose::{Explanation, Failure, Given, Origin, Suggests};
 use twp_grid::{Bytes, Township};
 use twp_land::Lanes;
 use twp_notes::Notes;
 use twp_plat::Plat;
 use twp_read::Description;
 use twp_resolve::resolve;
+use twp_sentences::{stop_of_notes, stop_of_places, stop_of_plat, stop_of_text};
 
 /// The explanation of field notes that a run of them alone refused. None where they don't have the
 /// verdict's fault.

@@ -9,8 +9,7 @@ use crate::explaining::{explain, plat_of};
 use crate::tracts;
 use std::alloc::{AllocError, Global};
 use twp_answers::{TRACTS_LIMIT, TractFault, Verdict, account_of_tracts};
-use twp_diagnose::{Explanation, Given};
-use twp_explain_text::Suggests;
+use twp_diagnose::{Explanation, Given, Suggests};
 use twp_grid::{Refusal, Township};
 use twp_plat::Plat;
 

@@ -13,8 +13,7 @@ use crate::explaining::{describe, plat_of};
 use crate::list::{explain_fault, fault_of};
 use std::alloc::{AllocError, Global};
 use twp_answers::TractFault;
-use twp_diagnose::{Explanation, Failure, Given, Origin};
-use twp_explain_text::Suggests;
+use twp_diagnose::{Explanation, Failure, Given, Origin, Suggests};
 use twp_grid::Township;
 use twp_plat::Plat;
 

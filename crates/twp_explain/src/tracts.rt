@@ -20,12 +20,14 @@ use crate::sharing::{FIRST_TRACT, first_sharing_record};
 use csv::ByteRecord;
 use std::alloc::{AllocError, Global};
 use twp_answers::TractFault;
-use twp_diagnose::{Failure, Finding, Given, Listed, Location, Origin, OtherPlace, text_in};
+use twp_diagnose::{
+    Failure, Finding, Given, Listed, Location, Origin, OtherPlace, Suggests, text_in,
+};
 use twp_excerpt::write_escaped;
-use twp_explain_text::{Suggests, write_land};
 use twp_grid::{Refusal, Township};
 use twp_land::{Land, Lanes};
 use twp_notes::Records;
+use twp_sentences::write_land;
 use twp_spell::spell;
 
 /// The explanation of a list of tracts that has a fault, on the plat of a township.

@@ -1,10 +1,9 @@
 //! What is left out: the meridian, acreage, labels, and land that is repeated in parentheses.
 
 use crate::finder::Finder;
+use twp_asides::{end_of_trailer, plus};
 use twp_draft::{LeftOut, Names};
 use twp_grammar::Kind;
-use twp_pieces::plus;
-use twp_remarks::end_of_trailer;
 
 /// The number of a township's last section: a number up to this in parentheses isn't acreage.
 const SECTIONS: u16 = 36;

@@ -1,9 +1,9 @@
 //! Sections without a word for them: `S14 T2N R3W`, `14-2N-3W`, `14: NENE`.
 
 use crate::finder::Finder;
+use twp_asides::plus;
 use twp_draft::{Form, LeftOut, Names, Numeral};
 use twp_grammar::Kind;
-use twp_pieces::plus;
 use twp_rules::Rule;
 
 /// The most phrases among which the label of a tract is looked for.

@@ -3,8 +3,8 @@
 
 use crate::finder::Finder;
 use crate::fractions::{is_written, rule_of};
+use twp_asides::plus;
 use twp_grammar::Kind;
-use twp_pieces::plus;
 use twp_rules::Rule;
 use twp_words::{Size, written_step};
 

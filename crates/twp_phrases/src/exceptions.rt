@@ -1,9 +1,9 @@
 //! `except`, and words like it: `less and except`, `save and except`, `L&E`.
 
 use crate::finder::Finder;
+use twp_asides::plus;
 use twp_draft::{Extent, Names, Phrase, Thereof};
 use twp_grammar::Kind;
-use twp_pieces::plus;
 use twp_rules::Rule;
 use twp_words::excepts_land;
 

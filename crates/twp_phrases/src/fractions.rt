@@ -1,8 +1,8 @@
 //! The fractions of halves and quarters: `1/2`, `/2`, `2`, `half`, and what scanning makes of them.
 
 use crate::finder::Finder;
+use twp_asides::plus;
 use twp_grammar::Kind;
-use twp_pieces::plus;
 use twp_rules::Rule;
 use twp_words::Size;
 

@@ -2,9 +2,9 @@
 //! `Township Two North, Range Three West`.
 
 use crate::finder::Finder;
+use twp_asides::plus;
 use twp_draft::{LeftOut, Names, Numeral};
 use twp_grammar::Kind;
-use twp_pieces::plus;
 use twp_rules::Rule;
 use twp_words::{is_range_name, is_township_name};
 

@@ -2,9 +2,9 @@
 
 use crate::finder::Finder;
 use crate::numbered::{Join, Joined};
+use twp_asides::plus;
 use twp_draft::{Names, Numeral};
 use twp_grammar::Kind;
-use twp_pieces::plus;
 use twp_rules::Rule;
 
 /// So many acres, and less than one more, may be those of a part of a lot.

@@ -2,9 +2,9 @@
 
 use crate::finder::Finder;
 use crate::sections::SECTIONS;
+use twp_asides::{plus, tens_of};
 use twp_draft::{Names, Numeral};
 use twp_grammar::Kind;
-use twp_pieces::{plus, tens_of};
 use twp_rules::Rule;
 
 /// What joins a number to the one before it.

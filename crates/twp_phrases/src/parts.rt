@@ -1,9 +1,9 @@
 //! Aliquot parts: `NE1/4`, `S2NE4`, `N/2`, `NENE`, `the North Half of the Southwest Quarter`.
 
 use crate::finder::Finder;
+use twp_asides::{are_corners, plus};
 use twp_draft::{Form, PlacedStep};
 use twp_grammar::Kind;
-use twp_pieces::{are_corners, plus};
 use twp_rules::Rule;
 use twp_words::{Size, written_step};
 

@@ -3,9 +3,9 @@
 use crate::finder::Finder;
 use crate::parts::Part;
 use crate::sought::{OF_NUMBERS, OF_WORDS, Sought};
+use twp_asides::plus;
 use twp_draft::{LastSection, Names, Placed};
 use twp_grammar::Kind;
-use twp_pieces::plus;
 
 /// The most pieces that join two phrases.
 const JOINING_MOST: usize = 16;

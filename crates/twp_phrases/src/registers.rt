@@ -1,9 +1,9 @@
 //! Rows of registers: `08 0020N 0030W 014 ALIQ NENE`, `ID 8 2N 3W 14 A NENE`, `ID080020N0030W0SN140 ANENE`.
 
 use crate::finder::Finder;
+use twp_asides::plus;
 use twp_draft::{LeftOut, Names, Numeral};
 use twp_grammar::Kind;
-use twp_pieces::plus;
 use twp_rules::Rule;
 
 impl<'a> Finder<'a> {

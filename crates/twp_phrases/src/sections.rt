@@ -2,9 +2,9 @@
 
 use crate::finder::Finder;
 use crate::numbered::Joined;
+use twp_asides::{is_worn_section, plus};
 use twp_draft::{Form, Names, Numeral, Phrase};
 use twp_grammar::Kind;
-use twp_pieces::{is_worn_section, plus};
 use twp_rules::Rule;
 
 /// The number of a township's last section.

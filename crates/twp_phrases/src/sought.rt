@@ -1,8 +1,8 @@
 //! The kinds of phrases that are looked for one after another.
 
 use crate::finder::Finder;
+use twp_asides::plus;
 use twp_grammar::Kind;
-use twp_pieces::plus;
 
 /// A kind of phrase that is looked for.
 #[derive(Clone, Copy)]

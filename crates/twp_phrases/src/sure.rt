@@ -1,10 +1,9 @@
 //! Remarks, and what makes a phrase unsure: an empty place in a list, and parts that may be something else.
 
 use crate::finder::Finder;
+use twp_asides::{Position, begins_depths, end_of_remark, plus};
 use twp_draft::{LeftOut, Names, Placed};
 use twp_grammar::Kind;
-use twp_pieces::plus;
-use twp_remarks::{Position, begins_depths, end_of_remark};
 
 impl<'a> Finder<'a> {
     /// Whether a comma or a semicolon at an index has nothing before it, so that something may be missing

@@ -2,9 +2,9 @@
 
 use crate::finder::Finder;
 use crate::parts::Part;
+use twp_asides::plus;
 use twp_draft::{LeftOut, Names};
 use twp_grammar::Kind;
-use twp_pieces::plus;
 use twp_rules::Rule;
 use twp_words::is_of_domain;
 

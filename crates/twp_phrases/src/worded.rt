@@ -2,7 +2,7 @@
 
 use crate::finder::Finder;
 use crate::fractions::rule_of;
-use twp_pieces::{letters_of, plus};
+use twp_asides::{letters_of, plus};
 use twp_rules::Rule;
 use twp_words::{Size, written_step};
 

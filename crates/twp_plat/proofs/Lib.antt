@@ -25,3 +25,4 @@ pub mod PlatNoteFacts
 pub mod PlatLaws
 pub mod FinerAreas
 pub mod CombinedAreas
+pub mod LackingFacts

@@ -11,4 +11,9 @@ pub mod PlatNotes
 pub mod PlatAccounts
 pub mod LandAreaLaws
 pub mod PlatAccountLaws
+pub mod LotTables
+pub mod LotAreas
+pub mod LotRecords
+pub mod LotsFaults
+pub mod LotAreaLaws
 pub mod steps

@@ -11,6 +11,8 @@ ghost use Rattle.twp_plat.specs.PlatAccountLaws.{PlatUnionAndIntersectionAdd};
 ghost use Rattle.twp_plat.specs.PlatAccountLaws.{PlatDifferenceAndIntersectionAdd};
 ghost use Rattle.twp_plat.specs.PlatAccountLaws.{PlatAreaIsNear};
 
+pub mod lots;
+
 /// The same notes always make the same plat, or have the same first fault, and never both.
 #[tactic(auto, using(crate::proofs::OneAnswer::one_answer))]
 pub fn one_answer()

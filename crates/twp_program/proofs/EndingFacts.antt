@@ -5,21 +5,21 @@ use Rattle.clap.specs.Words.{Text}
 use Rattle.twp_answers.specs.PlatAnswers.{IsPlatAnswer}
 use Rattle.twp_answers.specs.Answers.{IsAcresAnswer}
 use Rattle.twp_answers.specs.Uses.{Reads, Use}
-use Rattle.twp_acres.specs.Runs.{IsRun, RunsOnPlat}
+use Rattle.twp_answers.specs.Runs.{IsRun, RunsOnPlat}
 use Rattle.twp_answers.specs.declared.verdict.Verdict.{Verdict}
 use Rattle.twp_answers.specs.declared.verdict.RunFault.{RunFault}
 use Rattle.twp_answers.specs.declared.verdict.RunFault.TheVariants.{Read, Write, Memory}
 use Rattle.twp_program.specs.Endings.{AnswerTo, EndsAs, FailsOn, IsJoinedVerdict, IsRunFailure}
 use Rattle.twp_program.specs.Endings.{IsVerdictOf, RunsOnNotes}
-use Rattle.twp_task.specs.Joined.{joined_description, joined_notes}
-use Rattle.twp_task.specs.Statuses.{ending_of, ending_of_fault, failing}
-use Rattle.twp_task.specs.Tasks.{IsFaultOf, IsTaskOf}
-use Rattle.twp_task.specs.declared.ending.Failure.{Failure}
-use Rattle.twp_task.specs.declared.ending.Failure.TheVariants.{Open, Run}
-use Rattle.twp_task.specs.declared.task.Task.{Task}
-use Rattle.twp_task.specs.declared.task.Task.TheVariants.{Plat}
-use Rattle.twp_task.specs.declared.task.TaskFault.{TaskFault}
-use Rattle.twp_task.specs.declared.task.TaskFault.TheVariants as fault
+use Rattle.twp_program.specs.Joined.{joined_description, joined_notes}
+use Rattle.twp_program.specs.Statuses.{ending_of, ending_of_fault, failing}
+use Rattle.twp_program.specs.Tasks.{IsFaultOf, IsTaskOf}
+use Rattle.twp_program.specs.declared.ending.Failure.{Failure}
+use Rattle.twp_program.specs.declared.ending.Failure.TheVariants.{Open, Run}
+use Rattle.twp_program.specs.declared.task.Task.{Task}
+use Rattle.twp_program.specs.declared.task.Task.TheVariants.{Plat}
+use Rattle.twp_program.specs.declared.task.TaskFault.{TaskFault}
+use Rattle.twp_program.specs.declared.task.TaskFault.TheVariants as fault
 
 -- the program ends with the outcome of the run of a task, for the words that ask for it
 pub ends_as : (words : List Text) (task : Task) (r : Result Verdict Failure) → IsTaskOf words task

@@ -7,24 +7,24 @@ use Rattle.twp_grid.specs.Devices.{TakesAtMost}
 use Rattle.twp_notes.specs.FieldNotes.{NOTES_MOST}
 use Rattle.twp_grid.specs.Devices.{TakesFirst}
 use Rattle.twp_answers.specs.Uses.{Reads, Use}
-use Rattle.twp_acres.specs.Runs.{AnswerRelation, IsRun}
+use Rattle.twp_answers.specs.Runs.{AnswerRelation, IsRun}
 use Rattle.twp_answers.specs.PlatAnswers.{IsPlatAnswer}
 use Rattle.twp_answers.specs.Answers.{IsAcresAnswer}
-use Rattle.twp_acres.specs.AccountAnswers.{IsAcresAnswerBy}
-use Rattle.twp_acres.specs.NormalAnswers.{IsNormalAnswer}
+use Rattle.twp_answers.specs.AccountAnswers.{IsAcresAnswerBy}
+use Rattle.twp_answers.specs.NormalAnswers.{IsNormalAnswer}
 use Rattle.twp_answers.specs.ReportAnswers.{IsReportAnswer}
 use Rattle.twp_answers.specs.declared.verdict.Verdict.{Verdict}
 use Rattle.twp_answers.specs.declared.verdict.RunFault.{RunFault}
 use Rattle.twp_answers.specs.declared.verdict.RunFault.TheVariants.{Read, Write, Memory}
-use Rattle.twp_task.specs.Joined.{joined_description, joined_notes}
-use Rattle.twp_task.specs.Tasks.{HasKindAt, IsFaultOf, IsTaskOf}
-use Rattle.twp_task.specs.declared.ending.Ending.{Ending}
-use Rattle.twp_task.specs.declared.ending.Ending.TheVariants.{Answered, Helps, Misused, Failed}
-use Rattle.twp_task.specs.declared.ending.Failure.{Failure}
-use Rattle.twp_task.specs.declared.ending.Failure.TheVariants.{Open, Run}
-use Rattle.twp_task.specs.declared.task.Task.{Task}
-use Rattle.twp_task.specs.declared.task.Task.TheVariants.{Plat, Acres, Normal, Report}
-use Rattle.twp_task.specs.declared.task.TaskFault.TheVariants.{Usage}
+use Rattle.twp_program.specs.Joined.{joined_description, joined_notes}
+use Rattle.twp_program.specs.Tasks.{HasKindAt, IsFaultOf, IsTaskOf}
+use Rattle.twp_program.specs.declared.ending.Ending.{Ending}
+use Rattle.twp_program.specs.declared.ending.Ending.TheVariants.{Answered, Helps, Misused, Failed}
+use Rattle.twp_program.specs.declared.ending.Failure.{Failure}
+use Rattle.twp_program.specs.declared.ending.Failure.TheVariants.{Open, Run}
+use Rattle.twp_program.specs.declared.task.Task.{Task}
+use Rattle.twp_program.specs.declared.task.Task.TheVariants.{Plat, Acres, Normal, Report}
+use Rattle.twp_program.specs.declared.task.TaskFault.TheVariants.{Usage}
 
 -- the task has this file
 abbrev pub IsFileOf : Task → Text → Type 0

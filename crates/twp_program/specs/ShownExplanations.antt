@@ -7,9 +7,9 @@ use Rattle.twp_answers.specs.declared.verdict.Verdict.TheVariants.{Refused}
 use Rattle.twp_diagnose.specs.declared.given.Given.{Given}
 use Rattle.twp_diagnose.specs.ShownMessages.{ShowsIn}
 use Rattle.twp_explain.specs.ShownFaults.{ShowsFault}
-use Rattle.twp_explain_doubts.specs.ShownNotes.{ShowsNoteIn}
+use Rattle.twp_explain.specs.ShownNotes.{ShowsNoteIn}
 use Rattle.twp_diagnose.specs.declared.explanation.Explanation.{Explanation}
-use Rattle.twp_explain_doubts.specs.declared.note.Note.{Note}
+use Rattle.twp_explain.specs.declared.note.Note.{Note}
 
 -- the refusal that is explained is that of the verdict
 abbrev pub IsExplanationOf : Verdict → Explanation → Type 0

@@ -1,14 +1,16 @@
 //! The files that a task names, opened.
 ghost use Rattle.std.specs.Prelude.{◌≡◌, IfErr, IfOk, IfSome, false};
 ghost use Rattle.twp_grid.specs.Devices.{device_failed};
-ghost use Rattle.twp_task.specs.KeptBytes.{copy_of, inner_source};
+ghost use Rattle.twp_program.specs.KeptBytes.{copy_of, inner_source};
 ghost use Rattle.twp_program.specs.ShownExplanations.{IsFile};
 
+use crate::ending::Failure;
+use crate::kept::Kept;
+use crate::name::Name;
 use std::fs;
 use std::rt::Files;
 use twp_diagnose::Given;
 use twp_grid::Device;
-use twp_task::{Failure, Kept, Name};
 
 /// Field notes, opened. The two files of a task have different types, so that no call can mistake
 /// one for the other.

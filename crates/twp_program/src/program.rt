@@ -2,18 +2,21 @@
 ghost use Rattle.std.specs.Prelude.{◌≡◌, map, string_bytes, IfErr, IfOk};
 ghost use Rattle.twp_program.specs.Endings.{EndsAs, EndsProgram, IsJoinedVerdict};
 ghost use Rattle.twp_program.specs.Endings.{IsRunFailure, IsWordsFault};
-ghost use Rattle.twp_task.specs.Statuses.{IsStatusOf, words_fault};
+ghost use Rattle.twp_program.specs.Statuses.{IsStatusOf, words_fault};
 
+use crate::ending::{Ended, Ending, Failure, NO_ANSWER, outcome_of};
+use crate::joined::run_joined_noting;
+use crate::kept::Kept;
 use crate::showing::show_joined;
 use crate::subcommand::run_task;
+use crate::task::read_task;
 use std::env::Env;
 use std::io::ErrorKind;
 use std::rt::Files;
 use std::{env, io};
-use twp_acres::{RunFault, Verdict};
-use twp_explain_text::Suggests;
+use twp_answers::{RunFault, Verdict};
+use twp_diagnose::Suggests;
 use twp_grid::Device;
-use twp_task::{Ended, Ending, Failure, Kept, NO_ANSWER, outcome_of, read_task, run_joined_noting};
 
 /// Runs the program, and reports on standard error why there is no answer. It returns the ending
 /// and its status together. `S` says what the explanation of a refused text may suggest at its end.

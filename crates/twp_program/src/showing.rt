@@ -4,20 +4,19 @@
 ghost use Rattle.std.specs.Prelude.{◌≡◌, ◌≢◌, ◌↔◌, Ok, Some, IfSome, IsTrue};
 ghost use Rattle.twp_answers.specs.declared.verdict.Verdict.TheVariants.{Accepted};
 ghost use Rattle.twp_explain.specs.Refusals.{first_refusal};
-ghost use Rattle.twp_task.specs.KeptBytes.{copy_of};
+ghost use Rattle.twp_program.specs.KeptBytes.{copy_of};
 ghost use Rattle.twp_program.specs.ShownExplanations.{AreJoinedNotes, IsExplanationOf, IsFile};
 ghost use Rattle.twp_program.specs.ShownExplanations.{IsJoinedDescription, ShowsEither, ShowsNoted};
 ghost use Rattle.twp_program.specs.ShownExplanations.{ShowsText};
 
 use crate::files::{OpenedNotes, OpenedText};
+use crate::joined::split_at_line_feed;
+use crate::kept::Kept;
 use std::alloc::Global;
-use twp_acres::{Account, Ran, RunFault, Verdict};
-use twp_diagnose::{Explanation, Given};
-use twp_explain::{explain_land, explain_list, explain_plat};
-use twp_explain_doubts::{Note, note_land, note_list};
-use twp_explain_text::Suggests;
+use twp_answers::{Account, Ran, RunFault, Verdict};
+use twp_diagnose::{Explanation, Given, Suggests};
+use twp_explain::{Note, explain_land, explain_list, explain_plat, note_land, note_list};
 use twp_read::Clarity;
-use twp_task::{Kept, split_at_line_feed};
 
 /// The name of standard input in messages.
 const STANDARD_INPUT: &str = "standard input";

@@ -2,27 +2,29 @@
 //! program without arguments; the functions that open the files only pass them on.
 ghost use Rattle.std.specs.Prelude.{◌≡◌, IfErr, IfOk, false};
 ghost use Rattle.twp_read.specs.TextFaults.{TEXT_LIMIT};
-ghost use Rattle.twp_acres.specs.AccountAnswers.{IsAcresAnswerBy};
-ghost use Rattle.twp_acres.specs.NormalAnswers.{IsNormalAnswer};
+ghost use Rattle.twp_answers.specs.AccountAnswers.{IsAcresAnswerBy};
+ghost use Rattle.twp_answers.specs.NormalAnswers.{IsNormalAnswer};
 ghost use Rattle.twp_answers.specs.PlatAnswers.{IsPlatAnswer};
 ghost use Rattle.twp_answers.specs.ReportAnswers.{IsReportAnswer};
 ghost use Rattle.twp_answers.specs.Uses.{used};
-ghost use Rattle.twp_acres.specs.Runs.{RunsOnPlat};
+ghost use Rattle.twp_answers.specs.Runs.{RunsOnPlat};
 ghost use Rattle.twp_answers.specs.Tracts.{TRACTS_LIMIT};
 ghost use Rattle.twp_program.specs.Endings.{FailsOn, IsVerdictOf, RunsOnNotes};
 
+use crate::ending::{Failure, outcome_of};
 use crate::files::{OpenedNotes, OpenedText, open_notes, open_text};
+use crate::name::Name;
 use crate::showing::{show_land, show_list, show_plat};
+use crate::task::Task;
 use std::alloc::Global;
 use std::io;
 use std::rt::Files;
-use twp_acres::{
+use twp_answers::{
     Account, Ran, RunFault, Verdict, run_acres_noting, run_normal_noting, run_plat,
     run_report_noting,
 };
-use twp_explain_text::Suggests;
+use twp_diagnose::Suggests;
 use twp_grid::{Device, Sink, Source};
-use twp_task::{Failure, Name, Task, outcome_of};
 
 /// Opens the files of a task, in order, and runs it.
 pub(crate) fn run_task<S: Suggests, R: Files + Print + Eprint + AllocGlobal>(

@@ -4,7 +4,7 @@ use Rattle.std.proofs.lemmas.List.{get_or_default}
 use Rattle.std.specs.List.{Any}
 use Rattle.twp_grid.specs.Townships.{Designation}
 use Rattle.twp_grid.specs.Lands.{SamePlaces}
-use Rattle.twp_described.specs.Descriptions.{IsLandOfText, IsOnlyLandOfText}
+use Rattle.twp_suggest.specs.Descriptions.{IsLandOfText, IsOnlyLandOfText}
 use Rattle.twp_suggest.specs.Closed.{IsGiven, IsLandGiven, IsLandOf, IsWayGiven, NamesSame}
 use Rattle.twp_suggest.specs.Closed.IsGiven.{by_land, by_text}
 use Rattle.twp_suggest.specs.Ways.{text_by}

@@ -2,7 +2,7 @@
 use Rattle.std.proofs.Common.{◌≡◌, ◌↔◌, ℕ, Bool, true, false, not, IsTrue, subst}
 use Rattle.std.proofs.lemmas.Bool.{false≢true}
 use Rattle.twp_grid.specs.Lands.{SamePlaces}
-use Rattle.twp_described.specs.Descriptions.{IsOnlyLandOfText}
+use Rattle.twp_suggest.specs.Descriptions.{IsOnlyLandOfText}
 use Rattle.twp_suggest.specs.Readings.{AreOther}
 use Rattle.twp_suggest.specs.declared.reading.Reading.{Reading}
 

@@ -8,3 +8,4 @@ pub mod WordFacts
 mod PlainFacts
 mod WordLetters
 mod PlainBytes
+mod ToldFacts

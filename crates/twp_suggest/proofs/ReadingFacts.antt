@@ -5,8 +5,8 @@ use Rattle.std.proofs.Common.{length-append, IsTrue, false, ◌↔◌}
 use Rattle.std.proofs.lemmas.Bool.{false≢true}
 use Rattle.std.proofs.lemmas.List.Elements.{All-nil, All-push, All-cons}
 use Rattle.std.proofs.lemmas.List.Quantifiers.{all_pairs_push}
-use Rattle.twp_described.specs.Descriptions.{IsClear}
-use Rattle.twp_described.specs.declared.manner.Manner.TheVariants.{Changed}
+use Rattle.twp_suggest.specs.Descriptions.{IsClear}
+use Rattle.twp_suggest.specs.declared.meaning.manner.Manner.TheVariants.{Changed}
 use Rattle.twp_suggest.specs.declared.reading.Reading.{Reading}
 use Rattle.twp_suggest.specs.Closed.{AreClosed, IsClosed}
 use Rattle.twp_suggest.specs.Readings.{AreSomeReadings, AreReadings, IsReading, AreOther}

@@ -3,7 +3,7 @@ use Rattle.std.specs.Prelude.{◌≡◌, ℕ, Bool, true, List, map}
 use Rattle.std.specs.Prelude.{All, Any}
 use Rattle.twp_grid.specs.Townships.{Designation}
 use Rattle.twp_grid.specs.Lands.{SamePlaces}
-use Rattle.twp_described.specs.Descriptions.{IsLandOfText}
+use Rattle.twp_suggest.specs.Descriptions.{IsLandOfText}
 use Rattle.twp_rules.specs.declared.rule.Rule.TheVariants.{Word}
 use Rattle.twp_rules.specs.Changes.{Change, changed_from, seen}
 use Rattle.twp_suggest.specs.declared.reading.Reading.{Reading}

@@ -4,4 +4,6 @@ pub mod Ways
 pub mod Sharing
 pub mod Closed
 pub mod Repeats
+pub mod Descriptions
+pub mod Told
 pub mod steps

@@ -4,8 +4,8 @@ use Rattle.std.specs.Prelude.{◌≡◌, ◌≤◌, ℕ, Bool, true, List, [], �
 use Rattle.std.specs.Prelude.{All, AllPairs}
 use Rattle.twp_grid.specs.Townships.{Designation}
 use Rattle.twp_grid.specs.Lands.{SamePlaces}
-use Rattle.twp_described.specs.Descriptions.{AreItemsOf, IsAccepted, IsClear, IsDescribed, IsLandOfText}
-use Rattle.twp_described.specs.declared.wording.Excepted.{Excepted}
+use Rattle.twp_suggest.specs.Descriptions.{AreItemsOf, IsAccepted, IsClear, IsDescribed, IsLandOfText}
+use Rattle.twp_suggest.specs.declared.meaning.wording.Excepted.{Excepted}
 use Rattle.twp_grammar.specs.declared.item.Item.{Item}
 use Rattle.twp_rules.specs.Arrangement.{lie_with_sections}
 use Rattle.twp_rules.specs.Changes.{Change, changed_from, seen}

@@ -5,7 +5,7 @@ use Rattle.std.specs.Prelude.{codes, if◌then◌else◌, drop, length, nat_lt, 
 use Rattle.std.specs.Char.{is_ascii_alphabetic, is_ascii_digit, to_ascii_lowercase}
 use Rattle.twp_grid.specs.Lands.{SamePlaces}
 use Rattle.twp_grammar.specs.Tokens.{same_bytes, is_white}
-use Rattle.twp_described.specs.Descriptions.{AreNamed}
+use Rattle.twp_suggest.specs.Descriptions.{AreNamed}
 use Rattle.twp_rules.specs.declared.rule.Rule.{Rule}
 use Rattle.twp_rules.specs.declared.rule.Rule.TheVariants.{Repeated, Copied, CopiedStep}
 use Rattle.twp_rules.specs.declared.rule.Rule.TheVariants.{MovedSection, MovedHeading}

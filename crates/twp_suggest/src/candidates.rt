@@ -1,10 +1,10 @@
 //! The candidates for readings: the changes of the whole text, with each joint read in one of its two ways.
 
+use crate::arranged::Plan;
 use crate::outline::{Choice, JointWay, Outline, change};
 use crate::writer::Writer;
 use std::alloc::{AllocError, Global};
 use std::mem;
-use twp_arrange::Plan;
 use twp_draft::FindsPhrases;
 use twp_read::TEXT_LIMIT;
 use twp_rules::{Change, Rule};

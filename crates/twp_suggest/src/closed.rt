@@ -9,13 +9,13 @@ ghost use Rattle.twp_suggest.specs.Readings.{IsReading};
 ghost use Rattle.twp_suggest.specs.Sharing.{AreShared, AtToken, IsShared};
 ghost use Rattle.twp_suggest.specs.Ways.{AreTurned, IfWay};
 
+use crate::meaning::{Manner, find_land, find_own_land};
 use crate::plain::is_plain;
 use crate::reading::Reading;
 use crate::sharing::{apart_after, has_place, head_after, here, joined_tokens, tail_after};
 use crate::turned::{Before, way_after};
 use crate::way::{Way, text_by};
 use std::alloc::{AllocError, Global};
-use twp_described::{Manner, find_land, find_own_land};
 use twp_grammar::Token;
 use twp_grid::Township;
 use twp_land::{Land, Lanes};

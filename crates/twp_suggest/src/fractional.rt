@@ -1,12 +1,11 @@
 //! Parts that are called fractional: they have to include lots.
 
+use crate::meaning::{find_land, find_named_land, first_township};
 use crate::writer::Writer;
 use std::alloc::{AllocError, Global};
-use twp_arrange::{Placed, Role};
-use twp_described::{find_land, find_named_land, first_township};
-use twp_draft::{Names, Phrase, Span};
+use twp_asides::plus;
+use twp_draft::{Names, Phrase, Placed, Role, Span};
 use twp_land::{Land, Lanes};
-use twp_pieces::plus;
 
 /// The land before a place, which moves from one place to the next.
 #[derive(Clone, Copy)]

@@ -1,12 +1,12 @@
 //! What is written between phrases: commas, semicolons, and nothing.
 
+use crate::arranged::{Between, Gap, Joining, is_joint, is_written, mark_between};
 use crate::joints::Shared;
 use crate::outline::{Outline, Parts};
 use crate::writer::Writer;
-use twp_arrange::{Between, Gap, Joining, Placed, is_joint, is_written, mark_between};
-use twp_draft::{Form, Names};
+use twp_asides::plus;
+use twp_draft::{Form, Names, Placed};
 use twp_grammar::Kind;
-use twp_pieces::plus;
 use twp_rules::{Change, Rule};
 
 impl<'p, 'a> Writer<'p, 'a> {

@@ -1,12 +1,12 @@
 //! Joints: places that can be read in two ways, and steps that may be for two parts.
 
+use crate::arranged::{Gap, Joining};
 use crate::candidates::CANDIDATES_MOST;
 use crate::outline::{JointWay, Outline, Parts, change};
 use crate::writer::Writer;
-use twp_arrange::{Gap, Joining, Placed};
-use twp_draft::{Form, Phrase, PlacedStep};
+use twp_asides::plus;
+use twp_draft::{Form, Phrase, Placed, PlacedStep};
 use twp_grammar::Kind;
-use twp_pieces::plus;
 use twp_rules::{Change, Rule};
 
 /// Which steps of one of two parts may be for both.

@@ -4,8 +4,8 @@ ghost use Rattle.twp_suggest.specs.Repeats.{IsLastLand, NameLastLand, are_marks,
 ghost use Rattle.twp_suggest.specs.Repeats.{is_without, name_end, of_section, section_name};
 
 use crate::bytes::{after, between, front};
+use crate::meaning::find_named_land;
 use std::alloc::{AllocError, Global};
-use twp_described::find_named_land;
 use twp_land::{Land, Lanes};
 use twp_rules::{begins_with, digits_of, ends_with};
 

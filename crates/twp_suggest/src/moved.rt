@@ -3,9 +3,8 @@
 use crate::outline::Outline;
 use crate::writer::Writer;
 use std::alloc::{AllocError, Global};
-use twp_arrange::{Placed, Role};
-use twp_draft::{Names, Phrase, Span};
-use twp_pieces::plus;
+use twp_asides::plus;
+use twp_draft::{Names, Phrase, Placed, Role, Span};
 use twp_read::TEXT_LIMIT;
 use twp_rules::Rule;
 

@@ -1,11 +1,11 @@
 //! The changes of a whole text, and the places where it can be read in two ways.
 
+use crate::arranged::has_except;
 use crate::writer::Writer;
 use std::alloc::{AllocError, Global};
-use twp_arrange::{Placed, Role, has_except};
-use twp_draft::{Again, Names, Phrase};
+use twp_asides::plus;
+use twp_draft::{Again, Names, Phrase, Placed, Role};
 use twp_grammar::Kind;
-use twp_pieces::plus;
 use twp_rules::{Change, Rule};
 
 /// There is room from the start for the changes in the phrases, one for each phrase, and so many more.

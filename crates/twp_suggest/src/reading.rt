@@ -3,16 +3,16 @@ ghost use Rattle.std.specs.Prelude.{◌≡◌, ◌↔◌, true, IsTrue, IfOk, If
 ghost use Rattle.twp_rules.specs.Arrangement.{lie_with_sections};
 ghost use Rattle.twp_rules.specs.Changes.{AreChangesFrom, changed_from, seen};
 ghost use Rattle.twp_rules.specs.Copying.{copy_whole};
-ghost use Rattle.twp_described.specs.Descriptions.{IsClear, IsDescribed};
+ghost use Rattle.twp_suggest.specs.Descriptions.{IsClear, IsDescribed};
 ghost use Rattle.twp_suggest.specs.Readings.{AreReadings, IsReading, AreOther};
 ghost use Rattle.twp_suggest.specs.Readings.{AreSomeReadings, LiesExcepted, MayBeAdded};
 
 use crate::candidates::{made_by, outline_of};
 use crate::closed::are_closed;
+use crate::meaning::{Manner, Unread, Wording, described, find_land, find_own_land, is_clear};
 use crate::outline::Outline;
 use crate::repeated::are_repeated;
 use std::alloc::{AllocError, Global};
-use twp_described::{Manner, Unread, Wording, described, find_land, find_own_land, is_clear};
 use twp_draft::{Again, FindsPhrases};
 use twp_land::{Land, Lanes};
 use twp_rules::{Change, are_changes, changed, copy_whole, lie_with_sections};

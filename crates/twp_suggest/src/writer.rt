@@ -1,6 +1,6 @@
 //! The writer of a text's changes: what becomes of the phrases that are arranged.
 
-use twp_arrange::Plan;
+use crate::arranged::Plan;
 
 /// The phrases of a text, whose changes are written.
 #[derive(Drop)]

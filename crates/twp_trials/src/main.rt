@@ -1,18 +1,22 @@
 //! Calls that `township` does not make, or whose answers it does not show separately.
 //!
-//! - Without words, it makes all trials, and prints a line for each. The file `stdout` beside `src/`
-//!   contains the expected lines, which were worked out by hand. Standard input is the field notes
-//!   of the uneven township, `samples/b1.csv`.
+//! - Without words, it makes all trials, and prints a line for each; and after an empty line, the
+//!   readings of descriptions. The file `stdout` beside `src/` contains the expected lines, which
+//!   were worked out by hand. Standard input is the field notes of the uneven township,
+//!   `samples/b1.csv`; and after an empty line, the descriptions.
 //! - With the name of a call, it makes this call alone: `tests/program/growths.sh` refuses it
 //!   memory, and `tests/program/test_calls.py` compares its answer.
 //! - With the word `devices`, it makes the runs that standard input asks for, on devices that fail or
 //!   are slow, for `tests/program/test_devices.py`.
+//! - With the word `readings`, it prints the readings of the descriptions on standard input, for
+//!   `tests/descriptions` and `bench/readings.sh`.
 //! - With a kind of land, or `text`, it does work whose instructions `make bench` counts.
 #![tactic(auto)]
 
 mod counted;
 mod devices;
 mod mixed;
+mod readings;
 mod single;
 mod trials;
 
@@ -33,6 +37,10 @@ fn main(rt: HostRuntime) -> io::Result<ExitCode> {
         }
         "devices" => {
             devices::run_lines(&rt)?;
+            return Ok(ExitCode::SUCCESS);
+        }
+        "readings" => {
+            readings::read_lines(&rt)?;
             return Ok(ExitCode::SUCCESS);
         }
         _ => {}
@@ -66,7 +74,7 @@ fn ended(rt: &HostRuntime, is_made: bool) -> io::Result<ExitCode> {
 /// How the program ends if its words ask for nothing that it does.
 fn misused(rt: &HostRuntime) -> io::Result<ExitCode> {
     eprintln!(rt;
-        "twp_trials [CALL INPUT [ROOM] | devices | grid|lanes WORK TIMES | text]: see src/main.rt"
+        "twp_trials [CALL INPUT [ROOM] | devices | readings | grid|lanes WORK TIMES | text]: see src/main.rt"
     )?;
     Ok(ExitCode::from(2))
 }

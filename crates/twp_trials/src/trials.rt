@@ -1,5 +1,5 @@
 //! All trials, on the plat of the field notes on standard input. Each calculation is in a comment
-//! beside its call.
+//! beside its call. After an empty line, standard input has descriptions, whose readings come last.
 
 mod blocks;
 mod descriptions;
@@ -10,17 +10,23 @@ mod lands;
 mod parcels;
 mod words;
 
+use crate::readings;
+use bstr::ByteSlice;
+use std::alloc::Global;
 use std::io;
 use std::process::ExitCode;
-use twp_grid::Device;
+use twp_grid::Bytes;
 use twp_notes::Notes;
 use twp_plat::Plat;
 
-/// Makes each call, and prints its answer.
+/// Makes each call, and prints its answer; and after an empty line, the readings of the descriptions.
 pub fn try_all(rt: &HostRuntime) -> io::Result<ExitCode> {
-    let Some(plat) = plat_of_input(rt) else {
-        eprintln!(rt; "twp_trials: standard input must be field notes that make a plat")?;
-        return Ok(ExitCode::from(2));
+    let input = readings::read_input(rt)?;
+    let Some((notes, descriptions)) = input.as_slice().split_once_str(b"\n\n") else {
+        return unusable(rt);
+    };
+    let Some(plat) = plat_of(rt.alloc(), notes) else {
+        return unusable(rt);
     };
     blocks::try_blocks(rt)?;
     lands::try_counts(rt)?;
@@ -31,12 +37,21 @@ pub fn try_all(rt: &HostRuntime) -> io::Result<ExitCode> {
     fronts::try_fronts(rt, &plat)?;
     parcels::try_parcels(rt, &plat)?;
     faults::try_faults(rt)?;
+    rt.println("")?;
+    readings::print_each(rt, descriptions)?;
     Ok(ExitCode::SUCCESS)
 }
 
-/// The plat of the field notes on standard input.
-fn plat_of_input(rt: &HostRuntime) -> Option<Plat> {
-    let mut input = Device::new(rt.reader());
-    let notes = Notes::read(rt.alloc(), &mut input).ok()?;
+/// How the trials end if standard input isn't what they need.
+fn unusable(rt: &HostRuntime) -> io::Result<ExitCode> {
+    eprintln!(rt;
+        "twp_trials: standard input must be field notes that make a plat, an empty line, and descriptions"
+    )?;
+    Ok(ExitCode::from(2))
+}
+
+/// The plat of field notes.
+fn plat_of(alloc: Global, notes: &[u8]) -> Option<Plat> {
+    let notes = Notes::read(alloc, &mut Bytes::new(notes)).ok()?;
     Plat::protract(&notes).ok()
 }

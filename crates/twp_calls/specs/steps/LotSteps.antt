@@ -1,11 +1,11 @@
 -- The area of a description by a lot table. No public contract cites this module.
 use Rattle.std.specs.Prelude.{◌≡◌, ℕ, List, Result, Ok, Err}
 use Rattle.twp_measure.specs.Areas.{Fraction}
-use Rattle.twp_lots.specs.LotTables.{ReturnedLots}
+use Rattle.twp_plat.specs.LotTables.{ReturnedLots}
 use Rattle.twp_answers.specs.declared.stop.Stop.{Stop}
 use Rattle.twp_answers.specs.declared.stop.Stop.TheVariants as stop
 use Rattle.twp_answers.specs.declared.verdict.RunFault.TheVariants as run
-use Rattle.twp_lot_account.specs.LotLands.{HasLotAreaOf, HasNoLotAreaOf}
+use Rattle.twp_answers.specs.LotLands.{HasLotAreaOf, HasNoLotAreaOf}
 
 -- why a description has no area by a lot table: it is refused, or memory ran out
 abbrev pub StopsByLots : ReturnedLots → List ℕ → Stop → Type 0

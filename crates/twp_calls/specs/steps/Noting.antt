@@ -2,7 +2,7 @@
 -- this module.
 use Rattle.std.specs.Prelude.{◌≡◌, ℕ, List, Option, Some, None, Result, Ok, Err}
 use Rattle.twp_diagnose.specs.declared.explanation.Explanation.{Explanation}
-use Rattle.twp_explain_doubts.specs.declared.note.Note.{Note}
+use Rattle.twp_explain.specs.declared.note.Note.{Note}
 use Rattle.twp_calls.specs.Answers.{ACCEPTED, NO_MEMORY, bare}
 use Rattle.twp_calls.specs.ExplanationParts.{ArePartsOf, ArePartsOfNote}
 use Rattle.twp_calls.specs.Explanations.{IsBareAccepted, IsNotePut, PutsExplanation}

@@ -3,7 +3,7 @@
 use crate::devices::device::{Reader, Writer};
 use std::io;
 use std::io::{Error, ErrorKind};
-use twp_acres::{
+use twp_answers::{
     Account, RunFault, Verdict, run_acres, run_acres_as, run_normal, run_plat, run_report,
 };
 use twp_grid::Device;

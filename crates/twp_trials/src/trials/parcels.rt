@@ -4,8 +4,7 @@ use std::io;
 use twp_answers::{Stop, acres_of, land_of};
 use twp_grid::Bytes;
 use twp_land::{Comparison, Land, LandRows, Lanes, compare};
-use twp_lots::{LOTS, LotTable, area_by_lots};
-use twp_plat::{Account, Plat};
+use twp_plat::{Account, LOTS, LotTable, Plat, area_by_lots};
 use twp_spell::spell;
 
 /// Pairs of descriptions, which are combined and compared.

@@ -4,7 +4,7 @@ use Rattle.std.proofs.Common.{IfOk, subst, ap, inl}
 use Rattle.twp_calls.specs.Calls.{refused_for, no_memory, on_plat}
 use Rattle.twp_answers.specs.Answers.{IsNoDescription}
 use Rattle.twp_diagnose.specs.ShownMessages.{ShowsIn}
-use Rattle.twp_explain_doubts.specs.ShownNotes.{IsNoteOf}
+use Rattle.twp_explain.specs.ShownNotes.{IsNoteOf}
 use Rattle.twp_calls.proofs.CallFacts.{held_by}
 use Rattle.twp_calls.proofs.NoteFacts.{noted_on}
 use Rattle.twp_calls.proofs.ExplanationPartFacts.{kept_clear, noted_in_parts, or_no_memory}

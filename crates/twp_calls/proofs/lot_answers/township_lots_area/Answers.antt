@@ -1,7 +1,7 @@
 -- The parts are those of the area of the land described, or there are none, or memory ran out.
 use Rattle.twp_calls.specs.Calls.{accepted}
 use Rattle.twp_calls.specs.LotCalls.{IsAreaAnswered, by_lots}
-use Rattle.twp_lot_account.specs.LotLands.{HasLotAreaOf}
+use Rattle.twp_answers.specs.LotLands.{HasLotAreaOf}
 use Rattle.twp_calls.proofs.LotCallFacts.{stops_by_lots}
 use Rattle.twp_calls.proofs.lot_answers.township_lots_area.Goals as goal
 

@@ -4,7 +4,7 @@ use Rattle.std.proofs.Common.{◌⊎◌, inl, inr}
 use Rattle.twp_calls.specs.Calls.{IsRefusedFor}
 use Rattle.twp_calls.specs.LandCalls.{on_land, on_no_land}
 use Rattle.twp_calls.specs.LotCalls.{IsAreaAnswered, by_lots}
-use Rattle.twp_lot_account.specs.LotLands.{HasLotArea, IsLackingLot}
+use Rattle.twp_answers.specs.LotLands.{HasLotArea, IsLackingLot}
 use Rattle.twp_calls.proofs.LandCallFacts.{agree, differ}
 use Rattle.twp_calls.proofs.LotCallFacts.{lacks_lot}
 use Rattle.twp_calls.proofs.lot_answers.township_lots_land_area.Goals as goal

@@ -1,6 +1,6 @@
 -- The run's verdict is that of its answer for the bytes that it read.
 use Rattle.twp_program.proofs.EndingFacts.{task_answers, task_fails}
-use Rattle.twp_task.specs.declared.task.Task.TheVariants.{Normal}
+use Rattle.twp_program.specs.declared.task.Task.TheVariants.{Normal}
 use Rattle.twp_program.proofs.subcommand.open_normal.Goals as goal
 
 pub returns-clause-answers : goal.returns-clause-answers

@@ -1,5 +1,5 @@
 use Rattle.std.proofs.Common.{rules, refl}
-use Rattle.twp_described.specs.declared.manner.Manner.TheVariants.{Changed}
+use Rattle.twp_suggest.specs.declared.meaning.manner.Manner.TheVariants.{Changed}
 use Rattle.twp_suggest.proofs.ReadingFacts.{only_itself}
 use Rattle.twp_suggest.proofs.reading.itself.Goals as goal
 

@@ -1,5 +1,0 @@
-use Rattle.twp_acres.proofs.OnPlatFacts as answers
-use Rattle.twp_acres.proofs.laws.acres_on_are_of_notes.Goals as goal
-
-pub returns : goal.returns
-returns c = answers.acres_on_are_of_notes

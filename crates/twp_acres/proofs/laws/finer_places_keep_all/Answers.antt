@@ -1,5 +1,0 @@
-use Rattle.twp_acres.proofs.FinerPlaces as finer
-use Rattle.twp_acres.proofs.laws.finer_places_keep_all.Goals as goal
-
-pub returns : goal.returns
-returns c = finer.keep_all

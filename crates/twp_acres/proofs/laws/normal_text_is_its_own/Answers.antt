@@ -1,5 +1,0 @@
-use Rattle.twp_acres.proofs.OwnText as own
-use Rattle.twp_acres.proofs.laws.normal_text_is_its_own.Goals as goal
-
-pub returns : goal.returns
-returns c = own.is_its_own

@@ -1,5 +1,0 @@
-use Rattle.twp_acres.proofs.OneAccountAnswer as answers
-use Rattle.twp_acres.proofs.laws.one_answer_by.Goals as goal
-
-pub returns : goal.returns
-returns c = answers.one_answer_by

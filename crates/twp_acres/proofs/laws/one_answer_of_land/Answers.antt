@@ -1,5 +1,0 @@
-use Rattle.twp_acres.proofs.OneAnswer as answers
-use Rattle.twp_acres.proofs.laws.one_answer_of_land.Goals as goal
-
-pub returns : goal.returns
-returns c = answers.one_answer_of_land

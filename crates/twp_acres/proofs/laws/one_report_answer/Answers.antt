@@ -1,5 +1,0 @@
-use Rattle.twp_acres.proofs.OneReport as reports
-use Rattle.twp_acres.proofs.laws.one_report_answer.Goals as goal
-
-pub returns : goal.returns
-returns c = reports.one_report_answer

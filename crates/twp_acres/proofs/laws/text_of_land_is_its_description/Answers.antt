@@ -1,5 +1,0 @@
-use Rattle.twp_acres.proofs.LandAnswers as laws
-use Rattle.twp_acres.proofs.laws.text_of_land_is_its_description.Goals as goal
-
-pub returns : goal.returns
-returns c = laws.text_of_land_is_its_description

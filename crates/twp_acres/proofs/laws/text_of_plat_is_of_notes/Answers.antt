@@ -1,5 +1,0 @@
-use Rattle.twp_acres.proofs.OnPlatFacts as answers
-use Rattle.twp_acres.proofs.laws.text_of_plat_is_of_notes.Goals as goal
-
-pub returns : goal.returns
-returns c = answers.text_of_plat_is_of_notes

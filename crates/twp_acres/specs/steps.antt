@@ -1,3 +1,0 @@
-pub mod Stops
-pub mod Stages
-pub mod OnPlatSteps

@@ -1,0 +1,14 @@
+pub mod DeviceFacts
+pub mod StopFacts
+pub mod OneAnswer
+pub mod OnePlat
+pub mod OneAccountAnswer
+pub mod AcresRuns
+pub mod ClarityFacts
+pub mod TractSums
+pub mod OneReport
+pub mod OnPlatFacts
+pub mod OneNormal
+pub mod OwnText
+pub mod FinerPlaces
+pub mod LandAnswers

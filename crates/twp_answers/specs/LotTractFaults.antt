@@ -1,0 +1,41 @@
+-- What can be wrong with a list of tracts by a lot table: what is wrong with it in the table's township, or
+-- that the table lacks a lot of a tract, which is reported as the refusal of the tract's description.
+use Rattle.std.specs.Prelude.{◌≡◌, ◌⊎◌, ℕ, ◌+◌, ◌<◌, List, length, IfSome}
+use Rattle.twp_plat.specs.LotTables.{ReturnedLots}
+use Rattle.twp_notes.specs.Records.{Fields, record_at}
+use Rattle.twp_answers.specs.Tracts.{description_in, tract_records}
+use Rattle.twp_answers.specs.TractFaults.{HasTractFault, IsFrom, record_of, turn_of, verdict_of}
+use Rattle.twp_answers.specs.declared.tract_fault.TractFault.{TractFault}
+use Rattle.twp_answers.specs.declared.tract_fault.TractFault.TheVariants as fault
+use Rattle.twp_answers.specs.LotLands.{LacksLotOf}
+
+-- the table lacks a lot of the tract at the index, which is reported at its record
+abbrev pub LacksLotAt : ReturnedLots → List Fields → ℕ → TractFault → Type 0
+LacksLotAt table rows index (fault.TractRefused number inner) = (number ≡ index + 2)
+    × LacksLotOf table (description_in (record_at rows index)) inner
+LacksLotAt table rows index other = ⊥
+
+-- it lacks a lot of some tract
+pub record LacksLotInTracts (table : ReturnedLots) (rows : List Fields) (tract_fault : TractFault)
+    : Type 0 where
+  pub index : ℕ
+  pub within : index < length rows
+  pub lacks : LacksLotAt table rows index tract_fault
+
+-- the fault is present
+abbrev pub HasFaultByLots : ReturnedLots → List ℕ → TractFault → Type 0
+HasFaultByLots table bytes tract_fault =
+    HasTractFault table.township bytes tract_fault
+    ⊎ LacksLotInTracts table (tract_records bytes) tract_fault
+
+-- the fault is present, and no fault that precedes it is
+pub record IsFirstFaultByLots (table : ReturnedLots) (bytes : List ℕ) (tract_fault : TractFault)
+    : Type 0 where
+  pub is : HasFaultByLots table bytes tract_fault
+  pub first : (other : TractFault) → HasFaultByLots table bytes other
+      → IsFrom (record_of tract_fault) (turn_of tract_fault) other
+
+-- the fault is the first one of the list, or is not a fault of a list
+abbrev pub AnswersFaultByLots : ReturnedLots → List ℕ → TractFault → Type 0
+AnswersFaultByLots table bytes tract_fault =
+    IfSome (verdict_of tract_fault) (λ _. IsFirstFaultByLots table bytes tract_fault)

@@ -1,0 +1,31 @@
+//! The pieces of a text that people write as a description of land, and the phrases among them that aren't
+//! land: the meridian, acreage, labels, and what lots and aliquot parts can't describe; remarks in a cell, on
+//! a line, in a sentence, or in parentheses; and terms, depths, rights, and records after land. What may name
+//! land, take some away, or bound it, is none of them.
+#![tactic(auto)]
+
+mod acreage;
+mod beyond;
+mod cutting;
+mod figures;
+mod interests;
+mod joints;
+mod labels;
+mod lands;
+mod lowercase;
+mod marks;
+mod meridians;
+mod pieces;
+mod remarks;
+mod serials;
+mod states;
+mod trailers;
+
+pub use beyond::{Beyond, beyond_of};
+pub use pieces::{Pieces, plus};
+pub use remarks::{Position, end_of_remark};
+pub use trailers::{begins_depths, end_of_trailer};
+pub use twp_words::{
+    are_corners, begins_terms, is_acres, is_of_count, is_worn_section, letters_of, tens_of,
+    value_of, value_of_count,
+};

@@ -1,0 +1,73 @@
+//! What is looked at in a remark: names of wells, tracts, and persons, words that are known, and titles of
+//! other land.
+
+use crate::pieces::{Pieces, plus};
+use twp_grammar::Kind;
+use twp_words::{is_acres, is_doubtful_title, is_feature, is_known, is_same};
+
+/// Whether the piece at an index is known to say nothing of which land is meant, as a date, a share, or an
+/// agency.
+pub(crate) fn is_known_at(pieces: &Pieces<'_>, index: usize) -> bool {
+    is_known(pieces.lower(index))
+        || pieces.is(index, b">")
+        || pieces.is_date(index)
+        || pieces.is_percentage(index)
+        || pieces.is_share(index)
+        || (matches!(pieces.kind(index), Kind::BadNumber) && !pieces.is_joined(index))
+}
+
+/// Whether a label before land that ends at an index is of a place in it, or of land that isn't meant.
+pub(crate) fn is_title_of_other(pieces: &Pieces<'_>, index: usize) -> bool {
+    let word = pieces.lower(index);
+    is_feature(word)
+        || is_doubtful_title(word)
+        || (is_same(word, b"sale") && pieces.is(index.saturating_sub(1), b"timber"))
+}
+
+/// Whether the number at an index is of the name of a well, which may have the numbers of two sections, as
+/// `Hatch 14-1`, and another with letters for a horizontal well, as `Kestrel 22-27 2HX`.
+pub(crate) fn is_of_well(pieces: &Pieces<'_>, index: usize) -> bool {
+    let before = index.saturating_sub(1);
+    let next = plus(index, 1);
+    let is_pair = (matches!(pieces.kind(before), Kind::Other) || pieces.is(before, b"#"))
+        && pieces.is_dash(next)
+        && pieces.is_joined(next)
+        && pieces.is_joined(plus(index, 2));
+    let is_horizontal = pieces.is_joined(next)
+        && (pieces.is(next, b"h") || pieces.is(next, b"hx") || pieces.is(next, b"hz"));
+    is_pair || is_horizontal
+}
+
+/// Whether a tract begins a line, in the cells after which is its land.
+pub(crate) fn begins_tract(pieces: &Pieces<'_>, index: usize) -> bool {
+    let next = plus(index, 2);
+    (pieces.is(index, b"tract") || pieces.is(index, b"parcel"))
+        && pieces.has_before(index, b'\n')
+        && pieces.has_before(next, b'\t')
+        && next < pieces.len()
+}
+
+/// Whether the initial of a name is at an index, as in `H. J. Stoddard`: a letter that is no side, and a
+/// period.
+pub(crate) fn is_initial(pieces: &Pieces<'_>, index: usize) -> bool {
+    let next = plus(index, 1);
+    matches!(pieces.kind(index), Kind::Other) && pieces.is(next, b".") && pieces.is_joined(next)
+}
+
+/// Whether `homesite` alone is after acreage at the end of its cell, as in `5.00 AC HOMESITE`: the acreage is
+/// compared.
+pub(crate) fn is_homesite_of_acreage(pieces: &Pieces<'_>, index: usize) -> bool {
+    pieces.is(index, b"homesite")
+        && is_acres(pieces.lower(index.saturating_sub(1)))
+        && pieces.begins_column(plus(index, 1))
+}
+
+/// What nobody has in land after `no`.
+pub(crate) fn has_no_title(word: &[u8]) -> bool {
+    is_same(word, b"interest") || is_same(word, b"title")
+}
+
+/// Whether `M&B` is at an index.
+pub(crate) fn is_metes_and_bounds(pieces: &Pieces<'_>, index: usize) -> bool {
+    pieces.is(index, b"m") && pieces.is(plus(index, 1), b"&") && pieces.is(plus(index, 2), b"b")
+}

@@ -1,0 +1,274 @@
+//! What is said after land, and isn't land: `limited to the Lance formation`, `recorded in Book 3`, `HBP`.
+
+use crate::marks::is_metes_and_bounds;
+use crate::pieces::{Pieces, plus};
+use crate::remarks::is_size_or_acreage;
+use twp_grammar::Kind;
+use twp_words::{
+    alters_land, begins_terms, is_beyond_depths, is_beyond_terms, is_boundary, is_conveyance,
+    is_land_by_name, is_of_appurtenance, is_of_depth, is_of_estate, is_of_survey, is_of_town,
+    is_partial, is_same, is_site, is_word_for_depths, limits_land, names_parcel,
+};
+
+/// The most pieces of depths in parentheses.
+const DEPTHS_MOST: usize = 24;
+
+/// What is said after land.
+#[derive(Clone, Copy, PartialEq, Eq)]
+enum Trailer {
+    /// Terms, interests, and records, which end at a semicolon, or with the line.
+    Terms,
+    /// Depths, of which some word must be a word for depths: what follows could be other land at other
+    /// depths.
+    Depths,
+    /// Rights, which may name ways and waters.
+    Rights,
+    /// What is reserved: minerals, or the like.
+    Reserved,
+    /// What is granted with the land: improvements, or the like.
+    Granted,
+    /// The survey of the land.
+    Survey,
+    /// The land office in whose district the land is.
+    Office,
+}
+
+/// Where what is said after land ends: at the end of the text, or where terms end, if it has no land.
+pub fn end_of_trailer(pieces: &Pieces<'_>, index: usize) -> Option<usize> {
+    let trailer = trailer_at(pieces, index)?;
+    let mut has_word = false;
+    for place in index..pieces.len() {
+        let is_apart = matches!(pieces.kind(place), Kind::Semicolon)
+            || (pieces.has_before(place, b'\n') && place > index);
+        if is_apart && trailer == Trailer::Terms {
+            return Some(place);
+        }
+        has_word = has_word || is_word_of(pieces, trailer, place);
+        if is_beyond_trailer(pieces, trailer, place) {
+            return None;
+        }
+    }
+    if has_word { Some(pieces.len()) } else { None }
+}
+
+/// Where depths end in parentheses, as in `(surface to the base of the Niobrara only)`: at what isn't of
+/// depths.
+pub(crate) fn end_of_depths(pieces: &Pieces<'_>, index: usize) -> Option<usize> {
+    if trailer_at(pieces, index) != Some(Trailer::Depths) {
+        return None;
+    }
+    let mut has_word = false;
+    for place in index..plus(index, DEPTHS_MOST) {
+        if pieces.is(place, b")") || is_beyond_trailer(pieces, Trailer::Depths, place) {
+            return if has_word { Some(place) } else { None };
+        }
+        has_word = has_word || is_word_of(pieces, Trailer::Depths, place);
+    }
+    None
+}
+
+/// Whether the word at an index is one of which what is said after land has some: otherwise it may be of
+/// other land.
+fn is_word_of(pieces: &Pieces<'_>, trailer: Trailer, index: usize) -> bool {
+    let word = pieces.lower(index);
+    match trailer {
+        Trailer::Depths => is_of_depth(word),
+        Trailer::Reserved => is_of_estate(word),
+        Trailer::Granted => is_of_appurtenance(word),
+        Trailer::Survey => {
+            is_same(word, b"official") || is_same(word, b"government") || is_same(word, b"govt")
+        }
+        Trailer::Terms | Trailer::Rights | Trailer::Office => true,
+    }
+}
+
+/// Whether the piece at an index isn't of what is said after land: it may be of land, or change which is
+/// meant.
+fn is_beyond_trailer(pieces: &Pieces<'_>, trailer: Trailer, index: usize) -> bool {
+    let word = pieces.lower(index);
+    let is_limit = match trailer {
+        Trailer::Rights | Trailer::Granted => may_be_land_beside_rights(pieces, index),
+        Trailer::Reserved => may_be_land_beside_rights(pieces, index) || is_site(word),
+        Trailer::Office => pieces.may_be_land(index),
+        Trailer::Survey => !is_of_survey(word),
+        _ => pieces.may_be_land(index) || is_boundary(word),
+    };
+    // `$2.00/acre` is a price.
+    let is_parcel = names_parcel(word) && !pieces.is(index.saturating_sub(1), b"/");
+    let is_part = trailer != Trailer::Office
+        && (is_parcel || is_partial(word) || pieces.may_be_section(index));
+    let is_beyond = match trailer {
+        Trailer::Terms => {
+            is_beyond_terms(word)
+                || limits_land(word)
+                || is_size_or_acreage(pieces, index)
+                || is_metes_and_bounds(pieces, index)
+                || (pieces.is(index, b"&") && begins_terms(pieces.lower(plus(index, 1))))
+        }
+        Trailer::Depths => limits_land(word) || is_site(word) || is_beyond_depths(word),
+        Trailer::Rights => {
+            is_conveyance(word)
+                || (is_same(word, b"boundary") && pieces.is(plus(index, 1), b"line"))
+        }
+        Trailer::Granted => is_land_by_name(word),
+        _ => false,
+    };
+    is_limit || is_part || is_beyond || is_of_town(word) || alters_land(word)
+}
+
+/// What is said at an index.
+fn trailer_at(pieces: &Pieces<'_>, index: usize) -> Option<Trailer> {
+    if !matches!(pieces.kind(index), Kind::Other | Kind::All) {
+        return None;
+    }
+    let word = pieces.lower(index);
+    if let Some(trailer) = trailer_of(word) {
+        return Some(trailer);
+    }
+    if let Some(trailer) = trailer_with_next(pieces, word, plus(index, 1)) {
+        return Some(trailer);
+    }
+    if begins_terms(word) && !may_be_block(pieces, word, index) {
+        return Some(Trailer::Terms);
+    }
+    None
+}
+
+/// The trailer that a word begins, whatever follows it.
+fn trailer_of(word: &[u8]) -> Option<Trailer> {
+    if is_same(word, b"subject") || is_same(word, b"subj") {
+        return Some(Trailer::Rights);
+    }
+    if is_same(word, b"reserving") {
+        return Some(Trailer::Reserved);
+    }
+    if is_same(word, b"according") {
+        return Some(Trailer::Survey);
+    }
+    if is_word_for_depths(word) {
+        return Some(Trailer::Depths);
+    }
+    None
+}
+
+/// The trailer that a word begins with what follows it at an index.
+fn trailer_with_next(pieces: &Pieces<'_>, word: &[u8], next: usize) -> Option<Trailer> {
+    if (is_same(word, b"in") && pieces.is(next, b"the")) && pieces.is(plus(next, 1), b"district") {
+        return Some(Trailer::Office);
+    }
+    if is_reservation(pieces, word, next) {
+        return Some(Trailer::Reserved);
+    }
+    if is_same(word, b"together") && pieces.is(next, b"with") {
+        return Some(Trailer::Granted);
+    }
+    if are_depths(pieces, word, next) {
+        return Some(Trailer::Depths);
+    }
+    let is_shown = is_same(word, b"as")
+        && pieces.is(next, b"shown")
+        && is_soon(pieces, next, b"official");
+    let is_end = is_same(word, b"only")
+        && matches!(pieces.kind(next), Kind::Stop | Kind::Semicolon);
+    if is_shown || is_end {
+        return Some(Trailer::Terms);
+    }
+    None
+}
+
+/// Whether a word begins what is reserved, with what follows it at an index.
+fn is_reservation(pieces: &Pieces<'_>, word: &[u8], next: usize) -> bool {
+    if is_same(word, b"excepting") {
+        return pieces.is(next, b"and") && pieces.is(plus(next, 1), b"reserving");
+    }
+    is_same(word, b"grantor") && reserves(pieces, next)
+}
+
+/// Whether a word begins depths with what follows it at an index.
+fn are_depths(pieces: &Pieces<'_>, word: &[u8], next: usize) -> bool {
+    if is_same(word, b"as") {
+        return pieces.is(next, b"to");
+    }
+    if is_same(word, b"all") {
+        return pieces.is(next, b"depths");
+    }
+    if is_same(word, b"only") {
+        return pieces.is(next, b"as") || pieces.is(next, b"insofar");
+    }
+    (is_same(word, b"from") || is_same(word, b"down"))
+        && (pieces.is(next, b"the") || pieces.is(next, b"to") || pieces.is(next, b"surface"))
+}
+
+/// Whether the word at an index may be of a block: it is a book without a page.
+fn may_be_block(pieces: &Pieces<'_>, word: &[u8], index: usize) -> bool {
+    (is_same(word, b"bk") || is_same(word, b"book"))
+        && !(is_soon(pieces, index, b"pg")
+            || is_soon(pieces, index, b"p")
+            || is_soon(pieces, index, b"page")
+            || is_soon(pieces, index, b"/"))
+}
+
+/// Whether a word is among the next pieces after an index.
+fn is_soon(pieces: &Pieces<'_>, index: usize, word: &[u8]) -> bool {
+    for place in plus(index, 1)..plus(index, 8) {
+        if pieces.is(place, word) {
+            return true;
+        }
+    }
+    false
+}
+
+/// Whether depths begin at an index.
+pub fn begins_depths(pieces: &Pieces<'_>, index: usize) -> bool {
+    trailer_at(pieces, index) == Some(Trailer::Depths)
+}
+
+/// Whether the grantor before an index reserves something, as in `Grantor herein excepting and reserving`.
+fn reserves(pieces: &Pieces<'_>, index: usize) -> bool {
+    for place in index..plus(index, 5) {
+        if pieces.is(place, b"reserving") || pieces.is(place, b"reserves") {
+            return true;
+        }
+    }
+    false
+}
+
+/// Whether the piece at an index may be of land where rights are named: sides alone, and shares, are not.
+fn may_be_land_beside_rights(pieces: &Pieces<'_>, index: usize) -> bool {
+    let next = plus(index, 1);
+    match pieces.kind(index) {
+        Kind::Half | Kind::Quarter => {
+            let before = index.saturating_sub(1);
+            pieces.is_north_south(before) || pieces.is_east_west(before)
+        }
+        Kind::Other if pieces.is(index, b"half") || pieces.is(index, b"quarter") => {
+            let first = index.saturating_sub(4);
+            !(pieces.is(first, b"undivided")
+                || pieces.is(plus(first, 1), b"undivided")
+                || pieces.is(plus(first, 2), b"undivided"))
+        }
+        Kind::Other if pieces.is_north_south(index) || pieces.is_east_west(index) => {
+            matches!(
+                pieces.kind(next),
+                Kind::Half | Kind::Quarter | Kind::Number(_)
+            ) || pieces.begins_step(next)
+        }
+        Kind::All => false,
+        Kind::Other if pieces.is(index, b"land") || pieces.is(index, b"lands") => {
+            let before = index.saturating_sub(2);
+            let word = plus(before, 1);
+            if pieces.is(word, b"any")
+                || pieces.is(word, b"other")
+                || pieces.is(word, b"railroad")
+            {
+                return true;
+            }
+            pieces.is(word, b"the")
+                && !(pieces.is(before, b"in")
+                    || pieces.is(before, b"of")
+                    || pieces.is(before, b"under"))
+        }
+        Kind::Other if pieces.is(index, b"excepting") => !pieces.is(plus(next, 1), b"reserving"),
+        _ => pieces.may_be_land(index),
+    }
+}

@@ -1,0 +1,12 @@
+use Rattle.std.proofs.Common.{◌≡◌, length}
+use Rattle.std.specs.List.{SameFrom}
+use Rattle.twp_calls.specs.FullAnswers.{AreFullAnswersTo}
+use Rattle.twp_calls.proofs.answer_many.township_answer_many.Given as goal
+
+-- the descriptions so far are answered
+abbrev pub invariant-loop-index : goal.invariant-loop-index
+invariant-loop-index l = record {
+  length_is : length l.answers ≡ length l.fn.answers;
+  answers : AreFullAnswersTo l.plat l.descriptions l.offsets l.account l.index l.fn.answers l.answers;
+  kept : SameFrom l.fn.answers l.answers l.index;
+}

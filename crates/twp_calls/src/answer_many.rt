@@ -1,0 +1,119 @@
+//! Many descriptions, answered by one call.
+ghost use Rattle.std.specs.Prelude.{◌≡◌, ◌≢◌};
+ghost use Rattle.twp_calls.specs.Answers.{ACCEPTED, bare, with_text};
+ghost use Rattle.twp_calls.specs.FullAnswers.{AreBetween, ExplainsWithoutRoom, IsFullCall};
+
+use crate::answer::TownshipAnswer;
+use crate::answering::{township_acres, township_normal};
+use crate::explaining_texts::township_explain_description;
+use crate::full_answer::TownshipFullAnswer;
+use crate::plat::TownshipPlat;
+use std::alloc::Global;
+
+/// The verdict that accepts.
+const ACCEPTED: u32 = 0;
+/// There is less room than there are descriptions.
+const NO_ROOM: u32 = 5;
+/// The offsets that were given have no bytes between them.
+const NO_RANGE: u32 = 7;
+
+/// Everything that is answered about many descriptions, which are given as bytes in a row: the first description is
+/// from the first offset to the second, the next from there to the third, and so on.
+pub fn township_answer_many(
+    alloc: Global,
+    plat: &TownshipPlat,
+    descriptions: &[u8],
+    offsets: &[usize],
+    account: u32,
+    answers: &mut [TownshipFullAnswer],
+) -> TownshipAnswer
+    ensures answer { IsFullCall plat.now descriptions.now offsets.now account
+        answers.old answers.new result }
+    ensures kept { result.verdict ≢ ACCEPTED → answers.new ≡ answers.old }
+{
+    let count = offsets.len().saturating_sub(1);
+    if answers.len() < count {
+        return counted(NO_ROOM, count);
+    }
+    for index in 0..count {
+        let (start, end) = (offsets[index], offsets[index + 1]);
+        answers[index] = answer_between(
+            alloc,
+            plat,
+            descriptions,
+            start,
+            end,
+            account,
+            answers[index],
+        );
+    }
+    counted(ACCEPTED, count)
+}
+
+/// A verdict, and how many descriptions there are.
+fn counted(verdict: u32, count: usize) -> TownshipAnswer
+    ensures { result ≡ with_text (bare verdict) count }
+{
+    TownshipAnswer {
+        verdict,
+        number: 0,
+        at: 0,
+        inner_number: 0,
+        inner_at: 0,
+        line: 0,
+        column: 0,
+        reserved: 0,
+        hundredths: 0,
+        length: count as u64,
+    }
+}
+
+/// Everything that is answered about the description between two offsets. A text goes over what was there.
+fn answer_between(
+    alloc: Global,
+    plat: &TownshipPlat,
+    descriptions: &[u8],
+    start: usize,
+    end: usize,
+    account: u32,
+    old: TownshipFullAnswer,
+) -> TownshipFullAnswer
+    ensures { AreBetween plat.now descriptions.now start end account old result }
+{
+    let mut text = old.text;
+    let Some(description) = descriptions.get(start..end) else {
+        let none = counted(NO_RANGE, 0);
+        return TownshipFullAnswer {
+            acres: none,
+            normal: none,
+            note: none,
+            text,
+        };
+    };
+    let normal = township_normal(alloc, plat, description, &mut text);
+    let acres = township_acres(alloc, plat, description, account);
+    TownshipFullAnswer {
+        acres,
+        normal,
+        note: note_on(alloc, plat, description, acres),
+        text,
+    }
+}
+
+/// Whether there is a note on a description that has these acres, and where; or why it has none.
+fn note_on(
+    alloc: Global,
+    plat: &TownshipPlat,
+    description: &[u8],
+    acres: TownshipAnswer,
+) -> TownshipAnswer
+    ensures noted { acres.verdict ≡ ACCEPTED
+        → ExplainsWithoutRoom plat.now description.now result }
+    ensures unnoted { acres.verdict ≢ ACCEPTED → result ≡ acres }
+{
+    if acres.verdict != ACCEPTED {
+        return acres;
+    }
+    let mut no_room = [0; 0];
+    township_explain_description(alloc, plat, description, &[], &mut no_room)
+}

@@ -1,8 +1,0 @@
-use Rattle.twp_resolve.specs.steps.ResolvingSteps.{number_of_section}
-use Rattle.twp_described.proofs.NamedFacts.{AreNamedTo}
-use Rattle.twp_described.proofs.named.find_items.Given as goal
-
--- the items so far are named
-abbrev pub invariant-loop-item : goal.invariant-loop-item
-invariant-loop-item g l =
-    AreNamedTo l.items l.item-index (number_of_section l.section) (g.L.Land.places l.land)

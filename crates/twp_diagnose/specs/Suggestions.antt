@@ -1,0 +1,22 @@
+-- What is suggested for a refused text: a reading of it, which names land on the plat of the township.
+use Rattle.std.specs.Prelude.{⊤, ℕ, List}
+use Rattle.twp_grid.specs.Places.{PLACE_DIGITS}
+use Rattle.twp_grid.specs.Townships.{Designation}
+use Rattle.twp_grammar.specs.declared.item.Item.{Item}
+use Rattle.twp_grammar.specs.OnPlat.{AreOnPlat}
+use Rattle.twp_grammar.specs.Sentences.{IsReadAs}
+use Rattle.twp_diagnose.specs.declared.suggests.Suggestion.{Suggestion}
+use Rattle.twp_diagnose.specs.declared.suggests.Suggestion.TheVariants.{Nothing, Beyond, Several, Only}
+
+-- the text is a description of land on the plat of the township
+pub record NamesLandOf (township : Designation) (text : List ℕ) : Type 0 where
+  pub items : List Item
+  pub read : IsReadAs text items
+  pub on_plat : AreOnPlat PLACE_DIGITS township items
+
+-- a reading that is suggested is such a description
+abbrev pub IsOfTownship : Designation → Suggestion → Type 0
+IsOfTownship township Nothing = ⊤
+IsOfTownship township (Beyond reason) = ⊤
+IsOfTownship township Several = ⊤
+IsOfTownship township (Only reading) = NamesLandOf township reading.text.items

@@ -1,3 +1,0 @@
-pub mod ShownNotes
-pub mod NoteMarks
-pub mod steps

@@ -1,4 +1,0 @@
-pub mod Blamed
-pub mod OtherRecords
-pub mod BlamedDistances
-pub mod steps

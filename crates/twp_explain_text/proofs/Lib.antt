@@ -1,2 +1,0 @@
-pub mod ShownFacts
-pub mod UnderlinedFacts

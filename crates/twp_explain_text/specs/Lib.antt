@@ -1,4 +1,0 @@
-pub mod ShownPlaces
-pub mod Underlined
-pub mod OtherPlaces
-pub mod Suggestions

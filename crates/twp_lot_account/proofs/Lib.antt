@@ -1,3 +1,0 @@
-pub mod UnitedFigures
-pub mod LotFigures
-pub mod FirstLotTractFaults

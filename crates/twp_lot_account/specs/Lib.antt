@@ -1,4 +1,0 @@
-pub mod LotLands
-pub mod LotAccounts
-pub mod LotTractFaults
-pub mod steps

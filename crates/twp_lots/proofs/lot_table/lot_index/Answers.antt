@@ -1,9 +1,0 @@
-use Rattle.std.proofs.Common.{arith}
-use Rattle.twp_lots.proofs.IndexFacts.{end_is}
-use Rattle.twp_lots.proofs.lot_table.lot_index.Goals as goal
-
-pub returns-clause-below : goal.returns-clause-below
-returns-clause-below c =
-    let end = end_is c.args.section c.lot_count.ensures.section in
-    omega
-    (arith, end, c.from.ensures, c.from-2.ensures, c.lots_before.ensures.before, c.lot_count.ensures.count)

@@ -1,4 +1,0 @@
-pub mod SectionUnits
-pub mod LackingSteps
-pub mod PassedFaults
-pub mod LotEntries

@@ -1,7 +1,0 @@
-use Rattle.std.proofs.Common.{◌≤◌, string_bytes}
-use Rattle.twp_perhaps.specs.Told.{Grows}
-use Rattle.twp_perhaps.proofs.assumptions.write_phrases.Given as goal
-
--- phrases were appended, and not too many
-abbrev pub invariant-loop-index : goal.invariant-loop-index
-invariant-loop-index l = Grows (string_bytes l.fn.out) (string_bytes l.out) × (l.count ≤ 3)

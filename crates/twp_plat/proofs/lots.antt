@@ -1,0 +1,9 @@
+pub mod IndexFacts
+pub mod SumFacts
+pub mod LotLaws
+pub mod NameFacts
+pub mod AcresFacts
+pub mod RecordFacts
+pub mod RowPlaces
+pub mod Entering
+pub mod FirstLotFaults

@@ -1,0 +1,75 @@
+-- Lot tables as bytes: a heading, the township's designation, and a record for each lot. The layout
+-- is this project's.
+use Rattle.std.specs.Prelude.{◌≡◌, ℕ, ◌+◌, ◌*◌, ◌≤◌, ◌<◌, List, [], ◌∷◌, ◌++◌, length, codes}
+use Rattle.std.specs.Str.Parse.{IsNumeral, digits_value}
+use Rattle.twp_measure.specs.LengthTexts.{IsShortNumber, point}
+use Rattle.twp_grid.specs.Winding.{IsSection}
+use Rattle.twp_notes.specs.Records.{Fields, field, records_of, record_numbered}
+use Rattle.twp_notes.specs.FieldNotes.{IsTownshipRecord, IsSectionText}
+use Rattle.twp_plat.specs.LotTables.{ReturnedLots, IsLotTable, IsLotNumber, figure_of}
+
+-- the most bytes of a lot table
+abbrev pub LOTS_TEXT_MOST : ℕ
+LOTS_TEXT_MOST = 65536
+
+-- the number of fields in the record of a lot
+abbrev pub LOT_FIELDS : ℕ
+LOT_FIELDS = 3
+
+-- the first record
+abbrev pub lots_heading : Fields
+lots_heading = codes "section" ∷ codes "lot" ∷ codes "acres" ∷ []
+
+-- The text is this many hundredths of an acre, 1 to the greatest figure: one to three digits, a
+-- point, and two digits.
+pub record IsAcresText (text : List ℕ) (hundredths : ℕ) : Type 0 where
+  pub whole : List ℕ
+  pub decimals : List ℕ
+  pub before : IsNumeral 10 whole
+  pub few : length whole ≤ 3
+  pub after : IsNumeral 10 decimals
+  pub two : length decimals ≡ 2
+  pub text_is : text ≡ whole ++ point ∷ decimals
+  pub value : hundredths ≡ 100 * digits_value 10 whole + digits_value 10 decimals
+  pub some : 0 < hundredths
+
+-- the record's first two fields name a lot: its section and its number there
+pub record NamesLot (fields : Fields) (section number : ℕ) : Type 0 where
+  pub columns : length fields ≡ LOT_FIELDS
+  pub section_is : IsSectionText (field fields 0) section
+  pub number_is : IsShortNumber (field fields 1) number
+  pub has : IsLotNumber section number
+
+-- the record names a lot, and returns its acreage
+pub record IsLotRecord (fields : Fields) (section number hundredths : ℕ) : Type 0 where
+  pub names : NamesLot fields section number
+  pub returns : IsAcresText (field fields 2) hundredths
+
+-- the records of lots: all after the heading and the township's record
+abbrev pub IsRowNumber : List Fields → ℕ → Type 0
+IsRowNumber records number = (3 ≤ number) × (number ≤ length records)
+
+-- one of the records of lots names the lot
+abbrev pub IsNamed : List Fields → ℕ → ℕ → Type 0
+IsNamed records section lot = (number : ℕ) × IsRowNumber records number
+    × NamesLot (record_numbered records number) section lot
+
+-- The records are this table: the heading, the township, and at most one record for each lot; the
+-- other lots are lacking.
+pub record AreLotRecords (records : List Fields) (table : ReturnedLots) : Type 0 where
+  pub heading_is : record_numbered records 1 ≡ lots_heading
+  pub township_is : IsTownshipRecord (record_numbered records 2) table.township
+  pub each : (number : ℕ) → IsRowNumber records number
+      → (section : ℕ) × (lot : ℕ)
+      × IsLotRecord (record_numbered records number) section lot (figure_of table section lot)
+  pub once : (number other section lot : ℕ) → IsRowNumber records number
+      → IsRowNumber records other → NamesLot (record_numbered records number) section lot
+      → NamesLot (record_numbered records other) section lot → number ≡ other
+  pub others : (section lot : ℕ) → IsSection section → IsLotNumber section lot
+      → ¬ IsNamed records section lot → figure_of table section lot ≡ 0
+  pub table_is : IsLotTable table
+
+-- the bytes are this lot table
+pub record AreLots (bytes : List ℕ) (table : ReturnedLots) : Type 0 where
+  pub size : length bytes ≤ LOTS_TEXT_MOST
+  pub records_are : AreLotRecords (records_of bytes) table

@@ -1,0 +1,107 @@
+-- What can be wrong with a lot table, with each fault as a statement about all its records, and
+-- which fault is reported.
+use Rattle.std.specs.Prelude.{◌≡◌, ◌≢◌, ◌⊎◌, ℕ, ◌+◌, ◌*◌, ◌≤◌, ◌<◌, List, [], length, Option, Some, None}
+use Rattle.std.specs.Prelude.{IfSome, Result, Ok, Err}
+use Rattle.std.specs.Option.{option_map_or}
+use Rattle.twp_grid.specs.declared.refusal.Refusal.{Refusal}
+use Rattle.twp_notes.specs.Records.{Fields, field, records_of, record_numbered}
+use Rattle.twp_notes.specs.FieldNotes.{IsTownshipRecord}
+use Rattle.twp_plat.specs.LotTables.{ReturnedLots}
+use Rattle.twp_plat.specs.LotRecords.{LOTS_TEXT_MOST, LOT_FIELDS, lots_heading, IsAcresText}
+use Rattle.twp_plat.specs.LotRecords.{NamesLot, IsRowNumber, AreLots}
+use Rattle.twp_plat.specs.declared.lots.fault.LotsFault.{LotsFault}
+use Rattle.twp_plat.specs.declared.lots.fault.LotsFault.TheVariants as fault
+
+-- the number and the place of each fault: a length in bytes, or a record's number
+abbrev pub refusal_of : LotsFault → Option Refusal
+refusal_of fault.TooLarge = Some (record { number = 86; at = LOTS_TEXT_MOST })
+refusal_of fault.Empty = Some (record { number = 87; at = 1 })
+refusal_of fault.Heading = Some (record { number = 88; at = 1 })
+refusal_of (fault.Columns record_number) = Some (record { number = 89; at = record_number })
+refusal_of fault.Township = Some (record { number = 90; at = 2 })
+refusal_of (fault.NoLot record_number) = Some (record { number = 91; at = record_number })
+refusal_of (fault.Acres record_number) = Some (record { number = 92; at = record_number })
+refusal_of (fault.Repeated record_number) = Some (record { number = 93; at = record_number })
+refusal_of fault.Read = None
+refusal_of fault.Memory = None
+
+-- the refusal of land with a lot that the table lacks; its place is the lot: 100 times the section's
+-- number, and the lot's number
+abbrev pub lacking_refusal : ℕ → ℕ → Refusal
+lacking_refusal section number = record { number = 94; at = 100 * section + number }
+
+-- a record that names no lot of the township
+abbrev pub NamesNoLot : Fields → Type 0
+NamesNoLot fields = (section number : ℕ) → ¬ NamesLot fields section number
+
+-- a record whose acreage is not valid
+abbrev pub HasNoAcres : Fields → Type 0
+HasNoAcres fields = (hundredths : ℕ) → ¬ IsAcresText (field fields 2) hundredths
+
+-- the numbered record is that of a lot, and has this fault
+abbrev pub HasOnRow : List ℕ → ℕ → (Fields → Type 0) → Type 0
+HasOnRow bytes number IsBad = IsRowNumber (records_of bytes) number
+    × IsBad (record_numbered (records_of bytes) number)
+
+-- an earlier record is for the same lot
+pub record IsRepeated (records : List Fields) (number : ℕ) : Type 0 where
+  pub earlier : ℕ
+  pub section : ℕ
+  pub lot : ℕ
+  pub is_earlier : earlier < number
+  pub earlier_is_of_a_lot : IsRowNumber records earlier
+  pub earlier_names : NamesLot (record_numbered records earlier) section lot
+  pub names : NamesLot (record_numbered records number) section lot
+
+-- the second record does not have the five fields of a township's, or a later one the three of a
+-- lot's
+abbrev pub HasWrongColumns : List Fields → ℕ → Type 0
+HasWrongColumns records number =
+    ((number ≡ 2) × (2 ≤ length records) × (length (record_numbered records 2) ≢ 5))
+    ⊎ (IsRowNumber records number × (length (record_numbered records number) ≢ LOT_FIELDS))
+
+-- the fault is present
+abbrev pub HasFault : List ℕ → LotsFault → Type 0
+HasFault bytes fault.TooLarge = LOTS_TEXT_MOST < length bytes
+HasFault bytes fault.Empty = records_of bytes ≡ []
+HasFault bytes fault.Heading = record_numbered (records_of bytes) 1 ≢ lots_heading
+HasFault bytes (fault.Columns number) = HasWrongColumns (records_of bytes) number
+HasFault bytes fault.Township = (township : _)
+    → ¬ IsTownshipRecord (record_numbered (records_of bytes) 2) township
+HasFault bytes (fault.NoLot number) = HasOnRow bytes number NamesNoLot
+HasFault bytes (fault.Acres number) = HasOnRow bytes number HasNoAcres
+HasFault bytes (fault.Repeated number) = IsRowNumber (records_of bytes) number
+    × IsRepeated (records_of bytes) number
+HasFault bytes fault.Read = ⊥
+HasFault bytes fault.Memory = ⊥
+
+-- The size of the table comes first, then its records one after another.
+abbrev pub stage_of : LotsFault → ℕ
+stage_of fault.TooLarge = 0
+stage_of other = 1
+
+-- the number of a fault's refusal
+abbrev pub number_of : LotsFault → ℕ
+number_of fault = option_map_or (λ (refusal : Refusal). refusal.number) (refusal_of fault) 0
+
+-- the place of a fault's refusal
+abbrev pub place_of : LotsFault → ℕ
+place_of fault = option_map_or (λ (refusal : Refusal). refusal.at) (refusal_of fault) 0
+
+-- the fault is at this stage, place, and number, or after them
+abbrev pub IsFrom : ℕ → ℕ → ℕ → LotsFault → Type 0
+IsFrom stage place number fault =
+    (stage < stage_of fault)
+    ⊎ ((stage ≡ stage_of fault) × (place < place_of fault))
+    ⊎ ((stage ≡ stage_of fault) × (place ≡ place_of fault) × (number ≤ number_of fault))
+
+-- the fault is present, and no fault that precedes it is
+pub record IsFirstFault (bytes : List ℕ) (fault : LotsFault) : Type 0 where
+  pub is : HasFault bytes fault
+  pub first : (other : LotsFault) → HasFault bytes other
+      → IsFrom (stage_of fault) (place_of fault) (number_of fault) other
+
+-- the lot table in the bytes, or their first fault
+abbrev pub AnswersLots : List ℕ → Result ReturnedLots LotsFault → Type 0
+AnswersLots bytes (Ok table) = AreLots bytes table
+AnswersLots bytes (Err fault) = IfSome (refusal_of fault) (λ _. IsFirstFault bytes fault)

@@ -1,0 +1,90 @@
+use std::alloc::AllocError;
+use thiserror::Error;
+use twp_grid::Refusal;
+use twp_notes::ReadFault;
+
+/// The most bytes of a lot table, which is also the place in the refusal of larger ones.
+pub const MOST_BYTES: u32 = 65_536;
+
+/// Why bytes are not a lot table. Records are numbered from 1, as `csv` returns them; the layout of
+/// the table is this project's rule.
+#[derive(Clone, Copy, Debug, PartialEq, Eq, Error)]
+pub enum LotsFault {
+    /// 86, at the limit: there are more bytes than a lot table can have.
+    #[error("the lot table has more than 65,536 bytes")]
+    TooLarge,
+    /// 87, at record 1: there are no records.
+    #[error("the lot table is empty: record 1 is `section,lot,acres`")]
+    Empty,
+    /// 88, at record 1: this is not the heading.
+    #[error("record 1 isn't the heading `section,lot,acres`")]
+    Heading,
+    /// 89, at the record: record 2 does not have five fields, or a later one does not have three.
+    #[error("record {0} doesn't have the fields of its kind: five in record 2, three in others")]
+    Columns(u32),
+    /// 90, at record 2: it is not a township, or is missing.
+    #[error("record 2 isn't a township, as `T,2,N,3,W`: numbers 1 to 99, in one or two digits")]
+    Township,
+    /// 91, at the record: its section has no such lot, or there is no such section.
+    #[error("record {0} is for no lot of a township")]
+    NoLot(u32),
+    /// 92, at the record: its third field is not acres.
+    #[error("record {0} has no acres: 0.01 to 999.99, with two decimals")]
+    Acres(u32),
+    /// 93, at the record: an earlier record is for the same lot.
+    #[error("record {0} is for a lot that an earlier record is for")]
+    Repeated(u32),
+    /// The reader failed.
+    #[error("cannot read")]
+    Read,
+    /// Memory ran out.
+    #[error("out of memory")]
+    Memory,
+}
+
+impl LotsFault {
+    ghost use Rattle.std.specs.Prelude.{◌≡◌};
+    ghost use Rattle.twp_plat.specs.LotsFaults.{refusal_of};
+
+    /// The number and the place of a refusal. `None` for `Read` and `Memory`.
+    pub fn refusal(&self) -> Option<Refusal>
+        ensures { result ≡ refusal_of self.now }
+    {
+        let (number, at) = match *self {
+            LotsFault::TooLarge => (86, MOST_BYTES),
+            LotsFault::Empty => (87, 1),
+            LotsFault::Heading => (88, 1),
+            LotsFault::Columns(record) => (89, record),
+            LotsFault::Township => (90, 2),
+            LotsFault::NoLot(record) => (91, record),
+            LotsFault::Acres(record) => (92, record),
+            LotsFault::Repeated(record) => (93, record),
+            LotsFault::Read | LotsFault::Memory => return None,
+        };
+        Some(Refusal { number, at })
+    }
+}
+
+impl From<ReadFault> for LotsFault {
+    ghost use Rattle.twp_plat.specs.steps.PassedLotFaults.{IsLotsFaultOf};
+
+    ghost from_gives = { IsLotsFaultOf };
+
+    fn from(fault: ReadFault) -> LotsFault {
+        match fault {
+            ReadFault::Read => LotsFault::Read,
+            ReadFault::Memory => LotsFault::Memory,
+        }
+    }
+}
+
+impl From<AllocError> for LotsFault {
+    ghost use Rattle.std.specs.Prelude.{◌≡◌};
+    ghost use Rattle.twp_plat.specs.declared.lots.fault.LotsFault.TheVariants.{Memory};
+
+    ghost from_gives = { λ _ fault. fault ≡ Memory };
+
+    fn from(_fault: AllocError) -> LotsFault {
+        LotsFault::Memory
+    }
+}

@@ -1,0 +1,3 @@
+pub mod BlamedFacts
+pub mod ShownFacts
+pub mod UnderlinedFacts

@@ -1,0 +1,8 @@
+use Rattle.twp_sentences.proofs.descriptions.places.Described.explain.Goals as goal
+
+-- it is land that is named again
+pub returns-in-Overlap-clause-span : goal.returns-in-Overlap-clause-span
+returns-in-Overlap-clause-span c = rw c.in-Overlap.is c.explain_overlap.ensures.span
+
+pub returns-in-Overlap-clause-other : goal.returns-in-Overlap-clause-other
+returns-in-Overlap-clause-other c = rw c.in-Overlap.is c.explain_overlap.ensures.other

@@ -1,0 +1,20 @@
+-- What was found ends with what is at fault.
+use Rattle.twp_diagnose.specs.declared.finding.Finding.{Finding}
+use Rattle.twp_diagnose.proofs.FindingFacts.{of_found}
+use Rattle.twp_sentences.specs.OtherPlaces.{IsOtherPlace}
+use Rattle.twp_sentences.specs.Underlined.{EndsWithFault}
+use Rattle.twp_sentences.proofs.descriptions.stops.stop_of_places.Goals as goal
+
+pub returns-clause-ends : goal.returns-clause-ends
+returns-clause-ends c =
+    of_found
+    (λ (finding : Finding). EndsWithFault c.args.origin.now c.args.bytes.now c.args.description.now
+    c.args.fault finding.place)
+    c.find.result c.of.result c.of.ensures.found c.find.ensures.end
+
+pub returns-clause-other : goal.returns-clause-other
+returns-clause-other c =
+    of_found
+    (λ (finding : Finding). IsOtherPlace c.args.origin.now c.args.bytes.now c.args.township
+    c.args.description.now c.args.fault finding.other)
+    c.find.result c.of.result c.of.ensures.found c.find.ensures.other

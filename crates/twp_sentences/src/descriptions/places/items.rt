@@ -1,0 +1,120 @@
+//! Which item of a description is at a place, and which section it is about.
+ghost use Rattle.std.specs.Prelude.{◌≡◌, ◌↔◌, IsTrue, SomeIff};
+ghost use Rattle.twp_grid.specs.Winding.{IsSection};
+ghost use Rattle.twp_resolve.specs.PlaceFaults.{start_of};
+ghost use Rattle.twp_sentences.specs.Underlined.{IsItemSpan};
+
+use twp_diagnose::{chain_span, heading_span, range_span, token_span};
+use twp_excerpt::Span;
+use twp_grammar::{Item, Numeral};
+use twp_grid::{SECTIONS, Section};
+
+/// Whether an item begins at a place: its first number, its first token, or its word.
+pub(crate) fn begins_at(item: &Item, at: u32) -> bool
+    ensures { IsTrue result ↔ (start_of item.now ≡ at) }
+{
+    place_of(item) == at
+}
+
+/// The place of an item.
+fn place_of(item: &Item) -> u32
+    ensures { result ≡ start_of item.now }
+{
+    match *item {
+        Item::Heading { at, .. } => at,
+        Item::Sections { first, .. } => first.at,
+        Item::Lots { first, .. } => first.at,
+        Item::Chain { at, .. } => at,
+        Item::All { at } => at,
+    }
+}
+
+/// The bytes of an item: a heading, a number or a range from its first number to its last, an
+/// aliquot part, or a word.
+pub(crate) fn item_span(text: &[u8], item: &Item) -> Span
+    ensures { IsItemSpan text.now item.now result }
+{
+    match *item {
+        Item::Heading { at, .. } => heading_span(text, at as usize),
+        Item::Sections { first, last, .. } => range_span(text, first.at as usize, last.at as usize),
+        Item::Lots { first, last } => range_span(text, first.at as usize, last.at as usize),
+        Item::Chain { at, .. } => chain_span(text, at as usize),
+        Item::All { at } => token_span(text, at as usize),
+    }
+}
+
+/// The section of what follows an item. None where its number is no section's.
+pub(crate) fn section_after(section: Option<Section>, item: &Item) -> Option<Section> {
+    let Item::Sections { first, .. } = *item else {
+        return section;
+    };
+    section_of(first)
+}
+
+/// The section of a number.
+fn section_of(number: Numeral) -> Option<Section>
+    ensures { SomeIff result (IsSection number.value) number.value }
+{
+    if number.value > u16::from(SECTIONS) {
+        return None;
+    }
+    Section::new(number.value as u8)
+}
+
+/// The numbers of a range of sections or of lots.
+fn range_of(item: &Item) -> Option<(Numeral, Numeral)> {
+    match *item {
+        Item::Sections { first, last, .. } => Some((first, last)),
+        Item::Lots { first, last } => Some((first, last)),
+        _ => None,
+    }
+}
+
+/// The number at a place.
+pub(crate) fn number_at(items: &[Item], at: u32) -> u16 {
+    for item in items {
+        let Some((first, last)) = range_of(item) else {
+            continue;
+        };
+        if first.at == at {
+            return first.value;
+        }
+        if last.at == at {
+            return last.value;
+        }
+    }
+    0
+}
+
+/// The first and the last number of the range whose last number is at a place.
+pub(crate) fn range_to(items: &[Item], at: u32) -> (u16, u16) {
+    for item in items {
+        let Some((first, last)) = range_of(item) else {
+            continue;
+        };
+        if last.at == at {
+            return (first.value, last.value);
+        }
+    }
+    (0, 0)
+}
+
+/// The section of which the number at a place should be a lot.
+pub(crate) fn section_of_number(items: &[Item], at: u32) -> Option<Section> {
+    let mut section = None;
+    for item in items {
+        if let Some((first, last)) = range_of(item) {
+            if first.at == at || last.at == at {
+                return section;
+            }
+        }
+        section = section_after(section, item);
+    }
+    section
+}
+
+/// Some bytes of a text.
+pub(crate) fn bytes_of(text: &[u8], span: Span) -> &[u8] {
+    let end = span.end.min(text.len());
+    &text[span.start.min(end)..end]
+}

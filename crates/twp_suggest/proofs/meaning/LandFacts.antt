@@ -1,0 +1,77 @@
+-- The land of a text: it is read as one list of items, which names one set of places.
+use Rattle.std.proofs.Common.{◌≡◌, ◌++◌, ◌↔◌, ℕ, Bool, List, IsTrue, false, length, refl, subst, sym, ap}
+use Rattle.std.proofs.lemmas.Bool.{false≢true}
+use Rattle.std.proofs.Common.{◌∙◌}
+use Rattle.twp_grid.specs.Places.{PLACE_DIGITS}
+use Rattle.twp_grid.specs.Townships.{Designation}
+use Rattle.twp_grid.specs.Lands.{ContainsAll, SamePlaces, difference}
+use Rattle.twp_grammar.specs.declared.item.Item.{Item}
+use Rattle.twp_grammar.specs.ItemPlaces.{parts_of, land_of}
+use Rattle.twp_grammar.specs.OnPlat.{AreOnPlat, IsLandOfItems}
+use Rattle.twp_grammar.specs.Sentences.{IsReadAs}
+use Rattle.twp_spell.specs.CanonicalText.{IsCanonicalText}
+use Rattle.twp_suggest.specs.Descriptions.{AreExcepted, IsLandOfText, IsOnlyLandOfText, IsRemainder}
+use Rattle.twp_suggest.specs.Descriptions.{NamesNoLand, as_written, except}
+use Rattle.twp_suggest.specs.declared.meaning.wording.Excepted.{Excepted}
+
+pub is_land : (township : Designation) (text : List ℕ) (items : List Item) (places : ℕ → ℕ → ℕ → Bool)
+    → IsReadAs text items → IsLandOfItems PLACE_DIGITS township items places
+    → IsLandOfText township text places
+is_land township text items places read land = record { items = items; read = read; land = land }
+
+pub is_only_land : (township : Designation) (text : List ℕ) (items : List Item) (places : ℕ → ℕ → ℕ → Bool)
+    → ((others : List Item) → IsReadAs text others → items ≡ others)
+    → IsLandOfItems PLACE_DIGITS township items places → IsOnlyLandOfText text places
+is_only_land township text items places only land = λ other others is.
+    is.land.land_is
+    ∙ ap (λ (named : List Item). land_of PLACE_DIGITS (parts_of named)) (sym (only is.items is.read))
+    ∙ sym land.land_is
+
+-- a text whose items don't lie on the plat names no land
+pub no_land : (township : Designation) (text : List ℕ) (items : List Item)
+    → ((others : List Item) → IsReadAs text others → items ≡ others)
+    → IsTrue false ↔ AreOnPlat PLACE_DIGITS township items → NamesNoLand township text
+no_land township text items only on_plat places is =
+    false≢true
+    (on_plat.1
+    (subst (λ (its : List Item). AreOnPlat PLACE_DIGITS township its) (sym (only is.items is.read))
+    is.land.on_plat))
+
+-- what is left of a text without its exception
+pub is_remainder : (whole excepted text full : List ℕ) (items : List Item) (township : Designation)
+    (places less : ℕ → ℕ → ℕ → Bool) → ((others : List Item) → IsReadAs whole others → items ≡ others)
+    → IsLandOfText township whole places → IsLandOfText township excepted less
+    → ContainsAll places less → ¬ SamePlaces places less
+    → IsCanonicalText PLACE_DIGITS township (difference places less) full → text ≡ as_written items full
+    → IsRemainder (whole ++ except ++ excepted) text
+is_remainder whole excepted text full items township places less only of_whole of_excepted inside some_left
+    spelled
+    written =
+    record {
+      whole = whole;
+      excepted = excepted;
+      made_is = refl;
+      township = township;
+      places = places;
+      less = less;
+      of_whole = of_whole;
+      of_excepted = of_excepted;
+      inside = inside;
+      some_left = some_left;
+      full = full;
+      spelled = spelled;
+      text_is = written ∙ ap (λ (its : List Item). as_written its full) (only of_whole.items of_whole.read);
+    }
+
+-- the items of both parts of a text with an exception
+pub are_excepted : (whole excepted : List ℕ) (items : List Item) (part : Excepted) → IsReadAs whole items
+    → IsReadAs excepted part.items → part.at ≡ length (whole ++ except)
+    → AreExcepted (whole ++ except ++ excepted) items part
+are_excepted whole excepted items part read read_excepted at = record {
+  whole = whole;
+  excepted = excepted;
+  made_is = refl;
+  at_is = at;
+  read = read;
+  read_excepted = read_excepted;
+}

@@ -1,0 +1,12 @@
+use Rattle.std.proofs.Common.{◌-◌, ◌≤◌}
+use Rattle.twp_grid.specs.Places.{PLACE_DIGITS}
+use Rattle.twp_resolve.specs.steps.ResolvingSteps.{sections_from, AreAdded}
+use Rattle.twp_suggest.proofs.meaning.named.add_sections.Given as goal
+
+-- the sections so far are added
+abbrev pub invariant-loop-number : goal.invariant-loop-number
+invariant-loop-number g l = record {
+  least : l.first ≤ l.number;
+  added : AreAdded (sections_from PLACE_DIGITS l.first (l.number - 1)) (g.L.Land.places l.initial.land)
+      (g.L.Land.places l.land);
+}

@@ -1,0 +1,117 @@
+-- What a text describes: whether the reader accepts it, the land that it names, and the description that a
+-- changed text leads to.
+use Rattle.std.specs.Prelude.{◌≡◌, ◌==◌, ℕ, Bool, List, [], ◌∷◌, ◌++◌, Option, Some, None, codes, length}
+use Rattle.std.specs.Prelude.{if◌then◌else◌}
+use Rattle.twp_grid.specs.Places.{PLACE_DIGITS}
+use Rattle.twp_grid.specs.Townships.{Designation, designation, line_feed}
+use Rattle.twp_grid.specs.Lands.{ContainsAll, HasWholeLots, SamePlaces, difference}
+use Rattle.twp_grammar.specs.declared.item.Item.{Item}
+use Rattle.twp_grammar.specs.declared.item.Item.TheVariants.{Heading}
+use Rattle.twp_grammar.specs.ItemPlaces.{land_of, parts_of}
+use Rattle.twp_grammar.specs.OnPlat.{IsLandOfItems}
+use Rattle.twp_grammar.specs.Sentences.{IsReadAs}
+use Rattle.twp_read.specs.Doubts.{HasNoDoubtfulPlace}
+use Rattle.twp_spell.specs.CanonicalText.{IsCanonicalText}
+use Rattle.twp_suggest.specs.declared.meaning.wording.Excepted.{Excepted}
+use Rattle.twp_suggest.specs.declared.meaning.manner.Manner.{Manner}
+use Rattle.twp_suggest.specs.declared.meaning.manner.Manner.TheVariants.{Changed, LotsNamed, Remainder}
+
+-- the reader accepts the text
+pub record IsAccepted (text : List ℕ) : Type 0 where
+  pub items : List Item
+  pub read : IsReadAs text items
+
+-- a text that the reader accepts, and that can't be read in two ways
+pub record IsClear (text : List ℕ) : Type 0 where
+  pub accepted : IsAccepted text
+  pub clear : HasNoDoubtfulPlace text
+
+-- the text is read as items on the plat of a township, and these are their places
+pub record IsLandOfText (township : Designation) (text : List ℕ) (places : ℕ → ℕ → ℕ → Bool) : Type 0 where
+  pub items : List Item
+  pub read : IsReadAs text items
+  pub land : IsLandOfItems PLACE_DIGITS township items places
+
+-- a text names no other places, in any township
+abbrev pub IsOnlyLandOfText : List ℕ → (ℕ → ℕ → ℕ → Bool) → Type 0
+IsOnlyLandOfText text places = (township : Designation) (others : ℕ → ℕ → ℕ → Bool)
+    → IsLandOfText township text others → others ≡ places
+
+-- a text names no land in a township
+abbrev pub NamesNoLand : Designation → List ℕ → Type 0
+NamesNoLand township text = (places : ℕ → ℕ → ℕ → Bool) → ¬ IsLandOfText township text places
+
+-- a text without its first line
+abbrev pub without_first_line : List ℕ → List ℕ
+without_first_line [] = []
+without_first_line (byte ∷ bytes) = if byte == line_feed then bytes else without_first_line bytes
+
+-- a canonical text, whose first line names the township, as a description of land for which such items were
+-- written: without its first line, unless they begin with a township
+abbrev pub as_written : List Item → List ℕ → List ℕ
+as_written (Heading number north_south range east_west at ∷ items) text = text
+as_written items text = without_first_line text
+
+-- what is written between land and what it is without
+abbrev pub except : List ℕ
+except = codes " except "
+
+-- THE REMAINDER: the canonical text of the land of the text before `except` without the land of the text
+-- after it, which lies in it, and isn't all of it
+pub record IsRemainder (made text : List ℕ) : Type 0 where
+  pub whole : List ℕ
+  pub excepted : List ℕ
+  pub made_is : made ≡ whole ++ except ++ excepted
+  pub township : Designation
+  pub places : ℕ → ℕ → ℕ → Bool
+  pub less : ℕ → ℕ → ℕ → Bool
+  pub of_whole : IsLandOfText township whole places
+  pub of_excepted : IsLandOfText township excepted less
+  pub inside : ContainsAll places less
+  pub some_left : ¬ SamePlaces places less
+  pub full : List ℕ
+  pub spelled : IsCanonicalText PLACE_DIGITS township (difference places less) full
+  pub text_is : text ≡ as_written of_whole.items full
+
+-- what is excepted is read as items, and its text begins at an offset of the changed text
+pub record AreExcepted (made : List ℕ) (items : List Item) (part : Excepted) : Type 0 where
+  pub whole : List ℕ
+  pub excepted : List ℕ
+  pub made_is : made ≡ whole ++ except ++ excepted
+  pub at_is : part.at ≡ length (whole ++ except)
+  pub read : IsReadAs whole items
+  pub read_excepted : IsReadAs excepted part.items
+
+-- THE ITEMS of a changed text, or of it before `except`; and those after that
+abbrev pub AreItemsOf : List ℕ → List Item → Option Excepted → Type 0
+AreItemsOf made items None = IsReadAs made items
+AreItemsOf made items (Some part) = AreExcepted made items part
+
+-- the text is read as items, which name these places; an aliquot part may include lots
+pub record AreNamed (text : List ℕ) (places : ℕ → ℕ → ℕ → Bool) : Type 0 where
+  pub items : List Item
+  pub read : IsReadAs text items
+  pub places_are : places ≡ land_of PLACE_DIGITS (parts_of items)
+  pub whole : HasWholeLots PLACE_DIGITS places
+
+-- a township that items begin with is this one
+abbrev pub NamesTownship : List Item → Designation → Type 0
+NamesTownship (Heading number north_south range east_west at ∷ items) township =
+    designation number north_south range east_west ≡ township
+NamesTownship items township = Unit {0}
+
+-- LOTS NAMED: the canonical text of the land of a text in which an aliquot part may include whole lots
+pub record AreLotsNamed (made text : List ℕ) : Type 0 where
+  pub township : Designation
+  pub places : ℕ → ℕ → ℕ → Bool
+  pub named : AreNamed made places
+  pub of_township : NamesTownship named.items township
+  pub full : List ℕ
+  pub spelled : IsCanonicalText PLACE_DIGITS township places full
+  pub text_is : text ≡ as_written named.items full
+
+-- how the description comes of the changed text
+abbrev pub IsDescribed : Manner → List ℕ → List ℕ → Type 0
+IsDescribed Changed made text = text ≡ made
+IsDescribed LotsNamed made text = AreLotsNamed made text
+IsDescribed Remainder made text = IsRemainder made text

@@ -1,0 +1,108 @@
+//! Land that is excepted from one of several parts, as in `S/2, NW/4 less SW/4`.
+
+use crate::arranged::plan::Plan;
+use twp_asides::plus;
+use twp_draft::{Names, Phrase, Placed};
+
+/// The most phrases among which a part is looked for that is excepted as a whole.
+const PHRASES_MOST: usize = 64;
+
+impl<'a> Plan<'a> {
+    /// Doubts land that is excepted from one of several parts, and isn't of the last of them: it may be a
+    /// part of that, as in `S/2, NW/4 less SW/4`.
+    pub(crate) fn doubt_exceptions(&mut self, list: &[Placed]) {
+        let mut last: Option<Phrase> = None;
+        let mut count: usize = 0;
+        let mut is_first = false;
+        for index in 0..list.len() {
+            let Some(phrase) = list.get(index).map(|placed| placed.phrase) else {
+                break;
+            };
+            match phrase.names {
+                Names::Sections => count = 0,
+                Names::Nothing(_) | Names::Heading => {}
+                Names::Except => is_first = true,
+                Names::Part if is_first && count > 1 && !goes_on(list, index) => {
+                    is_first = false;
+                    if !self.may_hold(last, phrase) {
+                        self.draft.doubt();
+                    }
+                }
+                _ if is_first => is_first = false,
+                _ => {
+                    count = plus(count, 1);
+                    last = Some(phrase);
+                }
+            }
+        }
+    }
+
+    /// Doubts an excepted part that includes a part from which it is excepted, as in `N/2 and SE/4, except
+    /// the N/2`: it may be a part of that. The land of each section is in a group.
+    pub(crate) fn doubt_whole_exceptions(&mut self, list: &[Placed]) {
+        let mut is_excepting = false;
+        for index in 0..list.len() {
+            let Some(placed) = list.get(index).copied() else {
+                break;
+            };
+            match placed.phrase.names {
+                Names::Except => is_excepting = true,
+                Names::Sections => is_excepting = false,
+                Names::Part if is_excepting && !is_joined(list, index) => {
+                    if self.does_hold_one(list.get(..index).unwrap_or(&[]), placed) {
+                        self.draft.doubt();
+                    }
+                }
+                _ => {}
+            }
+        }
+    }
+
+    /// Whether a part includes one of the last parts of its group, but for those that are excepted.
+    fn does_hold_one(&self, list: &[Placed], excepted: Placed) -> bool {
+        let mut is_excepted = true;
+        for placed in list.iter().rev().take(PHRASES_MOST) {
+            let is_part = placed.phrase.names == Names::Part && placed.role == excepted.role;
+            if is_part && !is_excepted && self.draft.does_hold(excepted.phrase, placed.phrase) {
+                return true;
+            }
+            is_excepted = is_excepted && placed.phrase.names != Names::Except;
+        }
+        false
+    }
+
+    /// Whether a part that is excepted is of the last land before it, or has two steps or more.
+    fn may_hold(&self, last: Option<Phrase>, excepted: Phrase) -> bool {
+        let [step] = self.draft.steps_of(excepted) else {
+            return true;
+        };
+        let Some(last) = last else {
+            return true;
+        };
+        match self.draft.steps_of(last) {
+            [whole] => {
+                let letter = whole.written.first().copied().unwrap_or(0);
+                let is_of_half = whole.written.ends_with(b"2") && step.written.ends_with(b"4");
+                is_of_half && step.written.get(..2).unwrap_or(b"").contains(&letter)
+            }
+            _ => last.names != Names::Part,
+        }
+    }
+}
+
+/// Whether a part is before the one at an index, or follows it, with white space alone between them.
+fn is_joined(list: &[Placed], index: usize) -> bool {
+    goes_on(list, index) || (index > 0 && goes_on(list, index.saturating_sub(1)))
+}
+
+/// Whether another phrase follows the one at an index, with white space alone between them.
+fn goes_on(list: &[Placed], index: usize) -> bool {
+    match (list.get(index), list.get(plus(index, 1))) {
+        (Some(one), Some(other)) => {
+            one.phrase.names == Names::Part
+                && other.phrase.names == Names::Part
+                && other.phrase.first == one.phrase.end
+        }
+        _ => false,
+    }
+}

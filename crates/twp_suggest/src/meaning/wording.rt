@@ -1,0 +1,266 @@
+//! The description that comes of a changed text: the text, or the canonical description of what is left
+//! without the land that it excepts.
+ghost use Rattle.std.specs.Prelude.{◌≡◌, ◌≤◌, ◌++◌, IfOk, IfSome, IsTrue, OnOk, drop, length};
+ghost use Rattle.twp_grid.specs.Lands.{ContainsAll, SamePlaces};
+ghost use Rattle.twp_grammar.specs.Sentences.{IsReadAs};
+ghost use Rattle.twp_suggest.specs.Descriptions.{AreItemsOf, AreLotsNamed, IsAccepted, IsDescribed};
+ghost use Rattle.twp_suggest.specs.Descriptions.{IsRemainder, NamesTownship};
+ghost use Rattle.twp_suggest.specs.Descriptions.{as_written, except};
+ghost use Rattle.twp_suggest.specs.Descriptions.{without_first_line};
+
+use crate::meaning::manner::Manner;
+use crate::meaning::named::{find_with_lots, why_unread};
+use crate::meaning::on_plat::{first_township, read};
+use crate::meaning::unread::Unread;
+use std::alloc::{AllocError, Global};
+use twp_grammar::Item;
+use twp_grid::Township;
+use twp_land::{Land, Lanes, OneLanes};
+use twp_read::Description;
+use twp_resolve::{PlaceFault, names_one_section, resolve_if_room, resolve_into};
+use twp_spell::spell;
+
+/// What is between land and what it is without.
+const EXCEPT: &[u8] = b" except ";
+
+/// A text before `except`, and one after it.
+#[derive(Clone, Copy)]
+pub(crate) struct Excepting<'a> {
+    pub(crate) whole: &'a [u8],
+    pub(crate) excepted: &'a [u8],
+}
+
+/// The items of what is excepted, and the offset of its text in the changed text.
+#[derive(Drop)]
+pub struct Excepted {
+    pub items: Description,
+    pub at: usize,
+}
+
+/// A description derived from a changed text, the manner in which it was derived, and the items of the changed text.
+#[derive(Drop)]
+pub struct Wording {
+    pub text: Vec<u8>,
+    pub manner: Manner,
+    pub items: Description,
+    pub excepted: Option<Excepted>,
+}
+
+/// The description that comes of a changed text in its township, or in any if it names none. None if it names
+/// some land twice, or a part that is too fine.
+pub fn described(alloc: Global, made: Vec<u8>, has_except: bool) -> Result<Option<Wording>, Unread>
+    ensures described { IfOk result (λ it. IfSome it (λ found.
+        IsDescribed found.manner made.items found.text.items)) }
+    ensures accepted { IfOk result (λ it. IfSome it (λ found. IsAccepted found.text.items)) }
+    ensures items { IfOk result (λ it. IfSome it (λ found.
+        AreItemsOf made.items found.items found.excepted)) }
+{
+    if has_except {
+        let wording = without_excepted(alloc, made.as_slice())?;
+        accept(alloc, wording.text.as_slice())?;
+        return Ok(Some(wording));
+    }
+    let Some(description) = read(alloc, made.as_slice())? else {
+        return Err(Unread::Refused);
+    };
+    let Some(township) = first_township(description.items()) else {
+        return Err(Unread::Refused);
+    };
+    match is_on_plat(&description, township) {
+        Ok(()) => Ok(Some(Wording {
+            text: made,
+            manner: Manner::Changed,
+            items: description,
+            excepted: None,
+        })),
+        Err(PlaceFault::Overlap { .. } | PlaceFault::TooFine { .. }) => Ok(None),
+        Err(PlaceFault::OnLot { .. }) => {
+            let text = with_lots_named(alloc, made.as_slice(), &description, township)?;
+            accept(alloc, text.as_slice())?;
+            Ok(Some(Wording {
+                text,
+                manner: Manner::LotsNamed,
+                items: description,
+                excepted: None,
+            }))
+        }
+        Err(_) => Err(Unread::Refused),
+    }
+}
+
+/// Whether what a description names is on the plat of a township, or its first fault. Most descriptions name
+/// land in one section, for which a small set of places is enough.
+fn is_on_plat(description: &Description, township: Township) -> Result<(), PlaceFault> {
+    if names_one_section(description) {
+        let mut land = OneLanes::empty();
+        if resolve_if_room(&mut land, description, township)? {
+            return Ok(());
+        }
+    }
+    is_on_plat_in_all(description, township)
+}
+
+/// The same for land in any sections. Not inlined, since its set of land would be cleared for each text.
+#[inline(never)]
+fn is_on_plat_in_all(description: &Description, township: Township) -> Result<(), PlaceFault> {
+    let mut land = Lanes::empty();
+    resolve_into(&mut land, description, township)
+}
+
+/// Reads a canonical description.
+fn accept(alloc: Global, text: &[u8]) -> Result<(), Unread>
+    ensures { OnOk result (IsAccepted text.now) }
+{
+    match read(alloc, text)? {
+        Some(_) => Ok(()),
+        None => Err(Unread::Refused),
+    }
+}
+
+/// The canonical description of the land of a text in which aliquot parts include whole lots.
+#[tactic(auto, using(crate::proofs::meaning::NamedFacts::are_lots_named))]
+#[inline(never)]
+fn with_lots_named(
+    alloc: Global,
+    made: &[u8],
+    description: &Description,
+    township: Township,
+) -> Result<Vec<u8>, Unread>
+    requires read { IsReadAs made.now description.now }
+    requires township { NamesTownship description.now township }
+    ensures { IfOk result (λ text. AreLotsNamed made.now text.items) }
+{
+    let mut land = Lanes::empty();
+    let is_named = find_with_lots(description, &mut land);
+    if !is_named {
+        return Err(why_unread(description));
+    }
+    let full = spell(alloc, &land, township)?;
+    let text = as_written(alloc, description, full.as_slice())?;
+    Ok(text)
+}
+
+/// The canonical description of the land of a text that it doesn't except.
+fn without_excepted(alloc: Global, made: &[u8]) -> Result<Wording, Unread>
+    ensures described { IfOk result (λ found. IsDescribed found.manner made.now found.text.items) }
+    ensures items { IfOk result (λ found. AreItemsOf made.now found.items found.excepted) }
+{
+    match around_except(made) {
+        Some(parts) => remainder(alloc, parts.whole, parts.excepted),
+        None => Err(Unread::Refused),
+    }
+}
+
+/// The texts before the first `except` and after it.
+pub(crate) fn around_except(text: &[u8]) -> Option<Excepting<'_>>
+    ensures { IfSome result (λ parts. text.now ≡ parts.whole.now ++ except ++ parts.excepted.now) }
+{
+    for at in 0..text.len() {
+        if let Some(parts) = split_at_except(text, at) {
+            return Some(parts);
+        }
+    }
+    None
+}
+
+/// The texts before a place and after the `except` there.
+fn split_at_except(text: &[u8], at: usize) -> Option<Excepting<'_>>
+    requires { at ≤ length text.now }
+    ensures { IfSome result (λ parts. text.now ≡ parts.whole.now ++ except ++ parts.excepted.now) }
+{
+    let (whole, rest) = text.split_at(at);
+    if rest.len() < EXCEPT.len() {
+        return None;
+    }
+    let (mark, excepted) = rest.split_at(EXCEPT.len());
+    if mark != EXCEPT {
+        return None;
+    }
+    Some(Excepting { whole, excepted })
+}
+
+/// The canonical description of the land of a text without the land of another, which has to be on the plat
+/// of the same township, in the land of the first, and not all of it. Not inlined, since its sets of land
+/// would be cleared for each text.
+#[tactic(auto, using(crate::proofs::meaning::LandFacts::are_excepted))]
+#[inline(never)]
+fn remainder(alloc: Global, whole: &[u8], excepted: &[u8]) -> Result<Wording, Unread>
+    ensures described { IfOk result (λ found.
+        IsDescribed found.manner (whole.now ++ except ++ excepted.now) found.text.items) }
+    ensures items { IfOk result (λ found.
+        AreItemsOf (whole.now ++ except ++ excepted.now) found.items found.excepted) }
+{
+    let mut land = Lanes::empty();
+    let mut less = Lanes::empty();
+    let Some(description) = read(alloc, whole)? else {
+        return Err(Unread::Refused);
+    };
+    let Some(township) = first_township(description.items()) else {
+        return Err(Unread::Refused);
+    };
+    let Ok(()) = resolve_into(&mut land, &description, township) else {
+        return Err(why_unread(&description));
+    };
+    let Some(items) = read(alloc, excepted)? else {
+        return Err(Unread::Refused);
+    };
+    let Ok(()) = resolve_into(&mut less, &items, township) else {
+        return Err(why_unread(&items));
+    };
+    if !is_proper_part(&less, &land) {
+        return Err(Unread::Unfit);
+    }
+    land.take_away(&less);
+    let full = spell(alloc, &land, township)?;
+    let text = as_written(alloc, &description, full.as_slice())?;
+    Ok(Wording {
+        text,
+        manner: Manner::Remainder,
+        items: description,
+        excepted: Some(Excepted {
+            items,
+            at: whole.len() + EXCEPT.len(),
+        }),
+    })
+}
+
+/// Whether land lies in other land, and isn't all of it.
+fn is_proper_part(part: &Lanes, land: &Lanes) -> bool
+    ensures inside { IsTrue result → ContainsAll (⟦<Lanes as Land>⟧.places land.now) (⟦<Lanes as Land>⟧.places part.now) }
+    ensures some_left { IsTrue result → ¬ SamePlaces (⟦<Lanes as Land>⟧.places land.now) (⟦<Lanes as Land>⟧.places part.now) }
+{
+    land.holds_land(part) && !land.same(part)
+}
+
+/// A canonical text as a description of land for which another was written.
+fn as_written(alloc: Global, description: &Description, full: &[u8]) -> Result<Vec<u8>, AllocError>
+    ensures { IfOk result (λ text. text.items ≡ as_written description.now full.now) }
+{
+    let mut text = Vec::new(alloc);
+    match description.items().first() {
+        Some(Item::Heading { .. }) => text.extend_from_slice(full)?,
+        _ => text.extend_from_slice(without_first_line(full))?,
+    }
+    Ok(text)
+}
+
+/// A text without its first line.
+fn without_first_line(text: &[u8]) -> &[u8]
+    ensures { result.now ≡ without_first_line text.now }
+{
+    for index in 0..text.len() {
+        if text[index] == b'\n' {
+            return after(text, index + 1);
+        }
+    }
+    after(text, text.len())
+}
+
+/// The bytes of a text from a place on.
+fn after(text: &[u8], from: usize) -> &[u8]
+    requires { from ≤ length text.now }
+    ensures { result.now ≡ drop from text.now }
+{
+    let (_, rest) = text.split_at(from);
+    rest
+}
