@@ -173,7 +173,7 @@ def _hostile(count: int) -> Iterator[Tuple[str, str, bytes, Dict[str, str]]]:
     text = json.dumps({**NOMINAL, "text": "NENE, S2NE4 Sec 14-2N-3W (Boise Meridian)"}).encode()
     for _ in range(count):
         method = random.choice(["POST"] * 9 + ["PUT"])
-        kind = random.choice(["plat", "land", "compare", "suggest", "report", "batch", "none"])
+        kind = random.choice(["plat", "land", "compare", "suggest", "report", "batch", "file", "none"])
         frame = text if kind == "suggest" else description
         damaged = bytearray(frame)
         for _ in range(random.randrange(1, 8)):

@@ -1,9 +1,11 @@
 """The JSON interface: its answers are those of the package, which are those of the library."""
 from __future__ import annotations
 
+import base64
 import json
 import re
 import xml.etree.ElementTree as ET
+from decimal import Decimal
 from pathlib import Path
 
 import pytest
@@ -149,6 +151,49 @@ def test_report_goes_on_after_refusals_and_overlaps(server: Interface) -> None:
     assert answer["remaining"]["acres"]["exact"] == "21920.00"
 
 
+def test_report_on_a_list_as_it_is_written(server: Interface) -> None:
+    """The records are those of `batch`; what is wrong with a record has its line, and is never read as other land."""
+    listed = 'name;description;more\r\nA;"sec. 7, lot 1.";x\r\n\r\nB;sec. 7; lot 4.;y\r\n'
+    answer = server.ask("report", notes=NOTES, list=listed)
+    found = [(each["name"], each["line"], each.get("acres", {}).get("exact")) for each in answer["tracts"]]
+    assert found == [("A", 2, "39.18"), ("B", 4, None)] and answer["refused"] == 1
+    assert answer["tracts"][1]["fault"].startswith("line 4 has 4 fields, but the heading has 3; put a description")
+    assert answer["total"]["acres"]["exact"] == "39.18"
+    both = json.dumps({**NOMINAL, "list": "", "tracts": []}).encode()
+    assert server.post("report", both).json == {"error": "give either `tracts` (records) or `list` (a text)"}
+    many = json.dumps({**NOMINAL, "list": "sec. 14.\n" * 1001}).encode()
+    assert server.post("report", many).json == {"error": "the list has more than 1,000 tracts"}
+
+
+@pytest.mark.parametrize("encoding", ["utf-8", "utf-8-sig", "utf-16", "utf-16-be", "cp1252"])
+def test_files(server: Interface, encoding: str) -> None:
+    data = base64.b64encode("name;N½\r\n".encode(encoding)).decode()
+    answer = server.ask("file", data=data)
+    assert answer["text"] == "name;N½\r\n"
+    assert answer["encoding"] == {"utf-8-sig": "utf-8", "utf-16-be": "utf-16", "cp1252": "windows-1252"}.get(encoding, encoding)
+
+
+def test_files_that_are_not_texts(server: Interface) -> None:
+    for data, error in (("UEsDBA==", "this file is a workbook or a document; save it as CSV"), ("?", "the field `data` must be a file in base64")):
+        assert server.post("file", json.dumps({"data": data}).encode()).json == {"error": error}
+
+
+def test_field_notes_as_they_are_written(server: Interface) -> None:
+    """The distances that inputs show are those of the plat, and their places are theirs."""
+    text = NOTES.replace("W,6,7,40.00,79.60", '"W",7,"6","40.00",79.60').replace("\n", "\r\n")
+    answer = server.ask("plat", notes=text)
+    lines = answer["written"]["lines"]
+    assert sorted(each["line"] for each in lines) == list(range(84))
+    for each in lines:
+        quarter, corner = (Decimal(distance) for distance in each["distances"])
+        assert quarter == 40 and 1000 * (corner - 60) == PLAT.closing_quarters[each["line"]]
+    places = {each["line"]: text[each["start"] : each["end"]] for each in lines}
+    assert places[53] == '"40.00",79.60' and places[0] == "40.00,80.00"
+    refused = server.ask("plat", notes=text.replace("79.60", "x"), draw=True)
+    assert refused["refused"]["section_line"] == 53 and "No field notes, no acreage" in refused["svg"]
+    assert "svg" not in server.ask("plat", notes="T,0,N,3,W\n", draw=True)
+
+
 def test_batch(server: Interface) -> None:
     answer = server.ask("batch", notes=NOTES, descriptions=["sec. 5, lot 1.", "sec. 5, N1/2.", "sec. 36."])
     assert answer["acres"] == ["40.45", None, "640.00"]
@@ -212,7 +257,7 @@ def test_the_document(server: Interface) -> None:
     rows = dict(re.findall(r"^\| ([a-z ]+) \| ([0-9,]+)", text[text.index("## Limits") :], re.MULTILINE))
     assert {name: int(number.replace(",", "")) for name, number in rows.items()} == {
         "a body": limits.BODY_MOST // 1024**2,
-        "connections at a time": limits.CONNECTIONS_MOST,
+        "simultaneous connections": limits.CONNECTIONS_MOST,
         "the time for a request to arrive": limits.SECONDS_MOST,
         "descriptions of a batch": limits.DESCRIPTIONS_MOST,
         "tracts of a list": limits.TRACTS_MOST,

@@ -55,9 +55,7 @@ def test_lines_typed_as_a_person_would(page: Page) -> None:
     sample = {line.rpartition(",")[0].rpartition(",")[0]: line.split(",")[3:] for line in NOTES.read_text().split()[2:]}
     for row in page.all("#lines tbody tr:not([hidden])"):
         index = row.get_attribute("id").split("-")[1]
-        name = page.driver.execute_script(
-            "return import('./static/notes.js').then(notes => notes.LINES[arguments[0]].name)", int(index)
-        )
+        name = row.get_attribute("data-name")
         first, second = name.split(",")[1:]
         quarter, corner = sample.get(name) or sample[f"{name[0]},{second},{first}"]
         page.type(f"#quarter-{index}", quarter)
@@ -372,8 +370,70 @@ def test_a_lot_table(page: Page) -> None:
 
 def test_the_page_knows_the_lines(page: Page) -> None:
     """Its names of the 84 lines, in their order, are those of the library."""
-    notes = page.driver.execute_script("return import('./static/notes.js').then(notes => notes.notesOf('T,2,N,3,W'))")
+    names = [row.get_attribute("data-name") for row in page.all("#lines tbody tr")]
     even = township.Plat.open(TOP / "samples" / "b0.csv")
-    assert township.Plat.read(notes) == even
+    records = [f"{name},40.00,80.00" for name in names]
+    assert township.Plat.read("\n".join(["line,between,and,quarter,corner", "T,2,N,3,W", *records, ""])) == even
     sections = [set(line.split(",")[1:3]) for line in even.write_notes().split()[2:]]
-    assert [set(line.split(",")[1:3]) for line in notes.split()[2:]] == sections
+    assert [set(name.split(",")[1:]) for name in names] == sections
+    closing = [name for name in names if page.one(f"[data-name='{name}']").is_displayed()]
+    assert len(closing) == 14
+
+
+def test_a_list_is_never_read_as_other_land(page: Page) -> None:
+    """A description without quotation marks has its place named; it is not cut at its separators."""
+    page.tab("tracts")
+    for text in ("Smith,sec. 14, NE1/4.", "Smith\tsec. 14\tNE1/4.", "name,description\nSmith,sec. 14, NE1/4.\n"):
+        page.put("#tracts", text)
+        page.wait_for_text("#tracts-table .wrong", "has 3 fields")
+        assert "0.00 acres in all" in page.text("#tracts-answer") and page.all("#drawing .land") == []
+    page.put("#tracts", "lot 1, sec. 5.")
+    page.wait_for_text("#tracts-table .wrong", "line 1 may be a description alone")
+    page.put("#tracts", "sec. 14; sec. 15")
+    page.wait_for_text("#tracts-answer", "1,280.00 acres in all")
+    page.put("#tracts", "name;description\r\nA;sec. 14, NE1/4.\r\n")
+    page.wait_for_text("#tracts-answer", "160.00 acres in all")
+
+
+def test_files_are_decoded_as_batch_decodes_them(page: Page, tmp_path: Path) -> None:
+    page.tab("tracts")
+    for encoding, said in (("utf-8-sig", ""), ("utf-16", "UTF-16"), ("utf-16-le", "UTF-16"), ("cp1252", "WINDOWS-1252")):
+        file = tmp_path / f"{encoding}.csv"
+        file.write_bytes('name;description\r\nÑ;"sec. 14, N½NE¼."\r\n'.encode(encoding))
+        page.put("#tracts", "")
+        page.one("#open-tracts").send_keys(str(file))
+        page.wait_for_text("#tracts-answer", "80.00 acres in all")
+        assert page.text("#tracts-table tbody th") == "Ñ"
+        assert said in page.text("#said")
+    file = tmp_path / "list.csv"
+    file.write_bytes(b"PK\x03\x04")
+    page.one("#open-tracts").send_keys(str(file))
+    page.wait_for_text("#said", "list.csv is not opened: this file is a workbook or a document; save it as CSV")
+
+
+def test_places_in_field_notes_that_are_not_plain(page: Page) -> None:
+    """Quotation marks, CRLF, and records in another order: an input replaces its own place, and nothing else."""
+    records = NOTES.read_text().splitlines()
+    given = [*records[:2], *reversed(records[2:])]
+    given[5] = ",".join(f'"{field}"' for field in given[5].split(","))
+    page.driver.execute_script("document.querySelector('#notes').closest('details').open = true")
+    page.put("#notes", "\r\n".join(given) + "\r\n")
+    page.wait_for_text("#plat-answer", "23,037.57")
+    assert page.value("#corner-53") == "79.60"
+    page.type("#corner-53", "79.5")
+    page.wait_for(lambda: "W,6,7,40.00,79.5" in page.value("#notes"))
+    page.type("#township-number", "14")
+    page.wait_for_text("#where", "T. 14 N., R. 3 W.")
+    changed = "\n".join(given).replace("W,6,7,40.00,79.60", "W,6,7,40.00,79.5").replace("T,2,N,3,W", "T,14,N,3,W")
+    assert page.value("#notes").splitlines() == changed.splitlines()
+
+
+def test_refused_notes_leave_no_answers(page: Page) -> None:
+    open_sample(page)
+    page.type("#corner-53", "99.6")
+    page.wait_for_text("#plat-answer", "Refused 23")
+    assert page.all("#lots tbody tr") == [] and page.text("#where") == ""
+    assert "39.03" not in page.text("#drawing") and "23,037.57" not in page.text("#drawing")
+    page.put("#notes", "x")
+    page.wait_for_text("#plat-answer", "Refused")
+    assert page.all("#drawing svg") == []

@@ -2,7 +2,7 @@
 from __future__ import annotations
 
 from decimal import Decimal
-from typing import Dict, FrozenSet, Iterator, List, Mapping, Tuple
+from typing import Dict, FrozenSet, Iterator, List, Mapping, Optional, Tuple
 
 from ._decimals import Number, scaled
 from ._plat import Plat
@@ -40,6 +40,25 @@ def _key(name: str) -> Tuple[str, FrozenSet[str]]:
 
 _NAMES = list(_names())
 _NAME_OF = {_key(name): name for name in _NAMES}
+_INDEX_OF = {_key(name): index for index, name in enumerate(_NAMES)}
+
+
+def names() -> Tuple[str, ...]:
+    """Return the names of all section lines, by their index.
+
+    >>> names()[53]
+    'W,6,7'
+    """
+    return tuple(_NAMES)
+
+
+def index_of(name: str) -> Optional[int]:
+    """Return the index of the section line with this name, or `None` if there is no such line.
+
+    >>> index_of("W,7,6"), index_of("W,7,14")
+    (53, None)
+    """
+    return _INDEX_OF.get(_key(name)) if name.count(",") == 2 else None
 
 
 class Notes(Mapping[str, Distances]):

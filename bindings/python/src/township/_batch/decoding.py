@@ -15,6 +15,9 @@ MARK = "\ufeff"
 #: The encodings that the command line can name.
 ENCODINGS = {"utf-8": "utf-8", "windows-1252": "cp1252"}
 
+#: What people call the encodings that Python calls otherwise.
+_NAMES = {"cp1252": "windows-1252", "utf-8-sig": "utf-8", "utf-16-le": "utf-16", "utf-16-be": "utf-16"}
+
 #: The number of bytes that tell the encoding.
 _HEAD = 4
 
@@ -75,6 +78,8 @@ class Decoded:
 
     def __init__(self, file: Counted, encoding: str) -> None:
         name, errors = _encoding_of(file.head, encoding)
+        #: The encoding that the file is found to have.
+        self.encoding = _NAMES.get(name, name)
         self._decoder = codecs.getincrementaldecoder(name)(errors)
         self._file = file
         self._ended = False

@@ -125,13 +125,13 @@ class Records:
 
 def _uneven_record(row: List[str], last_line: str, line: int, shape: Shape) -> Record:
     """Return the record of a row that has not as many fields as the heading. `last_line` is its last line."""
-    width, column, _ = shape
+    width, column = shape.width, shape.column
     fields = (row + [""] * width)[:width]
     # In some rows, Excel leaves out the fields at the end that are empty.
     if len(row) < width and _has_whole(row, column, last_line):
         return Record(fields, line)
     count = "1 field" if len(row) == 1 else f"{len(row)} fields"
-    fault = f"line {line} has {count}, but the heading has {width}"
+    fault = f"line {line} has {count}, but {shape.by} has {width}"
     if len(row) > width:
         fault += "; put a description that contains a separator in quotation marks"
     elif len(row) == column + 1:

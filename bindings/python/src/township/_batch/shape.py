@@ -17,3 +17,5 @@ class Shape(NamedTuple):
     column: int
     #: The character between fields.
     separator: str
+    #: What says how many fields a record has.
+    by: str = "the heading"

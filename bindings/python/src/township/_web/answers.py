@@ -12,19 +12,29 @@ from .._plat import Plat
 from .._refused import Refused
 from . import drawn
 from .basis import Basis, decimals_of
-from .drawn import drawing
-from .given import Given
+from .drawn import drawing, without_figures
+from .given import Given, RefusedBasis
 from .limits import DESCRIPTIONS_MOST
 from .refusals import Json, note_json, refused_json
+from .sectionlines import line_refused, written
 
 #: The fields that give a plat, and a lot table.
 BASIS = frozenset({"notes", "township", "lots"})
 
 
 def plat_answer(body: bytes) -> Json:
-    """Answer with the figures of a plat, and its field notes."""
+    """Answer with the figures of a plat, and with its field notes: as the library writes them, and as they are given."""
     given = Given(body, BASIS | drawn.FIELDS)
-    basis = given.basis()
+    notes = given.text("notes") if given.has("notes") else None
+    found: Json = {} if notes is None else {"written": written(notes)}
+    try:
+        basis = given.basis()
+    except RefusedBasis as error:
+        refused = refused_json(error.refused, error.of, error.text)
+        if notes is not None and error.of == "notes":
+            refused["section_line"] = line_refused(notes, error.refused.number, error.refused.at)
+            found.update(without_figures(given, notes))
+        return {"refused": refused, **found}
     plat = basis.plat
     return {
         "township": str(plat.township),
@@ -32,6 +42,7 @@ def plat_answer(body: bytes) -> Json:
         "sections": [_section_json(section) for section in plat.sections.values()],
         "closing_quarters": _closing_quarters(plat),
         "notes": plat.write_notes(),
+        **found,
         **drawing(given, basis),
     }
 

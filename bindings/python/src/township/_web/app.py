@@ -10,11 +10,14 @@ from werkzeug.exceptions import HTTPException
 from .._version import __version__
 from .answers import batch_answer, compare_answer, land_answer, plat_answer
 from .assets import TEMPLATES, Asset, asset_of, interface, static_assets
+from .basis import nominal_plat
+from .files import file_answer
 from .given import Invalid, RefusedBasis
 from .guard import LOCAL_HOSTS, guard
 from .limits import BODY_MOST
 from .replies import failed, replied
 from .refusals import Json, refused_json
+from .sectionlines import section_lines
 from .suggesting import suggest_answer
 from .tracts import report_answer
 
@@ -26,7 +29,11 @@ ANSWERS: Dict[str, Callable[[bytes], Json]] = {
     "suggest": suggest_answer,
     "report": report_answer,
     "batch": batch_answer,
+    "file": file_answer,
 }
+
+#: The township that the page shows first.
+FIRST = "T. 2 N., R. 3 W."
 
 #: Where the routes of the JSON interface begin.
 PREFIX = "/api/v1/"
@@ -41,7 +48,8 @@ def create_app(hosts: Collection[str] = LOCAL_HOSTS) -> Flask:
     guard(app, hosts)
     _handle_errors(app)
     with app.app_context(), app.test_request_context():
-        page = asset_of(render_template("page.html", version=__version__).encode("utf-8"), ".html")
+        shown = {"version": __version__, "lines": section_lines(), "notes": nominal_plat(FIRST).write_notes()}
+        page = asset_of(render_template("page.html", **shown).encode("utf-8"), ".html")
     _serve(app, "/", page)
     _serve(app, f"{PREFIX}openapi.json", interface())
     assets = static_assets()

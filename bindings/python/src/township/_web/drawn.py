@@ -4,12 +4,13 @@ from __future__ import annotations
 from decimal import Decimal
 from typing import Sequence, Tuple
 
-from .._drawing import Shade, svg_of
+from .._drawing import Shade, Subject, svg_of
 from .._drawing.of_plat import shade_of, subject_of
 from .._land import Land
 from .basis import BY_LOTS, Basis
 from .given import Given
 from .refusals import Json
+from .sectionlines import designation_in
 
 #: The fields of a request that ask for a drawing.
 FIELDS = frozenset({"draw", "section", "targets"})
@@ -23,6 +24,15 @@ def drawing(given: Given, basis: Basis, lands: Sequence[Tuple[str, Land]] = ()) 
         return {}
     shades = [_shade_of(basis, label, land) for label, land in lands]
     return {"svg": svg_of(subject_of(basis.plat, *shades, lots=basis.lots), section, targets)}
+
+
+def without_figures(given: Given, notes: str) -> Json:
+    """Return the drawing of a township whose field notes are refused, if they say which it is: it has no figures."""
+    section, targets, wants = given.section(), given.flag("targets"), given.flag("draw")
+    designation = designation_in(notes)
+    if not wants or designation is None:
+        return {}
+    return {"svg": svg_of(Subject(designation), section, targets)}
 
 
 def _shade_of(basis: Basis, label: str, land: Land) -> Shade:

@@ -54,6 +54,10 @@ class Given:
             raise Invalid(f"the lot table is for {lots.township}, and the plat for {plat.township}")
         return Basis(plat, lots)
 
+    def has(self, name: str) -> bool:
+        """Return whether there is a field with this name."""
+        return self._fields.get(name) is not None
+
     def text(self, name: str) -> str:
         """Return a text, which must be there."""
         found = self._optional_text(name)

@@ -10,8 +10,9 @@ from . import drawn
 from .answers import BASIS, land_json
 from .basis import Basis
 from .drawn import drawing
-from .given import Given
+from .given import Given, Invalid
 from .limits import PAIRS_MOST, TRACTS_MOST
+from .listed import Listed, tracts_in
 from .refusals import Json, refused_json
 
 
@@ -20,12 +21,11 @@ _LABEL_MOST = 40
 
 
 class Tract(NamedTuple):
-    """A tract of a list, with its land or the refusal of its description."""
+    """A tract of a list, with its land or the refusal of its description: neither, if its record has a fault."""
 
-    name: str
-    description: str
-    land: Optional[Land]
-    refused: Optional[Refused]
+    listed: Listed
+    land: Optional[Land] = None
+    refused: Optional[Refused] = None
 
 
 class Joined(NamedTuple):
@@ -39,18 +39,18 @@ class Joined(NamedTuple):
 
 def report_answer(body: bytes) -> Json:
     """Answer with the acreage or the refusal of each tract, the overlaps, and what all tracts take and leave."""
-    given = Given(body, BASIS | drawn.FIELDS | {"tracts", "selected"})
-    records = given.records("tracts", {"name", "description"}, TRACTS_MOST)
+    given = Given(body, BASIS | drawn.FIELDS | {"tracts", "list", "selected"})
+    listed = _listed(given)
     selected = given.index("selected")
     basis = given.basis()
     plat = basis.plat
-    tracts = [_tract(plat, record) for record in records]
+    tracts = [_tract(plat, each) for each in listed]
     whole = plat.land("secs. 1 to 36, all.")
     joined = _joined(tracts, whole - whole)
     pairs = list(_pairs(tracts, joined.shared))
     return {
         "tracts": _tracts_json(basis, tracts),
-        "refused": sum(tract.refused is not None for tract in tracts),
+        "refused": sum(tract.land is None for tract in tracts),
         "overlaps": [{"first": first, "second": second} for first, second in pairs[:PAIRS_MOST]],
         "overlapping": len(pairs),
         "total": land_json(basis, joined.taken),
@@ -59,12 +59,26 @@ def report_answer(body: bytes) -> Json:
     }
 
 
-def _tract(plat: Plat, record: Dict[str, str]) -> Tract:
-    name, description = record["name"], record["description"]
+def _listed(given: Given) -> List[Listed]:
+    """Return the tracts of a request: its records, or those of a list as it was written."""
+    if not given.has("list"):
+        records = given.records("tracts", {"name", "description"}, TRACTS_MOST)
+        return [Listed(record["name"], record["description"]) for record in records]
+    if given.has("tracts"):
+        raise Invalid("give either `tracts` (records) or `list` (a text)")
+    listed = tracts_in(given.text("list"), TRACTS_MOST)
+    if len(listed) > TRACTS_MOST:
+        raise Invalid(f"the list has more than {TRACTS_MOST:,} tracts")
+    return listed
+
+
+def _tract(plat: Plat, listed: Listed) -> Tract:
+    if listed.fault:
+        return Tract(listed)
     try:
-        return Tract(name, description, plat.land(description), None)
+        return Tract(listed, land=plat.land(listed.description))
     except Refused as refused:
-        return Tract(name, description, None, refused)
+        return Tract(listed, refused=refused)
 
 
 def _joined(tracts: List[Tract], none: Land) -> Joined:
@@ -100,21 +114,21 @@ def _places(land: Land, sections: List[int]) -> Iterator[Tuple[int, int]]:
 
 
 def _tracts_json(basis: Basis, tracts: List[Tract]) -> List[Json]:
-    """Return each tract, with its acreage and canonical description, or its refusal."""
-    accepted = [(tract.description, tract.land) for tract in tracts if tract.land is not None]
+    """Return each tract, with its acreage and canonical description, or why it has none."""
+    accepted = [(tract.listed.description, tract.land) for tract in tracts if tract.land is not None]
     acres = iter(basis.acres_many([description for description, _ in accepted], [land for _, land in accepted]))
-    return [
-        {"name": tract.name, "acres": next(acres), "canonical": tract.land.text}
-        if tract.land is not None
-        else {"name": tract.name, "refused": _refused_json(tract)}
-        for tract in tracts
-    ]
-
-
-def _refused_json(tract: Tract) -> Json:
-    if tract.refused is None:
-        raise AssertionError("a tract has land, or is refused")
-    return refused_json(tract.refused, "description", tract.description)
+    found: List[Json] = []
+    for tract in tracts:
+        listed = tract.listed
+        shown: Json = {"name": listed.name, "description": listed.description, "line": listed.line}
+        if tract.land is not None:
+            shown.update(acres=next(acres), canonical=tract.land.text)
+        elif tract.refused is not None:
+            shown.update(refused=refused_json(tract.refused, "description", listed.description))
+        else:
+            shown.update(fault=listed.fault)
+        found.append(shown)
+    return found
 
 
 def _shown(tracts: List[Tract], joined: Joined, selected: Optional[int]) -> Iterator[Tuple[str, Land]]:
@@ -128,4 +142,4 @@ def _shown(tracts: List[Tract], joined: Joined, selected: Optional[int]) -> Iter
     if shared:
         yield "In several tracts", shared
     if chosen is not None and chosen.land is not None:
-        yield f"Tract {chosen.name}"[:_LABEL_MOST], chosen.land
+        yield f"Tract {chosen.listed.name}"[:_LABEL_MOST], chosen.land

@@ -13,24 +13,27 @@ export function giveUp() {
   for (const control of pending.values()) control.abort();
 }
 
-/**
- * Posts a request, and returns the answer, or null if it is outdated. Throws an Error with the server's message if
- * there is no answer.
- */
+/** Posts a request, and returns the answer. Throws an Error with the server's message if there is none. */
+export async function post(kind, request, signal) {
+  const response = await fetch(`api/v1/${kind}`, {
+    method: "POST",
+    headers: { "Content-Type": "application/json" },
+    body: JSON.stringify(request),
+    signal,
+  });
+  const answer = await response.json();
+  if (!response.ok) throw new Error(answer.error ?? response.statusText);
+  return answer;
+}
+
+/** Posts a request, and returns the answer, or null if it is outdated. */
 export async function ask(kind, request) {
   pending.get(kind)?.abort();
   const control = new AbortController();
   const seen = changes;
   pending.set(kind, control);
   try {
-    const response = await fetch(`api/v1/${kind}`, {
-      method: "POST",
-      headers: { "Content-Type": "application/json" },
-      body: JSON.stringify(request),
-      signal: control.signal,
-    });
-    const answer = await response.json();
-    if (!response.ok) throw new Error(answer.error ?? response.statusText);
+    const answer = await post(kind, request, control.signal);
     return seen === changes ? answer : null;
   } catch (error) {
     if (control.signal.aborted || seen !== changes) return null;

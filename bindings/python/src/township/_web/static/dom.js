@@ -53,11 +53,3 @@ export function oneAtATime(call, hurry, patience = 1_000) {
     }
   };
 }
-
-/** Reads the text of the file that an input names, and clears the input so that it can be opened again. */
-export async function opened(input) {
-  const [file] = input.files;
-  const text = file === undefined ? null : await file.text();
-  input.value = "";
-  return text;
-}

@@ -1,7 +1,7 @@
 /** The drawing, which the server makes; here its lines, lots, and sections become buttons. */
 
 import { byId, save } from "./dom.js";
-import { LINES } from "./notes.js";
+import { where } from "./lines.js";
 
 const ARROWS = { ArrowLeft: [-1, 0], ArrowRight: [1, 0], ArrowUp: [0, -1], ArrowDown: [0, 1] };
 let chosen = "section 36";
@@ -28,6 +28,11 @@ export function show(text, label, open) {
   if (had) current?.focus();
 }
 
+/** Shows no drawing. */
+export function clear() {
+  byId("drawing").replaceChildren();
+}
+
 /** Marks a section line as refused, or none. */
 export function markLine(index) {
   for (const each of document.querySelectorAll(".targets .refused")) each.classList.remove("refused");
@@ -52,7 +57,7 @@ function prepare(target) {
 }
 
 function labelOf({ line, lot, section }) {
-  if (line !== undefined) return `Line ${line}: ${LINES[line].where}`;
+  if (line !== undefined) return `Line ${line}: ${where(line)}`;
   if (lot !== undefined) return `Section ${lot.replace(".", ", lot ")}`;
   return `Section ${section}`;
 }

@@ -33,7 +33,10 @@ async function answer() {
   if (given === null) return;
   // The drawing of the plat alone is shown where a panel has nothing to shade.
   const drawn = given?.svg === undefined && panel !== plat ? await refreshPlat(request) : given;
-  if (drawn?.svg !== undefined && name === kept.panel) drawing.show(drawn.svg, labelOf(), open);
+  if (drawn === null || name !== kept.panel) return;
+  if (drawn.svg === undefined) drawing.clear();
+  else drawing.show(drawn.svg, labelOf(), open);
+  plat.markRefused();
 }
 
 const isPlatShown = () => platShown === JSON.stringify(basis());

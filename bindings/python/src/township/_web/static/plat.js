@@ -1,15 +1,17 @@
 /** The panel of the plat: the township, its section lines and lots, and the field notes as text. */
 
-import { ask } from "./api.js";
+import { ask, post } from "./api.js";
 import { failure, grouped, refusalAnswer } from "./answer.js";
-import { byId, make, opened, save } from "./dom.js";
+import { byId, make, save, say } from "./dom.js";
 import { markLine } from "./drawing.js";
+import { onOpen } from "./files.js";
+import * as lines from "./lines.js";
 import { follow, mark } from "./marks.js";
-import * as notes from "./notes.js";
 import { basis, kept } from "./store.js";
 
-const DESIGNATION = ["township-number", "north-south", "range-number", "east-west"];
 let changed = () => {};
+/** The index of the section line for which the field notes are refused, if they are. */
+let lineRefused;
 
 /**
  * Prepares the panel. `onNotes(notes)` is called with field notes that have changed, `onLots(table)` with a lot table,
@@ -17,76 +19,90 @@ let changed = () => {};
  */
 export function prepare(onNotes, onLots, onLot) {
   changed = onNotes;
+  lines.prepare(onNotes);
   follow(byId("notes"));
   follow(byId("lots-text"));
   byId("lots-text").addEventListener("input", () => onLots(byId("lots-text").value));
-  byId("open-lots").addEventListener("change", async () => {
-    const text = await opened(byId("open-lots"));
-    if (text === null) return;
+  onOpen("open-lots", (text) => {
     byId("lots-text").value = text;
     byId("lot-table").open = true;
     onLots(text);
   });
-  byId("lines").tBodies[0].append(...notes.LINES.map(lineRow));
   byId("lots").tBodies[0].addEventListener("click", (event) => {
     if (event.target.dataset.lot !== undefined) onLot(event.target.dataset.lot);
   });
-  byId("closing-only").addEventListener("change", filter);
-  byId("notes").addEventListener("input", () => changed(byId("notes").value));
-  for (const id of DESIGNATION) {
-    byId(id).addEventListener("input", () => changed(notes.withTownship(kept.notes, designation())));
-  }
-  byId("new-notes").addEventListener("click", () => changed(notes.notesOf(["T", ...designation()].join(","))));
+  byId("notes").addEventListener("input", () => replaceNotes(byId("notes").value));
+  byId("new-notes").addEventListener("click", makeRegular);
   byId("save-notes").addEventListener("click", () => save("notes.csv", kept.notes, "text/csv"));
-  byId("open-notes").addEventListener("change", async () => {
-    const text = await opened(byId("open-notes"));
-    if (text !== null) changed(text);
-  });
-  filter();
+  onOpen("open-notes", replaceNotes);
 }
 
-/** Shows the field notes in the inputs that the user is not typing in. */
+/** Takes other field notes, which the server has not read yet. */
+function replaceNotes(notes) {
+  lines.forget();
+  changed(notes);
+}
+
+/** Takes the field notes of the township that is typed, if all of its section lines are regular. */
+async function makeRegular() {
+  const [number, northSouth, range, eastWest] = lines.designation();
+  try {
+    const { notes } = await post("plat", { township: `T. ${number} ${northSouth}., R. ${range} ${eastWest}.` });
+    replaceNotes(notes);
+  } catch (error) {
+    say(error.message);
+  }
+}
+
+/** Shows the field notes and the lot table as texts, unless the user is typing in them. */
 export function fill() {
-  put(byId("notes"), kept.notes);
-  put(byId("lots-text"), kept.lots);
-  notes.townshipIn(kept.notes).forEach((value, place) => put(byId(DESIGNATION[place]), value ?? ""));
-  const records = new Map(notes.recordsIn(kept.notes).map((record) => [record.index, record.fields]));
-  for (const { index } of notes.LINES) {
-    const fields = records.get(index) ?? [];
-    put(byId(`quarter-${index}`), fields[3] ?? "");
-    put(byId(`corner-${index}`), fields[4] ?? "");
+  for (const [id, text] of [["notes", kept.notes], ["lots-text", kept.lots]]) {
+    if (byId(id) !== document.activeElement && byId(id).value !== text) byId(id).value = text;
   }
 }
 
 /** Asks for the plat, and shows its lots or its refusal. Returns the answer, or null if it is outdated. */
 export async function refresh(request) {
   const place = byId("plat-answer");
+  const asked = kept.notes;
   try {
     const answer = await ask("plat", { ...basis(), ...request });
     if (answer === null) return null;
     const refused = answer.refused;
-    showRefusal(refused);
+    if (answer.written !== undefined) lines.learn(asked, answer.written);
     if (refused !== undefined) {
-      place.replaceChildren(refusalAnswer(refused));
+      showNone(refusalAnswer(refused), refused);
       return answer;
     }
+    showRefusal(refused);
     place.replaceChildren(`The township contains ${grouped(answer.total)} acres.`);
     showLots(answer.sections);
     byId("where").textContent = answer.township;
     return answer;
   } catch (error) {
-    place.replaceChildren(failure(error));
+    showNone(failure(error));
     return null;
   }
+}
+
+/** Shows why there is no plat, and nothing of one that was shown before. */
+function showNone(reason, refused) {
+  byId("plat-answer").replaceChildren(reason);
+  byId("where").textContent = "";
+  showLots([]);
+  showRefusal(refused);
+}
+
+/** Marks the section line that is refused, if one is, in the drawing. */
+export function markRefused() {
+  markLine(lineRefused);
 }
 
 /** Opens the figures of a section line, or of a lot. */
 export function open(kind, value) {
   const row = byId(kind === "line" ? `line-${value}` : `lot-${value}`);
-  if (kind === "line" && row.hidden) {
-    byId("closing-only").checked = false;
-    filter();
-  }
+  if (row === null) return;
+  if (kind === "line" && row.hidden) lines.showAll();
   for (const each of document.querySelectorAll("tr.chosen")) each.classList.remove("chosen");
   row.classList.add("chosen");
   row.closest("details").open = true;
@@ -94,41 +110,6 @@ export function open(kind, value) {
   inside.focus();
   inside.select?.();
   row.scrollIntoView({ block: "nearest" });
-}
-
-function put(input, value) {
-  if (input !== document.activeElement && input.value !== value) input.value = value;
-}
-
-function designation() {
-  return DESIGNATION.map((id) => byId(id).value.trim());
-}
-
-function lineRow(line) {
-  const input = (name, words) =>
-    make("input", {
-      id: `${name}-${line.index}`,
-      inputmode: "decimal",
-      autocomplete: "off",
-      "aria-label": `Line ${line.index}, ${line.where}: ${words}`,
-    });
-  const row = make(
-    "tr",
-    { id: `line-${line.index}` },
-    make("th", { scope: "row" }, `${line.index} ${line.direction}`),
-    make("td", {}, line.where),
-    make("td", {}, input("quarter", "quarter corner, in chains")),
-    make("td", {}, input("corner", "end, in chains")),
-  );
-  row.addEventListener("input", () => {
-    const [quarter, corner] = [...row.querySelectorAll("input")].map((each) => each.value.trim());
-    changed(notes.withDistances(kept.notes, line.index, quarter, corner));
-  });
-  return row;
-}
-
-function filter() {
-  for (const { index, closes } of notes.LINES) byId(`line-${index}`).hidden = byId("closing-only").checked && !closes;
 }
 
 function showLots(sections) {
@@ -157,10 +138,10 @@ function showRefusal(refused) {
   for (const [id, of] of [["notes", "notes"], ["lots-text", "lots"]]) {
     mark(byId(id), refused?.of === of && typeof refused.start === "number" ? [{ ...refused, kind: "wrong" }] : []);
   }
-  const index = refused?.of === "notes" ? notes.lineRefused(kept.notes, refused) : undefined;
-  markLine(index);
-  if (index === undefined) return;
-  const row = byId(`line-${index}`);
+  lineRefused = refused?.section_line ?? undefined;
+  markRefused();
+  if (lineRefused === undefined) return;
+  const row = byId(`line-${lineRefused}`);
   row.classList.add("wrong");
   row.hidden = false;
   for (const input of row.querySelectorAll("input")) input.setAttribute("aria-invalid", "true");

@@ -1,11 +1,11 @@
 /** What the user has entered: kept in the browser, and carried by links. */
 
-import { lengthsIn, notesOf, townshipIn } from "./notes.js";
+import { byId } from "./dom.js";
 
 const KEY = "township";
 const LINK_MOST = 8_000;
 const FIRST = {
-  notes: notesOf("T,2,N,3,W"),
+  notes: byId("notes").defaultValue,
   lots: "",
   description: "",
   first: "",
@@ -47,15 +47,12 @@ function textsIn(found) {
   return Object.fromEntries(names.map((name) => [name, found[name]]));
 }
 
-/** Returns a link to the plat and the descriptions, or null if they are too long for one. */
+/** Returns a link to the plat and the descriptions as they are, or null if they are too long for one. */
 export function link() {
   const { notes, lots, description, first, second, panel } = kept;
-  const plat = { township: townshipIn(notes), lengths: lengthsIn(notes) };
-  const carried = { ...plat, lots, description, first, second, panel };
-  const bytes = new TextEncoder().encode(JSON.stringify(carried));
-  if (bytes.length > LINK_MOST) return null;
+  const bytes = new TextEncoder().encode(JSON.stringify({ notes, lots, description, first, second, panel }));
   const text = btoa(String.fromCharCode(...bytes)).replaceAll("+", "-").replaceAll("/", "_").replace(/=+$/, "");
-  return `${location.origin}${location.pathname}#case=${text}`;
+  return bytes.length > LINK_MOST ? null : `${location.origin}${location.pathname}#case=${text}`;
 }
 
 /** Returns what the link carries that led here. It is not sent to the server. */
@@ -65,9 +62,7 @@ function inLink() {
   history.replaceState(null, "", location.pathname);
   try {
     const bytes = Uint8Array.from(atob(text.replaceAll("-", "+").replaceAll("_", "/")), (each) => each.charCodeAt(0));
-    const found = JSON.parse(new TextDecoder().decode(bytes));
-    const notes = notesOf(["T", ...found.township].join(","), found.lengths);
-    return { ...textsIn(found), notes };
+    return textsIn(JSON.parse(new TextDecoder().decode(bytes)));
   } catch {
     return {};
   }

@@ -2,13 +2,15 @@
 
 import { ask } from "./api.js";
 import { failure, figureCells, figuresOf, grouped, refusalAnswer } from "./answer.js";
-import { tractsIn, written } from "./csv.js";
-import { byId, make, opened, save } from "./dom.js";
+import { byId, make, save } from "./dom.js";
+import { onOpen } from "./files.js";
+import { written } from "./saved.js";
 import { basis, kept } from "./store.js";
 
 const HEADING = ["name", "description", "acres", "acres_plat", "refusal", "at", "sentence", "canonical"];
 const PAIRS_SHOWN = 50;
-let answered = { tracts: [], answers: [] };
+/** The tracts that are shown, as the server answered them. */
+let answered = [];
 let selected = null;
 /** The rows of the table, in order, each with the text of all that it was made from. */
 let shown = [];
@@ -20,9 +22,7 @@ export function prepare(onChange, onSelect) {
     selected = null;
     onChange("tracts", area.value);
   });
-  byId("open-tracts").addEventListener("change", async () => {
-    const text = await opened(byId("open-tracts"));
-    if (text === null) return;
+  onOpen("open-tracts", (text) => {
     area.value = text;
     selected = null;
     onChange("tracts", text);
@@ -44,31 +44,36 @@ export function fill() {
 /** Asks for the answers on all tracts, and shows them. Returns the answer, or null if it is outdated. */
 export async function refresh(request) {
   const place = byId("tracts-answer");
-  const tracts = tractsIn(kept.tracts);
-  if (tracts.length === 0) {
-    place.replaceChildren("Paste or open a list to see its tracts.");
-    byId("tracts-table").hidden = true;
+  if (kept.tracts.trim() === "") {
+    showNone("Paste or open a list to see its tracts.");
     return undefined;
   }
+  const list = kept.tracts;
   try {
-    const answer = await ask("report", { ...basis(), tracts, ...request, ...(selected === null ? {} : { selected }) });
+    const answer = await ask("report", { ...basis(), list, ...request, ...(selected === null ? {} : { selected }) });
     if (answer === null) return null;
     if (answer.tracts === undefined) {
-      place.replaceChildren(refusalAnswer(answer.refused));
+      showNone(refusalAnswer(answer.refused));
       return answer;
     }
-    answered = { tracts, answers: answer.tracts };
-    place.replaceChildren(...summary(tracts, answer));
+    answered = answer.tracts;
+    place.replaceChildren(...summary(answer));
     showTable(answer);
     return answer;
   } catch (error) {
-    place.replaceChildren(failure(error));
+    showNone(failure(error));
     return null;
   }
 }
 
-function summary(tracts, answer) {
-  const { total, remaining, refused, overlaps, overlapping } = answer;
+/** Shows why there are no answers, and none that are older. */
+function showNone(reason) {
+  answered = [];
+  byId("tracts-answer").replaceChildren(reason);
+  byId("tracts-table").hidden = true;
+}
+
+function summary({ tracts, total, remaining, refused, overlaps, overlapping }) {
   const all = grouped(total.acres.exact);
   const rest = grouped(remaining.acres.exact);
   const left = refused > 0 ? ` Not counted: ${refused} refused.` : "";
@@ -112,16 +117,17 @@ function showTable(answer) {
 
 /** Returns the row of a tract, filled in over a copy of a blank one. */
 function filledRow(blank, { tract, index, isSelected, overlaps }) {
-  const row = (tract.refused === undefined ? blank.accepted : blank.wrong).cloneNode(true);
+  const isAccepted = tract.acres !== undefined;
+  const row = (isAccepted ? blank.accepted : blank.wrong).cloneNode(true);
   const pick = row.firstChild.firstChild;
   pick.textContent = tract.name;
   pick.dataset.tract = String(index);
   pick.setAttribute("aria-pressed", String(isSelected));
-  if (tract.refused === undefined) {
+  if (isAccepted) {
     figuresOf(tract.acres).forEach((figure, place) => (row.children[place + 1].textContent = figure));
     if (isSelected) row.className = "chosen";
   }
-  const words = tract.refused === undefined ? withoutHeading(tract.canonical) : refusalWords(tract.refused);
+  const words = isAccepted ? withoutHeading(tract.canonical) : reasonOf(tract);
   row.lastChild.textContent = overlaps ? `${words} (overlaps)` : words;
   return row;
 }
@@ -138,18 +144,19 @@ function withoutHeading(canonical) {
   return canonical.trim().replace(/^.*\n/, "");
 }
 
-function refusalWords({ number, at, sentence }) {
-  return `refused ${number} at ${at}: ${sentence}`;
+/** Returns why a tract has no land: the fault of its record, or the refusal of its description. */
+function reasonOf({ fault, refused }) {
+  return fault ?? `refused ${refused.number} at ${refused.at}: ${refused.sentence}`;
 }
 
 function answersAsCsv() {
-  const records = answered.answers.map((answer, index) => {
-    const { name, description } = answered.tracts[index];
-    const { refused } = answer;
-    const added = refused === undefined
-      ? [answer.acres.exact, answer.acres.plat, "", "", "", answer.canonical.trim().replaceAll("\n", " ")]
-      : ["", "", String(refused.number), String(refused.at), refused.sentence, ""];
-    return [name, description, ...added];
-  });
+  const records = answered.map((answer) => [answer.name, answer.description, ...addedTo(answer)]);
   return `${[HEADING, ...records].map(written).join("\n")}\n`;
+}
+
+/** Returns the fields that are added to a tract. */
+function addedTo({ acres, canonical, fault, refused }) {
+  if (acres !== undefined) return [acres.exact, acres.plat, "", "", "", canonical.trim().replaceAll("\n", " ")];
+  if (fault !== undefined) return ["", "", "", "", fault, ""];
+  return ["", "", String(refused.number), String(refused.at), refused.sentence, ""];
 }
