@@ -151,6 +151,59 @@ def test_report_goes_on_after_refusals_and_overlaps(server: Interface) -> None:
     assert answer["remaining"]["acres"]["exact"] == "21920.00"
 
 
+#: A description with two doubtful places, of 2.5 and of 40 acres, and those places.
+DOUBTFUL = "sec. 14: NE¼NE¼ SW¼SW¼;\nsec. 15, NE1/4 SE1/4."
+PLACES = [("SW¼SW¼", 1, 17), ("SE1/4", 2, 16)]
+
+
+def places_of(notes: "list[dict]", text: str) -> "list[tuple]":
+    return [(text[note["start"] : note["end"]], note["line"], note["column"]) for note in notes]
+
+
+def test_each_doubtful_place_has_a_note(server: Interface) -> None:
+    """Wherever a description is answered, and not only at its first doubtful place."""
+    land = server.ask("land", **NOMINAL, description=DOUBTFUL, draw=True)
+    assert land["acres"]["exact"] == "42.50" and places_of(land["notes"], DOUBTFUL) == PLACES
+    assert "can be read in two ways" in land["svg"]
+    compared = server.ask("compare", **NOMINAL, first="sec. 14.", second=DOUBTFUL)["notes"]
+    assert compared["first"] == [] and places_of(compared["second"], DOUBTFUL) == PLACES
+    tracts = [{"name": "A", "description": DOUBTFUL}, {"name": "B", "description": "sec. 16."}]
+    first, second = server.ask("report", **NOMINAL, tracts=tracts)["tracts"]
+    assert places_of(first["notes"], DOUBTFUL) == PLACES and second["notes"] == []
+    assert "if two parts were meant" in first["notes"][0]["sentence"]
+    [note] = server.ask("batch", **NOMINAL, descriptions=["sec. 14.", DOUBTFUL])["notes"]
+    assert note["index"] == 1 and note["sentence"] == PLAT.notes(DOUBTFUL)[0].sentence
+
+
+def test_parts_of_both_are_doubtful_too(server: Interface) -> None:
+    text = "sec. 14, E1/2 of NE1/4 and SE1/4, NE1/4 SW1/4."
+    notes = server.ask("land", **NOMINAL, description=text)["notes"]
+    assert [place for place, _, _ in places_of(notes, text)] == ["E1/2 of NE1/4 and SE1/4", "SW1/4"]
+
+
+def test_many_doubtful_places(server: Interface) -> None:
+    text = "; ".join(f"sec. {section}, NE1/4SE1/4 SE1/4, SE1/4SE1/4 SE1/4" for section in range(1, 37))
+    notes = server.ask("land", **NOMINAL, description=text)["notes"]
+    assert len(notes) == 64 and notes[-1]["sentence"].endswith("; 8 more such places")
+
+
+def test_overlaps_have_their_land(server: Interface) -> None:
+    tracts = [{"name": str(k), "description": each} for k, each in enumerate(["sec. 14, N1/2.", "x", "sec. 14, E1/2.", "sec. 1."])]
+    answer = server.ask("report", **NOMINAL, tracts=tracts)
+    [overlap] = answer["overlaps"]
+    assert (overlap["first"], overlap["second"], overlap["acres"]["exact"]) == (0, 2, "160.00")
+    assert overlap["canonical"].endswith("sec. 14, NE1/4.\n")
+    assert [each.get("overlaps") for each in answer["tracts"]] == [True, None, True, False]
+
+
+def test_all_overlapping_tracts_are_marked(server: Interface) -> None:
+    """More pairs overlap than are named, and each of the tracts is marked."""
+    tracts = [{"name": "A", "description": "sec. 14."}] * 60
+    answer = server.ask("report", **NOMINAL, tracts=tracts)
+    assert (answer["overlapping"], len(answer["overlaps"])) == (1770, 1000)
+    assert all(each["overlaps"] for each in answer["tracts"])
+
+
 def test_report_on_a_list_as_it_is_written(server: Interface) -> None:
     """The records are those of `batch`; what is wrong with a record has its line, and is never read as other land."""
     listed = 'name;description;more\r\nA;"sec. 7, lot 1.";x\r\n\r\nB;sec. 7; lot 4.;y\r\n'

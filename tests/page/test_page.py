@@ -193,7 +193,7 @@ def test_tracts(page: Page) -> None:
     page.put("#tracts", 'Tract\tDescription\nA\tsec. 14, N1/2.\nB\tsec. 14, E1/2.\n"C ""x"""\tsec. 5, N1/2.\n'.replace("Tract", "name"))
     page.wait_for_text("#tracts-answer", "480.00 acres in all, 22,560.00 acres remaining")
     assert "1 refused" in page.text("#tracts-answer")
-    assert page.text("#tracts-answer li") == "A and B"
+    assert page.text("#tracts-answer li") == "A and B: 160.00 acres, sec. 14, NE1/4."
     names = [each.text for each in page.all("#tracts-table tbody th")]
     assert names == ["A", "B", 'C "x"']
     page.one("#tracts-table button").click()
@@ -221,7 +221,7 @@ def test_a_list_from_a_file(page: Page) -> None:
 def test_names_are_shown_as_text(page: Page) -> None:
     page.tab("tracts")
     page.put("#tracts", "<img src=x onerror=alert(1)>,sec. 14.\n<script>alert(1)</script>,sec. 14.\n")
-    page.wait_for_text("#tracts-answer li", "<img src=x onerror=alert(1)> and <script>alert(1)</script>")
+    page.wait_for_text("#tracts-answer li", "<img src=x onerror=alert(1)> and <script>alert(1)</script>: 640.00 acres")
     page.one("#tracts-table button").click()
     page.wait_for_text("#drawing", "<img src=x")
     assert page.all("main script") == [] and page.all("main img") == []
@@ -378,6 +378,50 @@ def test_the_page_knows_the_lines(page: Page) -> None:
     assert [set(name.split(",")[1:]) for name in names] == sections
     closing = [name for name in names if page.one(f"[data-name='{name}']").is_displayed()]
     assert len(closing) == 14
+
+
+def test_doubtful_places_of_tracts(page: Page) -> None:
+    """Each is marked and has its note, on the page, on the printed sheet, and in the saved file."""
+    text = "sec. 14: NE¼NE¼ SW¼SW¼; sec. 15, NE1/4 SE1/4."
+    page.tab("tracts")
+    page.put("#tracts", f"Smith,{text.replace(', ', ' ')}\nB,sec. 16.\n".replace("15 NE", "15: NE"))
+    page.wait_for_text("#tracts-answer", "682.50 acres in all")
+    assert [each.text for each in page.all("#tracts-table mark")] == ["SW¼SW¼", "SE1/4"]
+    notes = [each.text for each in page.all("#tracts-table .note")]
+    assert len(notes) == 2 and "(80.00 acres)" in notes[0] and "(320.00 acres)" in notes[1]
+    page.one("#tracts-table .note button").click()
+    page.wait_for_text("#tracts-readings", "Which was meant?")
+    assert page.text("#tracts-readings strong").endswith(" acres") and page.all("#tracts-readings button") == []
+    page.driver.execute_script("dispatchEvent(new Event('beforeprint'))")
+    assert page.text("#printed").startswith("Tract Smith. Note: NE1/4NE1/4 SW1/4SW1/4 is read as one part of 2.50 acres")
+    page.one("#save-tracts").click()
+    [smith, other] = csv.DictReader(io.StringIO(page.saved("tracts.csv")))
+    assert smith["acres"] == "42.50" and "if two parts were meant" in smith["note"] and other["note"] == ""
+
+
+def test_doubtful_places_of_a_comparison(page: Page) -> None:
+    page.tab("compare")
+    page.type("#first", "sec. 14.")
+    page.type("#second", "sec. 14: NE¼NE¼ SW¼SW¼")
+    page.wait_for_text("#compare-answer .note", "The second description. Note: NE1/4NE1/4 SW1/4SW1/4 is read as one part")
+    assert page.text("#panel-compare .back mark") == "SW¼SW¼"
+    page.one("#compare-answer .note button").click()
+    page.wait_for_text("#compare-readings", "Which was meant?")
+    page.one("#compare-readings button").click()
+    page.wait_for(lambda: page.value("#second") == "sec. 14: NE¼NE¼, SW¼SW¼")
+    page.wait_for(lambda: page.all("#compare-answer .note") == [])
+
+
+def test_a_refused_or_emptied_list_leaves_no_answers(page: Page) -> None:
+    page.tab("tracts")
+    page.put("#tracts", "A,sec. 14.\n")
+    page.wait_for_text("#tracts-answer", "640.00 acres in all")
+    for text, said in (("", "Paste or open a list"), ("sec. 14.\n" * 1001, "more than 1,000 tracts")):
+        page.put("#tracts", text)
+        page.wait_for_text("#tracts-answer", said)
+        assert not page.one("#tracts-table").is_displayed()
+        page.one("#save-tracts").click()
+        assert page.saved("tracts.csv").count("\n") == 1
 
 
 def test_a_list_is_never_read_as_other_land(page: Page) -> None:

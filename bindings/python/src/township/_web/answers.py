@@ -12,11 +12,15 @@ from .._plat import Plat
 from .._refused import Refused
 from . import drawn
 from .basis import Basis, decimals_of
+from .doubts import doubts_of
 from .drawn import drawing, without_figures
 from .given import Given, RefusedBasis
-from .limits import DESCRIPTIONS_MOST
-from .refusals import Json, note_json, refused_json
+from .limits import DESCRIPTIONS_MOST, DOUBTS_MOST
+from .refusals import Json, refused_json
 from .sectionlines import line_refused, written
+
+#: What a drawing says of land whose description has a note.
+DOUBTFUL = "whose description can be read in two ways"
 
 #: The fields that give a plat, and a lot table.
 BASIS = frozenset({"notes", "township", "lots"})
@@ -55,14 +59,14 @@ def land_answer(body: bytes) -> Json:
     plat = basis.plat
     try:
         land = plat.land(description)
-        notes = plat.notes(description)
     except Refused as refused:
         return {"refused": refused_json(refused, "description", description), **drawing(given, basis)}
+    notes = doubts_of(plat, description, land, DOUBTS_MOST).json(description)
     return {
         **land_json(basis, land),
         "area": {account: str(plat.area(land, account)) for account in ACCOUNTS},
-        "notes": [note_json(note, description) for note in notes],
-        **drawing(given, basis, [("Land", land)]),
+        "notes": notes,
+        **drawing(given, basis, [("Land" if not notes else f"Land, {DOUBTFUL}", land)]),
     }
 
 
@@ -86,6 +90,7 @@ def compare_answer(body: bytes) -> Json:
     labels = {"both": "In both", "first_only": "Only in the first", "second_only": "Only in the second"}
     return {
         "comparison": comparison_of(first, second),
+        "notes": {name: doubts_of(basis.plat, texts[name], lands[name], DOUBTS_MOST).json(texts[name]) for name in texts},
         **{name: land_json(basis, land) for name, land in kinds.items()},
         **drawing(given, basis, [(labels[name], land) for name, land in kinds.items() if land]),
     }
@@ -96,17 +101,15 @@ def batch_answer(body: bytes) -> Json:
     given = Given(body, BASIS | {"descriptions", "account"})
     descriptions = given.texts("descriptions", DESCRIPTIONS_MOST)
     account = given.account()
-    answers = given.basis().plat.acres_many(descriptions, account)
+    answers = given.basis().plat._full_answers(descriptions, account)
     acres: List[object] = [decimals_of(each) for each in answers.hundredths]
     refused: List[Json] = []
     for index in answers.refused:
         acres[index] = None
-        found = answers[index]
-        if isinstance(found, Refused):
-            refused.append(
-                {"index": index, "number": found.number, "at": found.at, "sentence": found.sentence}
-            )
-    return {"acres": acres, "refused": refused}
+        number, at = answers.refusal(index)
+        refused.append({"index": index, "number": number, "at": at, "sentence": answers.sentence(index)})
+    notes = [{"index": index, "sentence": answers.sentence(index)} for index in answers.noted]
+    return {"acres": acres, "refused": refused, "notes": notes}
 
 
 def land_json(basis: Basis, land: Land) -> Json:

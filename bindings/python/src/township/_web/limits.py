@@ -20,3 +20,10 @@ TRACTS_MOST = 1_000
 
 #: The most overlapping pairs of tracts that are named.
 PAIRS_MOST = 1_000
+
+#: The most doubtful places of a description that are marked, and of all tracts of a list.
+DOUBTS_MOST = 64
+DOUBTS_OF_LIST_MOST = 1_000
+
+#: The most characters of the canonical descriptions of overlapping land in an answer.
+OVERLAPS_TEXT_MOST = 1 << 20

@@ -12,7 +12,8 @@ from .._batch.lines import Lines
 from .._batch.records import Record, Records
 from .._batch.separators import headed
 from .._batch.shape import Shape
-from .._readings import suggest
+from .._readings import Reading, suggest
+from .._text import encoded
 
 #: The columns that are used. A list without a heading has both of them, in this order, or descriptions alone.
 _NAME, _DESCRIPTION = "name", "description"
@@ -94,4 +95,11 @@ def _listed(record: Record, columns: _Columns, shape: Shape, index: int) -> List
 
 def _names_land(name: str, description: str) -> bool:
     """Return whether what should be a name may belong to the description after it."""
-    return ";" in name or len(suggest(name)) > 0 or len(suggest(f"{name}, {description}")) > 0
+    size = len(encoded(name))
+    readings = [*suggest(name), *suggest(f"{name}, {description}")]
+    return ";" in name or not all(_leaves_out(reading, size) for reading in readings)
+
+
+def _leaves_out(reading: Reading, size: int) -> bool:
+    """Return whether a reading leaves out so many bytes at the beginning of the text, as a label."""
+    return any(change.rule == "label" and (change.start, change.end) == (0, size) for change in reading.changes)

@@ -1,7 +1,7 @@
 """The answer on a list of tracts, of which some may be refused, and some may overlap."""
 from __future__ import annotations
 
-from typing import Dict, Iterator, List, NamedTuple, Optional, Set, Tuple
+from typing import AbstractSet, Dict, Iterator, List, NamedTuple, Optional, Sequence, Tuple
 
 from .._land import Land
 from .._plat import Plat
@@ -9,10 +9,12 @@ from .._refused import Refused
 from . import drawn
 from .answers import BASIS, land_json
 from .basis import Basis
+from .doubts import Doubts, doubts_of
 from .drawn import drawing
 from .given import Given, Invalid
-from .limits import PAIRS_MOST, TRACTS_MOST
+from .limits import DOUBTS_MOST, DOUBTS_OF_LIST_MOST, OVERLAPS_TEXT_MOST, PAIRS_MOST, TRACTS_MOST
 from .listed import Listed, tracts_in
+from .overlapping import overlapping
 from .refusals import Json, refused_json
 
 
@@ -47,12 +49,15 @@ def report_answer(body: bytes) -> Json:
     tracts = [_tract(plat, each) for each in listed]
     whole = plat.land("secs. 1 to 36, all.")
     joined = _joined(tracts, whole - whole)
-    pairs = list(_pairs(tracts, joined.shared))
+    # Tracts that share no land need not be looked at.
+    sharing = [tract.land is not None and not tract.land.isdisjoint(joined.shared) for tract in tracts]
+    descriptions = [tract.listed.description if shares else "" for tract, shares in zip(tracts, sharing)]
+    found = overlapping(plat, descriptions, PAIRS_MOST)
     return {
-        "tracts": _tracts_json(basis, tracts),
+        "tracts": _tracts_json(basis, tracts, found.tracts),
         "refused": sum(tract.land is None for tract in tracts),
-        "overlaps": [{"first": first, "second": second} for first, second in pairs[:PAIRS_MOST]],
-        "overlapping": len(pairs),
+        "overlaps": _overlaps_json(basis, tracts, found.pairs),
+        "overlapping": found.number,
         "total": land_json(basis, joined.taken),
         "remaining": land_json(basis, whole - joined.taken),
         **drawing(given, basis, list(_shown(tracts, joined, selected))),
@@ -93,41 +98,53 @@ def _joined(tracts: List[Tract], none: Land) -> Joined:
     return Joined(taken, shared)
 
 
-def _pairs(tracts: List[Tract], shared: Land) -> Iterator[Tuple[int, int]]:
-    """Yield the indexes of tracts that overlap, which they can do only in a section with shared land."""
-    sections = list(shared.sections)
-    earlier: Dict[int, List[Tuple[int, int]]] = {section: [] for section in sections}
-    for second, tract in enumerate(tracts):
-        found: Set[int] = set()
-        for section, bits in () if tract.land is None else _places(tract.land, sections):
-            found.update(first for first, others in earlier[section] if others & bits)
-            earlier[section].append((second, bits))
-        yield from ((first, second) for first in sorted(found))
+def _overlaps_json(basis: Basis, tracts: List[Tract], pairs: Sequence[Tuple[int, int]]) -> List[Json]:
+    """Return the pairs of tracts that overlap, each with its land. Beyond some room, canonical descriptions are left out."""
+    found: List[Json] = []
+    room = OVERLAPS_TEXT_MOST
+    for first, second in pairs:
+        one, other = tracts[first].land, tracts[second].land
+        if one is None or other is None:
+            raise AssertionError("a tract without land overlaps none")
+        shared = one & other
+        text = shared.text
+        room -= len(text)
+        canonical = text if room >= 0 else None
+        found.append({"first": first, "second": second, "acres": basis.acres(shared), "canonical": canonical})
+    return found
 
 
-def _places(land: Land, sections: List[int]) -> Iterator[Tuple[int, int]]:
-    """Yield those of some sections that have land, each with its places as the bits of a number."""
-    rows = land.rows if sections else {}
-    for section in sections:
-        if section in rows:
-            yield section, int.from_bytes(b"".join(row.to_bytes(4, "little") for row in rows[section]), "little")
-
-
-def _tracts_json(basis: Basis, tracts: List[Tract]) -> List[Json]:
-    """Return each tract, with its acreage and canonical description, or why it has none."""
+def _tracts_json(basis: Basis, tracts: List[Tract], overlapping: AbstractSet[int]) -> List[Json]:
+    """Return each tract, with its acreage, canonical description, and notes, or why it has none."""
     accepted = [(tract.listed.description, tract.land) for tract in tracts if tract.land is not None]
     acres = iter(basis.acres_many([description for description, _ in accepted], [land for _, land in accepted]))
+    doubts = _doubts(basis.plat, tracts)
     found: List[Json] = []
-    for tract in tracts:
+    for index, tract in enumerate(tracts):
         listed = tract.listed
         shown: Json = {"name": listed.name, "description": listed.description, "line": listed.line}
         if tract.land is not None:
-            shown.update(acres=next(acres), canonical=tract.land.text)
+            notes = doubts.get(index, Doubts()).json(listed.description)
+            shown.update(acres=next(acres), canonical=tract.land.text, notes=notes, overlaps=index in overlapping)
         elif tract.refused is not None:
             shown.update(refused=refused_json(tract.refused, "description", listed.description))
         else:
             shown.update(fault=listed.fault)
         found.append(shown)
+    return found
+
+
+def _doubts(plat: Plat, tracts: List[Tract]) -> Dict[int, Doubts]:
+    """Return the notes on the tracts that have any, by their indexes. The first of many are marked in all places."""
+    answers = plat._full_answers([tract.listed.description for tract in tracts], "exact")
+    found: Dict[int, Doubts] = {}
+    room = DOUBTS_OF_LIST_MOST
+    for index in answers.noted:
+        land = tracts[index].land
+        if land is not None:
+            most = max(1, min(room, DOUBTS_MOST))
+            found[index] = doubts_of(plat, tracts[index].listed.description, land, most)
+            room -= len(found[index].notes)
     return found
 
 

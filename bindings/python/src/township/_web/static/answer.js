@@ -49,9 +49,27 @@ export function refusalAnswer(refused, what = "") {
   );
 }
 
-/** Returns a note on a place that can be read in two ways. */
-export function noteAnswer(note) {
-  return make("p", { class: "note" }, make("strong", {}, "Note: "), note.sentence);
+/**
+ * Returns a note on a place that can be read in two ways. `of` names the text that it is about, such as a tract, for the
+ * printed sheet; `readings()`, if it is given, is called by a button of the note.
+ */
+export function noteAnswer(note, of = "", readings = undefined) {
+  const button = readings === undefined ? null : make("button", { type: "button" }, "Show the readings");
+  button?.addEventListener("click", readings);
+  return make("p", { class: "note", "data-of": of }, make("strong", {}, `${of}Note: `), note.sentence, button && " ", button);
+}
+
+/** Returns a text in which places are marked. Their `start` and `end` are in Unicode code points. */
+export function markedText(text, places) {
+  const points = [...text];
+  const parts = [];
+  let from = 0;
+  for (const { start, end } of places) {
+    if (start < from) continue;
+    parts.push(points.slice(from, start).join(""), make("mark", {}, points.slice(start, end).join("")));
+    from = end;
+  }
+  return make("span", { class: "doubtful" }, ...parts, points.slice(from).join(""));
 }
 
 /** Returns what is said if there is no answer at all. */

@@ -1,9 +1,10 @@
 /** The panel in which two descriptions are compared. */
 
 import { ask } from "./api.js";
-import { failure, figureCells, refusalAnswer } from "./answer.js";
+import { failure, figureCells, noteAnswer, refusalAnswer } from "./answer.js";
 import { byId, make } from "./dom.js";
 import { follow, mark } from "./marks.js";
+import * as readings from "./readings.js";
 import { basis, kept } from "./store.js";
 
 const NAMES = ["first", "second"];
@@ -20,8 +21,11 @@ const KINDS = [
   ["second_only", "Only in the second (the second, less and except the first)"],
 ];
 
+let change = () => {};
+
 /** Prepares the panel. `onChange(name, text)` is called when a description changes. */
 export function prepare(onChange) {
+  change = onChange;
   for (const name of NAMES) {
     follow(byId(name));
     byId(name).addEventListener("input", () => onChange(name, byId(name).value));
@@ -39,6 +43,7 @@ export async function refresh(request) {
   const [first, second] = NAMES.map((name) => kept[name]);
   if (first.trim() === "" || second.trim() === "") {
     place.replaceChildren("Write two descriptions to compare their land.");
+    readings.clear(byId("compare-readings"));
     NAMES.forEach((name) => mark(byId(name), []));
     return undefined;
   }
@@ -48,9 +53,11 @@ export async function refresh(request) {
     const { refused } = answer;
     for (const name of NAMES) {
       const found = refused?.[name];
-      mark(byId(name), found === undefined ? [] : [{ ...found, kind: "wrong" }]);
+      const notes = (answer.notes?.[name] ?? []).map((note) => ({ ...note, kind: "note" }));
+      mark(byId(name), found === undefined ? notes : [{ ...found, kind: "wrong" }]);
     }
-    place.replaceChildren(...(refused === undefined ? comparison(answer) : refusals(refused)));
+    readings.clear(byId("compare-readings"));
+    place.replaceChildren(...(refused === undefined ? [...comparison(answer), ...notesOf(answer)] : refusals(refused)));
     return answer;
   } catch (error) {
     place.replaceChildren(failure(error));
@@ -61,6 +68,21 @@ export async function refresh(request) {
 function refusals(refused) {
   if (refused.number !== undefined) return [refusalAnswer(refused)];
   return Object.entries(refused).map(([name, each]) => refusalAnswer(each, `The ${name} description: `));
+}
+
+/** Returns the notes on both descriptions, from each of which its readings can be shown and picked. */
+function notesOf({ notes }) {
+  return NAMES.flatMap((name) => notes[name].map((note) => {
+    const show = () => readings.suggest(byId("compare-readings"), kept[name], (text) => pick(name, text));
+    return noteAnswer(note, `The ${name} description. `, show);
+  }));
+}
+
+/** Takes a reading as one of the descriptions. */
+function pick(name, text) {
+  change(name, text);
+  fill();
+  byId(name).focus();
 }
 
 function comparison(answer) {

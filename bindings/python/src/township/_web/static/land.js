@@ -38,7 +38,7 @@ export async function refresh(request) {
   if (kept.description.trim() === "") {
     place.replaceChildren("Write a description to see its land and acreage.");
     mark(area, []);
-    readings.clear();
+    readings.clear(byId("readings"));
     return undefined;
   }
   try {
@@ -48,12 +48,12 @@ export async function refresh(request) {
     if (refused !== undefined) {
       place.replaceChildren(refusalAnswer(refused));
       mark(area, refused.of === "description" ? [{ ...refused, kind: "wrong" }] : []);
-      if (refused.of === "description") await readings.suggest(kept.description, pick);
+      if (refused.of === "description") await readings.suggest(byId("readings"), kept.description, pick);
     } else {
-      place.replaceChildren(...landAnswer(answer), ...answer.notes.map(noteAnswer));
+      place.replaceChildren(...landAnswer(answer), ...answer.notes.map((note) => noteAnswer(note)));
       mark(area, answer.notes.map((note) => ({ ...note, kind: "note" })));
-      if (answer.notes.length > 0) await readings.suggest(kept.description, pick);
-      else readings.clear();
+      if (answer.notes.length > 0) await readings.suggest(byId("readings"), kept.description, pick);
+      else readings.clear(byId("readings"));
     }
     return answer;
   } catch (error) {

@@ -2,7 +2,7 @@
 
 import { giveUp, outdate } from "./api.js";
 import * as compare from "./compare.js";
-import { byId, oneAtATime, say } from "./dom.js";
+import { byId, make, oneAtATime, say } from "./dom.js";
 import * as drawing from "./drawing.js";
 import * as land from "./land.js";
 import * as plat from "./plat.js";
@@ -107,6 +107,14 @@ async function copyLink() {
   }
 }
 
+/** Puts the notes and refusals of the panel that is open beside the drawing, for the printed sheet. */
+function preparePrint() {
+  const said = byId(`panel-${kept.panel}`).querySelectorAll(".answer .note, .answer .refused, td .note, tr.wrong");
+  const copies = [...said].map((each) => make("p", {}, each.textContent.replace("Show the readings", "").trim()));
+  byId("printed").replaceChildren(...copies);
+}
+
+addEventListener("beforeprint", preparePrint);
 plat.prepare(openNotes, (table) => change("lots", table), useLot);
 for (const panel of [land, compare]) panel.prepare(change);
 tracts.prepare(change, refreshCalmly);

@@ -5,17 +5,16 @@ import { ask } from "./api.js";
 import { byId, make } from "./dom.js";
 import { basis } from "./store.js";
 
-/** Shows no readings. */
-export function clear() {
-  byId("readings").replaceChildren();
+/** Shows no readings in a place. */
+export function clear(place) {
+  place.replaceChildren();
 }
 
 /**
- * Asks for the readings of a text, and shows them, each with its acreage and its drawing. `pick(description)` is called
- * for the one that is picked. A text whose only reading is the text itself needs none.
+ * Asks for the readings of a text, and shows them in a place, each with its acreage and its drawing. `pick(description)`
+ * is called for the one that is picked; without it, none can be. A text whose only reading is the text itself needs none.
  */
-export async function suggest(text, pick) {
-  const place = byId("readings");
+export async function suggest(place, text, pick) {
   try {
     const answer = await ask("suggest", { ...basis(), text, draw: true });
     if (answer === null) return;
@@ -25,11 +24,11 @@ export async function suggest(text, pick) {
     } else if (readings.length > 1 || readings[0].text !== text) {
       place.replaceChildren(heading(readings.length), make("ol", { class: "readings" }, ...readings.map((each) => item(each, pick))));
     } else {
-      clear();
+      clear(place);
     }
   } catch {
     // The answer to the description says what is wrong.
-    clear();
+    clear(place);
   }
 }
 
@@ -37,11 +36,12 @@ function heading(count) {
   return make("h2", {}, count === 1 ? "Perhaps this was meant" : "Which was meant?");
 }
 
-/** Returns a reading as a button, with what it does below it. */
+/** Returns a reading as a button, with what it does below it. Without `pick`, it is no button. */
 function item(reading, pick) {
   const description = reading.text.trim();
-  const button = make("button", { type: "button", class: "reading" }, picture(reading), acreage(reading), make("span", {}, description));
-  button.addEventListener("click", () => pick(description));
+  const [tag, type] = pick === undefined ? ["div", {}] : ["button", { type: "button" }];
+  const button = make(tag, { ...type, class: "reading" }, picture(reading), acreage(reading), make("span", {}, description));
+  if (pick !== undefined) button.addEventListener("click", () => pick(description));
   const phrases = reading.phrases.map(({ text, meaning }) => `${text} ${meaning}`);
   const said = [...phrases, ...reading.assumptions].map((each) => make("li", {}, each));
   return make("li", {}, button, said.length === 0 ? null : make("ul", {}, ...said));

@@ -1,13 +1,14 @@
 /** The panel of a list of tracts. */
 
 import { ask } from "./api.js";
-import { failure, figureCells, figuresOf, grouped, refusalAnswer } from "./answer.js";
+import { failure, figureCells, figuresOf, grouped, markedText, noteAnswer, refusalAnswer } from "./answer.js";
 import { byId, make, save } from "./dom.js";
 import { onOpen } from "./files.js";
+import * as readings from "./readings.js";
 import { written } from "./saved.js";
 import { basis, kept } from "./store.js";
 
-const HEADING = ["name", "description", "acres", "acres_plat", "refusal", "at", "sentence", "canonical"];
+const HEADING = ["name", "description", "acres", "acres_plat", "refusal", "at", "sentence", "note", "canonical"];
 const PAIRS_SHOWN = 50;
 /** The tracts that are shown, as the server answered them. */
 let answered = [];
@@ -30,6 +31,7 @@ export function prepare(onChange, onSelect) {
   byId("save-tracts").addEventListener("click", () => save("tracts.csv", answersAsCsv(), "text/csv"));
   byId("tracts-table").tBodies[0].addEventListener("click", (event) => {
     const { tract } = event.target.dataset;
+    if (event.target.matches(".note button")) showReadings(event.target.closest("tr"));
     if (tract === undefined) return;
     selected = selected === Number(tract) ? null : Number(tract);
     onSelect();
@@ -57,6 +59,7 @@ export async function refresh(request) {
       return answer;
     }
     answered = answer.tracts;
+    readings.clear(byId("tracts-readings"));
     place.replaceChildren(...summary(answer));
     showTable(answer);
     return answer;
@@ -66,11 +69,18 @@ export async function refresh(request) {
   }
 }
 
+/** Shows the readings of the tract in a row of the table. */
+function showReadings(row) {
+  const index = shown.findIndex((each) => each.row === row);
+  if (index >= 0) readings.suggest(byId("tracts-readings"), answered[index].description);
+}
+
 /** Shows why there are no answers, and none that are older. */
 function showNone(reason) {
   answered = [];
   byId("tracts-answer").replaceChildren(reason);
   byId("tracts-table").hidden = true;
+  readings.clear(byId("tracts-readings"));
 }
 
 function summary({ tracts, total, remaining, refused, overlaps, overlapping }) {
@@ -79,16 +89,24 @@ function summary({ tracts, total, remaining, refused, overlaps, overlapping }) {
   const left = refused > 0 ? ` Not counted: ${refused} refused.` : "";
   const figures = make("p", {}, `${tracts.length} tracts: ${all} acres in all, ${rest} acres remaining.${left}`);
   if (overlapping === 0) return [figures];
-  const pairs = overlaps.slice(0, PAIRS_SHOWN).map(({ first, second }) => `${tracts[first].name} and ${tracts[second].name}`);
-  if (overlapping > pairs.length) pairs.push(`and ${overlapping - pairs.length} more`);
+  const items = overlaps.map(({ first, second, acres, canonical }) => {
+    const land = canonical === null ? "" : `, ${withoutHeading(canonical)}`;
+    return make("li", {}, `${tracts[first].name} and ${tracts[second].name}: ${figuresOf(acres)[0]} acres${land}`);
+  });
+  const list = make("ul", {}, ...items.slice(0, PAIRS_SHOWN));
+  const others = items.length <= PAIRS_SHOWN ? null : make(
+    "details",
+    {},
+    make("summary", {}, `${items.length - PAIRS_SHOWN} more`),
+    make("ul", {}, ...items.slice(PAIRS_SHOWN)),
+  );
+  const unlisted = overlapping > items.length ? make("p", {}, `${overlapping - items.length} more pairs are not listed.`) : null;
   const heading = make("strong", {}, "Overlapping tracts (shared land is counted once):");
-  const list = make("ul", {}, ...pairs.map((words) => make("li", {}, words)));
-  return [figures, make("div", { class: "note" }, heading, list)];
+  return [figures, make("div", { class: "note" }, heading, list, others, unlisted)];
 }
 
 /** Shows a row for each tract. A row that stays as it was is kept, since a long list takes a while to lay out. */
 function showTable(answer) {
-  const overlapping = new Set(answer.overlaps.flatMap(({ first, second }) => [first, second]));
   const focused = document.activeElement?.dataset?.tract;
   const byLots = "lots" in answer.remaining.acres;
   byId("tracts-by-lots").hidden = !byLots;
@@ -100,7 +118,7 @@ function showTable(answer) {
   blank.wrong.className = "wrong";
   const before = shown;
   shown = answer.tracts.map((tract, index) => {
-    const entry = { tract, index, byLots, isSelected: index === selected, overlaps: overlapping.has(index) };
+    const entry = { tract, index, byLots, isSelected: index === selected };
     const contents = JSON.stringify(entry);
     return before[index]?.contents === contents ? before[index] : { contents, row: filledRow(blank, entry) };
   });
@@ -116,7 +134,7 @@ function showTable(answer) {
 }
 
 /** Returns the row of a tract, filled in over a copy of a blank one. */
-function filledRow(blank, { tract, index, isSelected, overlaps }) {
+function filledRow(blank, { tract, index, isSelected }) {
   const isAccepted = tract.acres !== undefined;
   const row = (isAccepted ? blank.accepted : blank.wrong).cloneNode(true);
   const pick = row.firstChild.firstChild;
@@ -128,8 +146,16 @@ function filledRow(blank, { tract, index, isSelected, overlaps }) {
     if (isSelected) row.className = "chosen";
   }
   const words = isAccepted ? withoutHeading(tract.canonical) : reasonOf(tract);
-  row.lastChild.textContent = overlaps ? `${words} (overlaps)` : words;
+  row.lastChild.textContent = tract.overlaps ? `${words} (overlaps)` : words;
+  if (tract.notes?.length > 0) row.lastChild.append(...doubtsOf(tract));
   return row;
+}
+
+/** Returns the notes on a tract, and its description with each doubtful place marked. */
+function doubtsOf({ name, description, notes }) {
+  // The table calls for the readings.
+  const items = notes.map((note, place) => noteAnswer(note, `Tract ${name}. `, place === 0 ? () => {} : undefined));
+  return [make("p", {}, markedText(description, notes)), ...items];
 }
 
 /** Returns a row that is copied for each tract: its button, its figures, and its words, in a cell with attributes. */
@@ -155,8 +181,9 @@ function answersAsCsv() {
 }
 
 /** Returns the fields that are added to a tract. */
-function addedTo({ acres, canonical, fault, refused }) {
-  if (acres !== undefined) return [acres.exact, acres.plat, "", "", "", canonical.trim().replaceAll("\n", " ")];
-  if (fault !== undefined) return ["", "", "", "", fault, ""];
-  return ["", "", String(refused.number), String(refused.at), refused.sentence, ""];
+function addedTo({ acres, canonical, fault, notes, refused }) {
+  if (fault !== undefined) return ["", "", "", "", fault, "", ""];
+  if (refused !== undefined) return ["", "", String(refused.number), String(refused.at), refused.sentence, "", ""];
+  const said = notes.map((note) => note.sentence).join("; ");
+  return [acres.exact, acres.plat, "", "", "", said, canonical.trim().replaceAll("\n", " ")];
 }

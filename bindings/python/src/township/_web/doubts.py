@@ -1,0 +1,96 @@
+"""The doubtful places of an accepted description: all of them, and not only the first, which the library notes.
+
+To find the next place, the one before it is written without doubt, so that the land stays the same: the library then
+notes the next one.
+"""
+from __future__ import annotations
+
+import re
+from typing import Iterator, List, NamedTuple, Optional, Tuple
+
+from .._land import Land
+from .._note import Note
+from .._plat import Plat
+from .._refused import Refused
+from .._text import encoded
+from .refusals import Json, note_json
+
+#: What a note says of the places after its own.
+_MORE = re.compile(r"^\s*(\d+) more such places?$", re.MULTILINE)
+
+#: White space, which doubtful parts have between them, and the word that they may have instead.
+_WHITE, _AND = b" \t\r\n", b" and "
+
+
+class Doubts(NamedTuple):
+    """The notes on a description, with their places in it."""
+
+    notes: Tuple[Note, ...] = ()
+    #: The number of places after them that are doubtful as well.
+    more: int = 0
+
+    def json(self, description: str) -> List[Json]:
+        """Return the notes on the text that this is about, of which the last says how many more there are."""
+        found = [note_json(note, description) for note in self.notes]
+        if self.more:
+            places = "place" if self.more == 1 else "places"
+            found[-1]["sentence"] = f"{self.notes[-1].sentence}; {self.more:,} more such {places}"
+        return found
+
+
+def doubts_of(plat: Plat, description: str, land: Land, most: int) -> Doubts:
+    """Return the first `most` notes on an accepted description, which is of this land."""
+    given = encoded(description)
+    found: List[Note] = []
+    # The text in which the places so far are written without doubt, and how much shorter it is.
+    text, shorter = given, 0
+    notes = plat.notes(text)
+    while notes:
+        note = notes[0]
+        found.append(_moved(note, given, shorter))
+        clear = _without_doubt(plat, text, note, land) if len(found) < most else None
+        if clear is None:
+            return Doubts(tuple(found), _more_after(note))
+        shorter += len(text) - len(clear)
+        text = clear
+        notes = plat.notes(text)
+    return Doubts(tuple(found))
+
+
+def _moved(note: Note, given: bytes, by: int) -> Note:
+    """Return a note with its place in the text as it was given."""
+    start, end = note.start + by, note.end + by
+    before = given[:start].decode("utf-8", "surrogateescape")
+    column = len(before) - (before.rfind("\n") + 1) + 1
+    return note._replace(line=1 + before.count("\n"), column=column, start=start, end=end)
+
+
+def _without_doubt(plat: Plat, text: bytes, note: Note, land: Land) -> Optional[bytes]:
+    """Return a text of the same land in which the place of a note is not doubtful, or `None` if there is none."""
+    for clear in _candidates(text, note):
+        try:
+            if plat.land(clear) == land and _more_after(note) == _places_in(plat, clear):
+                return clear
+        except Refused:
+            continue
+    return None
+
+
+def _candidates(text: bytes, note: Note) -> Iterator[bytes]:
+    """Yield texts in which the place may not be doubtful: two parts are written as one, or with a comma between."""
+    before = text[: note.start].rstrip(_WHITE)
+    yield before + text[note.start :]
+    if _AND in text[note.start : note.end]:
+        first, _, second = text[note.start : note.end].rpartition(_AND)
+        yield text[: note.start] + first + b", " + second + text[note.end :]
+
+
+def _places_in(plat: Plat, text: bytes) -> int:
+    """Return the number of doubtful places in a text."""
+    notes = plat.notes(text)
+    return 1 + _more_after(notes[0]) if notes else 0
+
+
+def _more_after(note: Note) -> int:
+    found = _MORE.search(note.text)
+    return int(found[1]) if found else 0
