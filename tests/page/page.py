@@ -121,7 +121,7 @@ class Page:
         """Return the text of a file that the page has saved, and remove it."""
         path: Path = self.driver.downloads / name
         self.wait_for(lambda: path.exists() and path.stat().st_size)
-        text = path.read_text()
+        text = path.read_bytes().decode("utf-8")
         path.unlink()
         return text
 

@@ -227,6 +227,26 @@ def test_names_are_shown_as_text(page: Page) -> None:
     assert page.all("main script") == [] and page.all("main img") == []
 
 
+def test_names_that_turn_the_text_round_are_escaped(page: Page) -> None:
+    page.tab("tracts")
+    page.put("#tracts", "A\u202ehtimS\u2066,sec. 14.\nB\u200b,sec. 14.\n")
+    page.wait_for_text("#tracts-answer li", "A\\u202ehtimS\\u2066 and B\\u200b: 640.00 acres")
+    names = [each.get_property("textContent") for each in page.all("#tracts-table tbody th")]
+    assert names == ["A\\u202ehtimS\\u2066", "B\\u200b"]
+
+
+def test_saved_cells_that_a_spreadsheet_would_run(page: Page) -> None:
+    page.tab("tracts")
+    names = ["=1+1", "+1", "-1", "@SUM(A1)", "\tx", "\rx", "A-1"]
+    listed = "name,description\n" + "".join(f'"{name}",sec. 14.\n' for name in names)
+    page.put("#tracts", listed)
+    page.wait_for_text("#tracts-answer", "7 tracts")
+    page.one("#save-tracts").click()
+    rows = list(csv.DictReader(io.StringIO(page.saved("tracts.csv"), newline="")))
+    assert [row["name"] for row in rows] == ["'=1+1", "'+1", "'-1", "'@SUM(A1)", "'\tx", "'\rx", "A-1"]
+    assert {row["acres"] for row in rows} == {"640.00"}
+
+
 def test_a_section_alone(page: Page) -> None:
     page.click_target("section", "14")
     page.wait_for_text("#drawing", "SECTION 14")

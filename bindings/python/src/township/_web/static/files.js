@@ -2,6 +2,7 @@
 
 import { post } from "./api.js";
 import { byId, say } from "./dom.js";
+import { visible } from "./shown.js";
 
 /** Calls `use(text)` with the text of each file that is opened by an input, which can open the same one again. */
 export function onOpen(id, use) {
@@ -11,10 +12,10 @@ export function onOpen(id, use) {
     if (file === undefined) return;
     try {
       const { text, encoding } = await post("file", { data: await base64Of(file) });
-      say(encoding === "utf-8" ? "" : `${file.name} is read as ${encoding.toUpperCase()}.`);
+      say(encoding === "utf-8" ? "" : `${visible(file.name)} is read as ${encoding.toUpperCase()}.`);
       use(text);
     } catch (error) {
-      say(`${file.name} is not opened: ${error.message}`);
+      say(`${visible(file.name)} is not opened: ${error.message}`);
     } finally {
       input.value = "";
     }

@@ -1,7 +1,7 @@
 /** The inputs of the township and of its section lines, which show places of the field notes and replace them. */
 
 import { byId } from "./dom.js";
-import { written } from "./saved.js";
+import { quoted } from "./saved.js";
 
 const DESIGNATION = ["township-number", "north-south", "range-number", "east-west"];
 const NONE = { township: null, lines: new Map() };
@@ -75,7 +75,7 @@ function replace(place, fields) {
   const found = place === "township" ? known.township : known.lines.get(place);
   const points = [...known.notes];
   const at = found ?? added(points, place);
-  const text = [...written(fields)];
+  const text = [...fields.map(quoted).join(",")];
   points.splice(at.start, at.end - at.start, ...text);
   const longer = text.length - (at.end - at.start);
   for (const each of [known.township, ...known.lines.values()]) {

@@ -1,8 +1,14 @@
-/** Records as CSV, to be saved. */
+/** Records as CSV, to be saved and to be opened by a spreadsheet. */
 
-/** Returns a record as CSV. */
+/** What a spreadsheet takes for the beginning of a formula. */
+const FORMULA = /^[=+\-@\t\r\n]/;
+
+/** Returns a record as CSV. An apostrophe before what a spreadsheet would run makes it a text there. */
 export function written(fields) {
-  return fields
-    .map((field) => (/[",\r\n]/.test(field) ? `"${field.replaceAll('"', '""')}"` : field))
-    .join(",");
+  return fields.map((field) => quoted(FORMULA.test(field) ? `'${field}` : field)).join(",");
+}
+
+/** Returns a field as it is written in CSV. */
+export function quoted(field) {
+  return /[",\r\n]/.test(field) ? `"${field.replaceAll('"', '""')}"` : field;
 }

@@ -6,6 +6,7 @@ import { byId, make, save } from "./dom.js";
 import { onOpen } from "./files.js";
 import * as readings from "./readings.js";
 import { written } from "./saved.js";
+import { visible } from "./shown.js";
 import { basis, kept } from "./store.js";
 
 const HEADING = ["name", "description", "acres", "acres_plat", "refusal", "at", "sentence", "note", "canonical"];
@@ -91,7 +92,7 @@ function summary({ tracts, total, remaining, refused, overlaps, overlapping }) {
   if (overlapping === 0) return [figures];
   const items = overlaps.map(({ first, second, acres, canonical }) => {
     const land = canonical === null ? "" : `, ${withoutHeading(canonical)}`;
-    return make("li", {}, `${tracts[first].name} and ${tracts[second].name}: ${figuresOf(acres)[0]} acres${land}`);
+    return make("li", {}, `${visible(tracts[first].name)} and ${visible(tracts[second].name)}: ${figuresOf(acres)[0]} acres${land}`);
   });
   const list = make("ul", {}, ...items.slice(0, PAIRS_SHOWN));
   const others = items.length <= PAIRS_SHOWN ? null : make(
@@ -138,7 +139,7 @@ function filledRow(blank, { tract, index, isSelected }) {
   const isAccepted = tract.acres !== undefined;
   const row = (isAccepted ? blank.accepted : blank.wrong).cloneNode(true);
   const pick = row.firstChild.firstChild;
-  pick.textContent = tract.name;
+  pick.textContent = visible(tract.name);
   pick.dataset.tract = String(index);
   pick.setAttribute("aria-pressed", String(isSelected));
   if (isAccepted) {
@@ -154,7 +155,7 @@ function filledRow(blank, { tract, index, isSelected }) {
 /** Returns the notes on a tract, and its description with each doubtful place marked. */
 function doubtsOf({ name, description, notes }) {
   // The table calls for the readings.
-  const items = notes.map((note, place) => noteAnswer(note, `Tract ${name}. `, place === 0 ? () => {} : undefined));
+  const items = notes.map((note, place) => noteAnswer(note, `Tract ${visible(name)}. `, place === 0 ? () => {} : undefined));
   return [make("p", {}, markedText(description, notes)), ...items];
 }
 
