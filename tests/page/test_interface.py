@@ -267,6 +267,17 @@ def test_drawings(server: Interface) -> None:
     assert counts == {"section": 36, "lot": 47, "line": 84}
 
 
+def test_the_sheet_of_a_section_says_what_it_shows(server: Interface) -> None:
+    """The land and the acreage in that section, and that there is more."""
+    description = "sec. 5, lots 1 and 2, S1/2NE1/4; sec. 14, NE1/4; sec. 15."
+    for section, words, acres in ((14, "sec. 14, NE1/4.", "160.00"), (5, "sec. 5, lots 1, 2, S1/2NE1/4.", "161.00"), (1, "None.", "0.00")):
+        drawn = server.ask("land", notes=NOTES, description=description, draw=True, section=section)["svg"]
+        shown = " ".join("".join(each.itertext()) for each in ET.fromstring(drawn).iter() if each.tag.endswith("text"))
+        more = "There is more in 3 other sections." if section == 1 else "There is more in 2 other sections."
+        assert f"Land in section {section} {words} {more}" in shown and f"Exact account {acres}" in shown
+        assert "961.00" not in shown and drawn == PLAT.svg(land=description, section=section)
+
+
 def test_the_description_of_the_interface(server: Interface) -> None:
     described = server.send("GET", "/api/v1/openapi.json").json
     assert described["openapi"] == "3.0.3"

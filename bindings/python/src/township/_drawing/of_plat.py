@@ -27,7 +27,7 @@ def drawing_of(plat: Plat, land: Union[Land, Text, None], section: Optional[int]
         raise ValueError(f"a township has sections 1 to {_SECTIONS}, not {section}")
     if isinstance(land, (str, bytes)):
         land = plat.land(land)
-    shades = () if land is None else (shade_of(plat, land),)
+    shades = () if land is None else (shade_of(plat, land, section=section),)
     return svg_of(subject_of(plat, *shades), section)
 
 
@@ -36,11 +36,24 @@ def drawing_of_land(land: Land) -> str:
     return svg_of(Subject(land.township, None, (Shade(land.rows, "Land", words_of(land)),)))
 
 
-def shade_of(plat: Plat, land: Land, label: str = "Land") -> Shade:
-    """Return the shade of land on a plat."""
+def shade_of(plat: Plat, land: Land, label: str = "Land", section: Optional[int] = None) -> Shade:
+    """Return the shade of land on a plat. On the sheet of a section it is of the land in that section alone, and says
+    so if there is more."""
     accounts: Tuple[Account, ...] = tuple(ACCOUNTS)
-    acres = tuple((_NAMES[account], plat.acres(land, account)) for account in accounts)
-    return Shade(land.rows, label, words_of(land), acres)
+    shown = shown_on(land, section)
+    acres = tuple((_NAMES[account], plat.acres(shown, account)) for account in accounts)
+    words = words_of(shown)
+    if shown != land:
+        others = len(land) - len(shown)
+        more = "1 other section" if others == 1 else f"{others} other sections"
+        label = f"{label} in section {section}"
+        words = f"{words or 'None.'} There is more in {more}."
+    return Shade(shown.rows, label, words, acres)
+
+
+def shown_on(land: Land, section: Optional[int]) -> Land:
+    """Return the land that is on the sheet of a section, or all of it on that of the township."""
+    return land if section is None else land.sections.get(section, land - land)
 
 
 def subject_of(plat: Plat, *shades: Shade, lots: Optional[Lots] = None) -> Subject:

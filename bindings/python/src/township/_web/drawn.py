@@ -2,10 +2,10 @@
 from __future__ import annotations
 
 from decimal import Decimal
-from typing import Sequence, Tuple
+from typing import Optional, Sequence, Tuple
 
 from .._drawing import Shade, Subject, svg_of
-from .._drawing.of_plat import shade_of, subject_of
+from .._drawing.of_plat import shade_of, shown_on, subject_of
 from .._land import Land
 from .basis import BY_LOTS, Basis
 from .given import Given
@@ -22,7 +22,7 @@ def drawing(given: Given, basis: Basis, lands: Sequence[Tuple[str, Land]] = ()) 
     targets = given.flag("targets")
     if not given.flag("draw"):
         return {}
-    shades = [_shade_of(basis, label, land) for label, land in lands]
+    shades = [_shade_of(basis, label, land, section) for label, land in lands]
     return {"svg": svg_of(subject_of(basis.plat, *shades, lots=basis.lots), section, targets)}
 
 
@@ -35,8 +35,8 @@ def without_figures(given: Given, notes: str) -> Json:
     return {"svg": svg_of(Subject(designation), section, targets)}
 
 
-def _shade_of(basis: Basis, label: str, land: Land) -> Shade:
+def _shade_of(basis: Basis, label: str, land: Land, section: Optional[int]) -> Shade:
     """Return the shade of land, with its acreage by the lot table if there is one that has its lots."""
-    shade = shade_of(basis.plat, land, label)
-    by_lots = basis.acres(land).get(BY_LOTS)
+    shade = shade_of(basis.plat, land, label, section)
+    by_lots = basis.acres(shown_on(land, section)).get(BY_LOTS)
     return shade if by_lots is None else shade._replace(acres=(*shade.acres, ("Lot table", Decimal(by_lots))))
