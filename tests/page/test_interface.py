@@ -118,8 +118,15 @@ def test_suggest_in_order(server: Interface) -> None:
     changes = [each["changes"] for each in answer["readings"]]
     assert changes[0] == [{"start": 15, "end": 15, "written": ",", "rule": "comma"}]
     assert changes[1] == [{"start": 15, "end": 16, "written": "", "rule": "one part"}]
+    assert [each["condition"] for each in answer["readings"]] == ["if the space separates two parts", "as it is written"]
     drawings = [each["svg"] for each in answer["readings"]]
     assert drawings[0] != drawings[1] and all(ET.fromstring(each) is not None for each in drawings)
+
+
+def test_suggest_says_of_a_manner_what_it_is(server: Interface) -> None:
+    [reading] = server.ask("suggest", **NOMINAL, text="N2 Sec 5")["readings"]
+    assert (reading["manner"], reading["condition"]) == ("lots named", None)
+    assert reading["remark"] == "the aliquot part includes lots, which are named in its place"
 
 
 def test_suggest_nothing(server: Interface) -> None:

@@ -148,6 +148,24 @@ def test_readings_are_picked(page: Page) -> None:
     assert page.focused() == "description" and page.all("#readings button") == []
 
 
+def test_a_reading_says_its_condition_and_what_it_assumes(page: Page) -> None:
+    page.tab("land")
+    page.type("#description", "sec. 14: NE¼NE¼ SW¼SW¼")
+    page.wait_for_text("#readings", "Which was meant?")
+    assert [each.text for each in page.all("#readings em")] == ["If the space separates two parts", "As it is written"]
+    assert "Assumed: `NE¼NE¼ SW¼SW¼`: no comma is missing" in page.text("#readings")
+
+
+def test_a_text_without_a_reading_says_why(page: Page) -> None:
+    page.tab("land")
+    page.type("#description", "sec. 14, the old mill")
+    page.wait_for_text("#readings", "No reading of this text is certain: what is marked in it is not understood.")
+    assert page.text("#panel-land .back mark") == "the"
+    page.type("#description", "sec. 14, that portion of the NE/4 lying north of the road")
+    page.wait_for_text("#readings", "Lots and aliquot parts can't describe this land: a portion needs a survey.")
+    assert "portion" in [each.get_property("textContent") for each in page.all("#panel-land .back mark")]
+
+
 def test_the_readings_of_a_text_that_is_one_itself(page: Page) -> None:
     page.tab("land")
     page.type("#description", "sec. 14, E1/2 of NE1/4 and SE1/4")
@@ -237,13 +255,14 @@ def test_names_that_turn_the_text_round_are_escaped(page: Page) -> None:
 
 def test_saved_cells_that_a_spreadsheet_would_run(page: Page) -> None:
     page.tab("tracts")
+    # A text area makes a line feed of a carriage return.
     names = ["=1+1", "+1", "-1", "@SUM(A1)", "\tx", "\rx", "A-1"]
     listed = "name,description\n" + "".join(f'"{name}",sec. 14.\n' for name in names)
     page.put("#tracts", listed)
     page.wait_for_text("#tracts-answer", "7 tracts")
     page.one("#save-tracts").click()
     rows = list(csv.DictReader(io.StringIO(page.saved("tracts.csv"), newline="")))
-    assert [row["name"] for row in rows] == ["'=1+1", "'+1", "'-1", "'@SUM(A1)", "'\tx", "'\rx", "A-1"]
+    assert [row["name"] for row in rows] == ["'=1+1", "'+1", "'-1", "'@SUM(A1)", "'\tx", "'\nx", "A-1"]
     assert {row["acres"] for row in rows} == {"640.00"}
 
 

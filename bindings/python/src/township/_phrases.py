@@ -16,6 +16,12 @@ _MOVED = {
     ("moved heading", "moved section"): "section, township, and range",
 }
 
+#: What is said of a reading that is not the changed text itself, by its manner.
+MANNERS_SAID = {
+    "lots named": "the aliquot part includes lots, which are named in its place",
+    "remainder": "this is the land that is left without the exception",
+}
+
 _NOTHING = "is left out: it means nothing here"
 
 #: Why a mark is another one.

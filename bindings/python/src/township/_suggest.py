@@ -10,7 +10,7 @@ from ._account import ACCOUNTS
 from ._batch.options import STANDARD
 from ._batch.stopped import Status, Stopped
 from ._measuring import Command, _bytes_in, _source, _write
-from ._phrases import condition_of, phrases_of, shared_of, tidy
+from ._phrases import MANNERS_SAID, condition_of, phrases_of, shared_of, tidy
 from ._plat import Plat
 from ._readings import Change, Reading, Readings, assumptions_of
 from ._refused import Refused
@@ -36,12 +36,6 @@ exit status:
 SEVERAL_READINGS, NO_READING = 1, 4
 
 _NOT_CERTAIN = "no reading is certain"
-
-#: What is said of a reading that is not the changed text itself.
-_MANNERS = {
-    "lots named": "the aliquot part includes lots, which are named in its place",
-    "remainder": "this is the land that is left without the exception",
-}
 
 #: The width of the column of phrases, if none is wider.
 _PHRASE = 9
@@ -137,5 +131,5 @@ def _refusal_of(reading: Reading) -> str:
 def _explained(given: bytes, changes: Sequence[Change], readings: Sequence[Reading]) -> List[str]:
     """Return a line for each phrase that the changes turn into something else, and for each of their assumptions."""
     phrases = [f"     {phrase.text:<{_PHRASE}} {phrase.meaning}" for phrase in phrases_of(given, changes)]
-    manners = dict.fromkeys(_MANNERS[each.manner] for each in readings if each.manner in _MANNERS)
+    manners = dict.fromkeys(MANNERS_SAID[each.manner] for each in readings if each.manner in MANNERS_SAID)
     return phrases + [f"     {said}" for said in (*manners, *assumptions_of(changes))]

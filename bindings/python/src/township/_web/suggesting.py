@@ -4,7 +4,7 @@ from __future__ import annotations
 from .._drawing import svg_of
 from .._drawing.of_plat import shade_of, subject_of
 from .._land import Land
-from .._phrases import phrases_of
+from .._phrases import MANNERS_SAID, condition_of, phrases_of
 from .._readings import Change, Reading, suggest
 from .._refused import Refused
 from .._text import encoded
@@ -24,7 +24,10 @@ def suggest_answer(body: bytes) -> Json:
     written = encoded(text)
     start, end = (None, None) if found.beyond is None else (_place(written, byte) for byte in found.beyond)
     return {
-        "readings": [_reading_json(basis, written, reading, draws) for reading in found],
+        "readings": [
+            {**_reading_json(basis, written, reading, draws), "condition": condition_of(written, reading, found)}
+            for reading in found
+        ],
         "reason": found.reason,
         "start": start,
         "end": end,
@@ -36,6 +39,7 @@ def _reading_json(basis: Basis, given: bytes, reading: Reading, draws: bool) -> 
     found: Json = {
         "text": reading.text,
         "manner": reading.manner,
+        "remark": MANNERS_SAID.get(reading.manner),
         "changes": [_change_json(given, change) for change in reading.changes],
         "phrases": [{"text": each.text, "meaning": each.meaning} for each in phrases_of(given, reading.changes)],
         "assumptions": list(reading.assumptions),

@@ -48,7 +48,8 @@ export async function refresh(request) {
     if (refused !== undefined) {
       place.replaceChildren(refusalAnswer(refused));
       mark(area, refused.of === "description" ? [{ ...refused, kind: "wrong" }] : []);
-      if (refused.of === "description") await readings.suggest(byId("readings"), kept.description, pick);
+      if (refused.of === "description") await explain(refused);
+      else readings.clear(byId("readings"));
     } else {
       place.replaceChildren(...landAnswer(answer), ...answer.notes.map((note) => noteAnswer(note)));
       mark(area, answer.notes.map((note) => ({ ...note, kind: "note" })));
@@ -60,6 +61,14 @@ export async function refresh(request) {
     place.replaceChildren(failure(error));
     return null;
   }
+}
+
+/** Shows the readings of a refused description, or marks what rules them out as well. */
+async function explain(refused) {
+  const { reason, start, end } = (await readings.suggest(byId("readings"), kept.description, pick)) ?? {};
+  if (!reason) return;
+  const places = [refused, { start, end }].map((place) => ({ start: place.start, end: place.end, kind: "wrong" }));
+  mark(byId("description"), places.sort((one, other) => one.start - other.start));
 }
 
 /** Takes a reading as the description. */

@@ -5,6 +5,8 @@ import { ask } from "./api.js";
 import { byId, make } from "./dom.js";
 import { basis } from "./store.js";
 
+const UNCERTAIN = "No reading of this text is certain: what is marked in it is not understood.";
+
 /** Shows no readings in a place. */
 export function clear(place) {
   place.replaceChildren();
@@ -13,22 +15,25 @@ export function clear(place) {
 /**
  * Asks for the readings of a text, and shows them in a place, each with its acreage and its drawing. `pick(description)`
  * is called for the one that is picked; without it, none can be. A text whose only reading is the text itself needs none.
+ * Returns the answer, or null if there is none.
  */
 export async function suggest(place, text, pick) {
   try {
     const answer = await ask("suggest", { ...basis(), text, draw: true });
-    if (answer === null) return;
+    if (answer === null) return null;
     const { readings = [], reason } = answer;
     if (readings.length === 0) {
-      place.replaceChildren(...(reason ? [make("p", {}, `Lots and aliquot parts can't describe this land: ${reason}.`)] : []));
+      place.replaceChildren(make("p", {}, reason ? `Lots and aliquot parts can't describe this land: ${reason}.` : UNCERTAIN));
     } else if (readings.length > 1 || readings[0].text !== text) {
       place.replaceChildren(heading(readings.length), make("ol", { class: "readings" }, ...readings.map((each) => item(each, pick))));
     } else {
       clear(place);
     }
+    return answer;
   } catch {
     // The answer to the description says what is wrong.
     clear(place);
+    return null;
   }
 }
 
@@ -40,16 +45,23 @@ function heading(count) {
 function item(reading, pick) {
   const description = reading.text.trim();
   const [tag, type] = pick === undefined ? ["div", {}] : ["button", { type: "button" }];
-  const button = make(tag, { ...type, class: "reading" }, picture(reading), acreage(reading), make("span", {}, description));
+  const button = make(tag, { ...type, class: "reading" }, picture(reading), acreage(reading), make("span", {}, description), condition(reading));
   if (pick !== undefined) button.addEventListener("click", () => pick(description));
   const phrases = reading.phrases.map(({ text, meaning }) => `${text} ${meaning}`);
-  const said = [...phrases, ...reading.assumptions].map((each) => make("li", {}, each));
+  const remarks = reading.remark === null ? [] : [reading.remark];
+  const assumed = reading.assumptions.map((each) => `Assumed: ${each}`);
+  const said = [...phrases, ...remarks, ...assumed].map((each) => make("li", {}, each));
   return make("li", {}, button, said.length === 0 ? null : make("ul", {}, ...said));
 }
 
 function picture({ svg }) {
   // The drawing is a picture of its own, so that its names don't meet those of other drawings.
   return svg === undefined ? null : make("img", { alt: "", src: `data:image/svg+xml,${encodeURIComponent(svg)}` });
+}
+
+/** Returns when the reading is the one that is meant, if that is what the readings differ in. */
+function condition({ condition: when }) {
+  return when === null ? null : make("em", {}, `${when[0].toUpperCase()}${when.slice(1)}`);
 }
 
 function acreage({ acres, refused }) {
