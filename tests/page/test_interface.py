@@ -61,11 +61,34 @@ def test_lot_table(server: Interface) -> None:
     assert server.ask("land", lots=table, description="sec. 14.")["refused"]["of"] == "lots"
     # 40.45 + 40.50, and two quarter-quarter sections of 40 acres.
     answer = server.ask("land", lots=table + "0\n", description="sec. 5, lots 1 and 2, S1/2NE1/4.")
-    assert answer["acres"] == {"exact": "160.00", "plat": "160.00", "lots": "160.95"}
+    assert answer["acres"] == {"lots": "160.95"} and answer["area"] == {"lots": "3219/20"}
     lacking = server.ask("land", lots=table + "0\n", description="sec. 5, lots 1 to 3.")
     assert lacking["acres"]["lots"] is None
     reply = server.post("land", json.dumps({"lots": table + "0\n", "township": "T. 3 N., R. 3 W.", "description": ""}).encode())
     assert reply.status == 400 and "the lot table is for T. 2 N., R. 3 W." in reply.json["error"]
+
+
+def test_the_acreage_by_a_lot_table_is_the_figure(server: Interface) -> None:
+    """In the list of lots, the totals, a batch, and drawings; and of a plat that nobody gave, nothing is shown."""
+    full = township.Lots.of_figures("T. 2 N., R. 3 W.", {key: "41.50" for key in township.Lots.read("section,lot,acres\nT,2,N,3,W\n").figures})
+    alone = server.ask("plat", lots=full.csv(), draw=True)
+    # 47 lots with 1.5 acres more than 40 each.
+    assert (alone["basis"], alone["total"]) == ("lots", "23110.50") and "notes" not in alone
+    assert alone["sections"][4] == {"section": 5, "total": "646.00", "lots": ["41.50"] * 4}
+    assert "20.00" not in alone["svg"] and "41.50" in alone["svg"]
+    both = server.ask("plat", lots=full.csv(), notes=NOTES, draw=True)
+    assert both["total"] == "23110.50" and "19.60" in both["svg"]
+    asked = {"lots": full.csv(), "notes": NOTES, "descriptions": ["sec. 5, lot 1.", "x"]}
+    assert server.ask("batch", **asked)["acres"] == ["41.50", None]
+    assert server.ask("batch", **asked, account="exact")["acres"] == ["40.45", None]
+    one = "section,lot,acres\nT,2,N,3,W\n5,1,40.45\n"
+    lacking = server.ask("plat", lots=one)
+    assert lacking["total"] is None and lacking["sections"][4]["lots"] == ["40.45", None, None, None]
+    batch = server.ask("batch", lots=one, descriptions=["sec. 5, lot 2.", "sec. 5, lot 1."])
+    assert batch["acres"] == [None, "40.45"] and batch["refused"][0]["number"] == 94
+    report = server.ask("report", lots=full.csv(), tracts=[{"name": "A", "description": "sec. 5, lot 1."}])
+    assert report["tracts"][0]["acres"] == {"lots": "41.50"} and report["total"]["acres"] == {"lots": "41.50"}
+    assert server.ask("plat", notes=NOTES)["basis"] == "notes" and server.ask("plat", **NOMINAL)["basis"] == "nominal"
 
 
 def test_compare(server: Interface) -> None:

@@ -393,16 +393,37 @@ def test_a_lot_table(page: Page) -> None:
     table = "section,lot,acres\nT,2,N,3,W\n5,1,40.45\n5,2,40.50\n"
     page.driver.execute_script("document.querySelector('#lot-table').open = true")
     page.put("#lots-text", table)
+    # No plat is made up: there are no section lines, and no acreage but that of the table.
+    page.wait_for_text("#plat-answer", "There is only a lot table.")
+    assert not page.one("#lines").is_displayed() and "20.00" not in page.text("#drawing")
+    assert [page.text(f"#lot-5\\.{lot} .figure") for lot in (1, 2, 3)] == ["40.45", "40.50", "lacking"]
     page.tab("land")
     page.type("#description", "sec. 5, lots 1 and 2, S1/2NE1/4.")
     # 40.45 + 40.50 + 80
-    page.wait_for_text("#land-answer", "160.95 acres")
+    page.wait_for_text("#land-answer .acres", "160.95 acres")
+    assert "Plat account" not in page.text("#land-answer") and "3219/20 acres" in page.text("#land-answer")
     assert "40.45" in page.text("#drawing") and "Acreage by the lot table." in page.text("#drawing")
     page.type("#description", "sec. 5, lots 1 to 3.")
-    page.wait_for_text("#land-answer", "the table lacks a lot of this land")
+    page.wait_for_text("#land-answer", "the lot table lacks a lot of this land")
+    page.tab("tracts")
+    page.put("#tracts", 'A,"sec. 5, lots 1 and 2."\nB,"sec. 5, lot 3."\n')
+    page.wait_for_text("#tracts-answer", "no acreage, since the lot table lacks a lot of this land in all")
+    heads = [each.text for each in page.all("#tracts-table thead th")]
+    assert heads == ["Tract", "Acres by the lot table", "Land, or refusal"]
+    page.one("#save-tracts").click()
+    rows = list(csv.DictReader(io.StringIO(page.saved("tracts.csv"))))
+    assert [(row["acres"], row["acres_exact"], row["acres_plat"]) for row in rows] == [("80.95", "", ""), ("", "", "")]
     page.tab("plat")
     page.put("#lots-text", table + "5,9,40.00\n")
     page.wait_for_text("#plat-answer", "Refused 91")
+    page.put("#lots-text", "")
+    page.wait_for_text("#plat-answer", "This township is nominal: all section lines are regular.")
+    open_sample(page)
+    page.put("#lots-text", table)
+    page.wait_for_text("#plat-answer", "The lot table lacks lots")
+    page.tab("tracts")
+    page.wait_for_text("#tracts-table", "Exact account")
+    page.tab("plat")
     page.put("#lots-text", table.replace("T,2,N", "T,3,N"))
     page.wait_for_text("#plat-answer", "the lot table is for T. 3 N., R. 3 W., and the plat for T. 2 N., R. 3 W.")
 

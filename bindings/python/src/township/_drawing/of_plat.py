@@ -56,9 +56,15 @@ def shown_on(land: Land, section: Optional[int]) -> Land:
     return land if section is None else land.sections.get(section, land - land)
 
 
-def subject_of(plat: Plat, *shades: Shade, lots: Optional[Lots] = None) -> Subject:
-    """Return a plat with shaded land. If there is a lot table, its acreage is shown, and not that of the plat."""
-    return Subject(plat.township, _figures_of(plat) if lots is None else _figures_by(lots, plat), shades)
+def subject_of(plat: Plat, *shades: Shade, lots: Optional[Lots] = None, is_measured: bool = True) -> Subject:
+    """Return a plat with shaded land. If there is a lot table, its acreage is shown, and not that of the plat.
+
+    If it is not measured, there is only the table, and nothing of the plat is shown.
+    """
+    if lots is None:
+        return Subject(plat.township, _figures_of(plat), shades)
+    figures = _figures_by(lots, plat)
+    return Subject(plat.township, figures if is_measured else figures._replace(closing_quarters=()), shades)
 
 
 def _figures_of(plat: Plat) -> Figures:

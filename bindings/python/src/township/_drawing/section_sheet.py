@@ -47,9 +47,10 @@ def section_sheet(subject: Subject, section: int) -> str:
     ]
     total, notes = None, []
     if subject.figures is not None:
-        parts.extend(_closing_quarters(subject.figures, section))
-        total = subject.figures.sections[section]
-        notes = [subject.figures.note, _NOTE if _closes(section) else ""]
+        total, notes = subject.figures.sections[section], [subject.figures.note]
+        if subject.figures.closing_quarters and _closes(section):
+            parts.extend(_closing_quarters(subject.figures, section))
+            notes.append(_NOTE)
     parts.append(title_block(subject, shading, (f"Section {section}", total), TOP + SIDE + 6, notes))
     name = f"Section {section} of {subject.township}"
     return document(name, _described(subject, section), shading.definitions(), parts)

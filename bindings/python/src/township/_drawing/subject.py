@@ -19,7 +19,8 @@ class Figures(NamedTuple):
     sections: Mapping[int, Optional[Decimal]]
     #: The acreage of the township.
     total: Optional[Decimal]
-    #: The last quarter mile of each section line, by line index, in thousandths of a chain.
+    #: The last quarter mile of each section line, by line index, in thousandths of a chain; or nothing, if there are no
+    #: field notes.
     closing_quarters: Sequence[int]
     #: What the note at the foot says of the figures.
     note: str = ""

@@ -35,8 +35,10 @@ def township_sheet(subject: Subject, targets: bool) -> str:
     ]
     total, notes = None, []
     if subject.figures is not None:
-        parts.append(group(_closing_quarters(subject.figures), font_size=2.5, **{"class": "closing"}))
-        total, notes = subject.figures.total, [subject.figures.note, _NOTE]
+        total, notes = subject.figures.total, [subject.figures.note]
+        if subject.figures.closing_quarters:
+            parts.append(group(_closing_quarters(subject.figures), font_size=2.5, **{"class": "closing"}))
+            notes.append(_NOTE)
     parts.append(title_block(subject, shading, ("Township", total), TOP + SIDE + 6, notes))
     if targets:
         parts.append(targets_of(LEFT, TOP, PLACE))

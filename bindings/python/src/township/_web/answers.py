@@ -1,13 +1,14 @@
 """The answers on a plat, on land, on two descriptions, and on many."""
 from __future__ import annotations
 
-from typing import Dict, List
+from decimal import Decimal
+from typing import Dict, List, Optional
 
-from .._account import ACCOUNTS
 from .._drawing.layout import lines
+from .._drawing.of_plat import subject_of
 from .._drawing.sheet import chains
-from .._figures import Section
 from .._land import Land
+from .._lots import Lots
 from .._plat import Plat
 from .._refused import Refused
 from . import drawn
@@ -40,12 +41,13 @@ def plat_answer(body: bytes) -> Json:
             found.update(without_figures(given, notes))
         return {"refused": refused, **found}
     plat = basis.plat
+    # Without field notes, nothing is known of the section lines.
+    lines: Json = {"closing_quarters": _closing_quarters(plat), "notes": plat.write_notes()} if basis.is_measured else {}
     return {
         "township": str(plat.township),
-        "total": str(plat.total),
-        "sections": [_section_json(section) for section in plat.sections.values()],
-        "closing_quarters": _closing_quarters(plat),
-        "notes": plat.write_notes(),
+        "basis": basis.name(),
+        **_figures_json(basis),
+        **lines,
         **found,
         **drawing(given, basis),
     }
@@ -64,7 +66,7 @@ def land_answer(body: bytes) -> Json:
     notes = doubts_of(plat, description, land, DOUBTS_MOST).json(description)
     return {
         **land_json(basis, land),
-        "area": {account: str(plat.area(land, account)) for account in ACCOUNTS},
+        "area": basis.area(land),
         "notes": notes,
         **drawing(given, basis, [("Land" if not notes else f"Land, {DOUBTFUL}", land)]),
     }
@@ -101,7 +103,10 @@ def batch_answer(body: bytes) -> Json:
     given = Given(body, BASIS | {"descriptions", "account"})
     descriptions = given.texts("descriptions", DESCRIPTIONS_MOST)
     account = given.account()
-    answers = given.basis().plat._full_answers(descriptions, account)
+    basis = given.basis()
+    if account is None and basis.lots is not None:
+        return _batch_by_lots(basis.plat, basis.lots, descriptions)
+    answers = basis.plat._full_answers(descriptions, account or "exact")
     acres: List[object] = [decimals_of(each) for each in answers.hundredths]
     refused: List[Json] = []
     for index in answers.refused:
@@ -109,6 +114,21 @@ def batch_answer(body: bytes) -> Json:
         number, at = answers.refusal(index)
         refused.append({"index": index, "number": number, "at": at, "sentence": answers.sentence(index)})
     notes = [{"index": index, "sentence": answers.sentence(index)} for index in answers.noted]
+    return {"acres": acres, "refused": refused, "notes": notes}
+
+
+def _batch_by_lots(plat: Plat, lots: Lots, descriptions: List[str]) -> Json:
+    """Return the acreage of each description by a lot table, or its refusal."""
+    acres: List[Optional[str]] = []
+    refused: List[Json] = []
+    for index, description in enumerate(descriptions):
+        try:
+            acres.append(str(lots.acres(description)))
+        except Refused as error:
+            acres.append(None)
+            refused.append({"index": index, "number": error.number, "at": error.at, "sentence": error.sentence})
+    noted = plat._full_answers(descriptions, "exact")
+    notes = [{"index": index, "sentence": noted.sentence(index)} for index in noted.noted]
     return {"acres": acres, "refused": refused, "notes": notes}
 
 
@@ -128,12 +148,23 @@ def comparison_of(first: Land, second: Land) -> str:
     return "disjoint" if first.isdisjoint(second) else "overlaps"
 
 
-def _section_json(section: Section) -> Json:
-    return {
-        "section": section.number,
-        "total": str(section.total),
-        "lots": [str(acres) for acres in section.lot_acres],
-    }
+def _figures_json(basis: Basis) -> Json:
+    """Return the acreage of the township, its sections, and its lots: by the lot table if there is one.
+
+    What a lot table does not tell, since it lacks a lot, is `None`.
+    """
+    figures = subject_of(basis.plat, lots=basis.lots).figures
+    if figures is None:
+        raise AssertionError("a plat has figures")
+    sections: List[Json] = []
+    for number, acres in figures.sections.items():
+        lots = [_decimals(each) for (section, _), each in figures.lots.items() if section == number]
+        sections.append({"section": number, "total": _decimals(acres), "lots": lots})
+    return {"total": _decimals(figures.total), "sections": sections}
+
+
+def _decimals(acres: Optional[Decimal]) -> Optional[str]:
+    return None if acres is None else str(acres)
 
 
 def _closing_quarters(plat: Plat) -> Json:

@@ -2,9 +2,10 @@
 from __future__ import annotations
 
 import functools
-from typing import Dict, List, NamedTuple, Optional, Sequence
+from typing import Dict, List, NamedTuple, Optional, Sequence, Tuple
 
-from .._account import ACCOUNTS
+from .._account import ACCOUNTS, Account
+from .._drawing.layout import REGULAR
 from .._field_notes import Notes
 from .._land import Land
 from .._lots import Lots
@@ -20,10 +21,13 @@ class Basis(NamedTuple):
 
     plat: Plat
     lots: Optional[Lots] = None
+    #: Whether the plat is one of field notes, or of a township that is said to be nominal. If there is only a lot table,
+    #: nothing of the plat is known but its township.
+    is_measured: bool = True
 
     def acres(self, land: Land) -> Dict[str, Optional[str]]:
         """Return the acreage of land by each account, and by the lot table: `None` if the table lacks a lot."""
-        acres: Dict[str, Optional[str]] = {each: str(self.plat.acres(land, each)) for each in ACCOUNTS}
+        acres: Dict[str, Optional[str]] = {each: str(self.plat.acres(land, each)) for each in self._accounts()}
         if self.lots is not None:
             acres[BY_LOTS] = _by_lots(self.lots, land)
         return acres
@@ -34,7 +38,7 @@ class Basis(NamedTuple):
         One call of the library answers all descriptions by an account, which takes a tenth of the time.
         """
         many: List[Dict[str, Optional[str]]] = [{} for _ in lands]
-        for account in ACCOUNTS:
+        for account in self._accounts():
             answers = self.plat.acres_many(descriptions, account)
             if answers.refused:
                 raise AssertionError("an accepted description has an acreage")
@@ -44,6 +48,22 @@ class Basis(NamedTuple):
             for acres, land in zip(many, lands):
                 acres[BY_LOTS] = _by_lots(self.lots, land)
         return many
+
+    def area(self, land: Land) -> Dict[str, Optional[str]]:
+        """Return the exact area of land in acres by each account, and by the lot table."""
+        area: Dict[str, Optional[str]] = {each: str(self.plat.area(land, each)) for each in self._accounts()}
+        if self.lots is not None:
+            area[BY_LOTS] = None if _by_lots(self.lots, land) is None else str(self.lots.area(land))
+        return area
+
+    def name(self) -> str:
+        """Return what the acreage rests on: `lots`, a lot table; `notes`; or `nominal`, a plat of regular lines."""
+        if self.lots is not None:
+            return BY_LOTS
+        return "nominal" if all(each == REGULAR for each in self.plat.closing_quarters) else "notes"
+
+    def _accounts(self) -> Tuple[Account, ...]:
+        return tuple(ACCOUNTS) if self.is_measured else ()
 
 
 def decimals_of(hundredths: int) -> str:

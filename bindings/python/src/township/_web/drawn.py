@@ -23,7 +23,8 @@ def drawing(given: Given, basis: Basis, lands: Sequence[Tuple[str, Land]] = ()) 
     if not given.flag("draw"):
         return {}
     shades = [_shade_of(basis, label, land, section) for label, land in lands]
-    return {"svg": svg_of(subject_of(basis.plat, *shades, lots=basis.lots), section, targets)}
+    subject = subject_of(basis.plat, *shades, lots=basis.lots, is_measured=basis.is_measured)
+    return {"svg": svg_of(subject, section, targets)}
 
 
 def without_figures(given: Given, notes: str) -> Json:
@@ -36,7 +37,8 @@ def without_figures(given: Given, notes: str) -> Json:
 
 
 def _shade_of(basis: Basis, label: str, land: Land, section: Optional[int]) -> Shade:
-    """Return the shade of land, with its acreage by the lot table if there is one that has its lots."""
+    """Return the shade of land. Its acreage by the lot table comes first, if there is one that has its lots."""
     shade = shade_of(basis.plat, land, label, section)
+    acres = shade.acres if basis.is_measured else ()
     by_lots = basis.acres(shown_on(land, section)).get(BY_LOTS)
-    return shade if by_lots is None else shade._replace(acres=(*shade.acres, ("Lot table", Decimal(by_lots))))
+    return shade._replace(acres=acres if by_lots is None else (("Lot table", Decimal(by_lots)), *acres))

@@ -9,7 +9,7 @@ from .._lots import Lots
 from .._plat import Plat
 from .._refused import LOT_TABLE, NOTES, Refused
 from .._text import encoded
-from .basis import Basis, nominal_plat
+from .basis import BY_LOTS, Basis, nominal_plat
 
 _SECTIONS = 36
 
@@ -41,18 +41,21 @@ class Given:
     def basis(self) -> Basis:
         """Return the plat of the field notes or the nominal plat of the township, and the lot table if any.
 
+        With a lot table alone, the plat is nominal, and its figures are not shown.
+
         Raise `RefusedBasis` if the notes or the table are refused.
         """
         notes, township, table = map(self._optional_text, ("notes", "township", "lots"))
         lots = None if table is None else _read(_lots_of, "lots", table)
-        if lots is not None and notes is None and township is None:
+        is_measured = lots is None or notes is not None or township is not None
+        if not is_measured and lots is not None:
             township = str(lots.township)
         if (notes is None) == (township is None):
             raise Invalid("give either `notes` (field notes) or `township` (a nominal township)")
         plat = _nominal(township) if township is not None else _read(_plat_of, "notes", notes or "")
         if lots is not None and lots.township != plat.township:
             raise Invalid(f"the lot table is for {lots.township}, and the plat for {plat.township}")
-        return Basis(plat, lots)
+        return Basis(plat, lots, is_measured)
 
     def has(self, name: str) -> bool:
         """Return whether there is a field with this name."""
@@ -70,13 +73,15 @@ class Given:
         found = self._fields.get(name, False)
         return found if isinstance(found, bool) else _wrong(name, "true or false")
 
-    def account(self) -> Account:
-        """Return the account, `exact` by default."""
-        found = self._fields.get("account", "exact")
+    def account(self) -> Optional[Account]:
+        """Return the account, or `None` for the lot table, which is the default if there is one."""
+        found = self._fields.get("account", BY_LOTS if self.has("lots") else "exact")
         for account in ACCOUNTS:
             if account == found:
                 return account
-        return _wrong("account", "`exact` or `plat`")
+        if found == BY_LOTS and self.has("lots"):
+            return None
+        return _wrong("account", "`exact` or `plat`, or `lots` with a lot table")
 
     def section(self) -> Optional[int]:
         """Return the number of a section, if there is one."""

@@ -67,7 +67,7 @@ def _drawing(basis: Basis, land: Land) -> str:
     """Return the drawing of land: of its section, if it is in only one."""
     sections = list(land.sections)
     section = sections[0] if len(sections) == 1 else None
-    return svg_of(subject_of(basis.plat, shade_of(basis.plat, land, "Land"), lots=basis.lots), section)
+    return svg_of(subject_of(basis.plat, shade_of(basis.plat, land, "Land"), lots=basis.lots, is_measured=basis.is_measured), section)
 
 
 def _place(given: bytes, byte: int) -> int:

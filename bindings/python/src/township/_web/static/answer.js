@@ -8,28 +8,54 @@ export function grouped(acres) {
   return `${whole.replace(/\B(?=(\d{3})+$)/g, ",")}.${decimals}`;
 }
 
-/** Returns the acreage of land by each account, and its canonical description. */
+/** The kinds of acreage, with their names. The first that there is is the figure. */
+const KINDS = [
+  ["lots", "Lot table"],
+  ["exact", "Exact account"],
+  ["plat", "Plat account"],
+];
+
+/** Returns the kinds of an acreage, each as its name and its text. The first one is the figure. */
+function kindsOf(acres) {
+  return KINDS.filter(([kind]) => kind in acres).map(([kind, name]) => [name, shownAcres(acres[kind])]);
+}
+
+/** Returns an acreage with commas, or that the lot table does not tell it. */
+function shownAcres(acres) {
+  return acres === null ? "lacks a lot" : grouped(acres);
+}
+
+/** Returns the figure of an acreage, such as `160.00 acres`. */
+export function figureOf(acres) {
+  const [, text] = kindsOf(acres)[0];
+  return text === "lacks a lot" ? "no acreage, since the lot table lacks a lot of this land" : `${text} acres`;
+}
+
+/** Returns the acreage of land, of which one kind is the figure, and its canonical description. */
 export function landAnswer({ acres, canonical, area }) {
+  const [[name], ...others] = kindsOf(acres);
+  const exact = area?.lots === undefined ? area?.exact : area.lots;
   const list = make(
     "dl",
     {},
-    ...row("Plat account", `${grouped(acres.plat)} acres`),
-    ...(acres.lots === undefined ? [] : row("Lot table", byLots(acres))),
-    ...(area === undefined ? [] : row("Exact area", `${area.exact} acres`)),
+    ...(name === "Lot table" ? row("By", "the lot table") : []),
+    ...others.flatMap(([other, text]) => row(other, `${text} acres`)),
+    ...(area === undefined || exact === null ? [] : row("Exact area", `${exact} acres`)),
     ...row("Canonical", canonical.trim()),
   );
-  return [make("p", { class: "acres" }, `${grouped(acres.exact)} acres`), list];
+  const figure = figureOf(acres);
+  return [make("p", { class: "acres" }, `${figure[0].toUpperCase()}${figure.slice(1)}`), list];
 }
 
-/** Returns the acreage by the lot table in words. */
-function byLots({ lots }) {
-  return lots === null ? "the table lacks a lot of this land" : `${grouped(lots)} acres`;
-}
-
-/** Returns the acreage by each account, and by the lot table if there is one. */
+/** Returns the texts of an acreage, of which the first is the figure. */
 export function figuresOf(acres) {
-  const figures = [acres.exact, acres.plat, ...("lots" in acres ? [acres.lots] : [])];
-  return figures.map((each) => (each === null ? "lacks a lot" : grouped(each)));
+  return kindsOf(acres).map(([, text]) => text);
+}
+
+/** Returns the names of the columns for an acreage. */
+export function figureNames(acres) {
+  const [[first], ...others] = kindsOf(acres).map(([name]) => [name]);
+  return [first === "Lot table" ? "Acres by the lot table" : "Acres", ...others.map(([name]) => name)];
 }
 
 /** Returns cells with these figures. */

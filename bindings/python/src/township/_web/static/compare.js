@@ -1,7 +1,7 @@
 /** The panel in which two descriptions are compared. */
 
 import { ask } from "./api.js";
-import { failure, figureCells, noteAnswer, refusalAnswer } from "./answer.js";
+import { failure, figureCells, figureNames, noteAnswer, refusalAnswer } from "./answer.js";
 import { byId, make } from "./dom.js";
 import { follow, mark } from "./marks.js";
 import * as readings from "./readings.js";
@@ -101,7 +101,7 @@ function comparison(answer) {
       make("td", {}, land),
     );
   });
-  const figures = ["Acres", "Plat account", ...("lots" in answer.both.acres ? ["Lot table"] : [])];
+  const figures = figureNames(answer.both.acres);
   const head = (words, attributes = {}) => make("th", { scope: "col", ...attributes }, words);
   const heads = [head("Land"), ...figures.map((each) => head(each, { class: "figure" })), head("Canonical")];
   const table = make("table", {}, make("thead", {}, make("tr", {}, ...heads)), make("tbody", {}, ...rows));

@@ -7,9 +7,13 @@ import { markLine } from "./drawing.js";
 import { onOpen } from "./files.js";
 import * as lines from "./lines.js";
 import { follow, mark } from "./marks.js";
-import { basis, kept } from "./store.js";
+import { basis, isTableAlone, kept } from "./store.js";
 
 let changed = () => {};
+/** What the acreage rests on, in words, by what the server calls it. */
+const BY = { lots: " by the lot table", notes: "", nominal: "" };
+const NOTE_OF = { nominal: "This township is nominal: all section lines are regular. A survey returns other acreages." };
+const ALONE = "There is only a lot table. Open field notes to see the section lines.";
 /** The index of the section line for which the field notes are refused, if they are. */
 let lineRefused;
 
@@ -69,13 +73,14 @@ export async function refresh(request) {
     const answer = await ask("plat", { ...basis(), ...request });
     if (answer === null) return null;
     const refused = answer.refused;
+    for (const part of document.querySelectorAll("[data-needs-notes]")) part.hidden = isTableAlone();
     if (answer.written !== undefined) lines.learn(asked, answer.written);
     if (refused !== undefined) {
       showNone(refusalAnswer(refused), refused);
       return answer;
     }
     showRefusal(refused);
-    place.replaceChildren(`The township contains ${grouped(answer.total)} acres.`);
+    place.replaceChildren(...totalOf(answer));
     showLots(answer.sections);
     byId("where").textContent = answer.township;
     return answer;
@@ -83,6 +88,13 @@ export async function refresh(request) {
     showNone(failure(error));
     return null;
   }
+}
+
+/** Returns the acreage of the township, and what it rests on. */
+function totalOf({ total, basis: name, notes }) {
+  const said = total === null ? "The lot table lacks lots: there is no total." : `The township contains ${grouped(total)} acres${BY[name]}.`;
+  const more = notes === undefined ? ALONE : NOTE_OF[name];
+  return [make("p", {}, said), ...(more === undefined ? [] : [make("p", { class: "help" }, more)])];
 }
 
 /** Shows why there is no plat, and nothing of one that was shown before. */
@@ -122,7 +134,7 @@ function showLots(sections) {
         { id: `lot-${lot}` },
         make("th", { scope: "row" }, String(section)),
         make("td", {}, String(place + 1)),
-        make("td", { class: "figure" }, acres),
+        make("td", { class: "figure" }, acres ?? "lacking"),
         make("td", {}, make("button", { type: "button", "data-lot": lot, "aria-label": words }, "Use")),
       );
     }),

@@ -1,6 +1,6 @@
 /** The readings of a text: what it would be as a description, side by side, to be picked. */
 
-import { grouped } from "./answer.js";
+import { figureOf } from "./answer.js";
 import { ask } from "./api.js";
 import { byId, make } from "./dom.js";
 import { basis } from "./store.js";
@@ -65,6 +65,6 @@ function condition({ condition: when }) {
 }
 
 function acreage({ acres, refused }) {
-  const said = refused === undefined ? `${grouped(acres.exact)} acres` : `Refused ${refused.number}: ${refused.sentence}`;
+  const said = refused === undefined ? figureOf(acres) : `Refused ${refused.number}: ${refused.sentence}`;
   return make("strong", {}, said);
 }

@@ -28,9 +28,15 @@ export function keep(name, value) {
   }
 }
 
-/** What all acreage rests on, as the fields of a request. */
+/** Returns whether there is only a lot table: the field notes are those that the page begins with. */
+export function isTableAlone() {
+  return kept.lots.trim() !== "" && kept.notes === FIRST.notes;
+}
+
+/** What all acreage rests on, as the fields of a request. No plat is made up beside a lot table. */
 export function basis() {
-  return kept.lots.trim() === "" ? { notes: kept.notes } : { notes: kept.notes, lots: kept.lots };
+  const table = kept.lots.trim() === "" ? {} : { lots: kept.lots };
+  return isTableAlone() ? table : { notes: kept.notes, ...table };
 }
 
 function inBrowser() {

@@ -1,7 +1,7 @@
 /** The panel of a list of tracts. */
 
 import { ask } from "./api.js";
-import { failure, figureCells, figuresOf, grouped, markedText, noteAnswer, refusalAnswer } from "./answer.js";
+import { failure, figureCells, figureNames, figureOf, figuresOf, markedText, noteAnswer, refusalAnswer } from "./answer.js";
 import { byId, make, save } from "./dom.js";
 import { onOpen } from "./files.js";
 import * as readings from "./readings.js";
@@ -9,7 +9,7 @@ import { written } from "./saved.js";
 import { visible } from "./shown.js";
 import { basis, kept } from "./store.js";
 
-const HEADING = ["name", "description", "acres", "acres_plat", "refusal", "at", "sentence", "note", "canonical"];
+const HEADING = ["name", "description", "acres", "acres_exact", "acres_plat", "refusal", "at", "sentence", "note", "canonical"];
 const PAIRS_SHOWN = 50;
 /** The tracts that are shown, as the server answered them. */
 let answered = [];
@@ -85,14 +85,14 @@ function showNone(reason) {
 }
 
 function summary({ tracts, total, remaining, refused, overlaps, overlapping }) {
-  const all = grouped(total.acres.exact);
-  const rest = grouped(remaining.acres.exact);
+  const all = figureOf(total.acres);
+  const rest = figureOf(remaining.acres);
   const left = refused > 0 ? ` Not counted: ${refused} refused.` : "";
-  const figures = make("p", {}, `${tracts.length} tracts: ${all} acres in all, ${rest} acres remaining.${left}`);
+  const figures = make("p", {}, `${tracts.length} tracts: ${all} in all, ${rest} remaining.${left}`);
   if (overlapping === 0) return [figures];
   const items = overlaps.map(({ first, second, acres, canonical }) => {
     const land = canonical === null ? "" : `, ${withoutHeading(canonical)}`;
-    return make("li", {}, `${visible(tracts[first].name)} and ${visible(tracts[second].name)}: ${figuresOf(acres)[0]} acres${land}`);
+    return make("li", {}, `${visible(tracts[first].name)} and ${visible(tracts[second].name)}: ${figureOf(acres)}${land}`);
   });
   const list = make("ul", {}, ...items.slice(0, PAIRS_SHOWN));
   const others = items.length <= PAIRS_SHOWN ? null : make(
@@ -109,17 +109,16 @@ function summary({ tracts, total, remaining, refused, overlaps, overlapping }) {
 /** Shows a row for each tract. A row that stays as it was is kept, since a long list takes a while to lay out. */
 function showTable(answer) {
   const focused = document.activeElement?.dataset?.tract;
-  const byLots = "lots" in answer.remaining.acres;
-  byId("tracts-by-lots").hidden = !byLots;
-  byId("tracts-table").classList.toggle("by-lots", byLots);
+  const names = figureNames(answer.remaining.acres);
+  showHeads(names);
   const blank = {
     accepted: rowOf({}, figureCells(answer.remaining.acres)),
-    wrong: rowOf({ "aria-colspan": byLots ? "4" : "3" }),
+    wrong: rowOf({ "aria-colspan": String(names.length + 1) }),
   };
   blank.wrong.className = "wrong";
   const before = shown;
   shown = answer.tracts.map((tract, index) => {
-    const entry = { tract, index, byLots, isSelected: index === selected };
+    const entry = { tract, index, names, isSelected: index === selected };
     const contents = JSON.stringify(entry);
     return before[index]?.contents === contents ? before[index] : { contents, row: filledRow(blank, entry) };
   });
@@ -132,6 +131,15 @@ function showTable(answer) {
   before.slice(shown.length).forEach(({ row }) => row.remove());
   byId("tracts-table").hidden = false;
   if (focused !== undefined) document.querySelector(`button[data-tract="${focused}"]`)?.focus();
+}
+
+/** Shows the names of the columns with figures, and makes room for so many. */
+function showHeads(names) {
+  const heads = names.map((name) => make("th", { scope: "col", role: "columnheader", class: "figure" }, name));
+  const table = byId("tracts-table");
+  const [first, ...others] = table.tHead.rows[0].cells;
+  table.tHead.rows[0].replaceChildren(first, ...heads, others.at(-1));
+  for (const number of [1, 2, 3]) table.classList.toggle(`figures-${number}`, names.length === number);
 }
 
 /** Returns the row of a tract, filled in over a copy of a blank one. */
@@ -183,8 +191,9 @@ function answersAsCsv() {
 
 /** Returns the fields that are added to a tract. */
 function addedTo({ acres, canonical, fault, notes, refused }) {
-  if (fault !== undefined) return ["", "", "", "", fault, "", ""];
-  if (refused !== undefined) return ["", "", String(refused.number), String(refused.at), refused.sentence, "", ""];
+  if (fault !== undefined) return ["", "", "", "", "", fault, "", ""];
+  if (refused !== undefined) return ["", "", "", String(refused.number), String(refused.at), refused.sentence, "", ""];
   const said = notes.map((note) => note.sentence).join("; ");
-  return [acres.exact, acres.plat, "", "", "", said, canonical.trim().replaceAll("\n", " ")];
+  const figure = acres.lots === undefined ? acres.exact : acres.lots ?? "";
+  return [figure, acres.exact ?? "", acres.plat ?? "", "", "", "", said, canonical.trim().replaceAll("\n", " ")];
 }
