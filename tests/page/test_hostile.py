@@ -4,12 +4,14 @@ from __future__ import annotations
 import json
 import random
 import socket
+import threading
 import time
 from typing import Dict, Iterator, Tuple
 
 import pytest
 
 from asking import NOMINAL, Interface
+from strain import Strain
 
 MOST = 2 * 1024 * 1024
 
@@ -153,6 +155,27 @@ def test_the_largest_answers_in_time(server: Interface) -> None:
         answer = server.ask(kind, **NOMINAL, **fields)
         assert server.seconds_worked() - begin < 10, kind
     assert len(answer["svg"]) <= 200_000
+
+
+def test_a_large_report_holds_no_other_request_up(server: Interface) -> None:
+    """While the overlaps of 1,000 whole townships are found, which is the most that there can be, others are answered."""
+    tracts = [{"name": str(k), "description": "secs. 1 to 36, all."} for k in range(1000)]
+    answers = []
+    report = threading.Thread(target=lambda: answers.append(server.ask("report", **NOMINAL, tracts=tracts)))
+    begin = server.seconds_worked()
+    strain = Strain()
+    report.start()
+    waited = []
+    while report.is_alive():
+        asked = time.monotonic()
+        assert server.ask("land", **NOMINAL, description="sec. 14.")["acres"]["exact"] == "640.00"
+        waited.append(time.monotonic() - asked)
+        strain.look()
+        time.sleep(0.02)
+    report.join()
+    assert answers[0]["overlapping"] == 499_500 and len(answers[0]["overlaps"]) == 1_000
+    assert server.seconds_worked() - begin < 10
+    assert len(waited) > 5 and max(waited) < 0.5 * strain.factor()
 
 
 def test_many_hostile_requests(server: Interface) -> None:
