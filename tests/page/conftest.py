@@ -1,6 +1,7 @@
 """The server that is tested, and the browser: `python3 -m pytest tests/page`."""
 from __future__ import annotations
 
+import contextlib
 import os
 import re
 import shutil
@@ -25,11 +26,17 @@ def pytest_addoption(parser: pytest.Parser) -> None:
 @pytest.fixture(scope="session")
 def server(tmp_path_factory: pytest.TempPathFactory) -> Iterator[Interface]:
     """The server, on a free port."""
-    command = [sys.executable, "-m", "township", "serve", "--port", "0"]
+    with started(tmp_path_factory.mktemp("server") / "said") as interface:
+        yield interface
+
+
+@contextlib.contextmanager
+def started(said: Path, port: int = 0) -> Iterator[Interface]:
+    """A server that runs meanwhile, on this port or on a free one. What it prints is in a file."""
+    command = [sys.executable, "-m", "township", "serve", "--port", str(port)]
     environment = {**os.environ}
     environment.setdefault("PYTHONPATH", str(TOP / "bindings" / "python" / "src"))
     environment.setdefault("TOWNSHIP_LIBRARY", str(TOP / "lib" / "libtownship.so"))
-    said = tmp_path_factory.mktemp("server") / "said"
     with said.open("wb") as file, subprocess.Popen(command, stderr=file, env=environment) as process:
         try:
             yield Interface(_port_in(said), process.pid, said)

@@ -22,7 +22,7 @@ class Page:
     def open_afresh(self) -> None:
         """Open the page without anything that the browser has kept."""
         self.driver.get(f"{self.server.address}static/icon.svg")
-        self.driver.execute_script("localStorage.clear()")
+        self.driver.execute_script("localStorage.clear(); sessionStorage.clear()")
         self.open()
 
     def open(self, fragment: str = "") -> None:

@@ -1,13 +1,16 @@
 """What the page does, in a browser."""
 from __future__ import annotations
 
+import base64
 import csv
 import io
+import json
 import xml.etree.ElementTree as ET
 from pathlib import Path
 
 import township
 
+from conftest import started
 from page import Page
 from strain import Strain
 
@@ -303,6 +306,122 @@ def test_a_link_carries_the_case(page: Page) -> None:
     page.wait_for_text("#land-answer", "Refused")
     assert page.value("#description") == "sec. 7, lots 1 to 4 ½."
     assert township.Plat.read(page.value("#notes")) == PLAT
+
+
+def link_of(page: Page, **values: object) -> str:
+    """A link that carries these values."""
+    text = base64.urlsafe_b64encode(json.dumps(values).encode()).decode().rstrip("=")
+    return f"#case={text}"
+
+
+def test_a_link_is_opened_beside_the_own_work(page: Page) -> None:
+    page.tab("land")
+    page.type("#description", "sec. 14.")
+    page.wait_for_text("#land-answer", "640.00 acres")
+    page.open(link_of(page, description="sec. 15, NE1/4.", panel="land"))
+    page.wait_for_text("#land-answer", "160.00 acres")
+    assert "Your own work is kept" in page.text("#said")
+    page.type("#description", "sec. 15, NW1/4, SW1/4.")
+    page.wait_for_text("#land-answer", "320.00 acres")
+    # What is typed after a link is kept, too.
+    page.open()
+    assert page.value("#description") == "sec. 15, NW1/4, SW1/4."
+    cases = {each.text.partition(",")[0]: each for each in page.all("#case option")}
+    assert len(cases) == 2
+    [own] = [each for each in page.all("#case option") if each.text.startswith("sec. 14.")]
+    own.click()
+    page.wait_for(lambda: page.value("#description") == "sec. 14.")
+
+
+def test_a_link_carries_refused_notes_as_they_are(page: Page) -> None:
+    page.type("#corner-53", "99.6")
+    page.wait_for_text("#plat-answer", "Refused 23")
+    notes = page.value("#notes")
+    page.one("#copy-link").click()
+    page.wait_for_text("#said", "It carries the plat")
+    link = page.driver.current_url.partition("#")[2]
+    page.open_afresh()
+    page.open(f"#{link}")
+    page.wait_for_text("#plat-answer", "Refused 23")
+    assert page.value("#notes") == notes and page.value("#corner-53") == "99.6"
+
+
+def test_a_link_that_is_not_understood_is_refused(page: Page) -> None:
+    page.tab("land")
+    page.type("#description", "sec. 14.")
+    page.wait_for_text("#land-answer", "640.00 acres")
+    for link, said in (
+        (link_of(page, description="sec. 15.", county="Ada"), "this page does not know what it carries as “county”."),
+        (link_of(page, description=15), "this page does not know what it carries as “description”."),
+        ("#case=%25", "The link is not opened: it is damaged."),
+    ):
+        page.open(link)
+        assert said in page.text("#said")
+        assert page.value("#description") == "sec. 14."
+    assert len(page.all("#case option")) == 1
+
+
+def test_two_tabs_do_not_overwrite_each_other(page: Page) -> None:
+    page.tab("land")
+    page.type("#description", "sec. 14.")
+    page.wait_for_text("#land-answer", "640.00 acres")
+    driver = page.driver
+    first = driver.current_window_handle
+    driver.switch_to.new_window("tab")
+    try:
+        page.open()
+        assert page.value("#description") == ""
+        page.tab("land")
+        page.type("#description", "sec. 15, NE1/4.")
+        page.wait_for_text("#land-answer", "160.00 acres")
+        page.open()
+        assert page.value("#description") == "sec. 15, NE1/4."
+    finally:
+        driver.close()
+        driver.switch_to.window(first)
+    page.open()
+    assert page.value("#description") == "sec. 14."
+
+
+def test_what_was_replaced_comes_back(page: Page) -> None:
+    """Whatever replaces a text but typing can be undone, and redone: picked readings, opened files, regular lines."""
+    page.one("#undo").click()
+    assert page.text("#said") == "There is nothing to undo."
+    page.type("#corner-53", "79.60")
+    page.wait_for(lambda: "W,6,7,40.00,79.60" in page.value("#notes"))
+    page.settle()
+    page.one("#new-notes").click()
+    page.wait_for(lambda: "W,6,7,40.00,79.60" not in page.value("#notes"))
+    page.one("#undo").click()
+    page.wait_for(lambda: page.value("#corner-53") == "79.60")
+    page.one("#redo").click()
+    page.wait_for(lambda: page.value("#corner-53") == "80.00")
+    page.tab("land")
+    page.type("#description", "sec. 14: NE¼NE¼ SW¼SW¼")
+    page.wait_for_text("#readings", "Which was meant?")
+    page.one("#readings button").click()
+    page.wait_for_text("#land-answer", "80.00 acres")
+    page.one("#undo").click()
+    page.wait_for_text("#land-answer", "2.50 acres")
+    assert page.value("#description") == "sec. 14: NE¼NE¼ SW¼SW¼"
+    page.tab("tracts")
+    page.put("#tracts", "mine,sec. 1.\n")
+    page.one("#open-tracts").send_keys(str(TOP / "samples" / "tracts.csv"))
+    page.wait_for(lambda: "sec. 7" in page.value("#tracts"))
+    page.one("#undo").click()
+    page.wait_for(lambda: page.value("#tracts") == "mine,sec. 1.\n")
+
+
+def test_a_server_that_was_restarted_is_asked_again(driver: object, tmp_path: Path) -> None:
+    with started(tmp_path / "first") as first:
+        page = Page(driver, first)
+        page.open_afresh()
+        page.tab("land")
+    page.put("#description", "sec. 14.")
+    page.wait_for_text("#land-answer", "the server does not answer; the page asks again until it does")
+    with started(tmp_path / "second", first.port):
+        page.wait_for_text("#land-answer", "640.00 acres")
+        assert page.all("#drawing .land") != []
 
 
 def test_long_texts_are_answered_at_once(page: Page) -> None:

@@ -1,7 +1,16 @@
 /** Calls of the JSON interface. */
 
+/** What a server in front says while the one behind it does not run. */
+const AWAY = [502, 504];
 const pending = new Map();
 let changes = 0;
+
+let lost = () => {};
+
+/** Calls a function whenever the server does not answer, such as while it is restarted. */
+export function whenLost(call) {
+  lost = call;
+}
 
 /** Says that what the user has entered has changed, so that answers that are on their way are outdated. */
 export function outdate() {
@@ -21,6 +30,7 @@ export async function post(kind, request, signal) {
     body: JSON.stringify(request),
     signal,
   });
+  if (AWAY.includes(response.status)) throw new TypeError("the server is being restarted");
   const answer = await response.json();
   if (!response.ok) throw new Error(answer.error ?? response.statusText);
   return answer;
@@ -37,6 +47,11 @@ export async function ask(kind, request) {
     return seen === changes ? answer : null;
   } catch (error) {
     if (control.signal.aborted || seen !== changes) return null;
+    // fetch throws this if there is no connection.
+    if (error instanceof TypeError) {
+      lost();
+      throw new Error("the server does not answer; the page asks again until it does.");
+    }
     throw error;
   } finally {
     if (pending.get(kind) === control) pending.delete(kind);

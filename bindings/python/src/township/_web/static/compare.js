@@ -21,11 +21,14 @@ const KINDS = [
   ["second_only", "Only in the second (the second, less and except the first)"],
 ];
 
-let change = () => {};
+let replace = () => {};
 
-/** Prepares the panel. `onChange(name, text)` is called when a description changes. */
-export function prepare(onChange) {
-  change = onChange;
+/**
+ * Prepares the panel. `onChange(name, text)` is called when a description is typed, and `onReplace(name, text)` when a
+ * reading is picked.
+ */
+export function prepare(onChange, onReplace) {
+  replace = onReplace;
   for (const name of NAMES) {
     follow(byId(name));
     byId(name).addEventListener("input", () => onChange(name, byId(name).value));
@@ -80,8 +83,7 @@ function notesOf({ notes }) {
 
 /** Takes a reading as one of the descriptions. */
 function pick(name, text) {
-  change(name, text);
-  fill();
+  replace(name, text);
   byId(name).focus();
 }
 

@@ -7,12 +7,15 @@ import { follow, mark } from "./marks.js";
 import * as readings from "./readings.js";
 import { basis, kept } from "./store.js";
 
-let change = () => {};
+let replace = () => {};
 
-/** Prepares the panel. `onChange(name, text)` is called when the description changes. */
-export function prepare(onChange) {
+/**
+ * Prepares the panel. `onChange(name, text)` is called when the description is typed, and `onReplace(name, text)` when a
+ * reading is picked.
+ */
+export function prepare(onChange, onReplace) {
   const area = byId("description");
-  change = onChange;
+  replace = onReplace;
   follow(area);
   area.addEventListener("input", () => onChange("description", area.value));
 }
@@ -73,8 +76,6 @@ async function explain(refused) {
 
 /** Takes a reading as the description. */
 function pick(description) {
-  const area = byId("description");
-  change("description", description);
-  fill();
-  area.focus();
+  replace("description", description);
+  byId("description").focus();
 }

@@ -44,6 +44,11 @@ export function learn(notes, { township, lines }) {
   }
 }
 
+/** Forgets the notes if they are not these. */
+export function keepUp(notes) {
+  if (known.notes !== notes) forget();
+}
+
 /** Forgets the notes: until the server has read others, what is typed in the inputs waits. */
 export function forget() {
   known = { notes: null, ...NONE };

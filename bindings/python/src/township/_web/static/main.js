@@ -1,15 +1,18 @@
 /** The page: puts the panels and the drawing together. */
 
-import { giveUp, outdate } from "./api.js";
+import { giveUp, outdate, whenLost } from "./api.js";
+import { cases, open as openCase } from "./cases.js";
 import * as compare from "./compare.js";
 import { byId, make, oneAtATime, say } from "./dom.js";
 import * as drawing from "./drawing.js";
 import * as land from "./land.js";
 import * as plat from "./plat.js";
-import { basis, keep, kept, link } from "./store.js";
+import { basis, keep, kept, link, linked, replace, takeBack } from "./store.js";
 import * as tabs from "./tabs.js";
 import * as tracts from "./tracts.js";
 
+/** The milliseconds after which a server that does not answer is asked again. */
+const AGAIN = 1_000;
 const PANELS = { plat, land, compare, tracts };
 
 let changes = 0;
@@ -70,6 +73,25 @@ function change(name, value) {
   refreshCalmly();
 }
 
+/** Replaces a value by one that was not typed, so that it can be taken back. */
+function replaceText(name, value) {
+  replace(name, value);
+  showAll();
+}
+
+/** Takes the last replacement back, or makes it again. */
+function undo(isAgain) {
+  if (takeBack(isAgain) === undefined) return say(isAgain ? "There is nothing to redo." : "There is nothing to undo.");
+  say(isAgain ? "Done again." : "Undone.");
+  showAll();
+}
+
+/** Shows all values, and asks for new answers. */
+function showAll() {
+  for (const panel of Object.values(PANELS)) panel.fill();
+  refreshCalmly();
+}
+
 /** Opens what was clicked in the drawing: the figures of a line or a lot, or a section. */
 function open(kind, value) {
   if (kind === "section") {
@@ -89,8 +111,7 @@ function openNotes(notes) {
 }
 
 function useLot(lot) {
-  keep("description", land.withLot(kept.description, lot));
-  land.fill();
+  replaceText("description", land.withLot(kept.description, lot));
   openPanel("land");
   byId("description").focus();
 }
@@ -114,10 +135,24 @@ function preparePrint() {
   byId("printed").replaceChildren(...copies);
 }
 
+/** Shows the cases that the browser keeps, of which another can be opened. */
+function showCases() {
+  byId("case").replaceChildren(...cases().map(({ name, words, isOwn }) => make("option", { value: name, selected: isOwn }, words)));
+}
+
+plat.prepare(openNotes, (table) => change("lots", table), replaceText, useLot);
+for (const panel of [land, compare]) panel.prepare(change, replaceText);
+tracts.prepare(change, replaceText, refreshCalmly);
 addEventListener("beforeprint", preparePrint);
-plat.prepare(openNotes, (table) => change("lots", table), useLot);
-for (const panel of [land, compare]) panel.prepare(change);
-tracts.prepare(change, refreshCalmly);
+whenLost(() => setTimeout(refreshCalmly, AGAIN));
+byId("undo").addEventListener("click", () => undo(false));
+byId("redo").addEventListener("click", () => undo(true));
+byId("case").addEventListener("change", () => openCase(byId("case").value));
+// Another tab has changed a case.
+addEventListener("storage", showCases);
+showCases();
+if (linked.refused !== undefined) say(linked.refused);
+if (linked.values !== undefined) say("The link is opened as a case of its own. Your own work is kept: choose it under Case.");
 for (const panel of Object.values(PANELS)) panel.fill();
 byId("view").value = kept.view;
 byId("view").addEventListener("change", () => change("view", byId("view").value));

@@ -10,6 +10,7 @@ import { follow, mark } from "./marks.js";
 import { basis, isTableAlone, kept } from "./store.js";
 
 let changed = () => {};
+let replaced = () => {};
 /** What the acreage rests on, in words, by what the server calls it. */
 const BY = { lots: " by the lot table", notes: "", nominal: "" };
 const NOTE_OF = { nominal: "This township is nominal: all section lines are regular. A survey returns other acreages." };
@@ -18,24 +19,27 @@ const ALONE = "There is only a lot table. Open field notes to see the section li
 let lineRefused;
 
 /**
- * Prepares the panel. `onNotes(notes)` is called with field notes that have changed, `onLots(table)` with a lot table,
- * and `onLot(lot)` with a lot to use.
+ * Prepares the panel. `onNotes(notes)` is called with field notes that are typed, `onLots(table)` with a lot table,
+ * `onReplace(name, text)` with a text that is not typed, and `onLot(lot)` with a lot to use.
  */
-export function prepare(onNotes, onLots, onLot) {
+export function prepare(onNotes, onLots, onReplace, onLot) {
   changed = onNotes;
+  replaced = onReplace;
   lines.prepare(onNotes);
   follow(byId("notes"));
   follow(byId("lots-text"));
   byId("lots-text").addEventListener("input", () => onLots(byId("lots-text").value));
   onOpen("open-lots", (text) => {
-    byId("lots-text").value = text;
     byId("lot-table").open = true;
-    onLots(text);
+    onReplace("lots", text);
   });
   byId("lots").tBodies[0].addEventListener("click", (event) => {
     if (event.target.dataset.lot !== undefined) onLot(event.target.dataset.lot);
   });
-  byId("notes").addEventListener("input", () => replaceNotes(byId("notes").value));
+  byId("notes").addEventListener("input", () => {
+    lines.forget();
+    changed(byId("notes").value);
+  });
   byId("new-notes").addEventListener("click", makeRegular);
   byId("save-notes").addEventListener("click", () => save("notes.csv", kept.notes, "text/csv"));
   onOpen("open-notes", replaceNotes);
@@ -44,7 +48,7 @@ export function prepare(onNotes, onLots, onLot) {
 /** Takes other field notes, which the server has not read yet. */
 function replaceNotes(notes) {
   lines.forget();
-  changed(notes);
+  replaced("notes", notes);
 }
 
 /** Takes the field notes of the township that is typed, if all of its section lines are regular. */
@@ -60,6 +64,7 @@ async function makeRegular() {
 
 /** Shows the field notes and the lot table as texts, unless the user is typing in them. */
 export function fill() {
+  if (byId("notes").value !== kept.notes) lines.keepUp(kept.notes);
   for (const [id, text] of [["notes", kept.notes], ["lots-text", kept.lots]]) {
     if (byId(id) !== document.activeElement && byId(id).value !== text) byId(id).value = text;
   }

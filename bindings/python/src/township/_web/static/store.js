@@ -1,8 +1,8 @@
-/** What the user has entered: kept in the browser, and carried by links. */
+/** What the user has entered: a case, which is kept in the browser, and which links carry. */
 
+import { claimed, stored } from "./cases.js";
 import { byId } from "./dom.js";
 
-const KEY = "township";
 const LINK_MOST = 8_000;
 const FIRST = {
   notes: byId("notes").defaultValue,
@@ -15,14 +15,52 @@ const FIRST = {
   view: "",
 };
 
-/** The values, by their names. */
-export const kept = { ...FIRST, ...inBrowser(), ...inLink() };
+/** What the page shows of a case, which is none of its content. */
+const SHOWN = ["panel", "view"];
+
+/** What was opened by a link, if the page was: its values, or why they are not opened. */
+export const linked = inLink();
+
+const claim = await claimed(linked.values !== undefined);
+
+/** The values, by their names. A link is a case of its own, beside those that are kept. */
+export const kept = { ...FIRST, ...textsIn(linked.values ?? stored(claim) ?? {}) };
+
+/** What was replaced by something other than typing, and what was taken back. */
+const undone = { done: [], back: [] };
+
+if (linked.values !== undefined) save();
 
 /** Sets a value, and keeps it. */
 export function keep(name, value) {
   kept[name] = value;
+  save();
+}
+
+/** Replaces a value by something that was not typed, so that it can be taken back. */
+export function replace(name, value) {
+  if (kept[name] === value) return;
+  undone.done.push({ name, value: kept[name] });
+  undone.back = [];
+  keep(name, value);
+}
+
+/** Takes the last replacement back, or makes it again. Returns the name of the value, or undefined if there is none. */
+export function takeBack(isAgain = false) {
+  const [from, to] = isAgain ? [undone.back, undone.done] : [undone.done, undone.back];
+  const last = from.pop();
+  if (last === undefined) return undefined;
+  to.push({ name: last.name, value: kept[last.name] });
+  keep(last.name, last.value);
+  return last.name;
+}
+
+/** Keeps the case, unless there is nothing in it yet. */
+function save() {
+  const isEmpty = Object.keys(FIRST).every((name) => SHOWN.includes(name) || kept[name] === FIRST[name]);
   try {
-    localStorage.setItem(KEY, JSON.stringify(kept));
+    if (isEmpty) localStorage.removeItem(claim);
+    else localStorage.setItem(claim, JSON.stringify({ ...kept, at: Date.now() }));
   } catch {
     // The browser keeps nothing, or is full: the page works without.
   }
@@ -39,14 +77,6 @@ export function basis() {
   return isTableAlone() ? table : { notes: kept.notes, ...table };
 }
 
-function inBrowser() {
-  try {
-    return textsIn(JSON.parse(localStorage.getItem(KEY) ?? "{}"));
-  } catch {
-    return {};
-  }
-}
-
 /** Returns the texts of an object that the page knows. */
 function textsIn(found) {
   const names = Object.keys(FIRST).filter((name) => typeof found[name] === "string");
@@ -61,15 +91,20 @@ export function link() {
   return bytes.length > LINK_MOST ? null : `${location.origin}${location.pathname}#case=${text}`;
 }
 
-/** Returns what the link carries that led here. It is not sent to the server. */
+/** Returns what the link carries that led here, or why it is not opened. It is not sent to the server. */
 function inLink() {
-  const [, text] = /^#case=([\w-]+)$/.exec(location.hash) ?? [];
+  const [, text] = /^#case=(.*)$/.exec(location.hash) ?? [];
   if (text === undefined) return {};
   history.replaceState(null, "", location.pathname);
+  let values;
   try {
     const bytes = Uint8Array.from(atob(text.replaceAll("-", "+").replaceAll("_", "/")), (each) => each.charCodeAt(0));
-    return textsIn(JSON.parse(new TextDecoder().decode(bytes)));
+    values = JSON.parse(new TextDecoder("utf-8", { fatal: true }).decode(bytes));
   } catch {
-    return {};
+    return { refused: "The link is not opened: it is damaged." };
   }
+  if (values === null || typeof values !== "object") return { refused: "The link is not opened: it is damaged." };
+  const unknown = Object.keys(values).find((name) => !(name in FIRST) || typeof values[name] !== "string");
+  if (unknown === undefined) return { values };
+  return { refused: `The link is not opened: this page does not know what it carries as “${unknown.slice(0, 40)}”.` };
 }

@@ -17,17 +17,19 @@ let selected = null;
 /** The rows of the table, in order, each with the text of all that it was made from. */
 let shown = [];
 
-/** Prepares the panel. `onChange(name, text)` is called when the list changes, `onSelect()` when a tract is picked. */
-export function prepare(onChange, onSelect) {
+/**
+ * Prepares the panel. `onChange(name, text)` is called when the list is typed, `onReplace(name, text)` when one is opened,
+ * and `onSelect()` when a tract is picked.
+ */
+export function prepare(onChange, onReplace, onSelect) {
   const area = byId("tracts");
   area.addEventListener("input", () => {
     selected = null;
     onChange("tracts", area.value);
   });
   onOpen("open-tracts", (text) => {
-    area.value = text;
     selected = null;
-    onChange("tracts", text);
+    onReplace("tracts", text);
   });
   byId("save-tracts").addEventListener("click", () => save("tracts.csv", answersAsCsv(), "text/csv"));
   byId("tracts-table").tBodies[0].addEventListener("click", (event) => {
