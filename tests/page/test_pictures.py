@@ -70,6 +70,21 @@ def tracts(page: Page) -> None:
     page.wait_for_text("#tracts-answer", "1 refused")
 
 
+def doubtful_tracts(page: Page) -> None:
+    page.tab("tracts")
+    page.put("#tracts", "Smith,sec. 14: NE¼NE¼ SW¼SW¼\nJones,sec. 15: NE¼ SE¼\nBrown,sec. 14, NE1/4.\n")
+    page.wait_for_text("#tracts-answer", "1 refused")
+    page.driver.execute_script("document.querySelector('#tracts-table').scrollIntoView()")
+
+
+def a_lot_table(page: Page) -> None:
+    page.driver.execute_script("document.querySelector('#lot-table').open = true")
+    page.put("#lots-text", "section,lot,acres\nT,2,N,3,W\n5,1,40.45\n5,2,40.50\n")
+    page.tab("land")
+    page.type("#description", "sec. 5, lots 1 and 2, S1/2NE1/4.")
+    page.wait_for_text("#land-answer", "160.95 acres")
+
+
 def refused_notes(page: Page) -> None:
     page.type("#corner-53", "99.6")
     page.wait_for_text("#plat-answer", "Refused 23")
@@ -83,6 +98,8 @@ STATES: Dict[str, Callable[[Page], None]] = {
     "section": a_section,
     "comparison": comparison,
     "tracts": tracts,
+    "doubts": doubtful_tracts,
+    "table": a_lot_table,
     "notes": refused_notes,
 }
 

@@ -21,14 +21,14 @@ from .refusals import Json, refused_json
 from .sectionlines import line_refused, written
 
 #: What a drawing says of land whose description has a note.
-DOUBTFUL = "whose description can be read in two ways"
+DOUBTFUL = "can be read in two ways"
 
 #: The fields that give a plat, and a lot table.
 BASIS = frozenset({"notes", "township", "lots"})
 
 
 def plat_answer(body: bytes) -> Json:
-    """Answer with the figures of a plat, and with its field notes: as the library writes them, and as they are given."""
+    """Answer with the figures of a plat, and its field notes: as the library writes them, and as they are given."""
     given = Given(body, BASIS | drawn.FIELDS)
     notes = given.text("notes") if given.has("notes") else None
     found: Json = {} if notes is None else {"written": written(notes)}
@@ -42,7 +42,9 @@ def plat_answer(body: bytes) -> Json:
         return {"refused": refused, **found}
     plat = basis.plat
     # Without field notes, nothing is known of the section lines.
-    lines: Json = {"closing_quarters": _closing_quarters(plat), "notes": plat.write_notes()} if basis.is_measured else {}
+    lines: Json = {}
+    if basis.is_measured:
+        lines = {"closing_quarters": _closing_quarters(plat), "notes": plat.write_notes()}
     return {
         "township": str(plat.township),
         "basis": basis.name(),
@@ -68,7 +70,7 @@ def land_answer(body: bytes) -> Json:
         **land_json(basis, land),
         "area": basis.area(land),
         "notes": notes,
-        **drawing(given, basis, [("Land" if not notes else f"Land, {DOUBTFUL}", land)]),
+        **drawing(given, basis, [("Land" if not notes else f"Land ({DOUBTFUL})", land)]),
     }
 
 
@@ -92,7 +94,9 @@ def compare_answer(body: bytes) -> Json:
     labels = {"both": "In both", "first_only": "Only in the first", "second_only": "Only in the second"}
     return {
         "comparison": comparison_of(first, second),
-        "notes": {name: doubts_of(basis.plat, texts[name], lands[name], DOUBTS_MOST).json(texts[name]) for name in texts},
+        "notes": {
+            name: doubts_of(basis.plat, text, lands[name], DOUBTS_MOST).json(text) for name, text in texts.items()
+        },
         **{name: land_json(basis, land) for name, land in kinds.items()},
         **drawing(given, basis, [(labels[name], land) for name, land in kinds.items() if land]),
     }

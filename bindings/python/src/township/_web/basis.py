@@ -21,8 +21,8 @@ class Basis(NamedTuple):
 
     plat: Plat
     lots: Optional[Lots] = None
-    #: Whether the plat is one of field notes, or of a township that is said to be nominal. If there is only a lot table,
-    #: nothing of the plat is known but its township.
+    #: Whether the plat is one of field notes, or of a township that is said to be nominal. If there is only a lot
+    #: table, nothing of the plat is known but its township.
     is_measured: bool = True
 
     def acres(self, land: Land) -> Dict[str, Optional[str]]:

@@ -74,7 +74,7 @@ def _width_of_first(text: str, separator: str) -> int:
     """Return the number of fields of the first record: 1 if there is none, or if it is not well formed."""
     rows = csv.reader(io.StringIO(text, newline=""), delimiter=separator, strict=True)
     try:
-        return len(next(filter(any, rows), [""]))
+        return len(next((row for row in rows if any(row)), [""]))
     except csv.Error:
         return 1
 

@@ -20,14 +20,15 @@ _FIELD = re.compile(r'(?:"((?:[^"]|"")*)"|([^,]*))(,|$)')
 #: The first refusal that is about a section line, not about a record.
 _FIRST_OF_LINE = 11
 
-#: The number of sections along a side of the township.
-_SIDE = 6
+#: The number of sections along a side of the township, and of the section lines that run north.
+_SIDE, _NORTH = 6, 42
 
 
 class Line(NamedTuple):
     """A section line, for a row of the page."""
 
-    index: int
+    #: Its index among the section lines.
+    place: int
     #: `N` or `W`.
     direction: str
     #: Where it is, in words.
@@ -131,9 +132,8 @@ def _index_of(fields: List[_Field]) -> Optional[int]:
 
 def _line(index: int, name: str) -> Line:
     direction, first, second = name.split(",")
-    place = index % 42
     across = _SIDE + 1 if direction == "N" else _SIDE
-    row, column = divmod(place, across)
+    row, column = divmod(index % _NORTH, across)
     closes = row == 0 if direction == "N" else column == _SIDE - 1
     where = f"between sections {first} and {second}"
     if not second:

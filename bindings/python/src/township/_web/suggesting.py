@@ -1,6 +1,8 @@
 """The answer on a text that is not written as descriptions are: its readings, each with its acreage."""
 from __future__ import annotations
 
+from typing import Optional
+
 from .._drawing import svg_of
 from .._drawing.of_plat import shade_of, subject_of
 from .._land import Land
@@ -25,8 +27,7 @@ def suggest_answer(body: bytes) -> Json:
     start, end = (None, None) if found.beyond is None else (_place(written, byte) for byte in found.beyond)
     return {
         "readings": [
-            {**_reading_json(basis, written, reading, draws), "condition": condition_of(written, reading, found)}
-            for reading in found
+            _reading_json(basis, written, reading, condition_of(written, reading, found), draws) for reading in found
         ],
         "reason": found.reason,
         "start": start,
@@ -34,11 +35,12 @@ def suggest_answer(body: bytes) -> Json:
     }
 
 
-def _reading_json(basis: Basis, given: bytes, reading: Reading, draws: bool) -> Json:
-    """Return a reading, with its acreage and its drawing, or the refusal of its description."""
+def _reading_json(basis: Basis, given: bytes, reading: Reading, condition: Optional[str], draws: bool) -> Json:
+    """Return a reading among others, with its condition, its acreage and its drawing, or the refusal of its description."""
     found: Json = {
         "text": reading.text,
         "manner": reading.manner,
+        "condition": condition,
         "remark": MANNERS_SAID.get(reading.manner),
         "changes": [_change_json(given, change) for change in reading.changes],
         "phrases": [{"text": each.text, "meaning": each.meaning} for each in phrases_of(given, reading.changes)],
@@ -67,7 +69,9 @@ def _drawing(basis: Basis, land: Land) -> str:
     """Return the drawing of land: of its section, if it is in only one."""
     sections = list(land.sections)
     section = sections[0] if len(sections) == 1 else None
-    return svg_of(subject_of(basis.plat, shade_of(basis.plat, land, "Land"), lots=basis.lots, is_measured=basis.is_measured), section)
+    shade = shade_of(basis.plat, land, "Land")
+    shown = shade if basis.is_measured else shade._replace(acres=())
+    return svg_of(subject_of(basis.plat, shown, lots=basis.lots, is_measured=basis.is_measured), section)
 
 
 def _place(given: bytes, byte: int) -> int:

@@ -99,7 +99,7 @@ def _joined(tracts: List[Tract], none: Land) -> Joined:
 
 
 def _overlaps_json(basis: Basis, tracts: List[Tract], pairs: Sequence[Tuple[int, int]]) -> List[Json]:
-    """Return the pairs of tracts that overlap, each with its land. Beyond some room, canonical descriptions are left out."""
+    """Return the pairs of tracts that overlap, each with its land: beyond some room, without its description."""
     found: List[Json] = []
     room = OVERLAPS_TEXT_MOST
     for first, second in pairs:

@@ -15,6 +15,9 @@ const KINDS = [
   ["plat", "Plat account"],
 ];
 
+/** What is said of an acreage by a lot table that does not tell it. */
+const LACKING = "lacks a lot";
+
 /** Returns the kinds of an acreage, each as its name and its text. The first one is the figure. */
 function kindsOf(acres) {
   return KINDS.filter(([kind]) => kind in acres).map(([kind, name]) => [name, shownAcres(acres[kind])]);
@@ -22,13 +25,13 @@ function kindsOf(acres) {
 
 /** Returns an acreage with commas, or that the lot table does not tell it. */
 function shownAcres(acres) {
-  return acres === null ? "lacks a lot" : grouped(acres);
+  return acres === null ? LACKING : grouped(acres);
 }
 
 /** Returns the figure of an acreage, such as `160.00 acres`. */
 export function figureOf(acres) {
   const [, text] = kindsOf(acres)[0];
-  return text === "lacks a lot" ? "no acreage, since the lot table lacks a lot of this land" : `${text} acres`;
+  return text === LACKING ? "no acreage, since the lot table lacks a lot of this land" : `${text} acres`;
 }
 
 /** Returns the acreage of land, of which one kind is the figure, and its canonical description. */
@@ -76,13 +79,13 @@ export function refusalAnswer(refused, what = "") {
 }
 
 /**
- * Returns a note on a place that can be read in two ways. `of` names the text that it is about, such as a tract, for the
- * printed sheet; `readings()`, if it is given, is called by a button of the note.
+ * Returns a note on a place that can be read in two ways. `of` names the text that it is about, such as a tract;
+ * `readings()`, if it is given, is called by a button of the note.
  */
 export function noteAnswer(note, of = "", readings = undefined) {
   const button = readings === undefined ? null : make("button", { type: "button" }, "Show the readings");
   button?.addEventListener("click", readings);
-  return make("p", { class: "note", "data-of": of }, make("strong", {}, `${of}Note: `), note.sentence, button && " ", button);
+  return make("p", { class: "note" }, make("strong", {}, `${of}Note: `), note.sentence, button && " ", button);
 }
 
 /** Returns a text in which places are marked. Their `start` and `end` are in Unicode code points. */

@@ -1,4 +1,4 @@
-/** The cases that the browser keeps. Each tab works on a case of its own, so that no tab overwrites what another has. */
+/** The cases that the browser keeps. Each tab works on a case of its own, so that none overwrites what another has. */
 
 const PREFIX = "township.case.";
 /** The case that earlier versions of the page kept. */
@@ -26,7 +26,7 @@ export function cases() {
   try {
     const own = sessionStorage.getItem(OWN);
     const found = names().includes(own) ? names() : [own, ...names()];
-    return found.map((name) => ({ name, words: wordsOf(stored(name) ?? {}), isOwn: name === own }));
+    return found.map((name) => ({ name, words: wordsOf(stored(name) ?? {}), when: whenOf(name), isOwn: name === own }));
   } catch {
     // The browser keeps nothing.
     return [];
@@ -34,8 +34,8 @@ export function cases() {
 }
 
 /**
- * Returns the name of the case on which this tab works, and which no other tab takes as long as this one is open: the one
- * that it had before, or the last one that no tab works on, or a new one.
+ * Returns the name of the case on which this tab works, and which no other tab takes as long as this one is open: the
+ * one that it had before, or the last one that no tab works on, or a new one.
  */
 export async function claimed(isNew) {
   try {
@@ -74,8 +74,14 @@ function claim(name) {
   });
 }
 
-function wordsOf({ description = "", first = "", tracts = "", at = 0 }) {
-  const [words] = [description, first, tracts].map((text) => text.trim().split("\n")[0]).filter((text) => text !== "");
-  const when = at === 0 ? "" : new Date(at).toISOString().slice(0, 16).replace("T", " ");
-  return [words?.slice(0, 40) ?? "no land yet", when].filter((text) => text !== "").join(", ");
+/** Returns when a case was last changed, in words. */
+function whenOf(name) {
+  const at = stored(name)?.at ?? 0;
+  return at === 0 ? "" : `, ${new Date(at).toISOString().slice(0, 16).replace("T", " ")}`;
+}
+
+/** Returns some words of a case. */
+export function wordsOf({ description = "", first = "", tracts = "" }) {
+  const words = [description, first, tracts].map((text) => text.trim().split("\n")[0]).find((text) => text !== "");
+  return words?.slice(0, 40) ?? "no land yet";
 }

@@ -10,8 +10,8 @@ import { basis, kept } from "./store.js";
 let replace = () => {};
 
 /**
- * Prepares the panel. `onChange(name, text)` is called when the description is typed, and `onReplace(name, text)` when a
- * reading is picked.
+ * Prepares the panel. `onChange(name, text)` is called when the description is typed, and `onReplace(name, text)` when
+ * a reading is picked.
  */
 export function prepare(onChange, onReplace) {
   const area = byId("description");

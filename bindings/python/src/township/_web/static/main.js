@@ -1,7 +1,7 @@
 /** The page: puts the panels and the drawing together. */
 
 import { giveUp, outdate, whenLost } from "./api.js";
-import { cases, open as openCase } from "./cases.js";
+import { cases, open as openCase, wordsOf } from "./cases.js";
 import * as compare from "./compare.js";
 import { byId, make, oneAtATime, say } from "./dom.js";
 import * as drawing from "./drawing.js";
@@ -11,6 +11,8 @@ import { basis, keep, kept, link, linked, replace, takeBack } from "./store.js";
 import * as tabs from "./tabs.js";
 import * as tracts from "./tracts.js";
 
+/** What is said after a link was opened. */
+const BESIDE = "The link is opened as a case of its own. Your own work is kept: choose it under Case.";
 /** The milliseconds after which a server that does not answer is asked again. */
 const AGAIN = 1_000;
 const PANELS = { plat, land, compare, tracts };
@@ -22,7 +24,9 @@ let platShown = null;
 async function refresh() {
   const seen = changes;
   await answer();
-  if (seen === changes) byId("work").setAttribute("aria-busy", "false");
+  if (seen !== changes) return;
+  showOwnCase();
+  byId("work").setAttribute("aria-busy", "false");
 }
 
 /** Asks for the answers of the panel that is open, and shows the drawing that comes with them. */
@@ -137,7 +141,17 @@ function preparePrint() {
 
 /** Shows the cases that the browser keeps, of which another can be opened. */
 function showCases() {
-  byId("case").replaceChildren(...cases().map(({ name, words, isOwn }) => make("option", { value: name, selected: isOwn }, words)));
+  const options = cases().map(({ name, words, when, isOwn }) => {
+    return make("option", { value: name, selected: isOwn }, isOwn ? words : `${words}${when}`);
+  });
+  byId("case").replaceChildren(...options);
+}
+
+/** Shows some words of the case of this tab, which has changed. */
+function showOwnCase() {
+  const [own] = byId("case").selectedOptions;
+  const words = wordsOf(kept);
+  if (own !== undefined && own.textContent !== words) own.textContent = words;
 }
 
 plat.prepare(openNotes, (table) => change("lots", table), replaceText, useLot);
@@ -152,7 +166,7 @@ byId("case").addEventListener("change", () => openCase(byId("case").value));
 addEventListener("storage", showCases);
 showCases();
 if (linked.refused !== undefined) say(linked.refused);
-if (linked.values !== undefined) say("The link is opened as a case of its own. Your own work is kept: choose it under Case.");
+if (linked.values !== undefined) say(BESIDE);
 for (const panel of Object.values(PANELS)) panel.fill();
 byId("view").value = kept.view;
 byId("view").addEventListener("change", () => change("view", byId("view").value));

@@ -13,7 +13,9 @@ let changed = () => {};
 let replaced = () => {};
 /** What the acreage rests on, in words, by what the server calls it. */
 const BY = { lots: " by the lot table", notes: "", nominal: "" };
-const NOTE_OF = { nominal: "This township is nominal: all section lines are regular. A survey returns other acreages." };
+const NOTE_OF = {
+  nominal: "This township is nominal: all section lines are regular. A survey returns other acreages.",
+};
 const ALONE = "There is only a lot table. Open field notes to see the section lines.";
 /** The index of the section line for which the field notes are refused, if they are. */
 let lineRefused;
@@ -97,7 +99,9 @@ export async function refresh(request) {
 
 /** Returns the acreage of the township, and what it rests on. */
 function totalOf({ total, basis: name, notes }) {
-  const said = total === null ? "The lot table lacks lots: there is no total." : `The township contains ${grouped(total)} acres${BY[name]}.`;
+  const said = total === null
+    ? "The lot table lacks lots: there is no total."
+    : `The township contains ${grouped(total)} acres${BY[name]}.`;
   const more = notes === undefined ? ALONE : NOTE_OF[name];
   return [make("p", {}, said), ...(more === undefined ? [] : [make("p", { class: "help" }, more)])];
 }

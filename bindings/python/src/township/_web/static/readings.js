@@ -13,8 +13,9 @@ export function clear(place) {
 }
 
 /**
- * Asks for the readings of a text, and shows them in a place, each with its acreage and its drawing. `pick(description)`
- * is called for the one that is picked; without it, none can be. A text whose only reading is the text itself needs none.
+ * Asks for the readings of a text, and shows them in a place, each with its acreage and its drawing.
+ * `pick(description)` is called for the one that is picked; without it, none can be. A text whose only reading is the
+ * text itself needs none.
  * Returns the answer, or null if there is none.
  */
 export async function suggest(place, text, pick) {
@@ -23,9 +24,11 @@ export async function suggest(place, text, pick) {
     if (answer === null) return null;
     const { readings = [], reason } = answer;
     if (readings.length === 0) {
-      place.replaceChildren(make("p", {}, reason ? `Lots and aliquot parts can't describe this land: ${reason}.` : UNCERTAIN));
+      const said = reason ? `Lots and aliquot parts can't describe this land: ${reason}.` : UNCERTAIN;
+      place.replaceChildren(make("p", {}, said));
     } else if (readings.length > 1 || readings[0].text !== text) {
-      place.replaceChildren(heading(readings.length), make("ol", { class: "readings" }, ...readings.map((each) => item(each, pick))));
+      const cards = readings.map((each) => item(each, pick));
+      place.replaceChildren(heading(readings.length), make("ol", { class: "readings" }, ...cards));
     } else {
       clear(place);
     }
@@ -45,7 +48,8 @@ function heading(count) {
 function item(reading, pick) {
   const description = reading.text.trim();
   const [tag, type] = pick === undefined ? ["div", {}] : ["button", { type: "button" }];
-  const button = make(tag, { ...type, class: "reading" }, picture(reading), acreage(reading), make("span", {}, description), condition(reading));
+  const shown = [picture(reading), acreage(reading), make("span", {}, description), condition(reading)];
+  const button = make(tag, { ...type, class: "reading" }, ...shown);
   if (pick !== undefined) button.addEventListener("click", () => pick(description));
   const phrases = reading.phrases.map(({ text, meaning }) => `${text} ${meaning}`);
   const remarks = reading.remark === null ? [] : [reading.remark];

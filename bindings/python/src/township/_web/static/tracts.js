@@ -18,8 +18,8 @@ let selected = null;
 let shown = [];
 
 /**
- * Prepares the panel. `onChange(name, text)` is called when the list is typed, `onReplace(name, text)` when one is opened,
- * and `onSelect()` when a tract is picked.
+ * Prepares the panel. `onChange(name, text)` is called when the list is typed, `onReplace(name, text)` when one is
+ * opened, and `onSelect()` when a tract is picked.
  */
 export function prepare(onChange, onReplace, onSelect) {
   const area = byId("tracts");
@@ -103,7 +103,8 @@ function summary({ tracts, total, remaining, refused, overlaps, overlapping }) {
     make("summary", {}, `${items.length - PAIRS_SHOWN} more`),
     make("ul", {}, ...items.slice(PAIRS_SHOWN)),
   );
-  const unlisted = overlapping > items.length ? make("p", {}, `${overlapping - items.length} more pairs are not listed.`) : null;
+  const unseen = overlapping - items.length;
+  const unlisted = unseen > 0 ? make("p", {}, `${unseen} more pairs are not listed.`) : null;
   const heading = make("strong", {}, "Overlapping tracts (shared land is counted once):");
   return [figures, make("div", { class: "note" }, heading, list, others, unlisted)];
 }
