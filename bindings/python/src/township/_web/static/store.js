@@ -2,6 +2,7 @@
 
 import { claimed, stored } from "./cases.js";
 import { byId } from "./dom.js";
+import { visible } from "./shown.js";
 
 const LINK_MOST = 8_000;
 const FIRST = {
@@ -106,5 +107,6 @@ function inLink() {
   if (values === null || typeof values !== "object") return { refused: "The link is not opened: it is damaged." };
   const unknown = Object.keys(values).find((name) => !(name in FIRST) || typeof values[name] !== "string");
   if (unknown === undefined) return { values };
-  return { refused: `The link is not opened: this page does not know what it carries as “${unknown.slice(0, 40)}”.` };
+  const name = visible(unknown.slice(0, 40));
+  return { refused: `The link is not opened: this page does not know what it carries as “${name}”.` };
 }

@@ -1,7 +1,16 @@
 /** The panel of a list of tracts. */
 
 import { ask } from "./api.js";
-import { failure, figureCells, figureNames, figureOf, figuresOf, markedText, noteAnswer, refusalAnswer } from "./answer.js";
+import {
+  failure,
+  figureCells,
+  figureNames,
+  figureOf,
+  figuresOf,
+  markedText,
+  noteAnswer,
+  refusalAnswer,
+} from "./answer.js";
 import { byId, make, save } from "./dom.js";
 import { onOpen } from "./files.js";
 import * as readings from "./readings.js";
@@ -9,7 +18,8 @@ import { written } from "./saved.js";
 import { visible } from "./shown.js";
 import { basis, kept } from "./store.js";
 
-const HEADING = ["name", "description", "acres", "acres_exact", "acres_plat", "refusal", "at", "sentence", "note", "canonical"];
+const ADDED = ["acres", "acres_exact", "acres_plat", "refusal", "at", "sentence", "note", "canonical"];
+const HEADING = ["name", "description", ...ADDED];
 const PAIRS_SHOWN = 50;
 /** The tracts that are shown, as the server answered them. */
 let answered = [];
@@ -93,8 +103,9 @@ function summary({ tracts, total, remaining, refused, overlaps, overlapping }) {
   const figures = make("p", {}, `${tracts.length} tracts: ${all} in all, ${rest} remaining.${left}`);
   if (overlapping === 0) return [figures];
   const items = overlaps.map(({ first, second, acres, canonical }) => {
+    const names = [first, second].map((index) => visible(tracts[index].name)).join(" and ");
     const land = canonical === null ? "" : `, ${withoutHeading(canonical)}`;
-    return make("li", {}, `${visible(tracts[first].name)} and ${visible(tracts[second].name)}: ${figureOf(acres)}${land}`);
+    return make("li", {}, `${names}: ${figureOf(acres)}${land}`);
   });
   const list = make("ul", {}, ...items.slice(0, PAIRS_SHOWN));
   const others = items.length <= PAIRS_SHOWN ? null : make(
@@ -166,7 +177,8 @@ function filledRow(blank, { tract, index, isSelected }) {
 /** Returns the notes on a tract, and its description with each doubtful place marked. */
 function doubtsOf({ name, description, notes }) {
   // The table calls for the readings.
-  const items = notes.map((note, place) => noteAnswer(note, `Tract ${visible(name)}. `, place === 0 ? () => {} : undefined));
+  const readingsOf = (place) => (place === 0 ? () => {} : undefined);
+  const items = notes.map((note, place) => noteAnswer(note, `Tract ${visible(name)}. `, readingsOf(place)));
   return [make("p", {}, markedText(description, notes)), ...items];
 }
 
