@@ -1,6 +1,7 @@
 #!/bin/sh
 # Prints the changelog of the Debian packages, made from CHANGELOG.md.
-# Each version there has a heading such as `## 1.0.0 (2026-11-26)`, and its changes are items of a list.
+# Each version there has a heading such as `## 1.0.0 (2026-11-26)`, and its changes are items of a list. It names no pages,
+# since not every package has them.
 set -eu
 cd "$(dirname "$0")/.."
 maintainer=$(sed -n 's/^Maintainer: //p' packaging/debian/control)
@@ -8,6 +9,7 @@ maintainer=$(sed -n 's/^Maintainer: //p' packaging/debian/control)
 # The changelog, in lines of at most 78 columns, with the date of a version as it is in the heading.
 awk -v maintainer="$maintainer" '
     function wrap(    words, count, i, line) {
+        gsub(/ [(]`docs\/[A-Z-]*[.]md`[)]/, "", item)
         count = split(item, words, " ")
         line = "  *"
         for (i = 1; i <= count; i++) {

@@ -87,16 +87,19 @@ make_debian() {
 }
 
 make_archive() {
-    mkdir -p "$binary/share/doc/township/samples"
+    mkdir -p "$binary/share/doc/township/samples" "$binary/share/doc/township/docs"
     make -C "$stage" install-built install-lib DESTDIR="$binary" PREFIX=
     sed -i 's|^prefix=.*|prefix=${pcfiledir}/../..|' "$binary/lib/pkgconfig/township.pc"
-    cp "$stage"/*.md "$stage/LICENSE" "$stage/NOTICES" "$stage"/docs/*.md "$binary/share/doc/township"
+    cp "$stage"/*.md "$stage/LICENSE" "$stage/NOTICES" "$binary/share/doc/township"
+    cp "$stage"/docs/* "$binary/share/doc/township/docs"
     cp "$stage"/samples/* "$binary/share/doc/township/samples"
     pack "${binary##*/}" "$dist/${binary##*/}.tar.gz"
 }
 
 make_wheel() {
     cp "$stage/LICENSE" "$stage/NOTICES" "$stage/bindings/python"
+    mkdir "$stage/bindings/python/docs"
+    cp "$stage"/docs/*.md "$stage"/[A-Z]*.md "$stage/bindings/python/docs"
     (cd "$stage/bindings/python" && "$python" -m build --wheel --no-isolation --outdir "$dist" \
         --config-setting=--build-option=--plat-name="$WHEEL_TAG")
 }

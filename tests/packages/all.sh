@@ -35,12 +35,15 @@ township-$version-linux-x86_64.tar.gz
 township-$version-py3-none-manylinux2014_x86_64.whl
 township-$version-source.tar.gz
 township-$version.crate
+township-doc_${version}_all.deb
 township_${version}_amd64.deb
 LIST
 (cd "$dist" && LC_ALL=C ls) > "$work/found"
 try 'the files' diff "$work/wanted" "$work/found"
 try 'their checksums' sh -c 'cd "$1" && sha256sum --strict -c SHA256SUMS' sh "$dist"
 try 'no path of the build is in them' sh packaging/unpacked.sh "$dist" "$work/unpacked" "$PWD/" "${work%.*}."
+python=$(python_with argparse)
+count 'the pages that the packages name' "$python" -B tests/packages/pages.py "$work/unpacked"
 if has lintian; then
     try 'lintian' lintian --fail-on error,warning --allow-root "$dist"/*.deb
 else

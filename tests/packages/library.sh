@@ -1,7 +1,8 @@
 # The packages of the library: programs in C and C++ are compiled with them, and run.
 cd /given/source || exit 1
 files > "$work/before"
-installs 'the library' /given/dist/libtownship1_*_amd64.deb /given/dist/libtownship-dev_*_amd64.deb
+installs 'the library' /given/dist/libtownship1_*_amd64.deb /given/dist/libtownship-dev_*_amd64.deb \
+    /given/dist/township-doc_*_all.deb
 version=$(dpkg-query -W -f '${Version}' libtownship1)
 flags="$(pkg-config --cflags --libs township)"
 prints 'pkg-config' "$version
@@ -22,7 +23,7 @@ count 'the C++ test' "$work/cpp" samples/b1.csv
 
 # A program is refused by a library that lacks the version of a function that it was linked with.
 try 'the functions have a version' sh -c 'objdump -T "$1" | grep -q "TOWNSHIP_1.0) *township_read"' sh "$work/shared"
-try 'apt removes the library' apt-get purge -y libtownship1 libtownship-dev
+try 'apt removes the library' apt-get purge -y libtownship1 libtownship-dev township-doc
 files > "$work/after"
 try 'nothing is left of the library' diff "$work/before" "$work/after"
 

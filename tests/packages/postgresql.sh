@@ -5,8 +5,9 @@ as_server() { (cd "$work/server" && runuser -u postgres -- "$@"); }
 sql() { psql -X -q -A -t -h "$work/server" -U postgres "$@" 2>&1; }
 
 files > "$work/before"
-installs 'the extension' /given/dist/postgresql-15-township_*_amd64.deb
-try 'its documentation' test -f /usr/share/doc/postgresql-15-township/copyright
+installs 'the extension' /given/dist/postgresql-15-township_*_amd64.deb /given/dist/township-doc_*_all.deb
+try 'its copyright' test -f /usr/share/doc/postgresql-15-township/copyright
+try 'its page' test -f /usr/share/doc/township/docs/POSTGRESQL.md
 mkdir "$work/server"
 chmod 711 "$work"
 chown postgres "$work/server"
@@ -27,6 +28,6 @@ sed -n "s/^default_version = '\(.*\)'/\1/p" "$root/postgresql/township.control" 
 same 'the update of the first version'
 
 try 'the server stops' as_server "$programs/pg_ctl" -D "$work/server/data" -m fast -w stop
-try 'apt removes the extension' apt-get purge -y postgresql-15-township
+try 'apt removes the extension' apt-get purge -y postgresql-15-township township-doc
 files > "$work/after"
 try 'nothing is left of the extension' diff "$work/before" "$work/after"

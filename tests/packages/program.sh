@@ -8,7 +8,7 @@ dpkg-deb -R /given/dist/township_*_amd64.deb "$work/earlier"
 sed -i 's/^Version: .*/Version: 0.0.1/' "$work/earlier/DEBIAN/control"
 touch "$work/earlier/usr/share/doc/township/in-the-version-before"
 dpkg-deb -b "$work/earlier" "$work/earlier.deb" > "$work/found"
-installs 'an earlier version' "$work/earlier.deb"
+installs 'an earlier version' "$work/earlier.deb" /given/dist/township-doc_*_all.deb
 installs 'the program over it' /given/dist/township_*_amd64.deb
 version=$(dpkg-query -W -f '${Version}' township)
 prints 'the version before is gone' "0
@@ -56,7 +56,7 @@ status 0" bash -c '. /usr/share/bash-completion/bash_completion; _completion_loa
 try 'the completion of zsh' test -s /usr/share/zsh/vendor-completions/_township
 
 # Nothing is left of it.
-try 'apt removes the program' apt-get purge -y township
+try 'apt removes the program' apt-get purge -y township township-doc
 files > "$work/after"
 try 'nothing is left of the program' diff "$work/before" "$work/after"
 

@@ -24,8 +24,9 @@ try 'pip removes the wheel' pip uninstall -q -y township
 files > "$work/after"
 try 'nothing is left of the wheel' diff "$work/before" "$work/after"
 
-installs 'the package for Python' /given/dist/libtownship1_*_amd64.deb /given/dist/python3-township_*_amd64.deb
+installs 'the package for Python' /given/dist/libtownship1_*_amd64.deb /given/dist/python3-township_*_amd64.deb \
+    /given/dist/township-doc_*_all.deb
 works 'the Debian package'
-try 'apt removes the package for Python' apt-get purge -y python3-township libtownship1
+try 'apt removes the package for Python' apt-get purge -y python3-township libtownship1 township-doc
 files > "$work/after"
 try 'nothing is left of the Debian package' diff "$work/before" "$work/after"
