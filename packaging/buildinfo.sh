@@ -9,9 +9,11 @@ kit=$(dirname "$(rt doc)")
 
 package() { dpkg-query -W -f "$1 "'${Version}\n' "$1" 2> /dev/null || echo "$1 is not a Debian package here"; }
 
-echo "version: $(sh packaging/version.sh)"
-echo "commit: $(git rev-parse HEAD)$([ -z "$(git status --porcelain)" ] || echo ', with changes that are not committed')"
-echo "date of the commit: $(date -u -d "@$(git log -1 --format=%ct)" '+%Y-%m-%d %H:%M:%S UTC')"
+changes=
+[ "$(sh packaging/sources.sh --state)" != changed ] || changes=', with changes that are not committed'
+echo "version: $(sh packaging/version.sh --debian)"
+echo "commit: $(sh packaging/sources.sh --commit)$changes"
+echo "date of the commit: $(date -u -d "@$(sh packaging/sources.sh --date)" '+%Y-%m-%d %H:%M:%S UTC')"
 echo "processor: x86-64-v2"
 echo "lowest glibc: $program_glibc for the program, $library_glibc for the library"
 echo

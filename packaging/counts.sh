@@ -3,10 +3,11 @@
 # returns, definitions, proofs, and wrong bodies that the prover refuses.
 set -eu
 cd "$(dirname "$0")/.."
-crates() { git ls-files "crates/*/$1" | xargs cat; }
+files() { sh packaging/sources.sh --files | tr '\000' '\n' | grep -x "crates/[^/]*/$1"; }
+crates() { files "$1" | xargs cat; }
 echo "$(grep -c '^twp_[a-z_]*\( [a-z]*\)*:' crates.txt) crates"
-echo "$(crates 'src/*.rt' | grep -c '^ *ensures') clauses of contracts that say what a function returns"
-echo "$(crates 'specs/*.antt' | wc -l) lines of definitions"
-echo "$(crates 'proofs/*.antt' | wc -l) lines of proofs"
-echo "$(git ls-files 'crates/*/must-fail/*.edit' | wc -l) wrong bodies that must be refused, and \
-$(git ls-files 'crates/*/must-fail-release/*.edit' | wc -l) more before a release"
+echo "$(crates 'src/.*[.]rt' | grep -c '^ *ensures') clauses of contracts that say what a function returns"
+echo "$(crates 'specs/.*[.]antt' | wc -l) lines of definitions"
+echo "$(crates 'proofs/.*[.]antt' | wc -l) lines of proofs"
+echo "$(files 'must-fail/.*[.]edit' | wc -l) wrong bodies that must be refused, and \
+$(files 'must-fail-release/.*[.]edit' | wc -l) more before a release"

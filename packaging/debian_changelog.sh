@@ -1,13 +1,15 @@
 #!/bin/sh
 # Prints the changelog of the Debian packages, made from CHANGELOG.md.
-# Each version there has a heading such as `## 1.0.0 (2026-11-26)`, and its changes are items of a list. It names no pages,
-# since not every package has them.
+# Each version there has a heading such as `## 1.0.0 (2026-11-26)`, or `(unreleased)`, and its changes are items of a list.
+# The first version is that of this build, with the date of its sources. It names no pages, since not every package has
+# them.
 set -eu
 cd "$(dirname "$0")/.."
 maintainer=$(sed -n 's/^Maintainer: //p' packaging/debian/control)
 
 # The changelog, in lines of at most 78 columns, with the date of a version as it is in the heading.
-awk -v maintainer="$maintainer" '
+awk -v maintainer="$maintainer" -v build="$(sh packaging/version.sh --debian)" \
+    -v built="@$(sh packaging/sources.sh --date)" '
     function wrap(    words, count, i, line) {
         gsub(/ [(]`docs\/[A-Z-]*[.]md`[)]/, "", item)
         count = split(item, words, " ")
@@ -19,12 +21,13 @@ awk -v maintainer="$maintainer" '
         if (count > 0) print line
         item = ""
     }
-    function finish() { wrap(); if (date != "") printf "\n -- %s  @%s@\n\n", maintainer, date }
+    function finish() { wrap(); if (date != "") printf "\n -- %s  |%s\n\n", maintainer, date }
     /^## / {
         finish()
         date = $3
         gsub(/[()]/, "", date)
-        printf "township (%s) unstable; urgency=medium\n\n", $2
+        if (date == "unreleased") date = built
+        printf "township (%s) unstable; urgency=medium\n\n", version++ ? $2 : build
         next
     }
     date != "" && /^- / { wrap(); item = substr($0, 3); next }
@@ -32,10 +35,7 @@ awk -v maintainer="$maintainer" '
     END { finish() }
 ' CHANGELOG.md | while IFS= read -r line; do
     case $line in
-        *@*@)
-            date=${line%@}
-            printf '%s%s\n' "${line%@*@}" "$(date -u -R -d "${date##*@}")"
-            ;;
+        ' -- '*'|'*) printf '%s%s\n' "${line%|*}" "$(date -u -R -d "${line##*|}")" ;;
         *) printf '%s\n' "$line" ;;
     esac
 done

@@ -14,9 +14,10 @@ cd "$(dirname "$0")/.."
 dist=$(readlink -m "${1:-dist}")
 object=crates/twp_cmd/out/twp_cmd.o
 version=$(sh packaging/version.sh)
+build=$(sh packaging/version.sh --rust)
 # Debian's own Python before any other, since BUILDINFO names the versions of Debian's packages.
 python=$(PYTHON=/usr/bin/python3 sh tools/python_with.sh 'build, setuptools, wheel')
-SOURCE_DATE_EPOCH=$(git log -1 --format=%ct)
+SOURCE_DATE_EPOCH=$(sh packaging/sources.sh --date)
 export SOURCE_DATE_EPOCH
 work=$(mktemp -d)
 trap 'rm -rf "$work"' EXIT
@@ -24,8 +25,8 @@ if [ ! -e lib/libtownship.so ] || { [ ! -f "$object" ] && [ ! -f "${object%.o}" 
     echo 'build the program and the library first: make township lib' >&2
     exit 1
 fi
-stage=$work/township-$version
-binary=$work/township-$version-linux-x86_64
+stage=$work/township-$build
+binary=$work/township-$build-linux-x86_64
 
 # Where Debian puts the sources of crates.
 REGISTRY=/usr/share/cargo/registry
@@ -53,21 +54,26 @@ pack() {
         --mode='u=rwX,go=rX' --format=gnu -cf - "$1" | gzip -9n > "$2"
 }
 
-# The sources that git knows, as they are in this folder, with the modes that git knows.
+# The sources, as they are in this folder, with the modes that git knows; and the file that stands for git in the archive.
 copy_sources() {
     mkdir "$stage"
-    git ls-files -z | tar --null --files-from=- --mode='u=rwX,go=rX' --mtime="@$SOURCE_DATE_EPOCH" -cf - |
+    sh packaging/sources.sh --files | tar --null --files-from=- --mode='u=rwX,go=rX' --mtime="@$SOURCE_DATE_EPOCH" -cf - |
         tar -C "$stage" -xf -
-    pack "township-$version" "$dist/township-$version-source.tar.gz"
+    sh packaging/sources.sh --write > "$stage/SOURCES"
+    pack "${stage##*/}" "$dist/${stage##*/}-source.tar.gz"
 }
 
-# What was built, and the notices, beside the sources.
+# What was built, and the notices, beside the sources. The packages for Python and Rust name their build.
 add_built() {
     sh packaging/program.sh "$object" "$stage/township"
     sh packaging/glibc.sh "$stage/township" "$PROGRAM_GLIBC" > "$work/program_glibc"
     sh packaging/glibc.sh lib/libtownship.so "$LIBRARY_GLIBC" > "$work/library_glibc"
     cp -a lib "$stage/lib"
     strip --strip-unneeded --remove-section=.comment "$stage/lib/libtownship.so.$version"
+    sh packaging/marked.sh "$stage/lib/libtownship.so.$version"
+    sed -i "s/^__version__ = .*/__version__ = \"$(sh packaging/version.sh --python)\"/" \
+        "$stage/bindings/python/src/township/_version.py"
+    sed -i "s/^version = .*/version = \"$build\"/" "$stage/bindings/rust/Cargo.toml"
     "$python" packaging/notices.py > "$stage/NOTICES"
     # Debian's tools keep the time of a file that is older than the commit.
     find "$stage" -exec touch -h -d "@$SOURCE_DATE_EPOCH" {} +

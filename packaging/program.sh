@@ -1,6 +1,6 @@
 #!/bin/sh
 # Links the program once more, from the object file that was compiled when it was proved, so that it runs on older
-# systems too. The second word names the file to write.
+# systems too, and writes into it which build it is. The second word names the file to write.
 #
 #     sh packaging/program.sh crates/twp_cmd/out/twp_cmd.o FILE
 #
@@ -27,3 +27,4 @@ cc -std=c11 -O2 -fPIE -fno-stack-protector -Wall -Wextra -Werror -c -o "$work/st
 "$kit/bin/rattle-link" --target x86_64-unknown-linux-gnu --toolchain "$work/toolchain" -o "$program" "$object" \
     "$work/start.o" "$kit/c/libos_c.a" "$kit/c/liblibc_c.a" > "$work/log"
 strip --strip-unneeded --remove-section=.comment "$program"
+sh packaging/marked.sh "$program"

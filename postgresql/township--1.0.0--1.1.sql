@@ -1,5 +1,6 @@
 -- What version 1.1 of the extension township adds to version 1.0.0. Nothing that was there changes, and neither do the
 -- bytes of stored values.
+-- unreleased: until the first release, this script may change.
 
 \echo Use "ALTER EXTENSION township UPDATE TO '1.1'" to load this file. \quit
 

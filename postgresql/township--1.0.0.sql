@@ -1,4 +1,5 @@
 -- The extension township. docs/POSTGRESQL.md explains its types and functions.
+-- unreleased: until the first release, this script may change.
 
 \echo Use "CREATE EXTENSION township" to load this file. \quit
 

@@ -1,4 +1,5 @@
 -- What version 1.2 of the extension township adds to version 1.1. The bytes of stored values don't change.
+-- unreleased: until the first release, this script may change.
 
 \echo Use "ALTER EXTENSION township UPDATE TO '1.2'" to load this file. \quit
 

@@ -23,7 +23,8 @@ fi
 try 'the version is the same everywhere' sh packaging/version.sh --check
 try 'the packages are made' sh packaging/dist.sh "$dist"
 [ "$failed" = 0 ] || ended
-version=$(sh packaging/version.sh)
+version=$(sh packaging/version.sh --debian)
+build=$(sh packaging/version.sh --rust)
 cat > "$work/wanted" << LIST
 BUILDINFO
 SHA256SUMS
@@ -31,16 +32,18 @@ libtownship-dev_${version}_amd64.deb
 libtownship1_${version}_amd64.deb
 postgresql-15-township_${version}_amd64.deb
 python3-township_${version}_amd64.deb
-township-$version-linux-x86_64.tar.gz
-township-$version-py3-none-manylinux2014_x86_64.whl
-township-$version-source.tar.gz
-township-$version.crate
+township-$build-linux-x86_64.tar.gz
+township-$build-source.tar.gz
+township-$build.crate
+township-$(sh packaging/version.sh --python)-py3-none-manylinux2014_x86_64.whl
 township-doc_${version}_all.deb
 township_${version}_amd64.deb
 LIST
+LC_ALL=C sort -o "$work/wanted" "$work/wanted"
 (cd "$dist" && LC_ALL=C ls) > "$work/found"
 try 'the files' diff "$work/wanted" "$work/found"
 try 'their checksums' sh -c 'cd "$1" && sha256sum --strict -c SHA256SUMS' sh "$dist"
+begin versions sh tests/packages/versions.sh
 try 'no path of the build is in them' sh packaging/unpacked.sh "$dist" "$work/unpacked" "$PWD/" "${work%.*}."
 python=$(python_with argparse)
 count 'the pages that the packages name' "$python" -B tests/packages/pages.py "$work/unpacked"

@@ -3,11 +3,14 @@
 # the folder with the packages.
 #
 #     sh tests/packages/inside.sh bare program dist
+#
+# TOWNSHIP_EARLIER can name a folder with the packages of an earlier release, from which those in dist are upgraded.
 set -eu
 root=$(readlink -f "$(dirname "$0")/../..")
 image=$(sh "$root/tests/packages/image.sh" "$1")
 test=$2
 dist=$(readlink -f "$3")
+earlier=${TOWNSHIP_EARLIER:-}
 room=$(mktemp -d)
 trap 'rm -rf --one-file-system "$room"' EXIT
 # The rows of the program's tests, as any Python can read them.
@@ -17,7 +20,7 @@ python=$(sh "$root/tools/python_with.sh" tomllib)
 # In a namespace of its own, so that all mounts are gone when it ends. The test's changes to the image are kept in
 # memory, or if that can't be done, the test gets a copy of the image.
 unshare --mount --net --pid --ipc --uts --fork sh -eu -c '
-    image=$1 test=$2 dist=$3 room=$4 source=$5
+    image=$1 test=$2 dist=$3 room=$4 source=$5 earlier=$6
     mkdir "$room/changes" "$room/root"
     mount -t tmpfs -o mode=755 tmpfs "$room/changes"
     mkdir "$room/changes/upper" "$room/changes/work"
@@ -26,6 +29,10 @@ unshare --mount --net --pid --ipc --uts --fork sh -eu -c '
     for folder in dist source; do mkdir -p "$room/root/given/$folder"; done
     mount --bind -o ro "$dist" "$room/root/given/dist"
     mount --bind -o ro "$source" "$room/root/given/source"
+    if [ -n "$earlier" ]; then
+        mkdir "$room/root/given/earlier"
+        mount --bind -o ro "$earlier" "$room/root/given/earlier"
+    fi
     cp "$room/rows.json" "$room/root/given/rows.json"
     mount -t proc proc "$room/root/proc"
     mount -t devpts -o newinstance,ptmxmode=0666 devpts "$room/root/dev/pts"
@@ -34,4 +41,4 @@ unshare --mount --net --pid --ipc --uts --fork sh -eu -c '
     exec chroot "$room/root" /usr/bin/env -i HOME=/root LC_ALL=C.UTF-8 \
         PATH=/usr/local/sbin:/usr/local/bin:/usr/sbin:/usr/bin:/sbin:/bin \
         sh -c ". $packages/check.sh; . $packages/$test.sh; ended"
-' sh "$image" "$test" "$dist" "$room" "$root"
+' sh "$image" "$test" "$dist" "$room" "$root" "$earlier"

@@ -3,7 +3,9 @@ cd /given/source || exit 1
 files > "$work/before"
 installs 'the library' /given/dist/libtownship1_*_amd64.deb /given/dist/libtownship-dev_*_amd64.deb \
     /given/dist/township-doc_*_all.deb
-version=$(dpkg-query -W -f '${Version}' libtownship1)
+version=$(sh packaging/version.sh)
+try 'the library names its build' grep -a -o "\"version\":\"$(dpkg-query -W -f '${Version}' libtownship1)\"" \
+    /usr/lib/x86_64-linux-gnu/libtownship.so.1
 flags="$(pkg-config --cflags --libs township)"
 prints 'pkg-config' "$version
 status 0" pkg-config --modversion township

@@ -5,6 +5,9 @@ as_server() { (cd "$work/server" && runuser -u postgres -- "$@"); }
 sql() { psql -X -q -A -t -h "$work/server" -U postgres "$@" 2>&1; }
 
 files > "$work/before"
+if [ -d /given/earlier ]; then
+    installs 'an earlier version' /given/earlier/postgresql-15-township_*_amd64.deb /given/earlier/township-doc_*_all.deb
+fi
 installs 'the extension' /given/dist/postgresql-15-township_*_amd64.deb /given/dist/township-doc_*_all.deb
 try 'its copyright' test -f /usr/share/doc/postgresql-15-township/copyright
 try 'its page' test -f /usr/share/doc/township/docs/POSTGRESQL.md

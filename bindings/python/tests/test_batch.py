@@ -2,6 +2,7 @@
 import os
 import unittest
 
+import township
 from batches import ADDED, HEADING, NOTES, BatchCase
 
 
@@ -247,7 +248,8 @@ class Failures(BatchCase):
             with self.subTest(words=words):
                 run = self.run_words(*words)
                 self.assertEqual((run.returncode, run.stderr), (0, b""))
-        self.assertRegex(run.stdout, rb"\Atownship [0-9]+\.[0-9]+\.[0-9]+\n\Z")
+        build = "" if township.__version__ == township.version() else f" (build {township.__version__})"
+        self.assertEqual(run.stdout.decode(), f"township {township.version()}{build}\n")
 
     def test_help_has_each_column_and_status(self):
         help_text = self.run_words("batch", "--help").stdout.decode()

@@ -50,7 +50,9 @@ class Found(unittest.TestCase):
 
     def test_version(self):
         self.assertRegex(township.version(), r"\A[0-9]+\.[0-9]+\.[0-9]+\Z")
-        self.assertEqual(township.__version__, township.version())
+        # The package is a release, or a build before it.
+        build = r"\.dev[0-9]{14}\+g[0-9a-f]{8}(\.changed)?"
+        self.assertRegex(township.__version__, rf"\A{re.escape(township.version())}({build})?\Z")
 
 
 class Declared(unittest.TestCase):

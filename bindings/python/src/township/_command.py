@@ -5,7 +5,7 @@ import argparse
 import sys
 from typing import Any, Dict, Optional, Sequence, Tuple
 
-from . import version
+from . import __version__, version
 from ._account import ACCOUNTS
 from ._batch import Options, Status, Stopped, run_batch
 from ._batch.decoding import ENCODINGS
@@ -127,7 +127,7 @@ def _count(word: str) -> int:
 def _parsers() -> Tuple[argparse.ArgumentParser, Dict[str, Command]]:
     """Return the parser of the command line, and by their names the commands that it cannot parse itself."""
     parser = argparse.ArgumentParser(prog="python -m township", description="Acreage of land in a township.")
-    parser.add_argument("--version", action="version", version=f"township {version()}")
+    parser.add_argument("--version", action="version", version=_version())
     commands = parser.add_subparsers(metavar="COMMAND", required=True)
     add_draw(commands)
     add_serve(commands)
@@ -137,6 +137,12 @@ def _parsers() -> Tuple[argparse.ArgumentParser, Dict[str, Command]]:
         "suggest": suggest_command(commands),
         "batch": _batch_command(commands),
     }
+
+
+def _version() -> str:
+    """Return the version of the library and, if the package is not a release, its build."""
+    build = "" if __version__ == version() else f" (build {__version__})"
+    return f"township {version()}{build}"
 
 
 def _batch_command(commands: Any) -> Command:

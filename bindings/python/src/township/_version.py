@@ -1,3 +1,3 @@
-"""The version of the package. It is also the version of the library that the package contains."""
+"""The version of the package: that of the library that it contains, or in a build that isn't a release, of the build."""
 
 __version__ = "1.0.0"
