@@ -1,6 +1,6 @@
 # What each command does, and when to use it, is said in CONTRIBUTING.md. `make help` prints the lines that begin
 # with two number signs: each target has one.
-.PHONY: help run township try test e2e descriptions check bugs bench lib dist install install-built install-lib man trust clean
+.PHONY: help run township try test e2e descriptions check bugs bench lib dist install install-built install-lib uninstall man trust clean
 
 # Where `make install` puts the program, its man page, the completions, and the library with its header: in the
 # folders bin, share, lib and include. With DESTDIR they are put below another root.
@@ -108,6 +108,15 @@ install-lib:
 		ln -sf $$(readlink $$link) $(DESTDIR)$(PREFIX)/lib/$$(basename $$link); done
 	sed 's|^prefix=.*|prefix=$(PREFIX)|' $(LIBRARY)/township.pc > $(DESTDIR)$(PREFIX)/lib/pkgconfig/township.pc
 	chmod 644 $(DESTDIR)$(PREFIX)/lib/pkgconfig/township.pc
+
+## uninstall      remove what `make install` put below PREFIX
+uninstall:
+	rm -f $(DESTDIR)$(PREFIX)/bin/township $(SHARE)/man/man1/township.1
+	rm -f $(SHARE)/bash-completion/completions/township $(SHARE)/zsh/site-functions/_township
+	for link in $(DESTDIR)$(PREFIX)/lib/libtownship.so.?; do \
+		if [ -h $$link ]; then rm -f $(DESTDIR)$(PREFIX)/lib/$$(readlink $$link) $$link; fi; done
+	rm -f $(DESTDIR)$(PREFIX)/lib/libtownship.so $(DESTDIR)$(PREFIX)/lib/libtownship.a
+	rm -f $(DESTDIR)$(PREFIX)/lib/pkgconfig/township.pc $(DESTDIR)$(PREFIX)/include/township.h
 
 ## man            write the man page from its template and docs/REFUSALS.md
 man:

@@ -1,7 +1,7 @@
 #!/bin/sh
-# Makes the packages a second time and compares their checksums with those in dist/, or in the folder that is named: in
-# another folder, as another user (if user namespaces can be made here), in another language and time zone, with another
-# umask, and on another day (if faketime is installed). With --compile, first compiles the program and the library again
+# Makes the packages a second time and compares their checksums with those in dist/, or in the folder that is named: from
+# the archive of the sources there, without git, in another folder, as another user (if user namespaces can be made here),
+# in another language and time zone, with another umask, and on another day (if faketime is installed). With --compile, first compiles the program and the library again
 # there. The status is 1 if a file differs; diffoscope, if it is installed, shows where.
 set -eu
 cd "$(dirname "$0")/.."
@@ -16,12 +16,10 @@ work=$(mktemp -d)
 trap 'rm -rf "$work"' EXIT
 there=$work/a-folder/of-another/user
 
-# The same commit and files, what was built, and what was proved if it is to be compiled again.
+# The archive of the sources, what was built, and what was proved if it is to be compiled again.
 copy_tree() {
-    mkdir -p "${there%/*}"
-    git clone -q --no-checkout "$root" "$there"
-    git ls-files -z | tar --null --files-from=- -cf - | tar -C "$there" -xf -
-    git -C "$there" reset -q
+    mkdir -p "$there"
+    tar -C "$there" --strip-components=1 -xf "$first"/township-*-source.tar.gz
     mkdir -p "$there/crates/twp_cmd/out"
     cp crates/twp_cmd/out/twp_cmd.o "$there/crates/twp_cmd/out"
     cp -a lib "$there"
@@ -39,7 +37,7 @@ elsewhere() {
     (
         cd "$there"
         umask 077
-        set -- env LC_ALL=tr_TR.UTF-8 LANGUAGE=tr TZ=Pacific/Auckland "$@"
+        set -- env PATH="$work/no-git:$PATH" LC_ALL=tr_TR.UTF-8 LANGUAGE=tr TZ=Pacific/Auckland "$@"
         # If rustup has installed cargo, cargo looks for its toolchain in the home of this user.
         set -- env HOME="$work/home" RUSTUP_HOME="${RUSTUP_HOME:-${HOME:-/root}/.rustup}" "$@"
         if command -v faketime > "$work/lost"; then set -- faketime '+400 days' "$@"; fi
@@ -51,7 +49,9 @@ elsewhere() {
 }
 
 copy_tree
-mkdir "$work/home"
+mkdir "$work/home" "$work/no-git"
+printf '#!/bin/sh\necho "there is no git here" >&2\nexit 127\n' > "$work/no-git/git"
+chmod +x "$work/no-git/git"
 if [ -n "$compile" ]; then
     elsewhere sh tools/over_proved.sh twp_cmd
     elsewhere sh tools/library.sh /usr/local proved

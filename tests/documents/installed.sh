@@ -66,6 +66,17 @@ install_all PREFIX="$work/prefix"
 (cd prefix && find . | sort) > found
 same 'make install with PREFIX alone'
 
+# `make uninstall` removes all of it, and nothing else.
+mkdir -p prefix/lib
+touch prefix/bin/another prefix/lib/libtownship.so.keep prefix/share/man/man1/another.1
+(cd prefix && find . -type f -name 'another*' -o -name '*.keep' | sort) > wanted
+without_kit uninstall PROGRAM="$work/no-program" LIBRARY="$work/no-lib" PREFIX="$work/prefix" > made 2> noted
+(cd prefix && find . ! -type d | sort) > found
+same 'make uninstall'
+without_kit uninstall PREFIX="$work/prefix" > made 2> found
+: > wanted
+same 'make uninstall where there is nothing'
+
 # Without a build and without the kit, it says what to run first, and installs nothing.
 not_built() {
     without_kit install PROGRAM="$1" LIBRARY="$2" DESTDIR="$work/nothing" PREFIX=/usr > made 2> noted
