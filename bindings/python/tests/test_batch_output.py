@@ -1,6 +1,7 @@
 """The output of a batch: files, a resumed batch, an interrupted one, and a terminal."""
 import os
 import pty
+import select
 import signal
 import subprocess
 import sys
@@ -156,12 +157,29 @@ class Interrupted(BatchCase):
         self.addCleanup(process.kill)
         return process
 
+    def read_answer(self, process):
+        """What is written next, which must come soon."""
+        ready, _, _ = select.select([process.stdout], [], [], 60)
+        self.assertTrue(ready, "no answer in 60 seconds")
+        return process.stdout.read(1000)
+
+    def test_each_answer_is_written_while_the_next_record_is_awaited(self):
+        process = self.start()
+        process.stdin.write(b"description\nsec. 14.\n")
+        self.assertEqual(records(self.read_answer(process))[1][:2], ["sec. 14.", "640.00"])
+        process.stdin.write(b'"sec. 5, lot 1."\n')
+        self.assertEqual(records(self.read_answer(process))[0][:2], ["sec. 5, lot 1.", "40.45"])
+        process.stdin.write(b"sec. 40.\n")
+        self.assertEqual(records(self.read_answer(process))[0][:2], ["sec. 40.", ""])
+        self.assertEqual(process.communicate(timeout=60), (b"", b""))
+        self.assertEqual(process.returncode, 1)
+
     def test_ctrl_c_while_the_list_is_awaited(self):
         process = self.start()
         process.stdin.write(LIST.encode())
         process.stdin.flush()
         # The first answers have arrived, so the batch is running.
-        head = process.stdout.read(1000)
+        head = self.read_answer(process)
         process.send_signal(signal.SIGINT)
         rest, said = process.communicate(timeout=60)
         self.assertEqual(process.returncode, 130)

@@ -51,7 +51,7 @@ class Found(unittest.TestCase):
     def test_version(self):
         self.assertRegex(township.version(), r"\A[0-9]+\.[0-9]+\.[0-9]+\Z")
         # The package is a release, or a build before it.
-        build = r"\.dev[0-9]{14}\+g[0-9a-f]{8}(\.changed)?"
+        build = r"\.dev[0-9]{14}\+g[0-9a-f]{8}(\.dirty)?"
         self.assertRegex(township.__version__, rf"\A{re.escape(township.version())}({build})?\Z")
 
 

@@ -62,9 +62,13 @@ class CsvSink:
                 raise error
 
     def write_text(self, text: str) -> None:
-        """Write records that are CSV already."""
+        """Write records that are CSV already, and whatever was written before them.
+
+        Nothing is kept back until more answers are there: whoever writes the list may be waiting for these.
+        """
         with writing(self._name):
             self._file.write(text)
+            self._file.flush()
 
     def close(self) -> None:
         """Write everything that has not been written yet."""
