@@ -13,14 +13,17 @@ unset MAKEFLAGS MFLAGS MAKELEVEL DEB_BUILD_OPTIONS DEB_BUILD_PROFILES DEB_BUILD_
 cd "$(dirname "$0")/.."
 dist=$(readlink -m "${1:-dist}")
 object=crates/twp_cmd/out/twp_cmd.o
+work=$(mktemp -d)
+trap 'rm -rf "$work"' EXIT
+# Which sources these are is asked once.
+sh packaging/sources.sh --write > "$work/SOURCES"
+export TOWNSHIP_SOURCES="$work/SOURCES"
 version=$(sh packaging/version.sh)
 build=$(sh packaging/version.sh --rust)
 # Debian's own Python before any other, since BUILDINFO names the versions of Debian's packages.
 python=$(PYTHON=/usr/bin/python3 sh tools/python_with.sh 'build, setuptools, wheel')
 SOURCE_DATE_EPOCH=$(sh packaging/sources.sh --date)
 export SOURCE_DATE_EPOCH
-work=$(mktemp -d)
-trap 'rm -rf "$work"' EXIT
 if [ ! -e lib/libtownship.so ] || { [ ! -f "$object" ] && [ ! -f "${object%.o}" ]; }; then
     echo 'build the program and the library first: make township lib' >&2
     exit 1
@@ -59,7 +62,7 @@ copy_sources() {
     mkdir "$stage"
     sh packaging/sources.sh --files | tar --null --files-from=- --mode='u=rwX,go=rX' --mtime="@$SOURCE_DATE_EPOCH" -cf - |
         tar -C "$stage" -xf -
-    sh packaging/sources.sh --write > "$stage/SOURCES"
+    cp "$TOWNSHIP_SOURCES" "$stage/SOURCES"
     pack "${stage##*/}" "$dist/${stage##*/}-source.tar.gz"
 }
 

@@ -8,11 +8,13 @@
 #                was, or else 'between'
 #     --files    the names of the files, each followed by a null byte
 #     --write    what the file SOURCES has to contain
+#
+# TOWNSHIP_SOURCES can name another such file: while packages are made, it stays the same even if a file is changed.
 set -eu
 cd "$(dirname "$0")/.."
-recorded=SOURCES
+recorded=${TOWNSHIP_SOURCES:-SOURCES}
 
-has_git() { [ -e .git ]; }
+has_git() { [ -z "${TOWNSHIP_SOURCES:-}" ] && [ -e .git ]; }
 tag() { echo "v$(sh packaging/version.sh)"; }
 
 commit() { git rev-parse HEAD; }

@@ -7,7 +7,7 @@
 #     --python   1.0.0.dev20261129171830+g4c16720c        the wheel, as PEP 440 wants it
 #     --rust     1.0.0-git.20261129171830.g4c16720c       the crate and the archives: semantic versioning
 #
-# These are the time of the commit, in UTC, and its first digits; `.changed` follows if files were changed since.
+# These are the time of the commit, in UTC, and its first digits; `.dirty` follows if files were changed since.
 #
 # With --check, makes sure that whatever repeats the version agrees, and says `unreleased` if it isn't the version of a
 # release, and only then; tools/header_names.py checks the header and the bindings. The extension for PostgreSQL counts
@@ -26,7 +26,7 @@ build() {
     time=$(date -u -d "@$(sh packaging/sources.sh --date)" +%Y%m%d%H%M%S)
     commit=$(sh packaging/sources.sh --commit | cut -c 1-8)
     changed=
-    [ "$state" != changed ] || changed=.changed
+    [ "$state" != changed ] || changed=.dirty
     echo "$version$1$time$2$commit$changed"
 }
 

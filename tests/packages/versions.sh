@@ -40,7 +40,7 @@ shows 'before a release, for Rust' "$version-git.20270102030405.g$first" sh pack
 try 'before a release, everything agrees' sh packaging/version.sh --check
 earlier=$(sh packaging/version.sh --debian)
 echo >> CHANGELOG.md
-shows 'with a change' "$earlier.changed" sh packaging/version.sh --debian
+shows 'with a change' "$earlier.dirty" sh packaging/version.sh --debian
 second=$(commit 1798859046)
 shows 'a second later' "$version~git20270102030406.$second" sh packaging/version.sh --debian
 lower "$earlier" "$(sh packaging/version.sh --debian)"
