@@ -86,11 +86,13 @@ make_debian() {
     cp -a "$stage" "$work/debian"
     cp -a "$stage/packaging/debian" "$work/debian/debian"
     sh packaging/debian_changelog.sh > "$work/debian/debian/changelog"
-    {
-        cat "$stage/LICENSE"
-        echo
-        "$python" packaging/notices.py --debian
-    } > "$work/debian/debian/copyright"
+    "$python" packaging/notices.py --debian > "$work/debian/debian/copyright"
+    # The source package has no program and no library: the kit builds them.
+    cp -a "$work/debian" "$work/source"
+    rm -rf "$work/source/township" "$work/source/lib" "$work/source/NOTICES"
+    find "$work/source" "$work/debian" -exec touch -h -d "@$SOURCE_DATE_EPOCH" {} +
+    (cd "$work" && dpkg-source -Zgzip -b source)
+    mv "$work"/township_*.dsc "$work"/township_*.tar.gz "$dist"
     (cd "$work/debian" && dpkg-buildpackage -b -us -uc)
     mv "$work"/*.deb "$dist"
 }
@@ -135,6 +137,8 @@ step 'the Debian packages' make_debian
 step 'the archive for Linux' make_archive
 step 'the wheel' make_wheel
 step 'the crate' make_crate
+step 'the bill of materials' sh -c '"$1" packaging/sbom.py "$2" > "$3" && mv "$3" "$2"' sh "$python" "$dist" \
+    "$work/township-$build.spdx.json"
 sh packaging/buildinfo.sh "$(cat "$work/program_glibc")" "$(cat "$work/library_glibc")" > "$dist/BUILDINFO"
 (cd "$dist" && sha256sum -- * > "$work/sums" && mv "$work/sums" SHA256SUMS)
 ls -l "$dist" | sed -n 's/^[^ ]* *[^ ]* *[^ ]* *[^ ]* *\([0-9]*\) .* \([^ ]*\)$/\1 \2/p'

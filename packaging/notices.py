@@ -4,8 +4,9 @@
     python3 packaging/notices.py [--debian]
 
 Which crates these are follows from crates.txt, and from what the kit says that each of its crates carries. If a
-crate offers a choice of licenses, the MIT license is the one that is taken. With --debian, the text of a license that
-every Debian system has is replaced with its place there, as Debian's policy wants.
+crate offers a choice of licenses, the MIT license is the one that is taken. With --debian, it prints the file `copyright`
+of the Debian packages in its machine-readable form (DEP-5), with what LICENSE says; the text of a license that every
+Debian system has is replaced with its place there, as Debian's policy wants.
 """
 
 import shutil
@@ -84,17 +85,60 @@ def text_of(file: Path, in_debian: bool) -> str:
     return APACHE_IN_DEBIAN if in_debian and text.startswith(APACHE) else text
 
 
-def main() -> None:
-    in_debian = sys.argv[1:] == ["--debian"]
+def all_notices(in_debian: bool) -> dict[str, list[str]]:
+    """The notices, each with the crates that share it."""
     kit = kit_folder()
     crates = dependencies()
     direct = set().union(*(kit_crates_of(packaged, crates) for packaged in PACKAGED))
     carried = sorted({name for crate in direct for name in carried_by(crate, kit)})
-    # Crates that share a notice are listed above it.
     notices: dict[str, list[str]] = {}
     for crate in carried:
         for file in licenses_of(crate, kit):
             notices.setdefault(text_of(file, in_debian), []).append(crate)
+    return notices
+
+
+def name_of(notice: str, crates: list[str]) -> str:
+    """The name of a license: the notices of crates differ in more than their holders."""
+    if "UNICODE LICENSE V3" in notice:
+        return "Unicode-3.0"
+    return "Apache-2.0" if "Apache License" in notice else f"MIT-{crates[0]}"
+
+
+def holders_in(notice: str) -> list[str]:
+    """The copyright holders that a notice names."""
+    lines = (line.strip() for line in notice.splitlines())
+    return [line for line in lines if line.startswith(("Copyright (c)", "Copyright ©"))]
+
+
+def field(name: str, first: str, lines: list[str]) -> str:
+    """A field of several lines."""
+    return "\n".join([f"{name}: {first}".rstrip(), *(f" {line}" if line.strip() else " ." for line in lines)])
+
+
+def print_debian(notices: dict[str, list[str]]) -> None:
+    """Print the file `copyright` of the Debian packages."""
+    license_text = (ROOT / "LICENSE").read_text(encoding="utf-8").strip()
+    names = {notice: name_of(notice, crates) for notice, crates in notices.items()}
+    holders = sorted({holder for notice in notices for holder in holders_in(notice)})
+    comment = [f"{', '.join(crates)}: {names[notice]}" for notice, crates in notices.items()]
+    print("Format: https://www.debian.org/doc/packaging-manuals/copyright-format/1.0/\nUpstream-Name: township\n")
+    print("Files: *\nCopyright: the authors of township")
+    print(field("License", "none-chosen", license_text.splitlines()) + "\n")
+    print("Files: township lib/*")
+    print(field("Copyright", "the authors of township", holders))
+    print("License: " + " and ".join(["none-chosen", *names.values()]))
+    print(field("Comment", "These contain code of crates that the Rattle kit ports from Rust:", comment) + "\n")
+    for notice, name in names.items():
+        print(field("License", name, notice.splitlines()) + "\n")
+
+
+def main() -> None:
+    in_debian = sys.argv[1:] == ["--debian"]
+    notices = all_notices(in_debian)
+    if in_debian:
+        print_debian(notices)
+        return
     print(HEADING)
     for notice, names in notices.items():
         print(f"{'-' * 80}\n{', '.join(names)}\n\n{notice}\n")

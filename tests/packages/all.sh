@@ -35,8 +35,11 @@ python3-township_${version}_amd64.deb
 township-$build-linux-x86_64.tar.gz
 township-$build-source.tar.gz
 township-$build.crate
+township-$build.spdx.json
 township-$(sh packaging/version.sh --python)-py3-none-manylinux2014_x86_64.whl
 township-doc_${version}_all.deb
+township_$version.dsc
+township_$version.tar.gz
 township_${version}_amd64.deb
 LIST
 LC_ALL=C sort -o "$work/wanted" "$work/wanted"
@@ -47,6 +50,35 @@ begin versions sh tests/packages/versions.sh
 try 'no path of the build is in them' sh packaging/unpacked.sh "$dist" "$work/unpacked" "$PWD/" "${work%.*}."
 python=$(python_with argparse)
 count 'the pages that the packages name' "$python" -B tests/packages/pages.py "$work/unpacked"
+count 'the bill of materials' "$python" -B tests/packages/materials.py "$dist" \
+    "$work/unpacked/township-$build-linux-x86_64.tar.gz/township-$build-linux-x86_64/share/doc/township/NOTICES"
+
+# What the packages say of themselves: the license, in the machine-readable form, and no address that is made up.
+library_deb=$work/unpacked/libtownship1_${version}_amd64.deb
+try 'the form of copyright' grep -x 'Format: https://www.debian.org/doc/packaging-manuals/copyright-format/1.0/' \
+    "$library_deb/usr/share/doc/libtownship1/copyright"
+sed 's/^$/./; s/^/ /' LICENSE > "$work/wanted"
+sed -n '/^License: none-chosen$/,/^$/{ /^ /p; }' "$library_deb/usr/share/doc/libtownship1/copyright" > "$work/found"
+same 'the license in copyright'
+try 'the license of the wheel' grep -rqx 'License: No license has been chosen yet; all rights are reserved.' \
+    "$work/unpacked" --include=METADATA
+try 'the license of the crate' cmp LICENSE "$work/unpacked/township-$build.crate/township-$build/LICENSE"
+try 'no field of a package has an address below .example' sh -c '! grep -r "[.]example>" "$1"/*.deb/DEBIAN "$1"/*.dsc' \
+    sh "$work/unpacked"
+
+# The source package: that it unpacks, and its tests for autopkgtest, which are run in the images.
+try 'the source package' dpkg-source --no-check -x "$dist/township_$version.dsc" "$work/sources"
+try 'its tests' grep -x 'Testsuite: autopkgtest' "$dist/township_$version.dsc"
+for test in $(sed -n 's/^Tests: //p' packaging/debian/tests/control | tr -d ,); do
+    try "its test $test" test -x "$work/sources/debian/tests/$test"
+done
+try 'no built file is in it' test ! -e "$work/sources/township" -a ! -e "$work/sources/lib"
+
+# The service is there, and nothing enables or starts it.
+unit=$(find "$work/unpacked/python3-township_${version}_amd64.deb" -name township.service)
+try 'the unit' cmp "$unit" packaging/debian/python3-township.township.service
+try 'no script enables or starts it' sh -c '! grep -rE "deb-systemd-(helper enable|invoke .*start)" "$1"' \
+    sh "$work/unpacked/python3-township_${version}_amd64.deb/DEBIAN"
 if has lintian; then
     try 'lintian' lintian --fail-on error,warning --allow-root "$dist"/*.deb
 else

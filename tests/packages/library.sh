@@ -23,6 +23,8 @@ count 'the C test as a static program' "$work/alone" samples "$version" 5
 try 'a C++ program compiles' c++ -std=c++11 -o "$work/cpp" tests/library/c/township_test.cc $flags
 count 'the C++ test' "$work/cpp" samples/b1.csv
 
+try 'its test for autopkgtest' env AUTOPKGTEST_TMP="$work" sh /given/source/packaging/debian/tests/library
+
 # A program is refused by a library that lacks the version of a function that it was linked with.
 try 'the functions have a version' sh -c 'objdump -T "$1" | grep -q "TOWNSHIP_1.0) *township_read"' sh "$work/shared"
 try 'apt removes the library' apt-get purge -y libtownship1 libtownship-dev township-doc

@@ -18,8 +18,8 @@ from typing import Dict, Iterator, List, Set
 PAGE = re.compile(r"(?<![\w/])(?:docs/)?([A-Z][A-Z-]+[.]md)\b")
 #: What is read, besides the documents.
 SOURCES = {".1", ".c", ".css", ".h", ".html", ".js", ".json", ".md", ".py", ".rs", ".sql"}
-#: Pages that a text names in an archive of the sources are in its folders.
-SOURCE_ARCHIVE = "-source.tar.gz"
+#: An archive of the sources, also that of the Debian source package, has all pages.
+SOURCES_OF = re.compile(r".*-source[.]tar[.]gz|township_.*[.](tar[.]gz|dsc)")
 
 
 def texts_of(folder: Path) -> Iterator[Path]:
@@ -46,7 +46,7 @@ def main() -> int:
     passed = 0
     wrong: List[str] = []
     for folder in folders:
-        if folder.name.endswith(SOURCE_ARCHIVE):
+        if SOURCES_OF.fullmatch(folder.name):
             continue
         there = [folder, *(by_name[name] for name in sorted(needed_by(folder)) if name in by_name)]
         has = {file.name for each in there for file in each.rglob("*.md")}

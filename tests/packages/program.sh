@@ -65,6 +65,8 @@ prints 'the completion of bash' "complete -F _township township
 status 0" bash -c '. /usr/share/bash-completion/bash_completion; _completion_loader township; complete -p township'
 try 'the completion of zsh' test -s /usr/share/zsh/vendor-completions/_township
 
+try 'its test for autopkgtest' sh -e /given/source/packaging/debian/tests/program
+
 # Nothing is left of it.
 try 'apt removes the program' apt-get purge -y township township-doc
 files > "$work/after"

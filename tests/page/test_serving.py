@@ -26,11 +26,19 @@ HOST = "plats.example.com"
 
 
 def block(first: str) -> str:
-    """The indented block of the document that begins with this line."""
+    """The indented block of the document whose first line begins so."""
     lines = SERVING.splitlines()
-    begin = lines.index(f"    {first}")
+    begin = next(at for at, line in enumerate(lines) if line.startswith(f"    {first}"))
     end = next(at for at in range(begin, len(lines)) if lines[at] and not lines[at].startswith("    "))
     return "\n".join(line[4:] for line in lines[begin:end]).rstrip() + "\n"
+
+
+#: The unit in the Debian package.
+UNIT = TOP / "packaging" / "debian" / "python3-township.township.service"
+
+
+def test_the_unit_of_the_package() -> None:
+    assert UNIT.read_text() == block("[Unit]")
 
 
 @pytest.mark.skipif(shutil.which("systemd-analyze") is None, reason="systemd is not installed")
@@ -49,6 +57,11 @@ def test_the_command_of_the_unit() -> None:
     [line] = [line for line in block("[Unit]").splitlines() if line.startswith("ExecStart=")]
     words = line.partition("=")[2].split()
     assert words[:4] == ["/usr/bin/python3", "-m", "township", "serve"]
+    assert words[4:] == ["$TOWNSHIP_SERVE"] and "EnvironmentFile=-/etc/default/township\n" in block("[Unit]")
+    # systemd divides the value at spaces.
+    value = block("TOWNSHIP_SERVE=").partition("=")[2].strip().strip('"')
+    assert value == f"--name {HOST}"
+    words[4:] = value.split()
     run = subprocess.run([sys.executable, *words[1:], "--port", "no"], capture_output=True, text=True)
     assert run.returncode == 2 and "`no` is not a port" in run.stderr
 
