@@ -48,6 +48,13 @@ fail() {
 # Names a test that is left out here, and why. In CI, that fails.
 skip() { echo "skipped: $1"; }
 
+# Counts the tests that a file with the output of others names as skipped. In CI, that is a failure.
+count_skipped() {
+    grep '^skipped: ' "$1" > "$work/skipped" || return 0
+    echo "skipped, as said above: $(wc -l < "$work/skipped")"
+    [ -z "${CI:-}" ] || fail 'in CI no test may be skipped; sh tools/needs.sh lists the packages to install'
+}
+
 # Ends the script with its count.
 ended() {
     echo "$passed passed, $failed failed"

@@ -36,8 +36,5 @@ ended_now() { echo "tests of $* ended after $((($(date +%s) - begun_at) / 60)) m
 cat "$work/all"
 # Once more at the end, since all of this is long.
 grep '^FAILED' "$work/all"
-if grep '^skipped: ' "$work/all" > "$work/skipped"; then
-    echo "skipped, as said above: $(wc -l < "$work/skipped")"
-    [ -z "${CI:-}" ] || fail 'in CI no test may be skipped; sh tools/needs.sh lists the packages to install'
-fi
+count_skipped "$work/all"
 ended

@@ -27,6 +27,8 @@ try 'nothing is left of the wheel' diff "$work/before" "$work/after"
 installs 'the package for Python' /given/dist/libtownship1_*_amd64.deb /given/dist/python3-township_*_amd64.deb \
     /given/dist/township-doc_*_all.deb
 works 'the Debian package'
+try 'its service is not enabled' sh -c '[ -e /lib/systemd/system/township.service ] && \
+    [ -z "$(find /etc/systemd -name township.service)" ]'
 try 'its test for autopkgtest' sh /given/source/packaging/debian/tests/python
 try 'apt removes the package for Python' apt-get purge -y python3-township libtownship1 township-doc
 files > "$work/after"

@@ -26,6 +26,27 @@ class Counting(unittest.TestCase):
             with self.subTest(printed=printed):
                 self.assertEqual(self.counts('begin part printf "$1"; gather', printed)[-1], counts)
 
+    def test_commands(self):
+        for printed, wanted in (
+            ("3 passed\n", ["3 0"]),
+            ("3 passed, 1 skipped (test_a.B.c)\n", ["skipped: it: test_a.B.c", "3 0"]),
+            ("0 passed, 0 failed\n", ["FAILED: it", "0 1"]),
+            ("0 passed, 2 skipped (a, b)\n", ["FAILED: it", "skipped: it: a, b", "0 1"]),
+            ("some words\n", ["FAILED: it", "0 1"]),
+        ):
+            with self.subTest(printed=printed):
+                shown = self.counts('count it printf "$1"', printed)
+                said = [line for line in shown if line.startswith(("FAILED", "skipped"))]
+                self.assertEqual([*said, shown[-1]], wanted)
+
+    def test_skipped_in_ci(self):
+        script = 'echo "skipped: all" > "$work/all"; count_skipped "$work/all"'
+        for ci, counts in (("", "0 0"), ("true", "0 1")):
+            with self.subTest(ci=ci):
+                shown = self.counts(f"CI={ci}; {script}")
+                self.assertEqual((shown[0], shown[-1]), ("skipped, as said above: 1", counts))
+        self.assertEqual(self.counts('CI=true; : > "$work/all"; count_skipped "$work/all"'), ["0 0"])
+
     def test_pytest(self):
         passing, failing = "def test_it(): pass\n", "def test_that(): assert False\n"
         skipped = "import pytest\ndef test_other(): pytest.skip('no tool')\n"
