@@ -109,8 +109,8 @@ make_archive() {
 
 make_wheel() {
     cp "$stage/LICENSE" "$stage/NOTICES" "$stage/bindings/python"
-    mkdir "$stage/bindings/python/docs"
-    cp "$stage"/docs/*.md "$stage"/[A-Z]*.md "$stage/bindings/python/docs"
+    mkdir "$stage/bindings/python/src/township/docs"
+    cp "$stage"/docs/*.md "$stage"/[A-Z]*.md "$stage/bindings/python/src/township/docs"
     (cd "$stage/bindings/python" && "$python" -m build --wheel --no-isolation --outdir "$dist" \
         --config-setting=--build-option=--plat-name="$WHEEL_TAG")
 }
