@@ -136,7 +136,18 @@ CREATE INDEX lands_gist ON lands USING gist (land);
 SET enable_seqscan = off;
 SET enable_hashjoin = off;
 SET enable_mergejoin = off;
-EXPLAIN (COSTS OFF) SELECT b.id FROM chosen a JOIN lands b ON b.land && a.land;
+-- The lines of a plan that name an index: servers differ in what they say of the others.
+CREATE FUNCTION indexes_of(query text) RETURNS SETOF text LANGUAGE plpgsql AS $$
+DECLARE
+    line text;
+BEGIN
+    FOR line IN EXECUTE 'EXPLAIN (COSTS OFF) ' || query LOOP
+        IF line LIKE '%Index%' THEN
+            RETURN NEXT ltrim(line, ' ->');
+        END IF;
+    END LOOP;
+END $$;
+SELECT indexes_of('SELECT b.id FROM chosen a JOIN lands b ON b.land && a.land');
 CALL find('sorted index');
 -- The same index, built by inserting one land after another.
 DROP INDEX lands_gist;

@@ -4,6 +4,7 @@
  */
 #include "twpg.h"
 
+#include "miscadmin.h"
 #include "utils/tuplestore.h"
 
 /* Since version 14, the server makes a numeric from an integer. Before, it goes through its digits. */

@@ -55,13 +55,14 @@ make_folder() {
     mv "$folder.part" "$folder"
 }
 
-# Installs packages in a copy of the minimal system.
+# Installs packages in a copy of the minimal system. A mirror may be some weeks behind with the next Debian, whose lists
+# then count as expired.
 install() {
     cp -a "$1" "$2"
     unshare --mount --pid --fork sh -eu -c '
         mount -t proc proc "$1/proc"
         chroot "$1" env DEBIAN_FRONTEND=noninteractive LC_ALL=C.UTF-8 sh -euc "
-            apt-get -q -o Acquire::http::Timeout=60 update
+            apt-get -q -o Acquire::http::Timeout=60 -o Acquire::Check-Valid-Until=false update
             apt-get -q -y -o Acquire::http::Timeout=60 -o Dpkg::Options::=--force-unsafe-io --no-install-recommends \
                 install $2
             apt-get clean"
@@ -80,7 +81,11 @@ for name in "$@"; do
     (
         flock 9
         if [ ! -d "$image" ]; then
-            make_folder "$minimal" timeout 1200 debootstrap --variant=minbase "$suite" "$minimal.part" "$mirror"
+            # An older debootstrap doesn't know the name of a newer Debian, which is made as all are.
+            scripts=/usr/share/debootstrap/scripts
+            [ -e "$scripts/$suite" ] && script=$suite || script=sid
+            make_folder "$minimal" timeout 1200 debootstrap --variant=minbase "$suite" "$minimal.part" "$mirror" \
+                "$scripts/$script"
             make_folder "$image" install "$minimal" "$image.part" "$packages"
         fi
     ) 9> "$images/lock"
