@@ -54,6 +54,7 @@ needs='
     abigail-tools    command abidiff
     qemu-user-static command qemu-x86_64-static
     debootstrap      command debootstrap
+    iproute2         command ip
     faketime         command faketime
     postgresql-15    command /usr/lib/postgresql/15/bin/initdb
     postgresql-server-dev-15  file /usr/include/postgresql/15/server/postgres.h

@@ -19,7 +19,7 @@ use Rattle.twp_answers.specs.Tracts.{name_in, description_in, IsTractName, IsTra
 use Rattle.twp_answers.specs.TractFaults.{HasAt, IsNameRepeated, turn_of}
 use Rattle.twp_answers.specs.Answers.{IsNoDescription}
 use Rattle.twp_answers.specs.declared.each_tract.TractAnswer.{TractAnswer}
-use Rattle.twp_answers.specs.declared.names.Names.{Names}
+use Rattle.twp_answers.specs.declared.names.NamesSoFar.{NamesSoFar}
 use Rattle.twp_answers.specs.declared.tract_fault.TractFault.{TractFault}
 use Rattle.twp_answers.specs.declared.tract_fault.TractFault.TheVariants as fault
 use Rattle.twp_answers.proofs.TractLands.{earlier_or_last, either_way, with_left, with_right}
@@ -43,7 +43,7 @@ answers_next plat rows count answers answer before here = record {
 }
 
 -- a name that is not in the set is not repeated
-pub not_repeated : (rows : List Fields) (index : ℕ) (names : Names) → AreNamesOf rows index names
+pub not_repeated : (rows : List Fields) (index : ℕ) (names : NamesSoFar) → AreNamesOf rows index names
     → IsTractName (name_in (record_at rows index))
     → has_name names (name_in (record_at rows index)) ≡ false → IsNameRepeated rows index → ⊥
 not_repeated rows index names are is anew repeated =
@@ -51,14 +51,14 @@ not_repeated rows index names are is anew repeated =
     cc (sym known ∙ ap (has_name names) repeated.same ∙ anew)
 
 -- one that is in the set is repeated
-pub is_repeated : (rows : List Fields) (index : ℕ) (names : Names) → AreNamesOf rows index names
+pub is_repeated : (rows : List Fields) (index : ℕ) (names : NamesSoFar) → AreNamesOf rows index names
     → has_name names (name_in (record_at rows index)) ≡ true → IsNameRepeated rows index
 is_repeated rows index names are known =
     let found = are.only (name_in (record_at rows index)) known in
     record { earlier = found.0; is_earlier = found.1; same = found.2 }
 
 -- the set after the name of one more record was added
-pub names_next : (rows : List Fields) (index : ℕ) (old new : Names) → AreNamesOf rows index old
+pub names_next : (rows : List Fields) (index : ℕ) (old new : NamesSoFar) → AreNamesOf rows index old
     → ((other : List ℕ) → has_name new other
     ≡ (bytes_eq (name_in (record_at rows index)) other || has_name old other))
     → AreNamesOf rows (index + 1) new
@@ -87,7 +87,7 @@ names_next rows index old new before more = record {
 }
 
 -- the set after a record without a name
-pub names_kept : (rows : List Fields) (index : ℕ) (names : Names) → AreNamesOf rows index names
+pub names_kept : (rows : List Fields) (index : ℕ) (names : NamesSoFar) → AreNamesOf rows index names
     → ¬ IsTractName (name_in (record_at rows index)) → AreNamesOf rows (index + 1) names
 names_kept rows index names before none = record {
   named = λ i below is. elim (earlier_or_last index i below) [
@@ -145,7 +145,7 @@ module _ (township : Designation) (rows : List Fields) (index : ℕ) where
       least fault.Memory has = absurd has
 
 -- no names, and no answers, before the first record
-pub no_names : (rows : List Fields) (names : Names) → ((name : List ℕ) → has_name names name ≡ false)
+pub no_names : (rows : List Fields) (names : NamesSoFar) → ((name : List ℕ) → has_name names name ≡ false)
     → AreNamesOf rows 0 names
 no_names rows names none = record {
   named = λ index below is. absurd (omega arith);
@@ -160,7 +160,8 @@ no_answers plat rows answers none = rw none (record {
 })
 
 -- the set after a new name was added, or one that it has, and whether it was new
-pub name_taken : (fields : Fields) (old new : Names) (said : Bool) (name : List ℕ) → name ≡ name_in fields
+pub name_taken : (fields : Fields) (old new : NamesSoFar) (said : Bool) (name : List ℕ)
+    → name ≡ name_in fields
     → said ≡ not (has_name old name)
     → ((other : List ℕ) → has_name new other ≡ (bytes_eq name other || has_name old other))
     → TakesName fields old new said
@@ -183,7 +184,7 @@ name_taken fields old new said name same said_is more = record {
 }
 
 -- a record that has no name that a tract can have
-pub no_name_taken : (fields : Fields) (names : Names) (said : Bool) → ¬ IsTractName (name_in fields)
+pub no_name_taken : (fields : Fields) (names : NamesSoFar) (said : Bool) → ¬ IsTractName (name_in fields)
     → TakesName fields names names said
 no_name_taken fields names said none = record {
   names = λ rows index here before.
@@ -207,7 +208,7 @@ of_land plat rows index number (Err fault.TractsTooLarge) is anew at_record has 
 of_land plat rows index number (Err fault.TooManyTracts) is anew at_record has = absurd has
 of_land plat rows index number (Err fault.Memory) is anew at_record has = absurd has
 
-module _ (plat : TownshipPlat) (fields : Fields) (number : ℕ) (old new : Names) (said : Bool)
+module _ (plat : TownshipPlat) (fields : Fields) (number : ℕ) (old new : NamesSoFar) (said : Bool)
     (given : TractAnswer) (takes : TakesName fields old new said) where
   -- a record that is not a tract's
   pub takes_no_tract : ¬ IsTractRecord fields → given.name.bytes ≡ []

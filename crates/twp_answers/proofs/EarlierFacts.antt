@@ -8,7 +8,7 @@ use Rattle.twp_grid.specs.Townships.{Designation}
 use Rattle.twp_grid.specs.Lands.{no_places, union, HasWholeLots, SharePlace}
 use Rattle.twp_notes.specs.Records.{Fields, record_at}
 use Rattle.twp_answers.specs.Answers.{Describe}
-use Rattle.twp_answers.specs.EarlierTracts.{AreEarlier, Earlier, TakesLand, IsTractRefused, IsUnread}
+use Rattle.twp_answers.specs.EarlierTracts.{AreEarlier, TractsSoFar, TakesLand, IsTractRefused, IsUnread}
 use Rattle.twp_answers.specs.Names.{has_name}
 use Rattle.twp_answers.specs.Tracts.{name_in, description_in, IsTract, Overlap, IsLandOfTracts}
 use Rattle.twp_answers.specs.declared.tract_fault.TractFault.{TractFault}
@@ -18,7 +18,7 @@ use Rattle.twp_answers.proofs.TractLands.{earlier_or_last, either_way, with_left
 use Rattle.twp_answers.proofs.TractLands.{land_next}
 
 -- no tracts
-pub no_earlier : (township : Designation) (rows : List Fields) (earlier : Earlier)
+pub no_earlier : (township : Designation) (rows : List Fields) (earlier : TractsSoFar)
     → ((name : List ℕ) → has_name earlier.names name ≡ false) → earlier.places ≡ no_places
     → AreEarlier township rows 0 earlier
 no_earlier township rows earlier names places = record {
@@ -33,7 +33,7 @@ no_earlier township rows earlier names places = record {
   whole = rw places (λ section lot range. record { alike = λ column row column' row' lies lies'. refl });
 }
 
-module _ (township : Designation) (fields : Fields) (old new : Earlier) (more : ℕ → ℕ → ℕ → Bool)
+module _ (township : Designation) (fields : Fields) (old new : TractsSoFar) (more : ℕ → ℕ → ℕ → Bool)
     (takes : TakesLand township fields old new more) where
   -- the name was added
   pub taken_names : (other : List ℕ)
@@ -48,7 +48,7 @@ module _ (township : Designation) (fields : Fields) (old new : Earlier) (more : 
   pub taken_apart : ¬ SharePlace old.places more
   taken_apart shared = takes.adds.apart (subst (λ p. SharePlace p more) (sym takes.reads.places_are) shared)
 
-module _ (township : Designation) (rows : List Fields) (count : ℕ) (old new : Earlier)
+module _ (township : Designation) (rows : List Fields) (count : ℕ) (old new : TractsSoFar)
     (more : ℕ → ℕ → ℕ → Bool) (before : AreEarlier township rows count old)
     (takes : TakesLand township (record_at rows count) old new more) where
   names_are : (other : List ℕ)
@@ -157,7 +157,7 @@ module _ (township : Designation) (rows : List Fields) (count : ℕ) (old new : 
   }
 
 -- a record that is no tract is refused
-pub unread_is_refused : (township : Designation) (fields : Fields) (earlier : Earlier) (number : ℕ)
+pub unread_is_refused : (township : Designation) (fields : Fields) (earlier : TractsSoFar) (number : ℕ)
     (is : TractFault) → IsUnread township fields earlier number is
     → IsTractRefused township fields earlier number is
 unread_is_refused township fields earlier number (fault.TractRow n) has = has

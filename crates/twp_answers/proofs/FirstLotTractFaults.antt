@@ -5,7 +5,7 @@ use Rattle.std.specs.Prelude.{IfSome}
 use Rattle.std.proofs.lemmas.Bool.{cases_lt, cases_eq}
 use Rattle.twp_plat.specs.LotTables.{ReturnedLots}
 use Rattle.twp_notes.specs.Records.{Fields, record_at, record_numbered, records_of}
-use Rattle.twp_answers.specs.EarlierTracts.{AreEarlier, Earlier, IsNamedAnew}
+use Rattle.twp_answers.specs.EarlierTracts.{AreEarlier, TractsSoFar, IsNamedAnew}
 use Rattle.twp_answers.specs.TractFaults.{HasAt, IsFrom, record_of, turn_of, verdict_of}
 use Rattle.twp_answers.specs.Tracts.{TRACTS_LIMIT, TRACTS_MOST, tracts_heading, tract_records}
 use Rattle.twp_answers.specs.Tracts.{AreTracts}
@@ -31,7 +31,7 @@ lacks_turn table rows index fault.TooManyTracts none = absurd none
 lacks_turn table rows index fault.Memory none = absurd none
 
 -- the next record is refused, for its first fault
-module _ (table : ReturnedLots) (rows : List Fields) (count : ℕ) (known : Earlier)
+module _ (table : ReturnedLots) (rows : List Fields) (count : ℕ) (known : TractsSoFar)
     (before : AreEarlier table.township rows count known) (lack : LackNoLots table rows count)
     (within : count < length rows) (below : count < TRACTS_MOST) where
   refused : (tract_fault : TractFault) → HasAtByLots table rows count tract_fault

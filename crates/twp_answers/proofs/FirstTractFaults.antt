@@ -11,19 +11,19 @@ use Rattle.twp_answers.specs.Tracts.{TRACTS_LIMIT, TRACTS_MOST, tracts_heading, 
 use Rattle.twp_answers.specs.Tracts.{name_in, description_in, IsTractRecord, AreTracts}
 use Rattle.twp_answers.specs.TractFaults.{HasAt, HasAtTract, HasTractFault, IsFirstTractFault, IsFrom}
 use Rattle.twp_answers.specs.TractFaults.{record_of, turn_of, verdict_of, IsNameRepeated, OverlapsEarlier}
-use Rattle.twp_answers.specs.EarlierTracts.{AreEarlier, Earlier, IsNamedAnew, IsTractRefused}
+use Rattle.twp_answers.specs.EarlierTracts.{AreEarlier, TractsSoFar, IsNamedAnew, IsTractRefused}
 use Rattle.twp_answers.specs.EarlierTracts.{OverlapsEarlierLand}
 use Rattle.twp_answers.specs.Answers.{Describe}
 use Rattle.twp_answers.specs.steps.TractTaking.{IsNextRefused, AreTractsRefused}
 use Rattle.twp_answers.specs.ReportAnswers.{AnswersList, refusal_lines}
-use Rattle.twp_answers.specs.declared.verdict.Verdict.{Verdict}
-use Rattle.twp_answers.specs.declared.verdict.Verdict.TheVariants.{Accepted, Refused, TractRefused}
+use Rattle.twp_answers.specs.declared.stop.Verdict.{Verdict}
+use Rattle.twp_answers.specs.declared.stop.Verdict.TheVariants.{Accepted, Refused, TractRefused}
 use Rattle.twp_answers.specs.declared.tract_fault.TractFault.{TractFault}
 use Rattle.twp_answers.specs.declared.tract_fault.TractFault.TheVariants as fault
 use Rattle.twp_answers.proofs.OneAnswer.{not_described}
 
 -- the next record is refused, for its first fault
-module _ (township : Designation) (rows : List Fields) (count : ℕ) (known : Earlier)
+module _ (township : Designation) (rows : List Fields) (count : ℕ) (known : TractsSoFar)
     (before : AreEarlier township rows count known) where
   -- a name that no tract so far has is not repeated
   not_repeated : has_name known.names (name_in (record_at rows count)) ≡ false → IsNameRepeated rows count → ⊥

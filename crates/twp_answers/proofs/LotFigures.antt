@@ -10,7 +10,7 @@ use Rattle.twp_plat.specs.LotAreas.{HasFigures}
 use Rattle.twp_plat.specs.LotTables.{ReturnedLots}
 use Rattle.twp_notes.specs.Records.{Fields, record_at, record_numbered, records_of}
 use Rattle.twp_answers.specs.Answers.{Describe}
-use Rattle.twp_answers.specs.EarlierTracts.{AreEarlier, Earlier}
+use Rattle.twp_answers.specs.EarlierTracts.{AreEarlier, TractsSoFar}
 use Rattle.twp_answers.specs.Tracts.{TRACTS_LIMIT, TRACTS_MOST, tracts_heading, tract_records}
 use Rattle.twp_answers.specs.Tracts.{name_in, description_in}
 use Rattle.twp_answers.specs.declared.account_figures.TractFigure.{TractFigure}
@@ -49,7 +49,7 @@ figures_next table rows count figures figure before here = record {
 }
 
 -- the figure of a tract that was added
-pub figure_is : (table : ReturnedLots) (fields : Fields) (old new : Earlier) (area : Fraction)
+pub figure_is : (table : ReturnedLots) (fields : Fields) (old new : TractsSoFar) (area : Fraction)
     (figure : TractFigure) (hundredths : ℕ) → TakesByLots table fields old new area
     → IsRounded area hundredths
     → figure.name.bytes ≡ name_in fields → figure.hundredths ≡ hundredths
@@ -85,7 +85,7 @@ returns_all table rows index more land has fault.TractsTooLarge none = none
 returns_all table rows index more land has fault.TooManyTracts none = none
 returns_all table rows index more land has fault.Memory none = none
 
-module _ (table : ReturnedLots) (rows : List Fields) (count : ℕ) (old new : Earlier) (area : Fraction)
+module _ (table : ReturnedLots) (rows : List Fields) (count : ℕ) (old new : TractsSoFar) (area : Fraction)
     (before : AreEarlier table.township rows count old)
     (takes : TakesByLots table (record_at rows count) old new area) where
   -- the table lacks no lot of one tract more
@@ -105,7 +105,7 @@ module _ (table : ReturnedLots) (rows : List Fields) (count : ℕ) (old new : Ea
       takes.area_is.figures)
 
 -- the account of all tracts
-pub account_of : (table : ReturnedLots) (bytes : List ℕ) (rest : List Fields) (earlier : Earlier)
+pub account_of : (table : ReturnedLots) (bytes : List ℕ) (rest : List Fields) (earlier : TractsSoFar)
     (figures : List TractFigure) (area : Fraction) (total : ℕ) → length bytes ≤ TRACTS_LIMIT
     → record_numbered (records_of bytes) 1 ≡ tracts_heading → tract_records bytes ≡ rest
     → length rest ≤ TRACTS_MOST → AreEarlier table.township rest (length rest) earlier

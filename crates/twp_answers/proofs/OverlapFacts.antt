@@ -11,11 +11,12 @@ use Rattle.twp_grid.specs.Lands.{HasWholeLots, SharePlace, intersection}
 use Rattle.twp_notes.specs.Records.{Fields, record_at}
 use Rattle.twp_plat.specs.Plats.{TownshipPlat}
 use Rattle.twp_answers.specs.Answers.{AreHundredthsOf, IsNoDescription}
-use Rattle.twp_answers.specs.Overlaps.{AreOverlapping, AreOverlaps, ComesBefore, IsBetween, IsListed}
+use Rattle.twp_answers.specs.Overlaps.{AreOverlapping, AreOverlaps, IsOverlapBefore, IsBetween, IsListed}
 use Rattle.twp_answers.specs.Overlaps.{IsSharedAcres}
 use Rattle.twp_answers.specs.Tracts.{IsTract, description_in}
 use Rattle.twp_answers.specs.declared.overlaps.TractOverlap.{TractOverlap}
-use Rattle.twp_answers.specs.steps.OverlapTaking.{AreFoundTo, AreLandsTo, IsEarlier, IsFoundBefore, IsLandOf}
+use Rattle.twp_answers.specs.steps.OverlapTaking.{AreFoundTo, AreLandsTo, IsEarlier, IsFoundBefore}
+use Rattle.twp_answers.specs.steps.OverlapTaking.{IsLandOfRecord}
 use Rattle.twp_answers.specs.steps.OverlapTaking.{HasSharedPlaces, HasWholeLand, NotesOverlap, overlap_of}
 use Rattle.std.specs.Prelude.{MatchOption}
 use Rattle.std.specs.List.{All}
@@ -27,7 +28,7 @@ use Rattle.twp_answers.proofs.TractLands.{earlier_or_last}
 -- one more land
 pub lands_next : {L : Type 0} (places : L → ℕ → ℕ → ℕ → Bool) (township : Designation) (rows : List Fields)
     (count : ℕ) (lands : List (Option L)) (land : Option L) → AreLandsTo places township rows count lands
-    → IsLandOf places township (record_at rows count) land
+    → IsLandOfRecord places township (record_at rows count) land
     → AreLandsTo places township rows (count + 1) (lands ++ land ∷ [])
 lands_next places township rows count lands land before here = record {
   count_is = rw (length_push lands land) (omega (arith, before.count_is));
@@ -96,7 +97,7 @@ no_second township fields other none are =
     none (record { is_record = are.is_second; places = are.overlap.more; land = are.overlap.other_land })
 
 whole_land : {L : Type 0} (places : L → ℕ → ℕ → ℕ → Bool) (township : Designation) (fields : Fields)
-    (land : Option L) → IsLandOf places township fields land → HasWholeLand places land
+    (land : Option L) → IsLandOfRecord places township fields land → HasWholeLand places land
 whole_land places township fields None is = tt
 whole_land places township fields (Some land) is = is.whole
 
@@ -198,7 +199,7 @@ module _ (plat : TownshipPlat) (rows : List Fields) (first second : ℕ) (overla
 
   -- the one of them that was found last comes after the others
   comes_last : (given one : TractOverlap) → IsFoundBefore plat rows first second given
-      → IsBetween first second one → ComesBefore given one
+      → IsBetween first second one → IsOverlapBefore given one
   comes_last given one found between = elim found.earlier [
     | inl less ↦ inl (omega (arith, found.between.second_is, between.second_is, less))
     | inr here ↦

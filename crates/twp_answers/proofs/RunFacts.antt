@@ -16,9 +16,9 @@ use Rattle.twp_answers.specs.steps.Stages.{ReadsOnPlat, same_fault}
 use Rattle.twp_answers.specs.PlatReading.{IfRefused}
 use Rattle.twp_answers.specs.declared.stop.Stop.{Stop}
 use Rattle.twp_answers.specs.declared.stop.Stop.TheVariants as stop
-use Rattle.twp_answers.specs.declared.verdict.RunFault.{RunFault}
-use Rattle.twp_answers.specs.declared.verdict.RunFault.TheVariants.{Memory, Read, Write}
-use Rattle.twp_answers.specs.declared.verdict.Verdict.{Verdict}
+use Rattle.twp_answers.specs.declared.stop.RunFault.{RunFault}
+use Rattle.twp_answers.specs.declared.stop.RunFault.TheVariants.{Memory, Read, Write}
+use Rattle.twp_answers.specs.declared.stop.Verdict.{Verdict}
 use Rattle.twp_answers.proofs.OneAnswer.{not_platted}
 
 -- the known bytes of a device, or some bytes if they are not known

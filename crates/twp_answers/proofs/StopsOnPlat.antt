@@ -16,8 +16,8 @@ use Rattle.twp_answers.specs.steps.PassedFaults.{IsStopOfPlaces, IsStopOfText}
 use Rattle.twp_answers.specs.steps.Stops.{IfFailed}
 use Rattle.twp_answers.specs.declared.stop.Stop.{Stop}
 use Rattle.twp_answers.specs.declared.stop.Stop.TheVariants as stop
-use Rattle.twp_answers.specs.declared.verdict.RunFault.{RunFault}
-use Rattle.twp_answers.specs.declared.verdict.RunFault.TheVariants.{Memory, Read, Write}
+use Rattle.twp_answers.specs.declared.stop.RunFault.{RunFault}
+use Rattle.twp_answers.specs.declared.stop.RunFault.TheVariants.{Memory, Read, Write}
 
 -- items that do not lie on the plat stop the run with their refusal
 pub stopped_by_places : (township : Designation) (d : List ℕ) (is : List Item) (fault : PlaceFault)

@@ -14,8 +14,8 @@ use Rattle.twp_grammar.specs.declared.item.Item.{Item}
 use Rattle.twp_resolve.specs.declared.place_fault.PlaceFault.{PlaceFault}
 use Rattle.twp_measure.specs.Areas.{Fraction, IsRounded, acres_text}
 use Rattle.twp_plat.specs.LandAreas.{IsLandArea}
-use Rattle.twp_answers.specs.declared.verdict.Verdict.{Verdict}
-use Rattle.twp_answers.specs.declared.verdict.Verdict.TheVariants.{Accepted, Refused, TractRefused}
+use Rattle.twp_answers.specs.declared.stop.Verdict.{Verdict}
+use Rattle.twp_answers.specs.declared.stop.Verdict.TheVariants.{Accepted, Refused, TractRefused}
 use Rattle.twp_notes.specs.NotesFaults as notes_faults
 use Rattle.twp_plat.specs.PlatFaults as plat_faults
 use Rattle.twp_read.specs.TextFaults as text_faults

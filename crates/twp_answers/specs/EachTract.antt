@@ -4,7 +4,7 @@ use Rattle.std.specs.Prelude.{◌≡◌, ◌≢◌, ℕ, ◌≤◌, ◌<◌, Lis
 use Rattle.twp_grid.specs.Townships.{Designation}
 use Rattle.twp_notes.specs.Records.{Fields, record_at, record_numbered, records_of}
 use Rattle.twp_plat.specs.Plats.{TownshipPlat}
-use Rattle.twp_plat.specs.declared.account.Account.TheVariants.{Exact}
+use Rattle.twp_plat.specs.declared.land_area.Account.TheVariants.{Exact}
 use Rattle.twp_answers.specs.OnPlats.{HasAcresOn}
 use Rattle.twp_answers.specs.Tracts.{TRACTS_LIMIT, TRACTS_MOST, tracts_heading, tract_records}
 use Rattle.twp_answers.specs.Tracts.{name_in, description_in, IsTractRecord}

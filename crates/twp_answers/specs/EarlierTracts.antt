@@ -10,21 +10,21 @@ use Rattle.twp_answers.specs.Answers.{Describe, IsNoDescription}
 use Rattle.twp_answers.specs.Names.{has_name}
 use Rattle.twp_answers.specs.Tracts.{name_in, description_in, IsTractRecord, AreTracts, IsLandOfTracts}
 use Rattle.twp_answers.specs.declared.earlier_tracts.EarlierTracts.{EarlierTracts}
-use Rattle.twp_answers.specs.declared.names.Names.{Names}
+use Rattle.twp_answers.specs.declared.names.NamesSoFar.{NamesSoFar}
 use Rattle.twp_answers.specs.declared.tract_fault.TractFault.{TractFault}
 use Rattle.twp_answers.specs.declared.tract_fault.TractFault.TheVariants as fault
 
 -- the tracts so far: their names, and all their places
-pub record Earlier : Type 0 where
-  pub names : Names
+pub record TractsSoFar : Type 0 where
+  pub names : NamesSoFar
   pub places : ℕ → ℕ → ℕ → Bool
 
 -- these parts of the tracts so far, given the places of their land
-abbrev pub earlier_of : {L : Type 0} → (L → ℕ → ℕ → ℕ → Bool) → EarlierTracts L → Earlier
+abbrev pub earlier_of : {L : Type 0} → (L → ℕ → ℕ → ℕ → Bool) → EarlierTracts L → TractsSoFar
 earlier_of places tracts = record { names = tracts.names; places = places tracts.land }
 
 -- these are the names and the places of the first records, up to this number, which are tracts
-pub record AreEarlier (township : Designation) (rows : List Fields) (count : ℕ) (earlier : Earlier)
+pub record AreEarlier (township : Designation) (rows : List Fields) (count : ℕ) (earlier : TractsSoFar)
     : Type 0 where
   pub tracts : AreTracts township rows count
   pub named : (index : ℕ) → index < count
@@ -35,7 +35,7 @@ pub record AreEarlier (township : Designation) (rows : List Fields) (count : ℕ
   pub whole : HasWholeLots PLACE_DIGITS earlier.places
 
 -- The record is a tract's with a new name, which was added, and its description names this land.
-pub record ReadsTract (township : Designation) (fields : Fields) (old new : Earlier)
+pub record ReadsTract (township : Designation) (fields : Fields) (old new : TractsSoFar)
     (more : ℕ → ℕ → ℕ → Bool) : Type 0 where
   pub is_record : IsTractRecord fields
   pub is_new : has_name old.names (name_in fields) ≡ false
@@ -46,32 +46,32 @@ pub record ReadsTract (township : Designation) (fields : Fields) (old new : Earl
   pub whole : HasWholeLots PLACE_DIGITS more
 
 -- this land, which shares no place with the tracts so far, was added
-pub record AddsTract (old new : Earlier) (more : ℕ → ℕ → ℕ → Bool) : Type 0 where
+pub record AddsTract (old new : TractsSoFar) (more : ℕ → ℕ → ℕ → Bool) : Type 0 where
   pub names_are : new.names ≡ old.names
   pub apart : ¬ SharePlace old.places more
   pub places_are : new.places ≡ union old.places more
 
 -- the tracts so far grew by the tract of the record, which has this land
-pub record TakesLand (township : Designation) (fields : Fields) (old new : Earlier)
+pub record TakesLand (township : Designation) (fields : Fields) (old new : TractsSoFar)
     (more : ℕ → ℕ → ℕ → Bool) : Type 0 where
-  pub read : Earlier
+  pub read : TractsSoFar
   pub reads : ReadsTract township fields old read more
   pub adds : AddsTract read new more
 
 -- the record's land contains a place of the tracts so far
-pub record OverlapsEarlierLand (township : Designation) (fields : Fields) (earlier : Earlier)
+pub record OverlapsEarlierLand (township : Designation) (fields : Fields) (earlier : TractsSoFar)
     : Type 0 where
   pub more : ℕ → ℕ → ℕ → Bool
   pub land : Describe township (description_in fields) more
   pub shared : SharePlace earlier.places more
 
 -- the record is a tract's, with a name that no tract so far has
-abbrev pub IsNamedAnew : Fields → Earlier → Type 0
+abbrev pub IsNamedAnew : Fields → TractsSoFar → Type 0
 IsNamedAnew fields earlier =
     IsTractRecord fields × (has_name earlier.names (name_in fields) ≡ false)
 
 -- the numbered record is no tract: this is why, and no earlier reason applies
-abbrev pub IsUnread : Designation → Fields → Earlier → ℕ → TractFault → Type 0
+abbrev pub IsUnread : Designation → Fields → TractsSoFar → ℕ → TractFault → Type 0
 IsUnread township fields earlier number (fault.TractRow at_) =
     (at_ ≡ number) × ¬ IsTractRecord fields
 IsUnread township fields earlier number (fault.NameRepeated at_) =
@@ -83,7 +83,7 @@ IsUnread township fields earlier number fault.Memory = ⊤
 IsUnread township fields earlier number other = ⊥
 
 -- it is no tract, or one that overlaps a tract so far
-abbrev pub IsTractRefused : Designation → Fields → Earlier → ℕ → TractFault → Type 0
+abbrev pub IsTractRefused : Designation → Fields → TractsSoFar → ℕ → TractFault → Type 0
 IsTractRefused township fields earlier number (fault.TractsOverlap at_) =
     (at_ ≡ number) × IsNamedAnew fields earlier × OverlapsEarlierLand township fields earlier
 IsTractRefused township fields earlier number other = IsUnread township fields earlier number other

@@ -1,14 +1,14 @@
 -- Laws over the answers of the runs.
 use Rattle.std.specs.Prelude.{◌≡◌, ℕ, List, Bool}
 use Rattle.twp_plat.specs.Plats.{TownshipPlat}
-use Rattle.twp_plat.specs.declared.account.Account.{Account}
+use Rattle.twp_plat.specs.declared.land_area.Account.{Account}
 use Rattle.twp_answers.specs.Answers.{IsLandOnPlat}
 use Rattle.twp_answers.specs.Answers.{IsAcresAnswer}
 use Rattle.twp_answers.specs.AccountAnswers.{IsAcresAnswerBy}
 use Rattle.twp_answers.specs.PlatAnswers.{IsPlatAnswer}
 use Rattle.twp_answers.specs.NormalAnswers.{IsNormalAnswer}
 use Rattle.twp_answers.specs.Runs.{AnswerRelation}
-use Rattle.twp_answers.specs.declared.verdict.Verdict.{Verdict}
+use Rattle.twp_answers.specs.declared.stop.Verdict.{Verdict}
 
 -- the relation allows at most one answer and one verdict
 abbrev pub IsOne : AnswerRelation → Type 0

@@ -4,7 +4,7 @@ use Rattle.twp_grid.specs.declared.refusal.Refusal.{Refusal}
 use Rattle.twp_read.specs.TextFaults.{TEXT_LIMIT, refusal}
 use Rattle.twp_answers.specs.Answers.{refusal_line}
 use Rattle.twp_answers.specs.NormalAnswers.{IsNormalAnswer}
-use Rattle.twp_answers.specs.declared.verdict.Verdict.TheVariants.{Accepted, Refused}
+use Rattle.twp_answers.specs.declared.stop.Verdict.TheVariants.{Accepted, Refused}
 
 -- the canonical text of a description, if it is no longer than descriptions can be, is its own
 -- canonical text

@@ -7,7 +7,7 @@ use Rattle.twp_grid.specs.Townships.{Designation}
 use Rattle.twp_grid.specs.Lands.{HasWholeLots}
 use Rattle.twp_plat.specs.Plats.{TownshipPlat}
 use Rattle.twp_plat.specs.PlatAccounts.{IsAreaBy}
-use Rattle.twp_plat.specs.declared.account.Account.{Account}
+use Rattle.twp_plat.specs.declared.land_area.Account.{Account}
 use Rattle.twp_answers.specs.Answers.{Describe}
 use Rattle.twp_answers.specs.OnPlats.{StopsOn}
 use Rattle.twp_answers.specs.declared.stop.Stop.{Stop}

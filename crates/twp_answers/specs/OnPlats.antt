@@ -7,13 +7,13 @@ use Rattle.twp_grid.specs.Townships.{Designation}
 use Rattle.twp_plat.specs.Plats.{TownshipPlat}
 use Rattle.twp_plat.specs.PlatAccounts.{IsAreaBy}
 use Rattle.twp_plat.specs.PlatFigures.{PlatFigures, AreFigures}
-use Rattle.twp_plat.specs.declared.account.Account.{Account}
+use Rattle.twp_plat.specs.declared.land_area.Account.{Account}
 use Rattle.twp_spell.specs.CanonicalText.{IsCanonicalText}
 use Rattle.twp_answers.specs.Answers.{Describe, IsNoDescription}
 use Rattle.twp_answers.specs.PlatAnswers.{plat_text}
 use Rattle.twp_answers.specs.declared.stop.Stop.{Stop}
 use Rattle.twp_answers.specs.declared.stop.Stop.TheVariants as stop
-use Rattle.twp_answers.specs.declared.verdict.RunFault.TheVariants as run
+use Rattle.twp_answers.specs.declared.stop.RunFault.TheVariants as run
 
 -- the bytes describe land on the plat, and this is its area by the account
 pub record HasAreaOn (plat : TownshipPlat) (description : List ℕ) (account : Account)

@@ -41,8 +41,8 @@ pub record IsListed (first second : ℕ) (overlaps : List TractOverlap) : Type 0
   pub between : (default : TractOverlap) → IsBetween first second (slice_index_or overlaps index default)
 
 -- overlaps are in the order of their later tracts, and then of their earlier ones
-abbrev pub ComesBefore : TractOverlap → TractOverlap → Type 0
-ComesBefore one other =
+abbrev pub IsOverlapBefore : TractOverlap → TractOverlap → Type 0
+IsOverlapBefore one other =
     (one.second < other.second) ⊎ ((one.second ≡ other.second) × (one.first < other.first))
 
 -- The overlaps are those of any two tracts of the list that overlap, once each, in their order.
@@ -53,4 +53,4 @@ pub record AreOverlaps (plat : TownshipPlat) (rows : List Fields) (overlaps : Li
       → AreOverlapping plat.township (record_at rows first) (record_at rows second)
       → IsListed first second overlaps
   pub order : (index later : ℕ) (default : TractOverlap) → index < later → later < length overlaps
-      → ComesBefore (slice_index_or overlaps index default) (slice_index_or overlaps later default)
+      → IsOverlapBefore (slice_index_or overlaps index default) (slice_index_or overlaps later default)

@@ -7,8 +7,8 @@ use Rattle.twp_grid.specs.Townships.{line_feed}
 use Rattle.twp_plat.specs.Plats.{TownshipPlat}
 use Rattle.twp_plat.specs.PlatFigures.{PlatFigures, AreFigures}
 use Rattle.twp_answers.specs.Answers.{AnswersRefusal, ArePlatted, IsNoPlat}
-use Rattle.twp_answers.specs.declared.verdict.Verdict.{Verdict}
-use Rattle.twp_answers.specs.declared.verdict.Verdict.TheVariants.{Accepted, Refused, TractRefused}
+use Rattle.twp_answers.specs.declared.stop.Verdict.{Verdict}
+use Rattle.twp_answers.specs.declared.stop.Verdict.TheVariants.{Accepted, Refused, TractRefused}
 
 -- the texts of the numbers from 1 on, one after another
 unfoldable pub texts_to : ℕ → (ℕ → List ℕ) → List ℕ

@@ -9,8 +9,8 @@ use Rattle.twp_answers.specs.Answers.{ArePlatted, IsNoPlat}
 use Rattle.twp_answers.specs.Uses.{Use}
 use Rattle.twp_answers.specs.declared.stop.Stop.{Stop}
 use Rattle.twp_answers.specs.declared.stop.Stop.TheVariants as stop
-use Rattle.twp_answers.specs.declared.verdict.RunFault.{RunFault}
-use Rattle.twp_answers.specs.declared.verdict.RunFault.TheVariants.{Read, Write, Memory}
+use Rattle.twp_answers.specs.declared.stop.RunFault.{RunFault}
+use Rattle.twp_answers.specs.declared.stop.RunFault.TheVariants.{Read, Write, Memory}
 
 -- the stop is not a refusal, or its refusal has this property
 abbrev pub IfRefused : Stop → (Refusal → Type 0) → Type 0

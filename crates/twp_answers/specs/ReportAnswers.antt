@@ -13,8 +13,8 @@ use Rattle.twp_answers.specs.Tracts.{name_in, description_in, tract_records}
 use Rattle.twp_answers.specs.Tracts.{IsTractList, IsLandOfTracts}
 use Rattle.twp_answers.specs.TractFaults.{IsFirstTractFault, verdict_of}
 use Rattle.twp_answers.specs.declared.tract_fault.TractFault.{TractFault}
-use Rattle.twp_answers.specs.declared.verdict.Verdict.{Verdict}
-use Rattle.twp_answers.specs.declared.verdict.Verdict.TheVariants.{Accepted, Refused, TractRefused}
+use Rattle.twp_answers.specs.declared.stop.Verdict.{Verdict}
+use Rattle.twp_answers.specs.declared.stop.Verdict.TheVariants.{Accepted, Refused, TractRefused}
 
 -- the line of a tract, such as `tract A: 39.18 acres`
 abbrev pub tract_line : List ℕ → ℕ → List ℕ

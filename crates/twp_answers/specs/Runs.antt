@@ -7,9 +7,9 @@ use Rattle.twp_notes.specs.FieldNotes.{NOTES_MOST}
 use Rattle.twp_grid.specs.Devices.{TakesFirst}
 use Rattle.twp_answers.specs.Answers.{MakePlat}
 use Rattle.twp_answers.specs.Uses.{Use}
-use Rattle.twp_answers.specs.declared.verdict.Verdict.{Verdict}
-use Rattle.twp_answers.specs.declared.verdict.RunFault.{RunFault}
-use Rattle.twp_answers.specs.declared.verdict.RunFault.TheVariants.{Read, Write, Memory}
+use Rattle.twp_answers.specs.declared.stop.Verdict.{Verdict}
+use Rattle.twp_answers.specs.declared.stop.RunFault.{RunFault}
+use Rattle.twp_answers.specs.declared.stop.RunFault.TheVariants.{Read, Write, Memory}
 
 -- an answer and its verdict
 abbrev pub AnswerRelation : Type 1

@@ -8,8 +8,8 @@ use Rattle.twp_notes.specs.Records.{Fields, record_at, record_numbered, records_
 use Rattle.twp_answers.specs.Answers.{IsNoDescription}
 use Rattle.twp_answers.specs.Tracts.{TRACTS_LIMIT, TRACTS_MOST, tracts_heading, tract_records}
 use Rattle.twp_answers.specs.Tracts.{name_in, description_in, IsTractRecord, Overlap}
-use Rattle.twp_answers.specs.declared.verdict.Verdict.{Verdict}
-use Rattle.twp_answers.specs.declared.verdict.Verdict.TheVariants.{Refused, TractRefused}
+use Rattle.twp_answers.specs.declared.stop.Verdict.{Verdict}
+use Rattle.twp_answers.specs.declared.stop.Verdict.TheVariants.{Refused, TractRefused}
 use Rattle.twp_answers.specs.declared.tract_fault.TractFault.{TractFault}
 use Rattle.twp_answers.specs.declared.tract_fault.TractFault.TheVariants as fault
 

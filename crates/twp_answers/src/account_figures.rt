@@ -2,7 +2,7 @@
 ghost use Rattle.std.specs.Prelude.{◌≡◌, ◌≤◌, [], length, OnOk, IfOk, IfErr};
 ghost use Rattle.std.specs.List.{flat_map};
 ghost use Rattle.csv.specs.Records.{fields_of};
-ghost use Rattle.twp_notes.specs.Records.{records_left, IsReading};
+ghost use Rattle.twp_notes.specs.Records.{records_left, IsBetweenRecords};
 ghost use Rattle.twp_answers.specs.Tracts.{TRACTS_MOST, IsTractRecord};
 ghost use Rattle.twp_answers.specs.Tracts.{name_in, tract_records};
 ghost use Rattle.twp_answers.specs.ReportAnswers.{IsAccountOf};
@@ -96,7 +96,7 @@ fn take_figures<L: Land>(
     row: &mut ByteRecord,
     account: &mut RunningAccount<L>,
 ) -> Result<Vec<TractFigure>, TractFault>
-    requires reading { IsReading records.old }
+    requires reading { IsBetweenRecords records.old }
     requires empty { IsTallyOf plat.now (records_left records.old) 0 (tally_of L.places account.old) }
     requires no_text { account.old.text.items ≡ [] }
     ensures taken { OnOk result (IsTallyOf plat.now (records_left records.old)

@@ -1,14 +1,14 @@
 //! The answer to each tract of a list, whatever is wrong with the others.
 ghost use Rattle.std.specs.Prelude.{◌≡◌, ◌≤◌, ◌∷◌, length, IfOk, IfErr, MatchOption};
 ghost use Rattle.csv.specs.Records.{fields_of};
-ghost use Rattle.twp_notes.specs.Records.{records_left, IsReading};
+ghost use Rattle.twp_notes.specs.Records.{records_left, IsBetweenRecords};
 ghost use Rattle.twp_answers.specs.EachTract.{AreAnswersTo, IsListFault, IsListOfRecords};
 ghost use Rattle.twp_answers.specs.Tracts.{TRACTS_LIMIT, TRACTS_MOST, name_in, tract_records};
 ghost use Rattle.twp_answers.specs.Tracts.{tracts_heading};
 ghost use Rattle.twp_answers.specs.Tracts.{IsTractName};
 ghost use Rattle.twp_answers.specs.steps.EachTaking.{AnswersLand, HasNoHeadingIn, StopsTaking, TakesName, TakesRecord};
 
-use crate::names::Names;
+use crate::names::NamesSoFar;
 use crate::on_plat::acres_on;
 use crate::stop::Stop;
 use crate::tract::{NAME_MOST, is_heading, name_of, tract_of};
@@ -62,9 +62,9 @@ pub(crate) fn pass_heading(
     records: &mut Records<'_>,
     row: &mut ByteRecord,
 ) -> Result<(), TractFault>
-    requires { IsReading records.old }
+    requires { IsBetweenRecords records.old }
     ensures passed { IfOk result (λ _. (records_left records.old
-        ≡ tracts_heading ∷ records_left records.new) × IsReading records.new) }
+        ≡ tracts_heading ∷ records_left records.new) × IsBetweenRecords records.new) }
     ensures fault { IfErr result (HasNoHeadingIn (records_left records.old)) }
 {
     if !records.read(row)? {
@@ -83,14 +83,14 @@ fn take_records(
     records: &mut Records<'_>,
     row: &mut ByteRecord,
 ) -> Result<Vec<TractAnswer>, TractFault>
-    requires { IsReading records.old }
+    requires { IsBetweenRecords records.old }
     ensures few { IfOk result (λ _. length (records_left records.old) ≤ TRACTS_MOST) }
     ensures answers { IfOk result (λ answers. AreAnswersTo plat.now (records_left records.old)
         (length (records_left records.old)) answers.items) }
     ensures fault { IfErr result (StopsTaking (records_left records.old)) }
 {
     let mut answers = Vec::new(alloc);
-    let mut names = Names::new(alloc);
+    let mut names = NamesSoFar::new(alloc);
     let mut taken = 0;
     'records: while records.read(row)? {
         if taken == TRACTS_MOST {
@@ -110,7 +110,7 @@ fn answer_to(
     plat: &Plat,
     row: &ByteRecord,
     number: u32,
-    names: &mut Names,
+    names: &mut NamesSoFar,
 ) -> Result<TractAnswer, AllocError>
     ensures { IfOk result (λ given.
         TakesRecord plat.now (fields_of row.now) number names.old names.new given) }
@@ -135,7 +135,7 @@ fn answer_to(
 
 /// Adds the name of a record, if a tract can have it, and returns whether no earlier record has it.
 #[tactic(auto, using(crate::proofs::EachFacts::name_taken, crate::proofs::EachFacts::no_name_taken))]
-fn add_name(row: &ByteRecord, names: &mut Names) -> Result<bool, AllocError>
+fn add_name(row: &ByteRecord, names: &mut NamesSoFar) -> Result<bool, AllocError>
     ensures { IfOk result (λ is_new. TakesName (fields_of row.now) names.old names.new is_new) }
 {
     let Some(name) = name_of_record(row) else {

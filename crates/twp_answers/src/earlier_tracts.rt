@@ -7,8 +7,8 @@ ghost use Rattle.twp_answers.specs.EarlierTracts.{earlier_of, AddsTract, IsUnrea
 ghost use Rattle.twp_answers.specs.Names.{has_name};
 ghost use Rattle.twp_answers.specs.Tracts.{description_in, name_in};
 
-use crate::names::Names;
-use crate::stages::describe_into;
+use crate::names::NamesSoFar;
+use crate::on_plat::describe_into;
 use crate::stop::Stop;
 use crate::tract::tract_of;
 use crate::tract_fault::TractFault;
@@ -22,7 +22,7 @@ use twp_read::Clarity;
 /// so that no new one has to be made.
 #[derive(Drop)]
 pub struct EarlierTracts<L> {
-    pub(crate) names: Names,
+    pub(crate) names: NamesSoFar,
     /// All land in the tracts so far.
     pub land: L,
     /// The land of the tract that was read last.
@@ -38,7 +38,7 @@ impl<L: Land> EarlierTracts<L> {
         ensures land { L.places result.land ≡ no_places }
     {
         EarlierTracts {
-            names: Names::new(alloc),
+            names: NamesSoFar::new(alloc),
             land: L::empty(),
             tract: L::empty(),
             clarity: Clarity::Clear,

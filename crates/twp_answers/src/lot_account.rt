@@ -3,7 +3,7 @@ ghost use Rattle.std.specs.Prelude.{◌≡◌, ◌≤◌, length, OnOk, IfOk, If
 ghost use Rattle.csv.specs.Records.{fields_of};
 ghost use Rattle.twp_grid.specs.Places.{PLACE_DIGITS};
 ghost use Rattle.twp_plat.specs.LotAreas.{HasFigures};
-ghost use Rattle.twp_notes.specs.Records.{records_left, IsReading};
+ghost use Rattle.twp_notes.specs.Records.{records_left, IsBetweenRecords};
 ghost use Rattle.twp_answers.specs.EarlierTracts.{earlier_of, AreEarlier};
 ghost use Rattle.twp_answers.specs.Tracts.{TRACTS_MOST};
 ghost use Rattle.twp_answers.specs.LotAccounts.{AreFiguresByLots, IsAccountByLots};
@@ -75,7 +75,7 @@ fn take_tracts<L: Land>(
     row: &mut ByteRecord,
     earlier: &mut EarlierTracts<L>,
 ) -> Result<Vec<TractFigure>, TractFault>
-    requires reading { IsReading records.old }
+    requires reading { IsBetweenRecords records.old }
     requires empty { AreEarlier table.now.township (records_left records.old) 0
         (earlier_of L.places earlier.old) }
     ensures earlier { OnOk result (AreEarlier table.now.township (records_left records.old)

@@ -10,26 +10,26 @@ use std::collections::HashSet;
 
 /// The names of the tracts so far, by their bytes. A name needs no allocation of its own.
 #[derive(Drop)]
-pub struct Names {
+pub struct NamesSoFar {
     names: HashSet<ArrayString<NAME_MOST>>,
 }
 
-impl Names {
+impl NamesSoFar {
     /// No names.
-    pub fn new(alloc: Global) -> Names
+    pub fn new(alloc: Global) -> NamesSoFar
         ensures { (name : List ℕ) → has_name result name ≡ false }
     {
-        Names {
+        NamesSoFar {
             names: HashSet::new(alloc),
         }
     }
 
     /// No names, with room for a number of them.
-    pub fn with_room(alloc: Global, room: usize) -> Result<Names, AllocError>
+    pub fn with_room(alloc: Global, room: usize) -> Result<NamesSoFar, AllocError>
         ensures { IfOk result (λ names. (name : List ℕ) → has_name names name ≡ false) }
     {
         let names = HashSet::with_capacity(alloc, room)?;
-        Ok(Names { names })
+        Ok(NamesSoFar { names })
     }
 
     /// Adds a name, and returns whether it is new.

@@ -1,18 +1,32 @@
-//! The answers on an existing plat: each is for a plat and the bytes of a description.
-ghost use Rattle.std.specs.Prelude.{◌≡◌, ℕ, List, IfOk, IfErr};
+//! The answers on an existing plat: each is for a plat and the bytes of a description. Also the land that
+//! a description names, as a value that the caller keeps, and its acres; and the stages of an answer: the
+//! plat of field notes, and the land of a description.
+ghost use Rattle.std.specs.Prelude.{◌≡◌, ℕ, List, IfOk, IfErr, ◌++◌, OnOk, false};
 ghost use Rattle.twp_grid.specs.Townships.{Designation};
 ghost use Rattle.twp_read.specs.Doubts.{HasNoDoubtfulPlace};
 ghost use Rattle.twp_read.specs.TextFaults.{IsReadAs};
 ghost use Rattle.twp_answers.specs.OnPlats.{AnswersOn, HasAcresOn, HasAreaOn, HasNormalOn, StopsOn};
 ghost use Rattle.twp_answers.specs.ReportAnswers.{IsAccountOf};
 ghost use Rattle.twp_answers.specs.TractFaults.{AnswersFault};
+ghost use Rattle.twp_answers.specs.Answers.{acres_line};
+ghost use Rattle.twp_grid.specs.Places.{PLACE_DIGITS};
+ghost use Rattle.twp_grid.specs.Lands.{HasWholeLots};
+ghost use Rattle.twp_answers.specs.OnLands.{IsLandOf, AnswersIn, AreAcresOf};
+ghost use Rattle.twp_notes.specs.FieldNotes.{NOTES_MOST};
+ghost use Rattle.twp_answers.specs.PlatReading.{IsPlatted, ReadsUpTo};
+ghost use Rattle.twp_answers.specs.Uses.{Reads, used};
+ghost use Rattle.twp_answers.specs.steps.Stops.{IfFailed, IsLandOrRefusal};
+ghost use Rattle.twp_answers.specs.declared.stop.Stop.TheVariants.{Failed};
+ghost use Rattle.twp_answers.specs.declared.stop.RunFault.{RunFault};
 
 use crate::stop::Stop;
 use crate::tract_fault::{TRACTS_LIMIT, TractFault};
 use crate::tracts::account_of;
-use std::alloc::Global;
-use twp_land::{Land, Lanes, OneLanes};
-use twp_measure::Area;
+use std::alloc::{AllocError, Global};
+use twp_grid::{Source, Township};
+use twp_land::{Land, Lanes, OneLanes, PlaceSet};
+use twp_measure::{Area, write_acres};
+use twp_notes::Notes;
 use twp_plat::{Account, Plat, area_by};
 use twp_read::{Clarity, Description, Noted};
 use twp_resolve::{names_one_section, resolve_if_room, resolve_into};
@@ -139,4 +153,63 @@ pub fn account_on(alloc: Global, plat: &Plat, list: &[u8]) -> Result<Vec<u8>, Tr
     }
     let account = account_of(alloc, plat, list)?;
     Ok(account.text)
+}
+
+/// Appends the line of a number of hundredths of an acre, such as `40.45 acres`.
+pub fn write_acres_line(hundredths: u64, text: &mut Vec<u8>) -> Result<(), AllocError>
+    ensures ok { OnOk result (text.new.items ≡ text.old.items ++ acres_line hundredths) }
+{
+    write_acres(hundredths, text)?;
+    text.extend_from_slice(b" acres\n")
+}
+
+/// The land that a description names in a township, or why there is none, as for `acres_on`. It
+/// depends on the township's designation and the lots of townships alone, so there is no plat.
+pub fn land_of(alloc: Global, township: Township, description: &[u8]) -> Result<Lanes, Stop>
+    ensures { AnswersIn (λ land. IsLandOf township description.now
+        (⟦<Lanes as PlaceSet>⟧.places land)) township description.now result }
+{
+    let mut land = Lanes::empty();
+    describe_into(alloc, &mut land, township, description)?;
+    Ok(land)
+}
+
+/// The hundredths of an acre of land on a plat, by an account.
+pub fn acres_of<L: Land>(plat: &Plat, land: &L, account: Account) -> u64
+    requires whole { HasWholeLots PLACE_DIGITS (L.places land.now) }
+    ensures { AreAcresOf plat.now account (L.places land.now) result }
+{
+    area_by(account, plat, land).hundredths()
+}
+
+/// The plat of the notes from a source, or the first fault of the notes or of their lines.
+/// `Stop::Failed` means that the source failed, or that memory ran out.
+pub fn read_plat<N: Source>(alloc: Global, notes: &mut N) -> Result<Plat, Stop>
+    requires { N.has_failed notes.old ≡ false }
+    ensures reads { ReadsUpTo Failed NOTES_MOST
+        (used (N.remaining notes.old) (N.remaining notes.new) (N.has_failed notes.new))
+        result }
+    ensures plat { Reads (N.remaining notes.old) (λ n. IsPlatted n result) }
+{
+    let notes = Notes::read(alloc, notes)?;
+    Ok(Plat::protract(&notes)?)
+}
+
+/// Sets `land` to that of a description, on the plat of a township, and returns whether a place in the
+/// description may be doubtful. The previous content of `land` is lost.
+pub fn describe_into<L: Land>(
+    alloc: Global,
+    land: &mut L,
+    township: Township,
+    text: &[u8],
+) -> Result<Clarity, Stop>
+    ensures memory { IfErr result (λ stop. IfFailed stop (λ fault. fault ≡ RunFault.Memory)) }
+    ensures land { IsLandOrRefusal (λ _. L.places land.new) township text.now result }
+    ensures whole_lots { OnOk result (HasWholeLots PLACE_DIGITS (L.places land.new)) }
+    ensures clear { IfOk result (λ clarity.
+        clarity ≡ Clarity.Clear → HasNoDoubtfulPlace text.now) }
+{
+    let noted = Description::read_noting(alloc, text)?;
+    resolve_into(land, &noted.description, township)?;
+    Ok(noted.clarity)
 }

@@ -1,19 +1,19 @@
 //! Which tracts of a list overlap.
 ghost use Rattle.std.specs.Prelude.{◌≡◌, ◌+◌, ◌≤◌, ◌<◌, List, length, IfOk, IfErr, OnOk, MatchOption};
 ghost use Rattle.csv.specs.Records.{fields_of};
-ghost use Rattle.twp_notes.specs.Records.{Fields, record_at, records_left, IsReading};
+ghost use Rattle.twp_notes.specs.Records.{Fields, record_at, records_left, IsBetweenRecords};
 ghost use Rattle.twp_answers.specs.EachTract.{IsListFault, IsListOfRecords};
 ghost use Rattle.twp_answers.specs.Overlaps.{AreOverlapping, AreOverlaps, IsSharedAcres};
 ghost use Rattle.twp_answers.specs.Tracts.{TRACTS_LIMIT, TRACTS_MOST, tract_records};
 ghost use Rattle.twp_answers.specs.steps.EachTaking.{StopsTaking};
-ghost use Rattle.twp_answers.specs.steps.OverlapTaking.{AreFoundTo, AreLandsTo, IsLandOf};
+ghost use Rattle.twp_answers.specs.steps.OverlapTaking.{AreFoundTo, AreLandsTo, IsLandOfRecord};
 ghost use Rattle.twp_answers.specs.steps.OverlapTaking.{HasSharedPlaces, HasWholeLand, NotesOverlap};
 ghost use Rattle.std.specs.List.{All};
 ghost use Rattle.twp_grid.specs.Places.{PLACE_DIGITS};
 ghost use Rattle.twp_grid.specs.Lands.{HasWholeLots, SharePlace};
 
 use crate::each_tract::pass_heading;
-use crate::stages::describe_into;
+use crate::on_plat::describe_into;
 use crate::stop::Stop;
 use crate::tract::tract_of;
 use crate::tract_fault::{TRACTS_LIMIT, TRACTS_MOST, TractFault};
@@ -62,7 +62,7 @@ fn take_lands<L: Land>(
     records: &mut Records<'_>,
     row: &mut ByteRecord,
 ) -> Result<Vec<Option<L>>, TractFault>
-    requires { IsReading records.old }
+    requires { IsBetweenRecords records.old }
     ensures few { IfOk result (λ _. length (records_left records.old) ≤ TRACTS_MOST) }
     ensures lands { IfOk result (λ lands. AreLandsTo L.places township (records_left records.old)
         (length (records_left records.old)) lands.items) }
@@ -89,7 +89,7 @@ fn land_of_record<L: Land>(
     township: Township,
     row: &ByteRecord,
 ) -> Result<Option<L>, AllocError>
-    ensures { IfOk result (IsLandOf L.places township (fields_of row.now)) }
+    ensures { IfOk result (IsLandOfRecord L.places township (fields_of row.now)) }
 {
     let Some(tract) = tract_of(row) else {
         return Ok(None);
@@ -169,8 +169,8 @@ fn note_overlap(
 fn shared_hundredths<L: Land>(plat: &Plat, one: &Option<L>, other: &Option<L>) -> Option<u64>
     requires one { HasWholeLand L.places one.now }
     requires other { HasWholeLand L.places other.now }
-    ensures { (fields more : Fields) → IsLandOf L.places plat.now.township fields one.now
-        → IsLandOf L.places plat.now.township more other.now
+    ensures { (fields more : Fields) → IsLandOfRecord L.places plat.now.township fields one.now
+        → IsLandOfRecord L.places plat.now.township more other.now
         → MatchOption result (¬ AreOverlapping plat.now.township fields more)
         (IsSharedAcres plat.now fields more) }
 {

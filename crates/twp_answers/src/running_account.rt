@@ -10,8 +10,8 @@ ghost use Rattle.twp_answers.specs.Tracts.{name_in};
 ghost use Rattle.twp_answers.specs.ReportAnswers.{tract_line};
 ghost use Rattle.twp_answers.specs.steps.TractTaking.{tally_of, AreTotals, TakesTract};
 
-use crate::acres_line::write_acres_line;
 use crate::earlier_tracts::EarlierTracts;
+use crate::on_plat::write_acres_line;
 use crate::totals::Totals;
 use crate::tract_fault::TractFault;
 use csv::ByteRecord;

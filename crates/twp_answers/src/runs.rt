@@ -8,8 +8,6 @@ mod plat_answer;
 mod ran;
 mod report_answer;
 mod running;
-mod texts;
-mod writing;
 
 pub use ran::Ran;
 pub use running::{

@@ -2,7 +2,7 @@
 ghost use Rattle.std.specs.Prelude.{◌≡◌, ◌+◌, ◌≤◌};
 ghost use Rattle.twp_measure.specs.Areas.{MOST_UNITS};
 
-use crate::acres_line::write_acres_line;
+use crate::on_plat::write_acres_line;
 use std::alloc::AllocError;
 use twp_measure::Area;
 use twp_plat::Plat;

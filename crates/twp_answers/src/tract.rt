@@ -6,7 +6,7 @@ ghost use Rattle.twp_answers.specs.Tracts.{tracts_heading, name_in, description_
 ghost use Rattle.twp_answers.specs.Tracts.{IsPrinted, IsTractName, IsTractRecord};
 
 use csv::ByteRecord;
-use twp_notes::field;
+use twp_notes::{field, is_text};
 
 /// The number of fields in each record.
 const FIELDS: usize = 2;
@@ -30,13 +30,6 @@ pub fn is_heading(row: &ByteRecord) -> bool
         return false;
     }
     is_text(field(row, 1), "description")
-}
-
-/// Whether the bytes are exactly this text.
-fn is_text(bytes: &[u8], text: &str) -> bool
-    ensures { IsTrue result ↔ (bytes.now ≡ text.now) }
-{
-    bytes == text.as_bytes()
 }
 
 /// The tract of a record, if the record is a tract's.

@@ -1,4 +1,4 @@
-use crate::verdict::Verdict;
+use crate::stop::Verdict;
 use std::alloc::{AllocError, AllocFailed};
 use thiserror::Error;
 use twp_grid::Refusal;

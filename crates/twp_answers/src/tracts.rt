@@ -1,13 +1,13 @@
 //! The list of tracts, added to an account record by record.
 ghost use Rattle.std.specs.Prelude.{◌≡◌, ◌≤◌, length, OnOk, IfOk, IfErr};
-ghost use Rattle.twp_notes.specs.Records.{records_left, IsReading};
+ghost use Rattle.twp_notes.specs.Records.{records_left, IsBetweenRecords};
 ghost use Rattle.twp_answers.specs.ClearTracts.{AreClearTracts, IsClearList};
 ghost use Rattle.twp_answers.specs.Tracts.{TRACTS_LIMIT, TRACTS_MOST};
 ghost use Rattle.twp_answers.specs.ReportAnswers.{IsAccountOf};
 ghost use Rattle.twp_answers.specs.TractFaults.{AnswersFault};
 ghost use Rattle.twp_answers.specs.steps.TractTaking.{tally_of, IsTallyOf, AreTractsRefused};
 
-use crate::names::Names;
+use crate::names::NamesSoFar;
 use crate::running_account::RunningAccount;
 use crate::tract::is_heading;
 use crate::tract_fault::{TRACTS_MOST, TractFault};
@@ -53,7 +53,7 @@ pub fn account_of(alloc: Global, plat: &Plat, bytes: &[u8]) -> Result<ListAccoun
     }
     let mut account: RunningAccount<Lanes> = RunningAccount::new(alloc, plat);
     // Set after the account is in its final place, because moving it would copy its lands.
-    account.tracts.names = Names::with_room(
+    account.tracts.names = NamesSoFar::with_room(
         alloc,
         min(bytes.len() / BYTES_TO_NAME, TRACTS_MOST as usize),
     )?;
@@ -74,7 +74,7 @@ fn take_tracts<L: Land>(
     row: &mut ByteRecord,
     account: &mut RunningAccount<L>,
 ) -> Result<(), TractFault>
-    requires reading { IsReading records.old }
+    requires reading { IsBetweenRecords records.old }
     requires empty { IsTallyOf plat.now (records_left records.old) 0 (tally_of L.places account.old) }
     ensures taken { OnOk result (IsTallyOf plat.now (records_left records.old)
         (length (records_left records.old)) (tally_of L.places account.new)) }

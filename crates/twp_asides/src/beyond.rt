@@ -14,11 +14,12 @@ pub struct Beyond {
     pub reason: &'static str,
 }
 
-/// The phrases, in the order of trying at a word: the word, the pieces before it, the pieces after it, and the
-/// reason; a row without one says that the word is no such phrase there. A column of pieces lists what each may
-/// be, and has `;` between one piece and the next; periods and commas between the pieces are passed over.
-/// `<n>` is a number, and `<t>` one above 36, since the numbers up to 36 are those of sections; `<w>` is a word,
-/// `<side>` the letter of a side, `<lot>` the word for lots, and `<land>` what a part of a section begins with.
+/// The phrases, in the order of trying at a word: the word, the pieces before it, the pieces after it, and
+/// the reason; a row without one says that the word is no such phrase there. A column of pieces lists what
+/// each may be, and has `;` between one piece and the next; periods and commas between the pieces are
+/// passed over. `<n>` is a number, and `<t>` one above 36, since the numbers up to 36 are those of
+/// sections; `<w>` is a word, `<side>` the letter of a side, `<lot>` the word for lots, and `<land>` what a
+/// part of a section begins with.
 const PHRASES: &str = "
 thence|||it is described by metes and bounds
 m||&;b|it is described by metes and bounds
@@ -112,7 +113,7 @@ pub fn beyond_of(alloc: Global, text: &[u8]) -> Result<Option<Beyond>, AllocErro
 }
 
 /// Whether two headings name different townships.
-fn are_different(first: Option<Heading>, heading: Option<Heading>) -> bool {
+fn are_different(first: Option<NamedTownship>, heading: Option<NamedTownship>) -> bool {
     match (first, heading) {
         (Some(first), Some(heading)) => first != heading,
         _ => false,
@@ -121,7 +122,7 @@ fn are_different(first: Option<Heading>, heading: Option<Heading>) -> bool {
 
 /// A township as a heading names it.
 #[derive(Clone, Copy, PartialEq, Eq)]
-struct Heading {
+struct NamedTownship {
     township: u16,
     north_south: Kind,
     range: u16,
@@ -265,7 +266,7 @@ impl<'a> Pieces<'a> {
     }
 
     /// The township that a heading at an index names.
-    fn heading_at(&self, index: usize) -> Option<Heading> {
+    fn heading_at(&self, index: usize) -> Option<NamedTownship> {
         if !matches!(self.kind(index), Kind::T) {
             return None;
         }
@@ -277,7 +278,7 @@ impl<'a> Pieces<'a> {
         if !matches!(self.kind(r), Kind::R) {
             return None;
         }
-        Some(Heading {
+        Some(NamedTownship {
             township: self.number(township)?,
             north_south: self.kind(north_south),
             range: self.number(range)?,

@@ -1,7 +1,7 @@
 //! How a text is cut into pieces.
 
 use crate::pieces::plus;
-use std::alloc::{AllocError, Global};
+use std::alloc::AllocError;
 use twp_grammar::{Kind, Lexeme, Tokens, after_white, lexeme_at};
 use twp_words::{is_damaged_corner, is_damaged_half, is_same, size_of_character};
 
@@ -19,7 +19,7 @@ pub(crate) struct Piece {
     /// How many bytes it has, up to the most that a `u16` can hold: words of another length are ruled out by
     /// it.
     pub(crate) size: u16,
-    pub(crate) gap: Gap,
+    pub(crate) gap: Spacing,
     /// Its first byte, in lowercase: most words with as many bytes are ruled out by it.
     pub(crate) first: u8,
     pub(crate) start: usize,
@@ -28,7 +28,7 @@ pub(crate) struct Piece {
 
 /// What is between a piece and the one before it, or before the first piece.
 #[derive(Clone, Copy, PartialEq, Eq)]
-pub(crate) enum Gap {
+pub(crate) enum Spacing {
     Nothing,
     /// White space that ends neither a line nor a cell.
     Space,
@@ -36,26 +36,26 @@ pub(crate) enum Gap {
     Break,
 }
 
-impl Gap {
+impl Spacing {
     /// The gap from one place up to another. Most are a space, or nothing.
     #[inline(always)]
-    fn between(text: &[u8], from: usize, to: usize) -> Gap {
+    fn between(text: &[u8], from: usize, to: usize) -> Spacing {
         if from == to {
-            return Gap::Nothing;
+            return Spacing::Nothing;
         }
         if plus(from, 1) == to && text.get(from) == Some(&b' ') {
-            return Gap::Space;
+            return Spacing::Space;
         }
-        Gap::of_white(text.get(from..to).unwrap_or(b""))
+        Spacing::of_white(text.get(from..to).unwrap_or(b""))
     }
 
     /// The gap that some white space is.
     #[inline(never)]
-    fn of_white(white: &[u8]) -> Gap {
+    fn of_white(white: &[u8]) -> Spacing {
         if has_break(white) {
-            Gap::Break
+            Spacing::Break
         } else {
-            Gap::Space
+            Spacing::Space
         }
     }
 }
@@ -63,7 +63,7 @@ impl Gap {
 impl Piece {
     /// A piece of so many bytes at a place of a text in lowercase, after a gap.
     #[inline(always)]
-    fn at(lower: &[u8], start: usize, size: usize, kind: Kind, gap: Gap) -> Piece {
+    fn at(lower: &[u8], start: usize, size: usize, kind: Kind, gap: Spacing) -> Piece {
         Piece {
             kind,
             size: u16::try_from(size).unwrap_or(u16::MAX),
@@ -94,10 +94,10 @@ pub(crate) fn has_break(white: &[u8]) -> bool {
     false
 }
 
-/// The pieces of a text, whose letters are given in lowercase, too.
-pub(crate) fn cut(alloc: Global, text: &[u8], lower: &[u8]) -> Result<Vec<Piece>, AllocError> {
+/// Adds the pieces of a text, whose letters are given in lowercase, too.
+pub(crate) fn cut(text: &[u8], lower: &[u8], list: &mut Vec<Piece>) -> Result<(), AllocError> {
     // Most pieces have two bytes or more.
-    let mut list = Vec::with_capacity(alloc, plus(text.len() / 2, PIECES_FIRST))?;
+    list.reserve(plus(text.len() / 2, PIECES_FIRST))?;
     let mut at: usize = 0;
     let mut end: usize = 0;
     let mut unknown: usize = 0;
@@ -112,7 +112,7 @@ pub(crate) fn cut(alloc: Global, text: &[u8], lower: &[u8]) -> Result<Vec<Piece>
         if start < end {
             continue;
         }
-        let gap = Gap::between(text, end, start);
+        let gap = Spacing::between(text, end, start);
         let mut whole = size;
         if matches!(kind, Kind::BadByte) {
             unknown = plus(unknown, 1);
@@ -126,12 +126,12 @@ pub(crate) fn cut(alloc: Global, text: &[u8], lower: &[u8]) -> Result<Vec<Piece>
         let piece = Piece::at(lower, start, whole, kind, gap);
         end = piece.end;
         if may_be_two(kind, text, start, size) {
-            push_token(&mut list, text, lower, piece)?;
+            push_token(list, text, lower, piece)?;
         } else {
             list.push(piece)?;
         }
     }
-    Ok(list)
+    Ok(())
 }
 
 /// How many bytes the character at a place of a text has.
@@ -173,7 +173,13 @@ fn push_token(
     let (front, rest) = bytes.split_at(first.min(bytes.len()));
     let middle = plus(start, front.len());
     list.push(Piece::at(lower, start, front.len(), kind_of(front, kind), gap))?;
-    list.push(Piece::at(lower, middle, rest.len(), kind_of(rest, kind), Gap::Nothing))?;
+    list.push(Piece::at(
+        lower,
+        middle,
+        rest.len(),
+        kind_of(rest, kind),
+        Spacing::Nothing,
+    ))?;
     Ok(())
 }
 

@@ -68,15 +68,8 @@ impl<'a> Pieces<'a> {
             }
             let word = self.lower(place);
             let after = plus(place, 1);
-            let is_name = is_same(word, b"aliq")
-                || is_same(word, b"aliquot")
-                || is_same(word, b"aliquots")
-                || ((is_same(word, b"subdivision") || is_same(word, b"subdiv"))
-                    && self.is_before_column(after))
-                || ((is_same(word, b"legal") || is_same(word, b"lgl")) && index > 0)
-                || (is_same(word, b"qtr") && self.is_after_section(place));
-            let is_before_colon = is_field(word) && self.is(after, b":");
-            if !is_name && !is_before_colon {
+            let is_before_colon = self.is(after, b":") && is_field(word);
+            if !is_before_colon && !self.names_column_of_parts(index, place) {
                 break;
             }
             next = if self.is(after, b":") {
@@ -90,6 +83,24 @@ impl<'a> Pieces<'a> {
             end = Some(next);
         }
         end
+    }
+
+    /// Whether the word at an index is the name of the column for aliquot parts, in a label that begins at
+    /// `label`. Its first letter rules out most words.
+    fn names_column_of_parts(&self, label: usize, index: usize) -> bool {
+        let word = self.lower(index);
+        match word {
+            [b'a', ..] => {
+                is_same(word, b"aliq") || is_same(word, b"aliquot") || is_same(word, b"aliquots")
+            }
+            [b's', ..] => {
+                (is_same(word, b"subdivision") || is_same(word, b"subdiv"))
+                    && self.is_before_column(plus(index, 1))
+            }
+            [b'l', ..] => label > 0 && (is_same(word, b"legal") || is_same(word, b"lgl")),
+            [b'q', ..] => is_same(word, b"qtr") && self.is_after_section(index),
+            _ => false,
+        }
     }
 
     /// Whether `Aliquot Part:` is at an index.

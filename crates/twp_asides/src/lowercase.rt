@@ -1,14 +1,15 @@
 //! A text with its letters in lowercase.
 
-use std::alloc::{AllocError, Global};
+use std::alloc::AllocError;
 use std::simd::prelude::*;
 
 /// How many bytes are put in lowercase together.
 const LANES: usize = 16;
 
-/// A copy of a text with its letters in lowercase. std's own function takes one byte after another.
-pub(crate) fn in_lowercase(alloc: Global, text: &[u8]) -> Result<Vec<u8>, AllocError> {
-    let mut lower = Vec::from_slice(alloc, text)?;
+/// Copies a text, with its letters in lowercase, into an empty vector. std's own function takes one byte
+/// after another.
+pub(crate) fn copy_in_lowercase(text: &[u8], lower: &mut Vec<u8>) -> Result<(), AllocError> {
+    lower.extend_from_slice(text)?;
     let (groups, rest) = lower.as_mut_slice().as_chunks_mut::<LANES>();
     for group in groups {
         *group = lanes_in_lowercase(u8x16::from_array(*group)).to_array();
@@ -16,7 +17,7 @@ pub(crate) fn in_lowercase(alloc: Global, text: &[u8]) -> Result<Vec<u8>, AllocE
     for byte in rest {
         *byte = byte.to_ascii_lowercase();
     }
-    Ok(lower)
+    Ok(())
 }
 
 /// Bytes with their letters in lowercase. In ASCII the two cases differ in one bit.

@@ -1,7 +1,7 @@
 //! The pieces of a text: its tokens, and the characters that begin none.
 
-use crate::cutting::{Gap, Piece, cut, has_break};
-use crate::lowercase::in_lowercase;
+use crate::cutting::{Piece, Spacing, cut, has_break};
+use crate::lowercase::copy_in_lowercase;
 use std::alloc::{AllocError, Global};
 use twp_grammar::Kind;
 
@@ -22,9 +22,24 @@ pub fn plus(index: usize, count: usize) -> usize {
 impl<'a> Pieces<'a> {
     /// The pieces of a text.
     pub fn of(alloc: Global, text: &'a [u8]) -> Result<Pieces<'a>, AllocError> {
-        let lower = in_lowercase(alloc, text)?;
-        let list = cut(alloc, text, lower.as_slice())?;
-        Ok(Pieces { text, lower, list })
+        let mut pieces = Pieces::uncut(alloc, text);
+        pieces.cut()?;
+        Ok(pieces)
+    }
+
+    /// The pieces of a text that isn't cut yet: none.
+    pub fn uncut(alloc: Global, text: &'a [u8]) -> Pieces<'a> {
+        Pieces {
+            text,
+            lower: Vec::new(alloc),
+            list: Vec::new(alloc),
+        }
+    }
+
+    /// Cuts the text. A second call would add all pieces again.
+    pub fn cut(&mut self) -> Result<(), AllocError> {
+        copy_in_lowercase(self.text, &mut self.lower)?;
+        cut(self.text, self.lower.as_slice(), &mut self.list)
     }
 
     /// How many there are.
@@ -111,7 +126,7 @@ impl<'a> Pieces<'a> {
     /// Whether nothing separates the piece at an index from the one before it.
     pub fn is_joined(&self, index: usize) -> bool {
         match self.list.get(index) {
-            Some(piece) => piece.gap == Gap::Nothing && index > 0,
+            Some(piece) => piece.gap == Spacing::Nothing && index > 0,
             None => false,
         }
     }
@@ -151,7 +166,7 @@ impl<'a> Pieces<'a> {
     /// Whether a line feed or a tab is between the piece at an index and the one before it.
     pub fn has_break_before(&self, index: usize) -> bool {
         match self.list.get(index) {
-            Some(piece) => piece.gap == Gap::Break,
+            Some(piece) => piece.gap == Spacing::Break,
             None => has_break(self.text.get(self.end_before(index)..).unwrap_or(b"")),
         }
     }

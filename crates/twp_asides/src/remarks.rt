@@ -74,7 +74,8 @@ pub fn end_of_remark(pieces: &Pieces<'_>, index: usize, position: Position) -> O
     None
 }
 
-/// Whether a remark from an index may end at a place: more would follow the end of the text, or its last word.
+/// Whether a remark from an index may end at a place: more would follow the end of the text, or its last
+/// word.
 fn may_end_remark(pieces: &Pieces<'_>, index: usize, place: usize, position: Position) -> bool {
     let last = place.saturating_sub(1);
     match position {

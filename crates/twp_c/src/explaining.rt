@@ -4,7 +4,7 @@ ghost use Rattle.twp_calls.specs.Answers.{ACCEPTED, IsRefused};
 ghost use Rattle.twp_calls.specs.Calls.{IsVersionCall};
 ghost use Rattle.twp_calls.specs.Explanations.{ExplainsNotes, ExplainsDescription, ExplainsList};
 ghost use Rattle.twp_calls.specs.Explanations.{HasNoText};
-ghost use Rattle.twp_calls.specs.ShownTexts.{IsShownNote, IsShownText};
+ghost use Rattle.twp_calls.specs.ShownTexts.{IsShownNote, IsTextShown};
 
 use std::alloc::Global;
 use twp_calls::{TownshipAnswer, TownshipPlat};
@@ -20,7 +20,7 @@ pub extern "C" fn township_explain_notes(
     ensures answer { ExplainsNotes notes.now text.old text.new result }
     ensures kept { ¬ IsRefused result.verdict → text.new ≡ text.old }
     ensures shows { IsRefused result.verdict
-        → IsShownText notes.now name.now text.old text.new result }
+        → IsTextShown notes.now name.now text.old text.new result }
 {
     twp_calls::township_explain_notes(alloc, notes, name, text)
 }
@@ -38,7 +38,7 @@ pub extern "C" fn township_explain_description(
     ensures answer { ExplainsDescription plat.now description.now text.old text.new result }
     ensures kept { HasNoText result.verdict → text.new ≡ text.old }
     ensures shows { IsRefused result.verdict
-        → IsShownText description.now name.now text.old text.new result }
+        → IsTextShown description.now name.now text.old text.new result }
     ensures notes { result.verdict ≡ ACCEPTED → 0 < result.length
         → IsShownNote description.now name.now text.old text.new result }
 {
@@ -58,7 +58,7 @@ pub extern "C" fn township_explain_list(
     ensures answer { ExplainsList plat.now list.now text.old text.new result }
     ensures kept { HasNoText result.verdict → text.new ≡ text.old }
     ensures shows { IsRefused result.verdict
-        → IsShownText list.now name.now text.old text.new result }
+        → IsTextShown list.now name.now text.old text.new result }
     ensures notes { result.verdict ≡ ACCEPTED → 0 < result.length
         → IsShownNote list.now name.now text.old text.new result }
 {

@@ -1,5 +1,5 @@
-//! The library that C calls, and what is built on C: `include/township.h` documents each call. Each hands
-//! what it is given to the call of the same name in `twp_calls`.
+//! The exports of the library for C and for the languages that call C. `include/township.h` documents
+//! them. Each passes its arguments to the function of the same name in `twp_calls`.
 #![tactic(auto)]
 
 mod explaining;

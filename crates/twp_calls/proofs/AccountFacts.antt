@@ -16,7 +16,7 @@ use Rattle.twp_answers.specs.AccountFigures.{line_of as figure_line}
 use Rattle.twp_answers.proofs.TractLands.{earlier_or_last}
 use Rattle.twp_answers.specs.ReportAnswers.{IsAccountOf, total_lines}
 use Rattle.twp_answers.specs.declared.account_figures.TractFigure.{TractFigure}
-use Rattle.twp_calls.specs.Accounts.{HasAccount, HasEndedName, account_text, line_of, tract_count}
+use Rattle.twp_calls.specs.Accounts.{AnswersAccount, HasEndedName, account_text, line_of, tract_count}
 use Rattle.twp_calls.specs.Answers.{ACCEPTED, NO_ROOM, bare, with_text}
 use Rattle.twp_calls.specs.declared.account_call.TownshipTotals.{TownshipTotals}
 use Rattle.twp_calls.specs.declared.account_call.TownshipTract.{TownshipTract}
@@ -118,7 +118,7 @@ pub all_put : (plat : TownshipPlat) (list : List ℕ) (figures : List TractFigur
     → answer ≡ with_text (bare ACCEPTED) count
     → IsAccountOf plat list (flat_map figure_line figures ++ total_lines made.total made.remaining)
     → length figures ≡ tract_count list
-    → HasAccount plat list old new totals answer
+    → AnswersAccount plat list old new totals answer
 all_put plat list figures made old new totals answer count all room long lines ended kept same is account
     counted =
     let number : count ≡ tract_count list = all ∙ counted in
@@ -144,7 +144,7 @@ pub too_many : (plat : TownshipPlat) (list : List ℕ) (figures : List TractFigu
     → count ≡ length figures → length old < count → answer ≡ with_text (bare NO_ROOM) count
     → IsAccountOf plat list (flat_map figure_line figures ++ total_lines made.total made.remaining)
     → length figures ≡ tract_count list
-    → HasAccount plat list old old totals answer
+    → AnswersAccount plat list old old totals answer
 too_many plat list figures made old totals answer count all short is account counted =
     let number : count ≡ tract_count list = all ∙ counted in
     inr (record {

@@ -9,12 +9,12 @@ use Rattle.twp_answers.specs.Answers.{IsNoPlat, IsNoDescription}
 use Rattle.twp_answers.specs.OnPlats.{StopsOn}
 use Rattle.twp_answers.specs.PlatReading.{IfRefused}
 use Rattle.twp_answers.specs.TractFaults.{AnswersFault, IsFirstTractFault, verdict_of}
-use Rattle.twp_answers.specs.declared.verdict.Verdict.{Verdict}
+use Rattle.twp_answers.specs.declared.stop.Verdict.{Verdict}
 use Rattle.twp_answers.specs.declared.stop.Stop.{Stop}
 use Rattle.twp_answers.specs.declared.stop.Stop.TheVariants as stop
 use Rattle.twp_answers.specs.declared.tract_fault.TractFault.{TractFault}
 use Rattle.twp_calls.specs.Answers.{stopped, answer_of_fault, answer_of_verdict}
-use Rattle.twp_plat.specs.declared.account.Account.{Account}
+use Rattle.twp_plat.specs.declared.land_area.Account.{Account}
 use Rattle.twp_calls.specs.Answers.{ACCEPTED, bare}
 use Rattle.twp_calls.specs.Calls.{Answers, IsRefusedFor, IsRefusedList, refused_for, no_memory}
 use Rattle.twp_calls.specs.Calls.{OfDescription, OfDescriptionBy, account_of, on_plat, by_account}

@@ -9,7 +9,7 @@ use Rattle.twp_plat.specs.Plats.{TownshipPlat}
 use Rattle.twp_answers.specs.EachTract.{AreAnswersTo, IsAnswerAt, IsListFault, IsListOfRecords}
 use Rattle.twp_answers.specs.TractFaults.{verdict_of}
 use Rattle.twp_answers.specs.Tracts.{TRACTS_LIMIT, TRACTS_MOST, tract_records}
-use Rattle.twp_answers.specs.declared.verdict.Verdict.TheVariants.{Refused}
+use Rattle.twp_answers.specs.declared.stop.Verdict.TheVariants.{Refused}
 use Rattle.twp_grid.specs.declared.refusal.Refusal.{Refusal}
 use Rattle.std.specs.Prelude.{Some}
 use Rattle.twp_answers.specs.declared.each_tract.TractAnswer.{TractAnswer}
@@ -19,7 +19,7 @@ use Rattle.twp_calls.specs.Accounts.{tract_count}
 use Rattle.twp_calls.specs.Answers.{ACCEPTED, NO_ROOM, answer_of_fault, answer_of_verdict, bare, with_text}
 use Rattle.twp_calls.specs.Calls.{Answers, no_memory, refused_for}
 use Rattle.twp_calls.specs.EachCalls.{HasAnswers, IsAnsweredAt, IsWholeListRefused}
-use Rattle.twp_calls.specs.steps.Plain.{ArePlainTo, IsPlain}
+use Rattle.twp_calls.specs.steps.Plain.{ArePlainTo, IsPlainAnswer}
 use Rattle.twp_calls.specs.declared.answer.TownshipAnswer.{TownshipAnswer}
 use Rattle.twp_calls.specs.declared.each_call.TownshipTractAnswer.{TownshipTractAnswer}
 
@@ -27,7 +27,7 @@ use Rattle.twp_calls.specs.declared.each_call.TownshipTractAnswer.{TownshipTract
 pub plain_next : (count : ℕ) (given : List TractAnswer) (one : TractAnswer)
     (answers : List TownshipTractAnswer)
     (plain : TownshipTractAnswer) → count < length answers → count < length given
-    → one ≡ get_or given count one → IsPlain one plain → ArePlainTo count given answers
+    → one ≡ get_or given count one → IsPlainAnswer one plain → ArePlainTo count given answers
     → ArePlainTo (count + 1) given (set answers count plain)
 plain_next count given one answers plain room within is here before index default other below =
     elim (earlier_or_last count index below) [
@@ -50,7 +50,7 @@ kept_next count old answers answer before k d above =
 
 -- what is answered to a tract is answered as plain data
 answered : (plat : TownshipPlat) (rows : List Fields) (index : ℕ) (given : TractAnswer)
-    (plain : TownshipTractAnswer) → IsAnswerAt plat rows index given → IsPlain given plain
+    (plain : TownshipTractAnswer) → IsAnswerAt plat rows index given → IsPlainAnswer given plain
     → IsAnsweredAt plat rows index plain
 answered plat rows index given plain is same = record {
   own = given.answer;

@@ -4,14 +4,14 @@ use Rattle.std.proofs.Common.{Result, Ok, Err, IfOk, IfSome, ap, refl, sym, ◌�
 use Rattle.std.proofs.Common.{length-append}
 use Rattle.twp_diagnose.specs.ShownMessages.{ShowsIn}
 use Rattle.twp_diagnose.specs.declared.explanation.Explanation.{Explanation}
-use Rattle.twp_diagnose.specs.declared.given.Given.{Given}
+use Rattle.twp_diagnose.specs.declared.location.Given.{Given}
 use Rattle.twp_explain.specs.ShownNotes.{ShowsNoteIn}
 use Rattle.twp_explain.specs.declared.note.Note.{Note}
 use Rattle.twp_calls.specs.Answers.{ACCEPTED, IsRefused, bare}
 use Rattle.twp_calls.specs.Calls.{Answers, IsPut, no_memory, put, not_put}
 use Rattle.twp_calls.specs.ExplanationParts.{ArePartsOf, ArePartsOfNote}
 use Rattle.twp_calls.specs.Explanations.{PutsExplanation, column_at, line_at}
-use Rattle.twp_calls.specs.ShownTexts.{IsNotedInParts, IsShownInParts, IsShownNote, IsShownText, IsTextGiven}
+use Rattle.twp_calls.specs.ShownTexts.{IsNotedInParts, IsShownInParts, IsShownNote, IsTextShown, IsTextGiven}
 use Rattle.twp_calls.specs.steps.Noting.{AnswersNoted, NotesInParts, PutsInParts, put_in_parts, no_parts}
 use Rattle.twp_calls.specs.declared.answer.TownshipAnswer.{TownshipAnswer}
 use Rattle.twp_calls.specs.declared.explanation.TownshipExplanation.{TownshipExplanation}
@@ -72,7 +72,7 @@ parts_not_accepted refused explanation old new parts answer is (no_parts none) a
 
 -- the text alone
 pub shown_text : (bytes name old new : List ℕ) (parts : TownshipExplanation) (answer : TownshipAnswer)
-    → IsShownInParts bytes name old new parts answer → IsShownText bytes name old new answer
+    → IsShownInParts bytes name old new parts answer → IsTextShown bytes name old new answer
 shown_text bytes name old new parts answer it = record {
   file = it.file;
   file_is = it.file_is;

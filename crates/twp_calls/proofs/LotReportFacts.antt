@@ -7,7 +7,7 @@ use Rattle.twp_notes.specs.Records.{Fields, record_at}
 use Rattle.twp_answers.specs.TractFaults.{verdict_of}
 use Rattle.twp_answers.specs.declared.account_figures.TractFigure.{TractFigure}
 use Rattle.twp_answers.specs.declared.tract_fault.TractFault.{TractFault}
-use Rattle.twp_answers.specs.declared.verdict.Verdict.{Verdict}
+use Rattle.twp_answers.specs.declared.stop.Verdict.{Verdict}
 use Rattle.twp_answers.specs.LotAccounts.{AreFiguresByLots, AreTractAcres, IsAccountByLots}
 use Rattle.twp_answers.specs.LotAccounts.{IsFigureByLots}
 use Rattle.twp_answers.specs.LotTractFaults.{AnswersFaultByLots, IsFirstFaultByLots}

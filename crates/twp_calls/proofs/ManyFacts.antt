@@ -6,13 +6,13 @@ use Rattle.std.specs.Prelude.{slice_range}
 use Rattle.std.specs.List.{PartBy, SameFrom}
 use Rattle.std.proofs.lemmas.List.{get_or-set_same, get_or-set_other}
 use Rattle.twp_plat.specs.Plats.{TownshipPlat}
-use Rattle.twp_plat.specs.declared.account.Account.{Account}
+use Rattle.twp_plat.specs.declared.land_area.Account.{Account}
 use Rattle.twp_answers.specs.OnPlats.{HasAcresOn, StopsOn}
 use Rattle.twp_answers.specs.declared.stop.Stop.{Stop}
 use Rattle.twp_calls.specs.Answers.{ACCEPTED, NO_ROOM, accepted_acres, bare, stopped, with_text}
-use Rattle.twp_calls.specs.Calls.{HasAcres, accepted, account_of, by_account, on_plat}
+use Rattle.twp_calls.specs.Calls.{AnswersAcres, accepted, account_of, by_account, on_plat}
 use Rattle.twp_calls.specs.GivenPlats.{IsGivenPlat}
-use Rattle.twp_calls.specs.ManyAnswers.{AreAnswersTo, IsAnswerBetween, IsManyAnswer, IsRange, answered}
+use Rattle.twp_calls.specs.ManyAnswers.{AreManyAnswersTo, IsAnswerBetween, IsManyAnswer, IsRange, answered}
 use Rattle.twp_calls.specs.ManyAnswers.{inside, no_room}
 use Rattle.twp_calls.specs.declared.answer.TownshipAnswer.{TownshipAnswer}
 use Rattle.twp_calls.specs.declared.plat.TownshipPlat.{TownshipPlat as GivenPlat}
@@ -22,9 +22,9 @@ use Rattle.twp_calls.proofs.CallFacts.{stops_by}
 pub answers_next : (given : GivenPlat) (bytes offsets : List ℕ) (code count : ℕ)
     (answers : List TownshipAnswer)
     (answer : TownshipAnswer) → count < length answers
-    → AreAnswersTo given bytes offsets code count answers
+    → AreManyAnswersTo given bytes offsets code count answers
     → IsAnswerBetween given bytes (get_or offsets count 0) (get_or offsets (count + 1) 0) code answer
-    → AreAnswersTo given bytes offsets code (count + 1) (set answers count answer)
+    → AreManyAnswersTo given bytes offsets code (count + 1) (set answers count answer)
 answers_next given bytes offsets code count answers answer within before here =
     below_more _ _
     (λ i below.
@@ -63,7 +63,7 @@ stopped_between given plat bytes description start end code account stopping ans
     stops answer_is =
     inside range
     (stops_by given plat is code account account_is
-    (λ plat account. HasAcres plat (slice_range bytes start end) account) (slice_range bytes start end)
+    (λ plat account. AnswersAcres plat (slice_range bytes start end) account) (slice_range bytes start end)
     stopping
     answer answer_is (subst (λ d. StopsOn plat.township d stopping) same stops))
 
@@ -86,13 +86,13 @@ too_many given bytes offsets code old answer count same short is =
 -- each description is answered
 pub all_answered : (given : GivenPlat) (bytes offsets : List ℕ) (code : ℕ) (old new : List TownshipAnswer)
     (answer : TownshipAnswer) (count : ℕ) → count ≡ length offsets - 1 → count ≤ length old
-    → length new ≡ length old → AreAnswersTo given bytes offsets code count new → SameFrom old new count
+    → length new ≡ length old → AreManyAnswersTo given bytes offsets code count new → SameFrom old new count
     → answer ≡ with_text (bare ACCEPTED) count → IsManyAnswer given bytes offsets code old new answer
 all_answered given bytes offsets code old new answer count same room long answers kept is =
     answered (record {
       room = subst (λ n. n ≤ length old) same room;
       length_is = long;
-      answers = subst (λ n. AreAnswersTo given bytes offsets code n new) same answers;
+      answers = subst (λ n. AreManyAnswersTo given bytes offsets code n new) same answers;
       kept = subst (SameFrom old new) same kept;
       answer_is = subst (λ n. answer ≡ with_text (bare ACCEPTED) n) same is;
     })

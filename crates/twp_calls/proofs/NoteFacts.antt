@@ -3,10 +3,10 @@ use Rattle.std.proofs.Common.{◌≡◌, ℕ, ◌<◌, List, Option, Some, None,
 use Rattle.std.proofs.Common.{ap, inl, inr, arith}
 use Rattle.twp_measure.specs.Areas.{Fraction}
 use Rattle.twp_plat.specs.Plats.{TownshipPlat}
-use Rattle.twp_plat.specs.declared.account.Account.TheVariants.{Exact}
+use Rattle.twp_plat.specs.declared.land_area.Account.TheVariants.{Exact}
 use Rattle.twp_answers.specs.OnPlats.{HasAreaOn}
 use Rattle.twp_answers.specs.ReportAnswers.{IsAccountOf}
-use Rattle.twp_diagnose.specs.declared.given.Given.{Given}
+use Rattle.twp_diagnose.specs.declared.location.Given.{Given}
 use Rattle.twp_explain.specs.ShownNotes.{IsNoteOf, ShowsNoteIn}
 use Rattle.twp_explain.specs.declared.note.Note.{Note}
 use Rattle.twp_calls.specs.Answers.{ACCEPTED, IsRefused}

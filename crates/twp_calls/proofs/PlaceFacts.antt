@@ -21,7 +21,7 @@ use Rattle.twp_answers.proofs.OneAnswer.{one_description_refusal}
 use Rattle.twp_sentences.specs.ShownPlaces.{TOO_LARGE}
 use Rattle.twp_diagnose.specs.Spots.{MOST_BYTES, IsSpotIn}
 use Rattle.twp_diagnose.specs.declared.explanation.Explanation.{Explanation}
-use Rattle.twp_diagnose.specs.declared.given.Given.{Given}
+use Rattle.twp_diagnose.specs.declared.location.Given.{Given}
 use Rattle.twp_explain.specs.ExplainedPlaces.{IsSpotRefused, IsExplainedWhereRefused}
 use Rattle.twp_calls.specs.Answers.{refused}
 use Rattle.twp_calls.specs.Calls.{put, not_put}

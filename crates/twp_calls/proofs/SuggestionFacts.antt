@@ -8,15 +8,16 @@ use Rattle.std.proofs.lemmas.Slice.Zip.{AllZip-long}
 use Rattle.std.specs.List.{AllZip}
 use Rattle.twp_rules.specs.declared.change.Change.{Change}
 use Rattle.twp_suggest.specs.declared.reading.Reading.{Reading}
-use Rattle.twp_calls.specs.Suggestions.{IsChangeData, IsPiece, IsReadingData, IsSaid, Rooms, manner_of, none}
+use Rattle.twp_calls.specs.Suggestions.{IsChangeData, IsPiece, IsReadingData, IsReasonPut, Rooms, manner_of}
+use Rattle.twp_calls.specs.Suggestions.{none}
 use Rattle.twp_calls.specs.Suggestions.{one}
 use Rattle.twp_calls.specs.declared.suggestion.TownshipChange.{TownshipChange}
 use Rattle.twp_calls.specs.declared.suggestion.TownshipReading.{TownshipReading}
 use Rattle.twp_calls.specs.declared.suggestion.TownshipSuggestion.{TownshipSuggestion}
-use Rattle.twp_calls.specs.steps.Suggesting.{AreChangesAdded, AreDataOf, HasNoReadings, IsFound}
+use Rattle.twp_calls.specs.steps.Suggesting.{AreChangesAdded, AreDataOf, HasNoReadings, AreFoundReadings}
 use Rattle.twp_calls.specs.steps.Suggesting.{IsReadingAdded}
 use Rattle.twp_calls.specs.steps.Suggesting.{change_data, no_reason, shown, suggestion_of}
-use Rattle.twp_calls.specs.declared.suggesting.Found.{Found}
+use Rattle.twp_calls.specs.declared.suggesting.FoundReadings.{FoundReadings}
 use Rattle.twp_calls.specs.declared.suggesting.Reason.{Reason}
 use Rattle.twp_suggest.specs.Readings.{AreReadings}
 
@@ -231,7 +232,7 @@ next_reading text list i d old new within all added =
     (one_more_reading text (take i list) (get_or list i d) old new all added)
 
 -- there is nothing
-pub nothing_found : (found : Found) → found.readings.items ≡ [] → found.reason ≡ no_reason
+pub nothing_found : (found : FoundReadings) → found.readings.items ≡ [] → found.reason ≡ no_reason
     → HasNoReadings found
 nothing_found found empty is = record {
   empty = empty;
@@ -241,7 +242,7 @@ nothing_found found empty is = record {
 }
 
 -- there is only a reason
-pub reason_found : (found : Found) → found.readings.items ≡ [] → found.reason.at ≡ 0
+pub reason_found : (found : FoundReadings) → found.readings.items ≡ [] → found.reason.at ≡ 0
     → found.reason.length ≡ length found.bytes.items → HasNoReadings found
 reason_found found empty first long = record {
   empty = empty;
@@ -255,8 +256,8 @@ reason_found found empty first long = record {
 }
 
 -- there are no readings
-pub none_found : (text : List ℕ) (readings : List Reading) (found : Found) → AreReadings text readings
-    → readings ≡ [] → HasNoReadings found → IsFound text found
+pub none_found : (text : List ℕ) (readings : List Reading) (found : FoundReadings) → AreReadings text readings
+    → readings ≡ [] → HasNoReadings found → AreFoundReadings text found
 none_found text readings found are empty without = record {
   readings = record {
     readings = [];
@@ -280,10 +281,10 @@ empty_when [] is = refl
 empty_when (x ∷ list) is = absurd (omega arith)
 
 -- it is said how much was found
-pub said : (text : List ℕ) (found : Found) (suggestion : TownshipSuggestion)
-    → suggestion ≡ suggestion_of found → IsFound text found → IsSaid (shown found) suggestion
+pub said : (text : List ℕ) (found : FoundReadings) (suggestion : TownshipSuggestion)
+    → suggestion ≡ suggestion_of found → AreFoundReadings text found → IsReasonPut (shown found) suggestion
 said text found suggestion is in_text =
-    subst (IsSaid (shown found)) (sym is) (record {
+    subst (IsReasonPut (shown found)) (sym is) (record {
       sizes = record { readings = refl; changes = refl; bytes = refl };
       reason = in_text.reason;
     })

@@ -46,13 +46,13 @@ pub record HasNoRoom (plat : TownshipPlat) (list : List ℕ) (old : List Townshi
   pub answer_is : answer ≡ with_text (bare NO_ROOM) (tract_count list)
 
 -- the list has an account, whose figures were written, or for which there is no room
-abbrev pub HasAccount : TownshipPlat → List ℕ → List TownshipTract → List TownshipTract → TownshipTotals
+abbrev pub AnswersAccount : TownshipPlat → List ℕ → List TownshipTract → List TownshipTract → TownshipTotals
     → TownshipAnswer → Type 0
-HasAccount plat list old new totals answer =
+AnswersAccount plat list old new totals answer =
     AreFiguresPut plat list old new totals answer ⊎ HasNoRoom plat list old answer
 
 -- `township_account`: the figures of the account of the list
 abbrev pub IsAccountCall : GivenPlat → List ℕ → List TownshipTract → List TownshipTract → TownshipTotals
     → TownshipAnswer → Type 0
 IsAccountCall given list old new totals = OnPlat given (λ plat.
-    Answers (HasAccount plat list old new totals) (IsRefusedList plat list))
+    Answers (AnswersAccount plat list old new totals) (IsRefusedList plat list))

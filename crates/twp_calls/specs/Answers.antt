@@ -5,8 +5,8 @@ use Rattle.twp_answers.specs.declared.stop.Stop.{Stop}
 use Rattle.twp_answers.specs.declared.stop.Stop.TheVariants.{Refused, Failed}
 use Rattle.twp_answers.specs.TractFaults.{verdict_of}
 use Rattle.twp_answers.specs.declared.tract_fault.TractFault.{TractFault}
-use Rattle.twp_answers.specs.declared.verdict.Verdict.{Verdict}
-use Rattle.twp_answers.specs.declared.verdict.Verdict.TheVariants as verdict
+use Rattle.twp_answers.specs.declared.stop.Verdict.{Verdict}
+use Rattle.twp_answers.specs.declared.stop.Verdict.TheVariants as verdict
 use Rattle.twp_calls.specs.declared.answer.TownshipAnswer.{TownshipAnswer}
 
 -- the verdicts

@@ -4,13 +4,13 @@ use Rattle.std.specs.Prelude.{◌==◌, if◌then◌else◌, codes}
 use Rattle.twp_measure.specs.Areas.{Fraction}
 use Rattle.twp_grid.specs.declared.refusal.Refusal.{Refusal}
 use Rattle.twp_plat.specs.Plats.{TownshipPlat}
-use Rattle.twp_plat.specs.declared.account.Account.{Account}
-use Rattle.twp_plat.specs.declared.account.Account.TheVariants.{Exact, Plat}
+use Rattle.twp_plat.specs.declared.land_area.Account.{Account}
+use Rattle.twp_plat.specs.declared.land_area.Account.TheVariants.{Exact, Plat}
 use Rattle.twp_answers.specs.Answers.{ArePlatted, IsNoPlat, IsNoDescription}
 use Rattle.twp_answers.specs.OnPlats.{HasAcresOn, HasAreaOn, HasNormalOn, IsTextOfPlat}
 use Rattle.twp_answers.specs.ReportAnswers.{IsAccountOf}
 use Rattle.twp_answers.specs.TractFaults.{IsFirstTractFault, verdict_of}
-use Rattle.twp_answers.specs.declared.verdict.Verdict.{Verdict}
+use Rattle.twp_answers.specs.declared.stop.Verdict.{Verdict}
 use Rattle.twp_answers.specs.declared.tract_fault.TractFault.{TractFault}
 use Rattle.twp_calls.specs.Answers.{ACCEPTED, NO_PLAT, NO_ACCOUNT, NO_MEMORY, bare, accepted_acres}
 use Rattle.twp_calls.specs.Answers.{with_text, without_room, refused, verdict_answer}
@@ -76,7 +76,7 @@ abbrev pub IsReadCall : List ℕ → GivenPlat → TownshipAnswer → Type 0
 IsReadCall notes new = Answers (IsRead notes new) (IsRefusedFor (IsNoPlat notes))
 
 -- `township_acres`: the hundredths of an acre of the land described
-pub record HasAcres (plat : TownshipPlat) (description : List ℕ) (account : Account)
+pub record AnswersAcres (plat : TownshipPlat) (description : List ℕ) (account : Account)
     (answer : TownshipAnswer) : Type 0 where
   pub hundredths : ℕ
   pub has : HasAcresOn plat description account hundredths
@@ -96,7 +96,7 @@ OfDescriptionBy given description code Accepted = OnPlat given (λ plat. ByAccou
 
 abbrev pub IsAcresCall : GivenPlat → List ℕ → ℕ → TownshipAnswer → Type 0
 IsAcresCall given description code = OfDescriptionBy given description code (λ plat account.
-    HasAcres plat description account)
+    AnswersAcres plat description account)
 
 -- the parts of an area: its units in two words of 64 bits, and their denominator
 pub record IsFractionOf (parts : TownshipFraction) (area : Fraction) : Type 0 where

@@ -8,7 +8,7 @@ use Rattle.twp_answers.specs.EachTract.{IsListFault, IsListOfRecords, IsOfTract}
 use Rattle.twp_answers.specs.TractFaults.{verdict_of}
 use Rattle.twp_answers.specs.Tracts.{IsTractRecord, name_in, tract_records}
 use Rattle.twp_answers.specs.declared.tract_fault.TractFault.{TractFault}
-use Rattle.twp_answers.specs.declared.verdict.Verdict.{Verdict}
+use Rattle.twp_answers.specs.declared.stop.Verdict.{Verdict}
 use Rattle.twp_calls.specs.Accounts.{tract_count}
 use Rattle.twp_calls.specs.Answers.{ACCEPTED, NO_ROOM, accepted_acres, answer_of_fault, bare, verdict_answer}
 use Rattle.twp_calls.specs.Answers.{with_text}

@@ -2,7 +2,7 @@
 -- that it names; and where in the text its sentence, its excerpt, its hints, and the only reading of a
 -- refused description are.
 use Rattle.std.specs.Prelude.{◌≡◌, ℕ, ◌-◌, List, Option, Some, None, slice_range}
-use Rattle.twp_excerpt.specs.declared.message.Parts.{Parts}
+use Rattle.twp_excerpt.specs.declared.message.MessageParts.{MessageParts}
 use Rattle.twp_excerpt.specs.declared.spot.Span.{Span}
 use Rattle.twp_grammar.specs.Sentences.{IsReadAs}
 use Rattle.twp_grammar.specs.declared.item.Item.{Item}
@@ -59,7 +59,7 @@ abbrev pub size_of : Span → ℕ
 size_of span = span.end - span.start
 
 -- the parts as numbers
-abbrev pub numbers_of : Location → Option OtherPlace → Parts → Span → Span → TownshipExplanation
+abbrev pub numbers_of : Location → Option OtherPlace → MessageParts → Span → Span → TownshipExplanation
 numbers_of place other parts sentence repair = record {
   shown = shown_code place;
   has_other = other_code other;

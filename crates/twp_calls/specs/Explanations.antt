@@ -9,13 +9,13 @@ use Rattle.twp_grid.specs.Townships.{Designation}
 use Rattle.twp_grid.specs.declared.refusal.Refusal.{Refusal}
 use Rattle.twp_measure.specs.Areas.{Fraction}
 use Rattle.twp_plat.specs.Plats.{TownshipPlat}
-use Rattle.twp_plat.specs.declared.account.Account.TheVariants.{Exact}
+use Rattle.twp_plat.specs.declared.land_area.Account.TheVariants.{Exact}
 use Rattle.twp_answers.specs.Answers.{ArePlatted, IsNoPlat, IsNoDescription}
 use Rattle.twp_answers.specs.OnPlats.{HasAreaOn}
 use Rattle.twp_answers.specs.ReportAnswers.{IsAccountOf}
 use Rattle.twp_answers.specs.TractFaults.{IsFirstTractFault, refusal_of, verdict_of}
 use Rattle.twp_answers.specs.declared.tract_fault.TractFault.{TractFault}
-use Rattle.twp_answers.specs.declared.verdict.Verdict.{Verdict}
+use Rattle.twp_answers.specs.declared.stop.Verdict.{Verdict}
 use Rattle.twp_read.specs.Doubts.{HasNoDoubtfulPlace}
 use Rattle.twp_sentences.specs.ShownPlaces.{TOO_LARGE}
 use Rattle.twp_explain.specs.ShownNotes.{IsOfFirst}

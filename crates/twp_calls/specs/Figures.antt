@@ -38,10 +38,10 @@ pub record ShowsFigures (plat : TownshipPlat) (figures : TownshipPlatFigures) : 
   pub numbers : AreNumbersOf shown figures
 
 -- `township_figures`: the figures that the plat shows, which nothing refuses
-pub record HasFigures (plat : TownshipPlat) (new : TownshipPlatFigures) (answer : TownshipAnswer)
+pub record AnswersFigures (plat : TownshipPlat) (new : TownshipPlatFigures) (answer : TownshipAnswer)
     : Type 0 where
   pub shows : ShowsFigures plat new
   pub answer_is : answer ≡ bare ACCEPTED
 
 abbrev pub IsFiguresCall : GivenPlat → TownshipPlatFigures → TownshipAnswer → Type 0
-IsFiguresCall given new = OnPlat given (λ plat. HasFigures plat new)
+IsFiguresCall given new = OnPlat given (λ plat. AnswersFigures plat new)

@@ -50,7 +50,7 @@ AreFullAnswersTo given bytes offsets code count old new = (index : ℕ) → inde
     (slice_index_or old index default) (slice_index_or new index default)
 
 -- each description was answered, and nothing else was written
-pub record AreFull (given : GivenPlat) (bytes offsets : List ℕ) (code : ℕ)
+pub record AreFullAnswers (given : GivenPlat) (bytes offsets : List ℕ) (code : ℕ)
     (old new : List TownshipFullAnswer) (answer : TownshipAnswer) : Type 0 where
   pub room : count_between offsets ≤ length old
   pub length_is : length new ≡ length old
@@ -61,7 +61,7 @@ pub record AreFull (given : GivenPlat) (bytes offsets : List ℕ) (code : ℕ)
 -- `township_answer_many`: each description is answered, or there is less room than there are descriptions.
 pub data IsFullCall (given : GivenPlat) (bytes offsets : List ℕ) (code : ℕ)
     (old new : List TownshipFullAnswer) (answer : TownshipAnswer) : Type 0 where
-  answered : AreFull given bytes offsets code old new answer
+  answered : AreFullAnswers given bytes offsets code old new answer
       → IsFullCall given bytes offsets code old new answer
   no_room : length old < count_between offsets
       → answer ≡ with_text (bare NO_ROOM) (count_between offsets)

@@ -10,7 +10,7 @@ use Rattle.twp_land.specs.declared.comparing.Comparison.TheVariants.{Same, Conta
 use Rattle.twp_land.specs.declared.comparing.Comparison.TheVariants.{Overlaps, Disjoint}
 use Rattle.twp_plat.specs.Plats.{TownshipPlat}
 use Rattle.twp_plat.specs.PlatAccounts.{IsAreaBy}
-use Rattle.twp_plat.specs.declared.account.Account.{Account}
+use Rattle.twp_plat.specs.declared.land_area.Account.{Account}
 use Rattle.twp_spell.specs.CanonicalText.{IsCanonicalText}
 use Rattle.twp_answers.specs.Answers.{IsNoDescription}
 use Rattle.twp_answers.specs.OnLands.{IsLandOf, AreAcresOf}

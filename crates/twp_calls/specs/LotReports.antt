@@ -7,7 +7,7 @@ use Rattle.twp_answers.specs.TractFaults.{verdict_of}
 use Rattle.twp_answers.specs.Tracts.{IsTractList, name_in, tract_records}
 use Rattle.twp_answers.specs.declared.account_figures.TractFigure.{TractFigure}
 use Rattle.twp_answers.specs.declared.tract_fault.TractFault.{TractFault}
-use Rattle.twp_answers.specs.declared.verdict.Verdict.{Verdict}
+use Rattle.twp_answers.specs.declared.stop.Verdict.{Verdict}
 use Rattle.twp_answers.specs.LotAccounts.{AreTractAcres, IsAccountByLots, IsTotalByLots}
 use Rattle.twp_answers.specs.LotTractFaults.{IsFirstFaultByLots}
 use Rattle.twp_calls.specs.Accounts.{tract_count}
@@ -40,7 +40,7 @@ pub record AreTractsPut (table : ReturnedLots) (list : List ℕ) (old new : List
   pub answer_is : answer ≡ with_text (accepted_acres total) (tract_count list)
 
 -- the list has an account, but there is less room than it has tracts
-pub record IsShortOfRoom (table : ReturnedLots) (list : List ℕ) (old : List TownshipTract)
+pub record IsReportShortOfRoom (table : ReturnedLots) (list : List ℕ) (old : List TownshipTract)
     (answer : TownshipAnswer) : Type 0 where
   pub figures : List TractFigure
   pub total : ℕ
@@ -52,7 +52,7 @@ pub record IsShortOfRoom (table : ReturnedLots) (list : List ℕ) (old : List To
 abbrev pub HasAccountByLots : ReturnedLots → List ℕ → List TownshipTract → List TownshipTract → TownshipAnswer
     → Type 0
 HasAccountByLots table list old new answer =
-    AreTractsPut table list old new answer ⊎ IsShortOfRoom table list old answer
+    AreTractsPut table list old new answer ⊎ IsReportShortOfRoom table list old answer
 
 -- the answer is the verdict on the first fault of the list by the table
 pub record IsListRefusedByLots (table : ReturnedLots) (list : List ℕ) (answer : TownshipAnswer) : Type 0 where

@@ -24,8 +24,8 @@ abbrev pub count_between : List ℕ → ℕ
 count_between offsets = length offsets - 1
 
 -- the first descriptions, up to this number, have these answers
-abbrev pub AreAnswersTo : GivenPlat → List ℕ → List ℕ → ℕ → ℕ → List TownshipAnswer → Type 0
-AreAnswersTo given bytes offsets code count answers = (index : ℕ) → index < count
+abbrev pub AreManyAnswersTo : GivenPlat → List ℕ → List ℕ → ℕ → ℕ → List TownshipAnswer → Type 0
+AreManyAnswersTo given bytes offsets code count answers = (index : ℕ) → index < count
     → IsAnswerBetween given bytes (slice_index_or offsets index 0) (slice_index_or offsets (index + 1) 0) code
     (slice_index_or answers index (bare ACCEPTED))
 
@@ -34,7 +34,7 @@ pub record AreAnswered (given : GivenPlat) (bytes offsets : List ℕ) (code : �
     (old new : List TownshipAnswer) (answer : TownshipAnswer) : Type 0 where
   pub room : count_between offsets ≤ length old
   pub length_is : length new ≡ length old
-  pub answers : AreAnswersTo given bytes offsets code (count_between offsets) new
+  pub answers : AreManyAnswersTo given bytes offsets code (count_between offsets) new
   pub kept : SameFrom old new (count_between offsets)
   pub answer_is : answer ≡ with_text (bare ACCEPTED) (count_between offsets)
 

@@ -1,6 +1,6 @@
 -- The text of an explanation or a note for C: in which text it shows its place, and by which name.
 use Rattle.std.specs.Prelude.{◌≡◌, ℕ, List}
-use Rattle.twp_diagnose.specs.declared.given.Given.{Given}
+use Rattle.twp_diagnose.specs.declared.location.Given.{Given}
 use Rattle.twp_diagnose.specs.ShownMessages.{ShowsIn}
 use Rattle.twp_explain.specs.ShownNotes.{ShowsNoteIn}
 use Rattle.twp_diagnose.specs.declared.explanation.Explanation.{Explanation}
@@ -19,7 +19,7 @@ pub record IsTextGiven (bytes name : List ℕ) (file : Given) : Type 0 where
 
 -- Beside the answer was put the text of an explanation that shows the fault in the text that was given: it
 -- begins with that text's name, and with the line and the column of the answer.
-pub record IsShownText (bytes name old new : List ℕ) (answer : TownshipAnswer) : Type 0 where
+pub record IsTextShown (bytes name old new : List ℕ) (answer : TownshipAnswer) : Type 0 where
   pub file : Given
   pub file_is : IsTextGiven bytes name file
   pub explanation : Explanation

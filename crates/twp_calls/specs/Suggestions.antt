@@ -162,7 +162,7 @@ pub data IsReason (made : Rooms) (suggestion : TownshipSuggestion) : Type 0 wher
       → IsPiece made.bytes suggestion.reason suggestion.reason_length phrase → IsReason made suggestion
 
 -- it is said how much there is, and why there are no readings
-pub record IsSaid (made : Rooms) (suggestion : TownshipSuggestion) : Type 0 where
+pub record IsReasonPut (made : Rooms) (suggestion : TownshipSuggestion) : Type 0 where
   pub sizes : AreSizes made suggestion
   pub reason : IsReason made suggestion
 
@@ -174,6 +174,7 @@ pub data ArePut (made old new : Rooms) (answer : TownshipAnswer) : Type 0 where
 -- `township_suggest`: the readings of the text, and how much there is; or memory ran out.
 pub data IsSuggestCall (text : List ℕ) (old new : Rooms) (suggestion : TownshipSuggestion)
     (answer : TownshipAnswer) : Type 0 where
-  suggested : (made : Rooms) → AreSuggested text made → IsSaid made suggestion → ArePut made old new answer
+  suggested : (made : Rooms) → AreSuggested text made → IsReasonPut made suggestion
+      → ArePut made old new answer
       → IsSuggestCall text old new suggestion answer
   no_memory : answer ≡ bare NO_MEMORY → IsSuggestCall text old new suggestion answer

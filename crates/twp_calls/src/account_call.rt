@@ -4,7 +4,7 @@ ghost use Rattle.std.specs.List.{All, SameFrom, flat_map};
 ghost use Rattle.twp_plat.specs.Plats.{TownshipPlat as PlatMade};
 ghost use Rattle.twp_answers.specs.AccountFigures.{line_of as figure_line};
 ghost use Rattle.twp_answers.specs.ReportAnswers.{IsAccountOf, total_lines};
-ghost use Rattle.twp_calls.specs.Accounts.{HasAccount, HasEndedName, IsAccountCall, line_of};
+ghost use Rattle.twp_calls.specs.Accounts.{AnswersAccount, HasEndedName, IsAccountCall, line_of};
 ghost use Rattle.twp_calls.specs.Accounts.{tract_count};
 ghost use Rattle.twp_calls.specs.Answers.{ACCEPTED};
 ghost use Rattle.twp_calls.specs.steps.Plain.{ArePlainTractsTo, IsPlainTract};
@@ -78,7 +78,7 @@ fn put_figures(
         → IsAccountOf plat list
         (flat_map figure_line figures.now ++ total_lines made.total made.remaining)
         → length figures.now ≡ tract_count list
-        → HasAccount plat list tracts.old tracts.new totals.new result }
+        → AnswersAccount plat list tracts.old tracts.new totals.new result }
     ensures kept { result.verdict ≢ ACCEPTED → tracts.new ≡ tracts.old }
     ensures totals_kept { result.verdict ≢ ACCEPTED → totals.new ≡ totals.old }
 {

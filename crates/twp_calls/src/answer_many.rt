@@ -1,24 +1,20 @@
-//! Many descriptions, answered by one call.
+//! Many descriptions, answered by one call: the acres of each, its canonical text, and whether there is a
+//! note on it.
 ghost use Rattle.std.specs.Prelude.{◌≡◌, ◌≢◌};
-ghost use Rattle.twp_calls.specs.Answers.{ACCEPTED, bare, with_text};
+ghost use Rattle.twp_calls.specs.Answers.{ACCEPTED};
 ghost use Rattle.twp_calls.specs.FullAnswers.{AreBetween, ExplainsWithoutRoom, IsFullCall};
 
 use crate::answer::TownshipAnswer;
 use crate::answering::{township_acres, township_normal};
 use crate::explaining_texts::township_explain_description;
 use crate::full_answer::TownshipFullAnswer;
+use crate::many::counted;
 use crate::plat::TownshipPlat;
+use crate::verdict::{ACCEPTED, NO_RANGE, NO_ROOM};
 use std::alloc::Global;
 
-/// The verdict that accepts.
-const ACCEPTED: u32 = 0;
-/// There is less room than there are descriptions.
-const NO_ROOM: u32 = 5;
-/// The offsets that were given have no bytes between them.
-const NO_RANGE: u32 = 7;
-
-/// Everything that is answered about many descriptions, which are given as bytes in a row: the first description is
-/// from the first offset to the second, the next from there to the third, and so on.
+/// The full answers to many descriptions, which are given as bytes in a row: the first description is from
+/// the first offset to the second, the next from there to the third, and so on.
 pub fn township_answer_many(
     alloc: Global,
     plat: &TownshipPlat,
@@ -50,25 +46,7 @@ pub fn township_answer_many(
     counted(ACCEPTED, count)
 }
 
-/// A verdict, and how many descriptions there are.
-fn counted(verdict: u32, count: usize) -> TownshipAnswer
-    ensures { result ≡ with_text (bare verdict) count }
-{
-    TownshipAnswer {
-        verdict,
-        number: 0,
-        at: 0,
-        inner_number: 0,
-        inner_at: 0,
-        line: 0,
-        column: 0,
-        reserved: 0,
-        hundredths: 0,
-        length: count as u64,
-    }
-}
-
-/// Everything that is answered about the description between two offsets. A text goes over what was there.
+/// The full answer to the description between two offsets. Its text overwrites the old one.
 fn answer_between(
     alloc: Global,
     plat: &TownshipPlat,

@@ -6,7 +6,7 @@ ghost use Rattle.twp_answers.specs.Tracts.{tract_records};
 ghost use Rattle.twp_calls.specs.Accounts.{tract_count};
 ghost use Rattle.twp_calls.specs.Answers.{ACCEPTED};
 ghost use Rattle.twp_calls.specs.EachCalls.{HasAnswers, IsEachCall, answer_of_tract};
-ghost use Rattle.twp_calls.specs.steps.Plain.{IsPlain};
+ghost use Rattle.twp_calls.specs.steps.Plain.{IsPlainAnswer};
 
 use crate::answer::TownshipAnswer;
 use crate::many::counted;
@@ -66,7 +66,7 @@ fn put_answers(given: &[TractAnswer], answers: &mut [TownshipTractAnswer]) -> To
 
 /// The answer to a tract as plain data.
 fn plain(given: &TractAnswer) -> TownshipTractAnswer
-    ensures { IsPlain given.now result }
+    ensures { IsPlainAnswer given.now result }
 {
     let name = given.name();
     TownshipTractAnswer {

@@ -1,5 +1,5 @@
-//! Explanations for C: of each refusal, as the other calls answer it, its line and column, a text, and the parts
-//! of that text; of accepted input, the same of a note on a place that can be read in two ways.
+//! Explanations for C: of each refusal, as the other calls answer it, its line and column, a text, and
+//! the parts of that text; of accepted input, the same of a note on a place that can be read in two ways.
 ghost use Rattle.std.specs.Prelude.{◌≡◌, ◌≢◌, ◌<◌, true, false};
 ghost use Rattle.twp_calls.specs.Answers.{ACCEPTED, IsRefused};
 ghost use Rattle.twp_calls.specs.Calls.{IsVersionCall};

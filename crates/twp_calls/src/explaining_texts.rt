@@ -3,7 +3,7 @@ ghost use Rattle.std.specs.Prelude.{◌≡◌, ◌≢◌, ◌<◌};
 ghost use Rattle.twp_calls.specs.Answers.{ACCEPTED, IsRefused};
 ghost use Rattle.twp_calls.specs.Explanations.{ExplainsNotes, ExplainsDescription, ExplainsList};
 ghost use Rattle.twp_calls.specs.Explanations.{HasNoText};
-ghost use Rattle.twp_calls.specs.ShownTexts.{IsShownNote, IsShownText};
+ghost use Rattle.twp_calls.specs.ShownTexts.{IsShownNote, IsTextShown};
 
 use crate::answer::TownshipAnswer;
 use crate::explaining::{
@@ -24,7 +24,7 @@ pub fn township_explain_notes(
     ensures answer { ExplainsNotes notes.now text.old text.new result }
     ensures kept { ¬ IsRefused result.verdict → text.new ≡ text.old }
     ensures shows { IsRefused result.verdict
-        → IsShownText notes.now name.now text.old text.new result }
+        → IsTextShown notes.now name.now text.old text.new result }
 {
     let mut parts = TownshipExplanation::none();
     township_explain_notes_parts(alloc, notes, name, text, &mut parts)
@@ -43,7 +43,7 @@ pub fn township_explain_description(
     ensures answer { ExplainsDescription plat.now description.now text.old text.new result }
     ensures kept { HasNoText result.verdict → text.new ≡ text.old }
     ensures shows { IsRefused result.verdict
-        → IsShownText description.now name.now text.old text.new result }
+        → IsTextShown description.now name.now text.old text.new result }
     ensures notes { result.verdict ≡ ACCEPTED → 0 < result.length
         → IsShownNote description.now name.now text.old text.new result }
 {
@@ -64,7 +64,7 @@ pub fn township_explain_list(
     ensures answer { ExplainsList plat.now list.now text.old text.new result }
     ensures kept { HasNoText result.verdict → text.new ≡ text.old }
     ensures shows { IsRefused result.verdict
-        → IsShownText list.now name.now text.old text.new result }
+        → IsTextShown list.now name.now text.old text.new result }
     ensures notes { result.verdict ≡ ACCEPTED → 0 < result.length
         → IsShownNote list.now name.now text.old text.new result }
 {

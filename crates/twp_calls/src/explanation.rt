@@ -6,7 +6,7 @@ ghost use Rattle.twp_calls.specs.ExplanationParts.{other_record, shown_bytes, sh
 
 use std::alloc::{AllocError, Global};
 use twp_diagnose::{Explanation, Location, OtherPlace};
-use twp_excerpt::{Parts, Span};
+use twp_excerpt::{MessageParts, Span};
 use twp_explain::{Note, without_mark};
 use twp_read::{Description, TextFault};
 
@@ -87,7 +87,7 @@ pub(crate) fn parts_of(
     ensures { IfOk result (ArePartsOf explained.now) }
 {
     let repair = repair_in(alloc, explained.text.as_bytes(), &explained.reading)?;
-    let Parts { sentence, .. } = explained.parts;
+    let MessageParts { sentence, .. } = explained.parts;
     Ok(numbers(
         explained.place,
         explained.other,
@@ -118,7 +118,7 @@ const NO_BYTES: Span = Span { start: 0, end: 0 };
 fn numbers(
     place: Location,
     other: Option<OtherPlace>,
-    parts: Parts,
+    parts: MessageParts,
     sentence: Span,
     repair: Span,
 ) -> TownshipExplanation
@@ -205,8 +205,8 @@ fn length_of(span: Span) -> u64
     span.end.saturating_sub(span.start) as u64
 }
 
-/// The reading at the end of a text, before its last line feed. None of the bytes if it was escaped there, or if
-/// there is none.
+/// The reading at the end of a text, before its last line feed. None of the bytes if it was escaped
+/// there, or if there is none.
 fn repair_in(alloc: Global, text: &[u8], reading: &Option<Vec<u8>>) -> Result<Span, AllocError>
     ensures { IfOk result (IsRepair text.now) }
 {

@@ -7,7 +7,7 @@ ghost use Rattle.twp_calls.specs.GivenLands.{IsGivenLand, IsNoGivenLand};
 
 use crate::designation::TownshipDesignation;
 use twp_grid::{PLACES_ACROSS, SECTIONS, Township};
-use twp_land::{Land, Lanes, lots_whole};
+use twp_land::{Land, Lanes, PlaceSet, lots_whole};
 
 /// A set of places of a township, whether it is land or not.
 #[repr(C)]
@@ -30,8 +30,8 @@ pub(crate) struct LandIn {
 impl TownshipLand {
     /// Land in a township as plain data.
     pub(crate) fn of(township: Township, places: &Lanes) -> TownshipLand
-        requires { HasWholeLots PLACE_DIGITS (⟦<Lanes as Land>⟧.places places.now) }
-        ensures { IsGivenLand result township (⟦<Lanes as Land>⟧.places places.now) }
+        requires { HasWholeLots PLACE_DIGITS (⟦<Lanes as PlaceSet>⟧.places places.now) }
+        ensures { IsGivenLand result township (⟦<Lanes as PlaceSet>⟧.places places.now) }
     {
         TownshipLand {
             rows: places.rows(),
@@ -42,7 +42,7 @@ impl TownshipLand {
     /// The land, if it is valid.
     pub(crate) fn land(&self) -> Option<LandIn>
         ensures { MatchOption result (IsNoGivenLand self.now) (λ land.
-            IsGivenLand self.now land.township (⟦<Lanes as Land>⟧.places land.places)) }
+            IsGivenLand self.now land.township (⟦<Lanes as PlaceSet>⟧.places land.places)) }
     {
         let township = self.township.township()?;
         let Some(places) = Lanes::from_rows(&self.rows) else {

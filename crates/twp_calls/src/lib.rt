@@ -1,6 +1,6 @@
-//! What the library for C answers: a plat is plain data, answers are plain data too, and texts go to
-//! the caller's memory. One call answers many descriptions, each with its acres, its canonical text, and
-//! whether there is a note on it. `include/township.h` documents each call; `twp_c` gives them to C.
+//! The functions of the library for C. Plats and answers are plain data, and texts are written to the
+//! caller's memory. `township_answer_many` returns the acres and the canonical text of many descriptions,
+//! and whether there is a note on each. `include/township.h` documents the functions; `twp_c` exports them.
 #![tactic(auto)]
 
 mod account;

@@ -1,4 +1,4 @@
-//! Many descriptions, answered by one call.
+//! The acres of many descriptions, answered by one call.
 ghost use Rattle.std.specs.Prelude.{◌≡◌, ◌≢◌, ℕ, ◌<◌, ◌≤◌, length, Some};
 ghost use Rattle.twp_calls.specs.Answers.{ACCEPTED, bare, with_text};
 ghost use Rattle.twp_calls.specs.Calls.{account_of};

@@ -4,7 +4,7 @@ ghost use Rattle.twp_calls.specs.Answers.{ACCEPTED, NO_MEMORY};
 ghost use Rattle.twp_calls.specs.Suggestions.{ArePut, IsPutAtFront, IsSuggestCall, rooms};
 ghost use Rattle.twp_calls.specs.Suggestions.{assumes_of, copied_from, copied_to, manner_of, number_of};
 ghost use Rattle.twp_calls.specs.Suggestions.{number_of_assumption};
-ghost use Rattle.twp_calls.specs.steps.Suggesting.{AreChangesAdded, AreFoundFor, HasNoReadings, IsFound};
+ghost use Rattle.twp_calls.specs.steps.Suggesting.{AreChangesAdded, AreFoundFor, HasNoReadings, AreFoundReadings};
 ghost use Rattle.twp_calls.specs.steps.Suggesting.{IsReadingAdded, change_data, shown, suggestion_of};
 
 use crate::answer::TownshipAnswer;
@@ -18,14 +18,15 @@ use twp_suggest::{
 
 /// What is to be written for the caller.
 #[derive(Drop)]
-struct Found {
+struct FoundReadings {
     readings: Vec<TownshipReading>,
     changes: Vec<TownshipChange>,
     bytes: Vec<u8>,
     reason: Reason,
 }
 
-/// Why there are no readings: where the reason is in the bytes, and where it was found in the text. Without one, each is 0.
+/// Why there are no readings: where the reason is in the bytes, and where it was found in the text.
+/// Without one, each is 0.
 #[derive(Clone, Copy)]
 struct Reason {
     at: usize,
@@ -67,7 +68,7 @@ pub fn township_suggest(
 
 /// Puts what was found at the front of the rooms for it, if there is room for all of it.
 fn put_found(
-    found: &Found,
+    found: &FoundReadings,
     readings: &mut [TownshipReading],
     changes: &mut [TownshipChange],
     bytes: &mut [u8],
@@ -94,8 +95,8 @@ fn put_found(
 }
 
 /// The readings of a text, as data, or why there are none.
-fn found_in(alloc: Global, description: &[u8]) -> Result<Found, AllocError>
-    ensures { IfOk result (IsFound description.now) }
+fn found_in(alloc: Global, description: &[u8]) -> Result<FoundReadings, AllocError>
+    ensures { IfOk result (AreFoundReadings description.now) }
 {
     let readings = readings_of::<Phrases>(alloc, description)?;
     if readings.is_empty() {
@@ -105,7 +106,7 @@ fn found_in(alloc: Global, description: &[u8]) -> Result<Found, AllocError>
 }
 
 /// No readings, and the reason, if there is one.
-fn no_readings(alloc: Global, description: &[u8]) -> Result<Found, AllocError>
+fn no_readings(alloc: Global, description: &[u8]) -> Result<FoundReadings, AllocError>
     ensures { IfOk result HasNoReadings }
 {
     match beyond_of(alloc, description)? {
@@ -116,7 +117,7 @@ fn no_readings(alloc: Global, description: &[u8]) -> Result<Found, AllocError>
 
 /// The reason, and no readings.
 #[tactic(auto, using(crate::proofs::SuggestionFacts::reason_found))]
-fn reason_alone(alloc: Global, beyond: Beyond) -> Result<Found, AllocError>
+fn reason_alone(alloc: Global, beyond: Beyond) -> Result<FoundReadings, AllocError>
     ensures { IfOk result HasNoReadings }
 {
     let mut bytes = Vec::new(alloc);
@@ -127,7 +128,7 @@ fn reason_alone(alloc: Global, beyond: Beyond) -> Result<Found, AllocError>
         start: beyond.start,
         end: beyond.end,
     };
-    Ok(Found {
+    Ok(FoundReadings {
         readings: Vec::new(alloc),
         changes: Vec::new(alloc),
         bytes,
@@ -137,10 +138,10 @@ fn reason_alone(alloc: Global, beyond: Beyond) -> Result<Found, AllocError>
 
 /// No readings, and no reason.
 #[tactic(auto, using(crate::proofs::SuggestionFacts::nothing_found))]
-fn nothing(alloc: Global) -> Found
+fn nothing(alloc: Global) -> FoundReadings
     ensures { HasNoReadings result }
 {
-    Found {
+    FoundReadings {
         readings: Vec::new(alloc),
         changes: Vec::new(alloc),
         bytes: Vec::new(alloc),
@@ -149,7 +150,11 @@ fn nothing(alloc: Global) -> Found
 }
 
 /// Readings of a text, as data.
-fn data_of(alloc: Global, text: &[u8], readings: &[Reading<'_>]) -> Result<Found, AllocError>
+fn data_of(
+    alloc: Global,
+    text: &[u8],
+    readings: &[Reading<'_>],
+) -> Result<FoundReadings, AllocError>
     ensures { IfOk result (AreFoundFor text.now readings.now) }
 {
     let mut made = Vec::new(alloc);
@@ -158,7 +163,7 @@ fn data_of(alloc: Global, text: &[u8], readings: &[Reading<'_>]) -> Result<Found
     for reading in readings {
         add_reading(text, reading, &mut made, &mut changes, &mut bytes)?;
     }
-    Ok(Found {
+    Ok(FoundReadings {
         readings: made,
         changes,
         bytes,
@@ -299,7 +304,7 @@ fn manner_number(manner: Manner) -> u32
 }
 
 /// How much there is, and why there is nothing.
-fn sizes(found: &Found) -> TownshipSuggestion
+fn sizes(found: &FoundReadings) -> TownshipSuggestion
     ensures { result ≡ suggestion_of found.now }
 {
     TownshipSuggestion {

@@ -1,7 +1,7 @@
-//! The readings of a text, as plain data. The texts of the readings, and what their changes write, are in
-//! one row of bytes.
+//! The readings of a text, as plain data. One array of bytes contains the texts of the readings and the
+//! bytes that their changes write.
 
-/// A reading: where its text and its changes are.
+/// A reading: the positions of its text and of its changes.
 #[repr(C)]
 #[derive(Clone, Copy)]
 pub struct TownshipReading {
@@ -13,35 +13,35 @@ pub struct TownshipReading {
     pub changes: u64,
     /// How many there are.
     pub changes_length: u64,
-    /// How its text comes of the changed text: a number of `Manner`.
+    /// How its text was derived from the changed text: the number of a `Manner`.
     pub manner: u32,
-    /// Nothing: 0.
+    /// Unused; always 0.
     pub reserved: u32,
 }
 
-/// A change: bytes of the text are left out, and others are written instead.
+/// A change: some bytes of the text are replaced by others.
 #[repr(C)]
 #[derive(Clone, Copy)]
 pub struct TownshipChange {
-    /// Where the bytes that are left out begin in the text.
+    /// Where the replaced bytes begin in the text.
     pub start: u64,
     /// Where they end.
     pub end: u64,
-    /// Where what is written begins in the bytes.
+    /// Where the written bytes begin in the array.
     pub written: u64,
-    /// How many bytes are written.
+    /// The number of written bytes.
     pub written_length: u64,
-    /// Where what is copied begins in the text, or 0.
+    /// Where the copied bytes begin in the text, or 0 if the change copies none.
     pub copied: u64,
-    /// Where it ends, or 0.
+    /// Where they end, or 0.
     pub copied_end: u64,
-    /// The number of the rule by which this is done.
+    /// The number of the rule of the change.
     pub rule: u32,
-    /// The number of what this assumes that the text doesn't say, or 0.
+    /// The number of the assumption that the change makes, or 0.
     pub assumes: u32,
 }
 
-/// How much there is: written or not.
+/// The sizes of the whole suggestion, even if there was no room to write it.
 #[repr(C)]
 #[derive(Clone, Copy)]
 pub struct TownshipSuggestion {
@@ -49,14 +49,14 @@ pub struct TownshipSuggestion {
     pub readings: u64,
     /// The number of their changes.
     pub changes: u64,
-    /// The number of the bytes of their texts, of what the changes write, and of the reason.
+    /// The number of bytes of their texts, of the bytes that the changes write, and of the reason.
     pub bytes: u64,
-    /// Where the reason begins in the bytes, if there are no readings since lots and aliquot parts can't describe
-    /// the land; otherwise 0.
+    /// Where the reason begins in the array, if there are no readings because lots and aliquot parts can't
+    /// describe the land; otherwise 0.
     pub reason: u64,
     /// How many bytes it has, or 0.
     pub reason_length: u64,
-    /// Where the phrase that says so begins in the text, or 0.
+    /// Where the phrase that shows this begins in the text, or 0.
     pub beyond: u64,
     /// Where it ends, or 0.
     pub beyond_end: u64,

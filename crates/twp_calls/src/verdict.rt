@@ -1,31 +1,31 @@
-//! The numbers that cross to C.
+//! The verdicts of answers, as numbers for C.
 
-/// Here is the answer.
+/// The input is accepted.
 pub const ACCEPTED: u32 = 0;
 /// The input has a fault.
 pub const REFUSED: u32 = 1;
-/// A tract's description has a fault of its own.
+/// The description of a tract has a fault.
 pub const TRACT_REFUSED: u32 = 2;
-/// The given plat is not valid.
+/// The plat is not valid.
 pub const NO_PLAT: u32 = 3;
-/// The given number is no account.
+/// The account is not one of the known numbers.
 pub const NO_ACCOUNT: u32 = 4;
-/// There is less room than the text has bytes.
+/// The caller's buffer is too small.
 pub const NO_ROOM: u32 = 5;
 /// Memory ran out.
 pub const NO_MEMORY: u32 = 6;
-/// The offsets that were given have no bytes between them.
+/// Two offsets do not enclose a part of the bytes.
 pub const NO_RANGE: u32 = 7;
-/// The given land is not valid.
+/// The land is not valid.
 pub const NO_LAND: u32 = 8;
-/// The given lot table is not valid.
+/// The lot table is not valid.
 pub const NO_LOTS: u32 = 9;
-/// The given designation is not valid.
+/// The designation of the township is not valid.
 pub const NO_TOWNSHIP: u32 = 10;
-/// The given number is no operation.
+/// The operation is not one of the known numbers.
 pub const NO_OPERATION: u32 = 11;
-/// What was given is in two different townships.
+/// The two arguments are in different townships.
 pub const OTHER_TOWNSHIP: u32 = 12;
 
-/// The refusal of a tract whose description is refused itself.
+/// The refusal of a tract whose own description is refused.
 pub const TRACT_NUMBER: u32 = 83;

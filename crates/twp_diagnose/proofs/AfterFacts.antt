@@ -3,7 +3,7 @@ use Rattle.std.proofs.Common.{◌≡◌, ℕ, zero, suc, ◌-◌, true, false, L
 use Rattle.std.proofs.Common.{sym}
 use Rattle.std.proofs.Common.{ap, ◌∙◌, arith}
 use Rattle.twp_grammar.specs.Tokens.{Token, Left}
-use Rattle.twp_grammar.specs.declared.token.Token.{Token as Piece}
+use Rattle.twp_grammar.specs.declared.tokens.Token.{Token as Piece}
 use Rattle.twp_grammar.proofs.TokenFacts.{has_token_list}
 use Rattle.twp_diagnose.specs.Sights.{is_apart, signs_of, IsSignAfter}
 use Rattle.twp_diagnose.specs.steps.Marking.{AreLeft, GivesFirstOf}

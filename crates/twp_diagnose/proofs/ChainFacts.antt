@@ -4,7 +4,7 @@ use Rattle.std.proofs.Common.{Option}
 use Rattle.std.proofs.Common.{Some, None, length, refl, sym, ap, ◌∙◌, inl, inr, append_assoc, arith}
 use Rattle.std.proofs.Common.{length-append}
 use Rattle.twp_grammar.specs.Tokens.{Token, Left, seen}
-use Rattle.twp_grammar.specs.declared.token.Token.{Token as Piece}
+use Rattle.twp_grammar.specs.declared.tokens.Token.{Token as Piece}
 use Rattle.twp_grammar.specs.Grammar.{step, chain}
 use Rattle.twp_grammar.specs.Items.{Tree, tokens, ◌&◌}
 use Rattle.twp_diagnose.specs.Marks.{end_of, AreLongestPart}

@@ -2,7 +2,7 @@
 use Rattle.std.proofs.Common.{◌≡◌, ℕ, ◌+◌, true, false, List, [], Some, None, length, refl, sym, ap, ◌∙◌}
 use Rattle.twp_excerpt.specs.declared.spot.Span.{Span}
 use Rattle.twp_grammar.specs.Tokens.{Token, Left}
-use Rattle.twp_grammar.specs.declared.token.Token.{Token as Piece}
+use Rattle.twp_grammar.specs.declared.tokens.Token.{Token as Piece}
 use Rattle.twp_grammar.proofs.TokenFacts.{has_token_list}
 use Rattle.twp_diagnose.specs.Marks.{tokens_from, span, span_of, end_of, is_side, up_to_side, heading_of}
 use Rattle.twp_diagnose.specs.Marks.{IsTokenSpan, IsHeadingSpan, IsRangeSpan}

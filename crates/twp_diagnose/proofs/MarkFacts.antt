@@ -5,7 +5,7 @@ use Rattle.std.proofs.Common.{Some, None, length, refl, sym, ap, subst, ◌∙�
 use Rattle.std.proofs.Common.{length-append}
 use Rattle.std.specs.List.{AllPass}
 use Rattle.twp_grammar.specs.Tokens.{Token, Left, StartsWith, HasTokens, is_white, seen, GivesToken}
-use Rattle.twp_grammar.specs.declared.token.Token.{Token as Piece}
+use Rattle.twp_grammar.specs.declared.tokens.Token.{Token as Piece}
 use Rattle.twp_grammar.proofs.TokenFacts.{one_token_list, has_token_list}
 use Rattle.twp_diagnose.specs.Marks.{tokens_from, span, span_of, first_of, end_of}
 use Rattle.twp_diagnose.specs.Marks.{AreMarked, a_token, IsTokenSpan, IsChainSpan}

@@ -9,7 +9,7 @@ use Rattle.std.proofs.lemmas.Bool.{cases_lt}
 use Rattle.std.proofs.lemmas.Bool.Decides.{nat_tests}
 use Rattle.std.proofs.lemmas.List.{take-append-drop}
 use Rattle.std.proofs.lemmas.List.Sums.{AllPass-from_list_all}
-use Rattle.twp_grammar.specs.declared.kind.Kind.{Kind}
+use Rattle.twp_grammar.specs.declared.tokens.Kind.{Kind}
 use Rattle.twp_grammar.specs.Tokens.{Token, StartsWith, HasTokens, IsToken, IsGoodToken, is_white}
 use Rattle.twp_grammar.specs.Tokens.{good, bad, a_word, a_number, a_bad_number, a_half, a_half_sign}
 use Rattle.twp_grammar.specs.Tokens.{a_quarter, a_quarter_sign, a_comma, a_semicolon, a_colon, a_stop}

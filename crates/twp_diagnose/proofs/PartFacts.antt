@@ -21,7 +21,7 @@ use Rattle.twp_grammar.specs.declared.item.Step.{Step}
 use Rattle.twp_grammar.specs.ItemPlaces.{cuts_of}
 use Rattle.twp_spell.specs.Listing.{AreListed}
 use Rattle.twp_spell.specs.CanonicalText.{IsLotHeld, IsCanonicalText}
-use Rattle.twp_diagnose.specs.declared.lots_held.PartOfLots.{PartOfLots}
+use Rattle.twp_diagnose.specs.declared.finding.PartOfLots.{PartOfLots}
 use Rattle.twp_diagnose.specs.PartOfLots.{places_off_lots, IsPartOfLots}
 
 -- what is added to no land, in its section

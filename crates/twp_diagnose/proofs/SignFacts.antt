@@ -2,8 +2,8 @@
 use Rattle.std.proofs.Common.{◌≡◌, ℕ, ◌+◌, ◌≤◌, List, ◌++◌, Some, length, refl, ap, subst, ◌∙◌, arith}
 use Rattle.std.proofs.Common.{length-append}
 use Rattle.twp_excerpt.specs.Spots.{first_size}
-use Rattle.twp_grammar.specs.declared.kind.Kind.TheVariants.{BadByte}
-use Rattle.twp_grammar.specs.declared.token.Token.{Token as Piece}
+use Rattle.twp_grammar.specs.declared.tokens.Kind.TheVariants.{BadByte}
+use Rattle.twp_grammar.specs.declared.tokens.Token.{Token as Piece}
 use Rattle.twp_grammar.specs.Tokens.{Token, Left, StartsWith, GivesToken, seen}
 use Rattle.twp_diagnose.proofs.SightFacts.{HasToken, has_token}
 use Rattle.twp_diagnose.specs.Sights.{TakesSign, a_token, a_character}

@@ -3,7 +3,7 @@ use Rattle.std.proofs.Common.{◌≡◌, ◌≤◌, ◌+◌, ℕ, Option, Some, 
 use Rattle.twp_excerpt.specs.Spots.{line_of, column_of}
 use Rattle.twp_excerpt.specs.declared.spot.Spot.{Spot}
 use Rattle.twp_diagnose.specs.Spots.{in_file, IsSpotIn, IsSpotAt}
-use Rattle.twp_diagnose.specs.declared.given.Given.{Given}
+use Rattle.twp_diagnose.specs.declared.location.Given.{Given}
 
 pub same_spot : (file : Given) (at at' : ℕ) (spot : Spot) → in_file file at ≡ in_file file at'
     → IsSpotIn file at spot → IsSpotIn file at' spot

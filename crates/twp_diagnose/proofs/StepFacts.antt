@@ -4,11 +4,11 @@ use Rattle.std.proofs.Common.{Option}
 use Rattle.std.proofs.Common.{Some, None, length, refl, sym, ap, subst, ◌∙◌, inl, inr, append_assoc}
 use Rattle.std.proofs.lemmas.Bool.{cases_Bool}
 use Rattle.std.proofs.lemmas.List.{append-nil}
-use Rattle.twp_grammar.specs.declared.kind.Kind.{Kind}
-use Rattle.twp_grammar.specs.declared.kind.Kind.TheVariants.{NorthSouth, EastWest, Corner, Half, Quarter}
-use Rattle.twp_grammar.specs.declared.kind.Kind.TheVariants.{Of, The}
+use Rattle.twp_grammar.specs.declared.tokens.Kind.{Kind}
+use Rattle.twp_grammar.specs.declared.tokens.Kind.TheVariants.{NorthSouth, EastWest, Corner, Half, Quarter}
+use Rattle.twp_grammar.specs.declared.tokens.Kind.TheVariants.{Of, The}
 use Rattle.twp_grammar.specs.Tokens.{Token, Left, seen}
-use Rattle.twp_grammar.specs.declared.token.Token.{Token as Piece}
+use Rattle.twp_grammar.specs.declared.tokens.Token.{Token as Piece}
 use Rattle.twp_grammar.specs.Grammar.{Ebnf, step, maybe, one, of, the, ◌⨾◌}
 use Rattle.twp_grammar.specs.Items.{Tree, tokens, ◌&◌}
 use Rattle.twp_diagnose.specs.Marks.{end_of}

@@ -3,8 +3,8 @@
 use Rattle.std.specs.Prelude.{◌≡◌, ◌==◌, ℕ, ◌+◌, ◌≤◌, Bool, true, false, min, List, [], ◌∷◌, ◌++◌, length}
 use Rattle.std.specs.Prelude.{if◌then◌else◌}
 use Rattle.twp_excerpt.specs.declared.spot.Span.{Span}
-use Rattle.twp_grammar.specs.declared.kind.Kind.{Kind}
-use Rattle.twp_grammar.specs.declared.kind.Kind.TheVariants.{EastWest}
+use Rattle.twp_grammar.specs.declared.tokens.Kind.{Kind}
+use Rattle.twp_grammar.specs.declared.tokens.Kind.TheVariants.{EastWest}
 use Rattle.twp_grammar.specs.Tokens.{Token, HasTokens}
 use Rattle.twp_grammar.specs.Grammar.{chain}
 use Rattle.twp_grammar.specs.Items.{Tree, tokens}

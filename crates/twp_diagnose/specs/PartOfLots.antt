@@ -8,7 +8,7 @@ use Rattle.twp_grammar.specs.declared.item.Step.{Step}
 use Rattle.twp_grammar.specs.ItemPlaces.{cuts_of}
 use Rattle.twp_spell.specs.Listing.{AreListed}
 use Rattle.twp_spell.specs.CanonicalText.{IsLotHeld, IsCanonicalText}
-use Rattle.twp_diagnose.specs.declared.lots_held.PartOfLots.{PartOfLots}
+use Rattle.twp_diagnose.specs.declared.finding.PartOfLots.{PartOfLots}
 
 -- the places of a section's block that lie in no lot
 abbrev pub places_off_lots : ℕ → ℕ → Rectangle → ℕ → ℕ → ℕ → Bool

@@ -14,7 +14,7 @@ use Rattle.twp_grammar.specs.Tokens.{begins_with}
 use Rattle.twp_notes.specs.FieldNotes.{NamesLine}
 use Rattle.twp_notes.specs.Records.{Fields, records_of, record_numbered}
 use Rattle.twp_diagnose.specs.Marks.{span}
-use Rattle.twp_diagnose.specs.declared.given.Given.{Given}
+use Rattle.twp_diagnose.specs.declared.location.Given.{Given}
 use Rattle.twp_diagnose.specs.declared.listed.Listed.{Listed}
 use Rattle.twp_diagnose.specs.declared.records.Record.{Record}
 

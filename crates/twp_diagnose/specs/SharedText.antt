@@ -4,11 +4,11 @@ use Rattle.twp_grid.specs.Townships.{Designation}
 use Rattle.twp_grammar.specs.declared.item.Item.{Item}
 use Rattle.twp_resolve.specs.SharedLand.{AreFirstSharing}
 use Rattle.twp_spell.specs.CanonicalText.{IsCanonicalText}
-use Rattle.twp_diagnose.specs.declared.shared_land.Shared.{Shared}
+use Rattle.twp_diagnose.specs.declared.shared_land.SharedLand.{SharedLand}
 
 -- the items are refused for the later of the two; the earlier is the first that names a place of
 -- it, and the text is the one spelling of the places that both name
-pub record TellsShared (g : ℕ) (township : Designation) (items : List Item) (explained : Shared)
+pub record TellsShared (g : ℕ) (township : Designation) (items : List Item) (explained : SharedLand)
     : Type 0 where
   pub places : ℕ → ℕ → ℕ → Bool
   pub both : AreFirstSharing g township items explained.items places

@@ -2,21 +2,21 @@
 use Rattle.std.specs.Prelude.{◌≡◌, ℕ, List, Option, Some, None}
 use Rattle.twp_excerpt.specs.Messages.{IsInParts}
 use Rattle.twp_excerpt.specs.declared.message.Extract.{Extract}
-use Rattle.twp_excerpt.specs.declared.message.Heading.{Heading}
-use Rattle.twp_excerpt.specs.declared.message.Heading.TheVariants as heading
+use Rattle.twp_excerpt.specs.declared.message.MessagePlace.{MessagePlace}
+use Rattle.twp_excerpt.specs.declared.message.MessagePlace.TheVariants as heading
 use Rattle.twp_excerpt.specs.declared.message.Message.{Message}
-use Rattle.twp_excerpt.specs.declared.message.Parts.{Parts}
+use Rattle.twp_excerpt.specs.declared.message.MessageParts.{MessageParts}
 use Rattle.twp_excerpt.specs.declared.spot.Span.{Span}
 use Rattle.twp_excerpt.specs.declared.spot.Spot.{Spot}
 use Rattle.twp_diagnose.specs.Spots.{IsSpotOf}
-use Rattle.twp_diagnose.specs.declared.given.Given.{Given}
+use Rattle.twp_diagnose.specs.declared.location.Given.{Given}
 use Rattle.twp_diagnose.specs.declared.location.Location.{Location}
 use Rattle.twp_diagnose.specs.declared.location.Location.TheVariants.{Whole, Line, Field, Part}
 use Rattle.twp_diagnose.specs.declared.explanation.Explanation.{Explanation}
 
 -- what a message names after the file: the line and the column of a part of a line; the line of a field, or
 -- of a line of which nothing is shown; nothing where there is no one line
-abbrev pub heading_of : Location → Option Spot → Heading
+abbrev pub heading_of : Location → Option Spot → MessagePlace
 heading_of location None = heading.File
 heading_of (Part span) (Some spot) = heading.Place spot
 heading_of location (Some spot) = heading.Line spot.line
@@ -34,7 +34,7 @@ extract_of file (Part span) spot = extract_from file span spot
 
 -- the text is a message about a location in a file, at this line and column of it, and these are its parts
 pub record IsMessageAt (file : Given) (location : Location) (spot : Option Spot) (text : List ℕ)
-    (parts : Parts) : Type 0 where
+    (parts : MessageParts) : Type 0 where
   pub message : Message
   pub name_is : message.name ≡ file.name
   pub heading_is : message.heading ≡ heading_of location spot

@@ -3,8 +3,8 @@ use Rattle.std.specs.Prelude.{◌≡◌, ◌≢◌, ℕ, Bool, true, false, List
 use Rattle.std.specs.Prelude.{if◌then◌else◌}
 use Rattle.std.specs.List.{AllPass, list_all}
 use Rattle.twp_excerpt.specs.Spots.{is_white, end_of, first_size}
-use Rattle.twp_grammar.specs.declared.kind.Kind.{Kind}
-use Rattle.twp_grammar.specs.declared.kind.Kind.TheVariants.{BadByte, Comma, Stop}
+use Rattle.twp_grammar.specs.declared.tokens.Kind.{Kind}
+use Rattle.twp_grammar.specs.declared.tokens.Kind.TheVariants.{BadByte, Comma, Stop}
 use Rattle.twp_grammar.specs.Tokens.{Token, HasTokens, StartsWith}
 
 -- where a text is shown that is refused at a place: there, or where the text ends but for white space if

@@ -1,5 +1,5 @@
 use crate::location::Location;
-use twp_excerpt::{Parts, Span, Spot};
+use twp_excerpt::{MessageParts, Span, Spot};
 use twp_grid::Refusal;
 
 /// Another place that an explanation names: where the land, the name, or the line was given before.
@@ -23,7 +23,7 @@ pub struct Explanation {
     /// Some lines, each with a line feed at its end.
     pub text: String,
     /// Where in the text its parts are.
-    pub parts: Parts,
+    pub parts: MessageParts,
     /// The other place that it names, if it names one.
     pub other: Option<OtherPlace>,
     /// The reading of the text with which it ends, if it ends with one.

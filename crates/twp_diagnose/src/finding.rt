@@ -1,15 +1,26 @@
-//! What was found wrong, and the message that says so.
-ghost use Rattle.std.specs.Prelude.{◌≡◌, None, IfOk};
+//! What was found wrong, and the message that says so; and for an aliquot part that includes land of lots,
+//! these lots and the rest of the part.
+ghost use Rattle.std.specs.Prelude.{◌≡◌, None, IfOk, MatchOption};
 ghost use Rattle.twp_diagnose.specs.Findings.{IfFound, IsStopOf};
 ghost use Rattle.twp_diagnose.specs.ShownMessages.{ShowsIn};
 ghost use Rattle.twp_diagnose.specs.Spots.{IsSpotOf};
+ghost use Rattle.twp_grid.specs.Places.{PLACE_DIGITS};
+ghost use Rattle.twp_grid.specs.Cuts.{AreWithin};
+ghost use Rattle.twp_grid.specs.Lots.{number_of_lots};
+ghost use Rattle.twp_grid.specs.Winding.{IsSection};
+ghost use Rattle.twp_grid.specs.Lands.{difference};
+ghost use Rattle.twp_grammar.specs.ItemPlaces.{cuts_of};
+ghost use Rattle.twp_resolve.specs.steps.ResolvingSteps.{lots_from};
+ghost use Rattle.twp_diagnose.specs.PartOfLots.{IsPartOfLots};
 
 use crate::explanation::{Explanation, OtherPlace};
-use crate::given::Given;
-use crate::located::{Located, message_at};
-use crate::location::Location;
+use crate::location::{Given, Located, Location, message_at};
 use std::alloc::{AllocError, Global};
-use twp_grid::Refusal;
+use twp_grammar::Steps;
+use twp_grid::{Block, Refusal, Section, Township, lot_count};
+use twp_land::{Land, Lanes};
+use twp_resolve::chain_block;
+use twp_spell::{held_lots, spell};
 
 /// What was found wrong.
 #[derive(Drop)]
@@ -30,29 +41,29 @@ pub struct Finding {
 
 /// Why the explanation of a fault ends.
 #[derive(Drop)]
-pub enum Failure {
+pub enum SearchStop {
     /// It was found.
     Found(Finding),
     /// Memory ran out.
     Memory,
 }
 
-impl From<AllocError> for Failure {
-    fn from(_fault: AllocError) -> Failure {
-        Failure::Memory
+impl From<AllocError> for SearchStop {
+    fn from(_fault: AllocError) -> SearchStop {
+        SearchStop::Memory
     }
 }
 
-impl Failure {
+impl SearchStop {
     /// The stop of what was found of a refusal, or of want of memory.
-    pub fn of(refusal: Refusal, found: Result<Finding, AllocError>) -> Failure
+    pub fn of(refusal: Refusal, found: Result<Finding, AllocError>) -> SearchStop
         requires { IfOk found (λ finding. finding.refusal ≡ refusal) }
         ensures refusal { IfFound result (λ found. found ≡ refusal) }
         ensures found { IsStopOf found result }
     {
         match found {
-            Ok(finding) => Failure::Found(finding),
-            Err(_) => Failure::Memory,
+            Ok(finding) => SearchStop::Found(finding),
+            Err(_) => SearchStop::Memory,
         }
     }
 }
@@ -99,5 +110,56 @@ impl Finding {
             other: self.other,
             reading: self.reading,
         })
+    }
+}
+
+/// The land of an aliquot part that holds land of lots.
+#[derive(Drop)]
+pub struct PartOfLots {
+    /// The section that it is a part of.
+    pub section: Section,
+    /// The lots of which it holds some place, by rising number.
+    pub lots: Vec<u8>,
+    /// The one spelling of what it holds besides.
+    pub rest: Vec<u8>,
+}
+
+/// The lots of which an aliquot part of a section holds some place, and what it holds besides. None
+/// where one of its steps would halve a side of one place.
+#[tactic(auto, using(crate::proofs::PartFacts::part_found))]
+#[inline(never)]
+pub fn part_of_lots(
+    alloc: Global,
+    township: Township,
+    section: Section,
+    steps: &Steps,
+) -> Result<Option<PartOfLots>, AllocError>
+    ensures { IfOk result (λ explained. MatchOption explained (¬ AreWithin PLACE_DIGITS (cuts_of steps.now))
+        (IsPartOfLots PLACE_DIGITS township section steps.now)) }
+{
+    let Some(block) = chain_block(steps) else {
+        return Ok(None);
+    };
+    let mut land = Lanes::empty();
+    land.add(section, block);
+    let lots = held_lots(alloc, &land, section)?;
+    remove_lots(&mut land, section);
+    let rest = spell(alloc, &land, township)?;
+    Ok(Some(PartOfLots {
+        section,
+        lots,
+        rest,
+    }))
+}
+
+/// Takes away the places of a section's lots.
+fn remove_lots<L: Land>(land: &mut L, section: Section)
+    ensures left { L.places land.new ≡ difference (L.places land.old)
+        (lots_from PLACE_DIGITS section 1 (number_of_lots section)) }
+    ensures section { IsSection section }
+{
+    for lot in 1..lot_count(section) + 1 {
+        let block = Block::of_lot(section, lot).unwrap();
+        land.remove(section, block);
     }
 }

@@ -5,8 +5,7 @@ ghost use Rattle.twp_diagnose.specs.RecordFields.{fields_listed, listed_span, sp
 ghost use Rattle.twp_diagnose.specs.RecordFields.{start_listed, AreBytesOf, IsListedAt};
 ghost use Rattle.twp_diagnose.specs.Spots.{MOST_BYTES, IsLineIn};
 
-use crate::given::Given;
-use crate::location::line_in;
+use crate::location::{Given, line_in};
 use crate::records::Record;
 use std::alloc::{AllocError, Global};
 use twp_excerpt::Span;

@@ -1,13 +1,13 @@
-//! Where a record is in its file, and where its fields do.
-ghost use Rattle.std.specs.Prelude.{◌≡◌, ◌≤◌, ◌<◌, length, drop, min, option_map, IfOk};
-ghost use Rattle.std.specs.Prelude.{◌↔◌, IsTrue, MatchOption};
+//! Where a record and its fields are in a file; and the fields, as explanations compare and count them.
+ghost use Rattle.std.specs.Prelude.{◌≡◌, ◌≤◌, ◌<◌, length, drop, min, option_map, IfOk, ◌↔◌};
+ghost use Rattle.std.specs.Prelude.{IsTrue, MatchOption};
 ghost use Rattle.csv.specs.Records.{fields_of};
 ghost use Rattle.twp_grammar.specs.Tokens.{begins_with};
 ghost use Rattle.twp_grid.specs.Finding.{Finds};
 ghost use Rattle.twp_notes.specs.FieldNotes.{NamesLine};
 ghost use Rattle.twp_notes.specs.Records.{field, records_of};
-ghost use Rattle.twp_diagnose.specs.RecordFields.{fields_in, fields_span, field_span, field_end, is_comma};
-ghost use Rattle.twp_diagnose.specs.RecordFields.{IsFirstOfLine, IsRecordAt, NoneNames};
+ghost use Rattle.twp_diagnose.specs.RecordFields.{fields_in, fields_span, field_span, field_end};
+ghost use Rattle.twp_diagnose.specs.RecordFields.{is_comma, IsFirstOfLine, IsRecordAt, NoneNames};
 ghost use Rattle.twp_diagnose.specs.steps.Fields.{state_of, GoesOn};
 
 use csv::ByteRecord;
@@ -247,4 +247,20 @@ fn end_of_field(bytes: &[u8], start: usize) -> usize
         end += 1;
     }
     bytes.len()
+}
+
+/// Whether some bytes are exactly this text.
+pub fn is_text(bytes: &[u8], text: &str) -> bool
+    ensures { IsTrue result ↔ (bytes.now ≡ text.now) }
+{
+    bytes == text.as_bytes()
+}
+
+/// Appends how many fields there are.
+pub fn write_count(fields: usize, out: &mut String) -> Result<(), AllocError> {
+    if fields == 1 {
+        out.push_str("1 field")
+    } else {
+        write!(out, "{fields} fields")
+    }
 }

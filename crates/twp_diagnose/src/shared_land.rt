@@ -13,7 +13,7 @@ use twp_spell::spell;
 
 /// Land that two items of a description name.
 #[derive(Drop)]
-pub struct Shared {
+pub struct SharedLand {
     /// The item for which the description is refused, and the first that names some of its land.
     pub items: SharingItems,
     /// The one spelling of the land that both name.
@@ -27,7 +27,7 @@ pub fn shared_land_text(
     alloc: Global,
     description: &Description,
     township: Township,
-) -> Result<Option<Shared>, AllocError>
+) -> Result<Option<SharedLand>, AllocError>
     ensures { IfOk result (λ explained. MatchOption explained
         (¬ AreRefusedForOverlap PLACE_DIGITS township description.now)
         (TellsShared PLACE_DIGITS township description.now)) }
@@ -37,5 +37,5 @@ pub fn shared_land_text(
         return Ok(None);
     };
     let text = spell(alloc, &land, township)?;
-    Ok(Some(Shared { items, text }))
+    Ok(Some(SharedLand { items, text }))
 }

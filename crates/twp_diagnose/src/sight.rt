@@ -2,7 +2,7 @@
 ghost use Rattle.std.specs.Prelude.{◌≡◌, ◌≤◌, ◌↔◌, length, drop, IsTrue};
 ghost use Rattle.std.specs.List.{AllPass};
 ghost use Rattle.twp_excerpt.specs.Spots.{is_white};
-ghost use Rattle.twp_grammar.specs.declared.kind.Kind.TheVariants.{BadByte};
+ghost use Rattle.twp_grammar.specs.declared.tokens.Kind.TheVariants.{BadByte};
 ghost use Rattle.twp_diagnose.specs.Sights.{is_apart, shown_place, IsSignAfter, TakesSign};
 
 use crate::mark::next_token;

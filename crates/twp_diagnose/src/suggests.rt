@@ -26,8 +26,8 @@ pub struct Suggested {
     pub assumptions: String,
 }
 
-/// What else is known of a text that is not read. The explanations take this as a type, so that they don't depend on how
-/// texts are read that are written otherwise.
+/// What else is known of a text that is not read. The explanations take this as a type, so that they
+/// don't depend on how texts are read that are written otherwise.
 pub trait Suggests {
     /// Why lots and aliquot parts can't describe the land of a text, or how the text is read.
     fn suggest(alloc: Global, text: &[u8], township: Township) -> Result<Suggestion, AllocError>

@@ -66,11 +66,11 @@ pub struct Phrase {
     /// The index after its last piece.
     pub end: usize,
     /// The changes in it: the index of the first one, and the one after the last.
-    pub changes: Span,
+    pub changes: IndexRange,
     /// Its steps, if it is an aliquot part.
-    pub steps: Span,
+    pub steps: IndexRange,
     /// Its numbers, if it names sections or lots, or a township and range.
-    pub numbers: Span,
+    pub numbers: IndexRange,
 }
 
 /// What becomes of a phrase.
@@ -89,7 +89,7 @@ pub struct Placed {
     pub role: Role,
     /// The numbers of its section, which is written before it: it is left out where it is, or the land is
     /// excepted.
-    pub section: Option<Span>,
+    pub section: Option<IndexRange>,
 }
 
 /// What the search has to know of the last phrase that names sections.
@@ -97,12 +97,12 @@ pub struct Placed {
 pub struct LastSection {
     /// The index of its first piece.
     pub first: usize,
-    pub numbers: Span,
+    pub numbers: IndexRange,
 }
 
 /// From one index up to another.
 #[derive(Clone, Copy, PartialEq, Eq)]
-pub struct Span {
+pub struct IndexRange {
     pub first: usize,
     pub end: usize,
 }
@@ -122,7 +122,7 @@ pub enum Form {
 
 /// A number: its value, and the pieces for it.
 #[derive(Clone, Copy)]
-pub struct Numeral {
+pub struct WrittenNumber {
     pub value: u16,
     /// The index of the first piece.
     pub first: usize,
@@ -153,7 +153,7 @@ pub struct Said {
     /// Where they end.
     pub end: usize,
     /// The changes in them, among those of what is said again.
-    pub changes: Span,
+    pub changes: IndexRange,
 }
 
 /// What phrases of a text say again.
@@ -174,7 +174,7 @@ pub struct Draft<'a> {
     /// of which is to be left out by a change of its own.
     pub changes: Vec<Change<'a>>,
     pub steps: Vec<PlacedStep>,
-    pub numbers: Vec<Numeral>,
+    pub numbers: Vec<WrittenNumber>,
     /// What is said again.
     pub again: Again<'a>,
     /// For each part that is called fractional, and so has to include lots, the index after it.
@@ -216,14 +216,14 @@ impl Extent {
 }
 
 impl<'a> Draft<'a> {
-    /// The draft of a text in which nothing was found yet.
-    pub fn new(alloc: Global, text: &'a [u8]) -> Result<Draft<'a>, AllocError> {
-        Ok(Draft {
-            pieces: Pieces::of(alloc, text)?,
-            phrases: Vec::with_capacity(alloc, PHRASES_FIRST)?,
-            changes: Vec::with_capacity(alloc, CHANGES_FIRST)?,
-            steps: Vec::with_capacity(alloc, STEPS_FIRST)?,
-            numbers: Vec::with_capacity(alloc, NUMBERS_FIRST)?,
+    /// The draft of a text that isn't cut into pieces yet, so that no memory is needed.
+    pub fn new(alloc: Global, text: &'a [u8]) -> Draft<'a> {
+        Draft {
+            pieces: Pieces::uncut(alloc, text),
+            phrases: Vec::new(alloc),
+            changes: Vec::new(alloc),
+            steps: Vec::new(alloc),
+            numbers: Vec::new(alloc),
             again: Again {
                 said: Vec::new(alloc),
                 changes: Vec::new(alloc),
@@ -234,7 +234,16 @@ impl<'a> Draft<'a> {
             has_remark: false,
             is_unsure: false,
             lacks_memory: false,
-        })
+        }
+    }
+
+    /// Cuts the text into pieces, and makes room for what is found in most texts.
+    pub fn begin(&mut self) -> Result<(), AllocError> {
+        self.pieces.cut()?;
+        self.phrases.reserve(PHRASES_FIRST)?;
+        self.changes.reserve(CHANGES_FIRST)?;
+        self.steps.reserve(STEPS_FIRST)?;
+        self.numbers.reserve(NUMBERS_FIRST)
     }
 
     /// How much there is.
@@ -282,7 +291,7 @@ impl<'a> Draft<'a> {
     }
 
     /// Adds a number.
-    pub fn add_number(&mut self, number: Numeral) {
+    pub fn add_number(&mut self, number: WrittenNumber) {
         if self.numbers.push(number).is_err() {
             self.lacks_memory = true;
         }
@@ -311,7 +320,7 @@ impl<'a> Draft<'a> {
         let said = Said {
             start,
             end: self.pieces.end_before(end),
-            changes: Span {
+            changes: IndexRange {
                 first: before,
                 end: self.again.changes.len(),
             },

@@ -1,6 +1,6 @@
 //! Townships and ranges where they are written again: `T. 2 N., R. 3 W., `.
 
-use crate::draft::{Draft, Numeral, Phrase};
+use crate::draft::{Draft, Phrase, WrittenNumber};
 use twp_asides::plus;
 use twp_rules::Rule;
 
@@ -38,7 +38,7 @@ impl<'a> Draft<'a> {
     }
 
     /// Writes the number of a township or a range at a place where it isn't.
-    fn copy_tier(&mut self, place: usize, number: Numeral) {
+    fn copy_tier(&mut self, place: usize, number: WrittenNumber) {
         let dropped = usize::from(self.pieces.has_digits(number.first, 4));
         self.copy_numeral(place, number, dropped)
     }

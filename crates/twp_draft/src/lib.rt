@@ -11,8 +11,8 @@ mod phrases;
 mod steps;
 
 pub use draft::{
-    Again, Draft, Extent, Form, LastSection, LeftOut, Names, Numeral, Phrase, Placed, PlacedStep,
-    Role, Said, Span,
+    Again, Draft, Extent, Form, IndexRange, LastSection, LeftOut, Names, Phrase, Placed,
+    PlacedStep, Role, Said, WrittenNumber,
 };
 pub use finds_phrases::FindsPhrases;
 pub use steps::Thereof;

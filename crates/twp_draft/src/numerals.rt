@@ -1,6 +1,6 @@
 //! Numbers in digits and in words.
 
-use crate::draft::{Draft, Numeral};
+use crate::draft::{Draft, WrittenNumber};
 use twp_asides::{plus, tens_of, value_of, value_of_count};
 use twp_grammar::Kind;
 use twp_rules::Rule;
@@ -12,8 +12,8 @@ const ONE_DIGIT: &[u8] = b"123456789";
 const TWO_DIGITS: &[u8] = b"1011121314151617181920";
 
 /// The number that one piece at an index is.
-fn one_piece(index: usize, value: u16) -> Numeral {
-    Numeral {
+fn one_piece(index: usize, value: u16) -> WrittenNumber {
+    WrittenNumber {
         value,
         first: index,
         last: index,
@@ -34,7 +34,7 @@ fn digits_of(word: &[u8]) -> Option<&'static [u8]> {
 
 impl<'a> Draft<'a> {
     /// The number at an index, in digits or in words. What repeats it in parentheses is part of it.
-    pub fn numeral(&self, index: usize) -> Option<Numeral> {
+    pub fn numeral(&self, index: usize) -> Option<WrittenNumber> {
         let pieces = &self.pieces;
         let found = match pieces.kind(index) {
             Kind::Number(value) if pieces.size(index) <= 3 => one_piece(index, value),
@@ -49,7 +49,7 @@ impl<'a> Draft<'a> {
         let is_repeated = pieces.is(end, b"(")
             && pieces.number(plus(end, 1)) == Some(found.value)
             && pieces.is(plus(end, 2), b")");
-        Some(Numeral {
+        Some(WrittenNumber {
             end: if is_repeated { plus(end, 3) } else { end },
             ..found
         })
@@ -68,7 +68,7 @@ impl<'a> Draft<'a> {
     }
 
     /// A number of one digit with another after it, one of which is a letter.
-    fn with_damaged_digit(&self, number: Numeral) -> Numeral {
+    fn with_damaged_digit(&self, number: WrittenNumber) -> WrittenNumber {
         let pieces = &self.pieces;
         let next = number.end;
         if number.value > 9 || pieces.size(number.first) != 1 || !pieces.is_joined(next) {
@@ -82,7 +82,7 @@ impl<'a> Draft<'a> {
                 None => return number,
             },
         };
-        Numeral {
+        WrittenNumber {
             value: number.value.saturating_mul(10).saturating_add(digit),
             last: next,
             end: plus(next, 1),
@@ -91,7 +91,7 @@ impl<'a> Draft<'a> {
     }
 
     /// The number at an index that is written in words.
-    fn numeral_in_words(&self, index: usize) -> Option<Numeral> {
+    fn numeral_in_words(&self, index: usize) -> Option<WrittenNumber> {
         let pieces = &self.pieces;
         let word = pieces.lower(index);
         let value = value_of(digits_of(word)?);
@@ -104,7 +104,7 @@ impl<'a> Draft<'a> {
             next = plus(next, 1);
         }
         match digits_of(pieces.lower(next)) {
-            Some(digits) if digits.len() == 1 => Some(Numeral {
+            Some(digits) if digits.len() == 1 => Some(WrittenNumber {
                 value: value.saturating_add(value_of(digits)),
                 first: index,
                 last: next,
@@ -127,7 +127,7 @@ impl<'a> Draft<'a> {
     }
 
     /// Writes a number in digits, without zeros before them, where it is, and leaves out what repeats it.
-    pub fn write_numeral(&mut self, number: Numeral) {
+    pub fn write_numeral(&mut self, number: WrittenNumber) {
         self.write_digits(number);
         let last = plus(number.last, 1);
         if number.end > last {
@@ -137,8 +137,8 @@ impl<'a> Draft<'a> {
     }
 
     /// The same, without what repeats it.
-    fn write_digits(&mut self, number: Numeral) {
-        let Numeral { first, last, .. } = number;
+    fn write_digits(&mut self, number: WrittenNumber) {
+        let WrittenNumber { first, last, .. } = number;
         let start = self.pieces.start(first);
         if self.is_damaged(number) {
             return self.mend_digits(first, plus(last, 1));
@@ -162,8 +162,8 @@ impl<'a> Draft<'a> {
     }
 
     /// Whether a digit of a number is a letter.
-    fn is_damaged(&self, number: Numeral) -> bool {
-        let Numeral { first, last, .. } = number;
+    fn is_damaged(&self, number: WrittenNumber) -> bool {
+        let WrittenNumber { first, last, .. } = number;
         let is_one = first == last && matches!(self.pieces.kind(first), Kind::Number(_));
         !is_one && (self.damaged_digit(first).is_some() || self.damaged_digit(last).is_some())
     }
@@ -193,8 +193,8 @@ impl<'a> Draft<'a> {
     }
 
     /// Writes a number at a place where it isn't, without the last so many digits.
-    pub fn copy_numeral(&mut self, place: usize, number: Numeral, dropped: usize) {
-        let Numeral { first, last, .. } = number;
+    pub fn copy_numeral(&mut self, place: usize, number: WrittenNumber, dropped: usize) {
+        let WrittenNumber { first, last, .. } = number;
         if self.is_damaged(number) {
             return self.copy_damaged(place, first, plus(last, 1));
         }

@@ -1,6 +1,6 @@
 //! The phrases of a draft.
 
-use crate::draft::{Draft, Extent, Form, Names, Phrase, Placed, Role, Span};
+use crate::draft::{Draft, Extent, Form, IndexRange, Names, Phrase, Placed, Role};
 
 impl<'a> Draft<'a> {
     /// A phrase of some pieces, with what was added after an extent.
@@ -10,15 +10,15 @@ impl<'a> Draft<'a> {
             form: Form::Plain,
             first,
             end,
-            changes: Span {
+            changes: IndexRange {
                 first: from.changes,
                 end: self.changes.len(),
             },
-            steps: Span {
+            steps: IndexRange {
                 first: from.steps,
                 end: self.steps.len(),
             },
-            numbers: Span {
+            numbers: IndexRange {
                 first: from.numbers,
                 end: self.numbers.len(),
             },

@@ -1,6 +1,6 @@
 //! The steps of aliquot parts, and whether those of two parts are the same.
 
-use crate::draft::{Draft, Phrase, PlacedStep, Span};
+use crate::draft::{Draft, IndexRange, Phrase, PlacedStep};
 use twp_asides::plus;
 
 /// An excepted part with `thereof` that ends with the steps of the part before it, as in
@@ -10,7 +10,7 @@ pub struct Thereof {
     /// The index after it.
     pub end: usize,
     /// The steps of the part before it.
-    pub steps: Span,
+    pub steps: IndexRange,
 }
 
 impl<'a> Draft<'a> {

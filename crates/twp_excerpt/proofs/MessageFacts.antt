@@ -6,7 +6,7 @@ use Rattle.std.specs.Prelude.{encode_utf8_all}
 use Rattle.twp_excerpt.specs.Messages.{AddsHelp, IsInParts, IsMessage, message_head, extract_text}
 use Rattle.twp_excerpt.specs.Shown.{AddsEnded, AddsLines}
 use Rattle.twp_excerpt.specs.declared.message.Message.{Message}
-use Rattle.twp_excerpt.specs.declared.message.Parts.{Parts}
+use Rattle.twp_excerpt.specs.declared.message.MessageParts.{MessageParts}
 use Rattle.twp_excerpt.proofs.ShownFacts.{all_lines, own_text}
 
 -- help that isn't empty begins with two spaces
@@ -48,7 +48,8 @@ message_is message start head sentence extract text none head_is sentence_is ext
     }
 
 -- and where they are, by the length of the text after each
-pub in_parts : (message : Message) (start head sentence extract text : List ℕ) (parts : Parts) → start ≡ []
+pub in_parts : (message : Message) (start head sentence extract text : List ℕ) (parts : MessageParts)
+    → start ≡ []
     → head ≡ start ++ encode_utf8_all (message_head message.name.now message.heading)
     → AddsEnded head sentence → extract ≡ sentence ++ encode_utf8_all (extract_text message.extract)
     → AddsHelp message.help.now extract text → AddsLines start text

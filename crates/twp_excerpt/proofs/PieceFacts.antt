@@ -4,16 +4,17 @@ use Rattle.std.proofs.Common.{refl, sym, ap, subst, ◌∙◌, arith, nat_le, le
 use Rattle.std.proofs.Common.{⊎_elim, true≢false}
 use Rattle.std.specs.Fmt.{decimal}
 use Rattle.std.proofs.lemmas.Bool.{cases_Bool}
-use Rattle.twp_excerpt.specs.declared.excerpt.Part.{Part}
+use Rattle.twp_excerpt.specs.declared.excerpt.KeptPart.{KeptPart}
 use Rattle.twp_excerpt.specs.Signs.{Sign, signs}
-use Rattle.twp_excerpt.specs.Excerpts.{Piece, whole_piece, piece_width, line_width, front_piece, end_piece}
+use Rattle.twp_excerpt.specs.Excerpts.{ShownPart, whole_piece, piece_width, line_width, front_piece}
+use Rattle.twp_excerpt.specs.Excerpts.{end_piece}
 use Rattle.twp_excerpt.specs.Excerpts.{begun, least_ahead, piece_before, piece_ahead, view_of, front_within}
 use Rattle.twp_excerpt.specs.Excerpts.{View as ViewOf, between, line_end, view_in, excerpt, excerpt_lines}
 use Rattle.twp_excerpt.specs.Spots.{line_start}
 use Rattle.twp_excerpt.specs.steps.Views.{IsPart, IsKept}
 
 -- a piece by the way in which signs are cut
-abbrev pub piece_by : (ℕ → List Sign → List Sign) → ℕ → List Sign → Piece
+abbrev pub piece_by : (ℕ → List Sign → List Sign) → ℕ → List Sign → ShownPart
 piece_by within room line =
     cond (nat_le (line_width line) room) (whole_piece line)
     (record { kept = within (room - 2) line; is_cut = true })
@@ -42,7 +43,7 @@ not_true true h = absurd (true≢false (sym h))
 not_true false h = refl
 
 -- a part that is not cut is the whole
-pub part_whole : (within : ℕ → List Sign → List Sign) (room : ℕ) (line : List Sign) (part : Part)
+pub part_whole : (within : ℕ → List Sign → List Sign) (room : ℕ) (line : List Sign) (part : KeptPart)
     → KeepsWhole within → signs part.bytes.now ≡ within room line
     → part.cut ≡ not (nat_le (line_width line) room) → part.columns ≡ line_width (signs part.bytes.now)
     → part.cut ≡ false → IsPart (piece_by within room line) part
@@ -56,7 +57,7 @@ part_whole within room line part whole kept cut columns no_cut =
     })
 
 -- otherwise it is cut to two columns fewer
-pub part_cut : (within : ℕ → List Sign → List Sign) (room : ℕ) (line : List Sign) (first part : Part)
+pub part_cut : (within : ℕ → List Sign → List Sign) (room : ℕ) (line : List Sign) (first part : KeptPart)
     → first.cut ≡ not (nat_le (line_width line) room) → first.cut ≡ true
     → signs part.bytes.now ≡ within (room - 2) line
     → part.cut ≡ not (nat_le (line_width line) (room - 2))
@@ -79,7 +80,8 @@ part_cut within room line first part first_cut is_cut kept cut columns =
     })
 
 -- a prefix that is whole in little room is whole in more room
-pub whole_widened : (least room : ℕ) (line : List Sign) (part : Part) → IsPart (front_piece least line) part
+pub whole_widened : (least room : ℕ) (line : List Sign) (part : KeptPart)
+    → IsPart (front_piece least line) part
     → part.cut ≡ false → part.columns ≤ room → IsPart (front_piece room line) part
 whole_widened least room line part is no_cut fits = ⊎_elim
     (λ all.
@@ -94,12 +96,12 @@ whole_widened least room line part is no_cut fits = ⊎_elim
     (cases_Bool (nat_le (line_width line) least))
 
 -- the columns of the signs without dots are no more than those of the part
-pub part_narrow : (piece : Piece) (part : Part) → IsPart piece part
+pub part_narrow : (piece : ShownPart) (part : KeptPart) → IsPart piece part
     → line_width (signs part.bytes.now) ≤ part.columns
 part_narrow piece part is = omega (arith, is.columns_is, ap line_width is.kept_is)
 
 pub kept_view : (room before_room ahead_room size carets : ℕ) (before ahead : List Sign)
-    (least first rest : Part) → IsPart (front_piece (room - room / 2) ahead) least
+    (least first rest : KeptPart) → IsPart (front_piece (room - room / 2) ahead) least
     → before_room ≡ room - max least.columns 1 → IsPart (end_piece before_room before) first
     → ahead_room ≡ room - first.columns → IsPart (front_piece ahead_room ahead) rest
     → carets ≡ max (line_width (begun size (signs rest.bytes.now))) 1

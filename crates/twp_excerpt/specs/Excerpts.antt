@@ -47,7 +47,7 @@ end_within room line = reverse (front_within room (reverse line))
 
 -- the part that is kept of some signs, and whether other signs are omitted; two dots mark the
 -- omission
-pub record Piece : Type 0 where
+pub record ShownPart : Type 0 where
   pub kept : List Sign
   pub is_cut : Bool
 
@@ -55,21 +55,21 @@ abbrev pub dots : Bool → List ℕ
 dots is_cut = if is_cut then codes ".." else []
 
 -- the columns of a piece, including its dots
-abbrev pub piece_width : Piece → ℕ
+abbrev pub piece_width : ShownPart → ℕ
 piece_width piece = line_width piece.kept + length (dots piece.is_cut)
 
 -- some signs, all of them if they fit in a number of columns; otherwise the prefix that fits before
 -- two dots, or the suffix that fits after them
-abbrev pub whole_piece : List Sign → Piece
+abbrev pub whole_piece : List Sign → ShownPart
 whole_piece line = record { kept = line; is_cut = false }
 
-abbrev pub front_piece : ℕ → List Sign → Piece
+abbrev pub front_piece : ℕ → List Sign → ShownPart
 front_piece room line =
     if nat_le (line_width line) room
     then whole_piece line
     else record { kept = front_within (room - 2) line; is_cut = true }
 
-abbrev pub end_piece : ℕ → List Sign → Piece
+abbrev pub end_piece : ℕ → List Sign → ShownPart
 end_piece room line =
     if nat_le (line_width line) room
     then whole_piece line
@@ -81,10 +81,10 @@ end_piece room line =
 abbrev pub least_ahead : ℕ → List Sign → ℕ
 least_ahead room ahead = max 1 (piece_width (front_piece (room - room / 2) ahead))
 
-abbrev pub piece_before : ℕ → List Sign → List Sign → Piece
+abbrev pub piece_before : ℕ → List Sign → List Sign → ShownPart
 piece_before room before ahead = end_piece (room - least_ahead room ahead) before
 
-abbrev pub piece_ahead : ℕ → List Sign → List Sign → Piece
+abbrev pub piece_ahead : ℕ → List Sign → List Sign → ShownPart
 piece_ahead room before ahead =
     front_piece (room - piece_width (piece_before room before ahead)) ahead
 
@@ -96,8 +96,8 @@ begun (suc size) (sign ∷ rest) = sign ∷ begun (suc size - sign_size sign) re
 
 -- the parts that are shown of a line, and the number of carets below it, at least one
 pub record View : Type 0 where
-  pub before : Piece
-  pub ahead : Piece
+  pub before : ShownPart
+  pub ahead : ShownPart
   pub carets : ℕ
 
 -- the view of a line, given the signs before a place, those from it on, and how many bytes are
@@ -117,10 +117,10 @@ abbrev pub empty_gutter : ℕ → List ℕ
 empty_gutter digits = replicate (2 + digits) 32 ++ codes " | "
 
 -- a piece as it is written: a suffix after its dots, or a prefix before them
-abbrev pub end_text : Piece → List ℕ
+abbrev pub end_text : ShownPart → List ℕ
 end_text piece = dots piece.is_cut ++ line_text piece.kept
 
-abbrev pub front_text : Piece → List ℕ
+abbrev pub front_text : ShownPart → List ℕ
 front_text piece = line_text piece.kept ++ dots piece.is_cut
 
 -- the numbered line, and the line of carets

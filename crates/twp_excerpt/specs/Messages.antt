@@ -6,23 +6,23 @@ use Rattle.std.specs.Fmt.{decimal}
 use Rattle.twp_excerpt.specs.Excerpts.{excerpt}
 use Rattle.twp_excerpt.specs.Shown.{IsTextOf, is_shown_or_feed}
 use Rattle.twp_excerpt.specs.Signs.{escaped}
-use Rattle.twp_excerpt.specs.declared.message.Heading.{Heading}
-use Rattle.twp_excerpt.specs.declared.message.Heading.TheVariants.{File, Line, Place}
+use Rattle.twp_excerpt.specs.declared.message.MessagePlace.{MessagePlace}
+use Rattle.twp_excerpt.specs.declared.message.MessagePlace.TheVariants.{File, Line, Place}
 use Rattle.twp_excerpt.specs.declared.message.Extract.{Extract}
 use Rattle.twp_excerpt.specs.declared.message.Message.{Message}
-use Rattle.twp_excerpt.specs.declared.message.Parts.{Parts}
+use Rattle.twp_excerpt.specs.declared.message.MessageParts.{MessageParts}
 
 -- the line and the column of a heading, each after a colon
 abbrev pub number_text : ℕ → List ℕ
 number_text number = codes ":" ++ decimal number
 
-abbrev pub heading_text : Heading → List ℕ
+abbrev pub heading_text : MessagePlace → List ℕ
 heading_text File = []
 heading_text (Line line) = number_text line
 heading_text (Place spot) = number_text spot.line ++ number_text spot.column
 
 -- the head of a message, such as `township: land.txt:1:13: `
-abbrev pub message_head : List ℕ → Heading → List ℕ
+abbrev pub message_head : List ℕ → MessagePlace → List ℕ
 message_head name heading =
     codes "township: " ++ (escaped name ++ (heading_text heading ++ codes ": "))
 
@@ -54,7 +54,7 @@ pub record IsMessage (message : Message) (text : List ℕ) : Type 0 where
 
 -- The text is the message, and its parts are here: the sentence, up to the line feed that ends it, the
 -- excerpt, and the help.
-pub record IsInParts (message : Message) (text : List ℕ) (parts : Parts) : Type 0 where
+pub record IsInParts (message : Message) (text : List ℕ) (parts : MessageParts) : Type 0 where
   pub is : IsMessage message text
   pub sentence_starts : parts.sentence.start
       ≡ length (encode_utf8_all (message_head message.name.now message.heading))

@@ -11,7 +11,7 @@ ghost use Rattle.twp_excerpt.specs.Signs.{letter_escape, byte_escape, code_escap
 ghost use Rattle.twp_excerpt.specs.steps.Looks.{IsSafe, IsDrawn, IsDrawnLast, IsDrawnInLine};
 ghost use Rattle.twp_excerpt.specs.steps.Looks.{is_printable, look_of, look_text};
 
-use crate::shown::is_shown;
+use crate::spot::is_shown;
 use bstr::{decode_last_utf8, decode_utf8};
 use std::alloc::AllocError;
 use unicode_width::UnicodeWidthChar;

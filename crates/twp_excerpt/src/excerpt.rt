@@ -4,7 +4,7 @@ ghost use Rattle.std.specs.Prelude.{string_bytes, replicate, IsTrue, OnOk};
 ghost use Rattle.std.specs.List.{list_all};
 ghost use Rattle.twp_excerpt.specs.Excerpts.{View as ViewOf, excerpt, view_in, line_end, line_text};
 ghost use Rattle.twp_excerpt.specs.Excerpts.{line_width, front_within, end_within, begun, dots};
-ghost use Rattle.twp_excerpt.specs.Excerpts.{Piece, front_piece, end_piece, front_text, end_text, gutter};
+ghost use Rattle.twp_excerpt.specs.Excerpts.{ShownPart, front_piece, end_piece, front_text, end_text, gutter};
 ghost use Rattle.twp_excerpt.specs.Excerpts.{empty_gutter, numbered_line, caret_line};
 ghost use Rattle.twp_excerpt.specs.Shown.{AddsLines, AddsShown, AddsTwoLines, is_shown};
 ghost use Rattle.twp_excerpt.specs.Signs.{Adding, signs};
@@ -49,7 +49,7 @@ pub fn write_excerpt(text: &[u8], span: Span, line: u32, out: &mut String) -> Re
 
 /// The part that is kept of some bytes of a line.
 #[derive(Clone, Copy)]
-pub(crate) struct Part<'a> {
+pub(crate) struct KeptPart<'a> {
     bytes: &'a [u8],
     /// Whether bytes were omitted; two dots mark the omission.
     cut: bool,
@@ -57,11 +57,11 @@ pub(crate) struct Part<'a> {
     pub(crate) columns: usize,
 }
 
-impl<'a> Part<'a> {
+impl<'a> KeptPart<'a> {
     /// Appends a prefix of bytes, and dots if more bytes follow.
     #[tactic(auto, using(crate::proofs::ShownFacts::adds_trans))]
     pub(crate) fn write_front(&self, out: &mut String) -> Result<(), AllocError>
-        ensures added { (piece : Piece) → IsPart piece self.now
+        ensures added { (piece : ShownPart) → IsPart piece self.now
             → Adding (front_text piece) result (string_bytes out.old) (string_bytes out.new) }
         ensures safe { AddsShown (string_bytes out.old) (string_bytes out.new) }
     {
@@ -72,7 +72,7 @@ impl<'a> Part<'a> {
     /// Appends a suffix of bytes, after dots if there are more bytes before it.
     #[tactic(auto, using(crate::proofs::ShownFacts::adds_trans))]
     fn write_end(&self, out: &mut String) -> Result<(), AllocError>
-        ensures added { (piece : Piece) → IsPart piece self.now
+        ensures added { (piece : ShownPart) → IsPart piece self.now
             → Adding (end_text piece) result (string_bytes out.old) (string_bytes out.new) }
         ensures safe { AddsShown (string_bytes out.old) (string_bytes out.new) }
     {
@@ -81,9 +81,9 @@ impl<'a> Part<'a> {
     }
 }
 
-impl<'a> Part<'a> {
+impl<'a> KeptPart<'a> {
     /// The prefix of bytes that fits in a number of columns, given a shorter prefix of them.
-    fn widened(self, bytes: &'a [u8], room: usize) -> Part<'a>
+    fn widened(self, bytes: &'a [u8], room: usize) -> KeptPart<'a>
         requires short { IsTrue self.cut → 2 ≤ room }
         requires whole { self.cut ≡ false → self.columns ≤ room }
         requires roomy { room ≤ 100 }
@@ -102,9 +102,9 @@ impl<'a> Part<'a> {
 #[derive(Clone, Copy)]
 struct View<'a> {
     /// The part of the line before the span.
-    before: Part<'a>,
+    before: KeptPart<'a>,
     /// The part of the line from the span's start on.
-    ahead: Part<'a>,
+    ahead: KeptPart<'a>,
     /// How many carets there are.
     carets: usize,
 }
@@ -184,7 +184,7 @@ fn end_of_line(text: &[u8], start: usize, at: usize) -> usize
 
 /// The prefix of some bytes that fits in a number of columns, including the dots if it is not all
 /// of them.
-pub(crate) fn front_of(bytes: &[u8], room: usize) -> Part<'_>
+pub(crate) fn front_of(bytes: &[u8], room: usize) -> KeptPart<'_>
     requires { (2 ≤ room) × (room ≤ 100) }
     ensures piece { IsPart (front_piece room (signs bytes.now)) result }
     ensures fits { result.columns ≤ room }
@@ -195,14 +195,14 @@ pub(crate) fn front_of(bytes: &[u8], room: usize) -> Part<'_>
         return whole;
     }
     let front = front_within(bytes, room - DOTS.len());
-    Part {
+    KeptPart {
         columns: front.columns + DOTS.len(),
         ..front
     }
 }
 
 /// The prefix of some bytes that fits in a number of columns, without dots.
-fn front_within(bytes: &[u8], room: usize) -> Part<'_>
+fn front_within(bytes: &[u8], room: usize) -> KeptPart<'_>
     requires { room ≤ 100 }
     ensures kept { signs result.bytes.now ≡ front_within room (signs bytes.now) }
     ensures cut { result.cut ≡ not (nat_le (line_width (signs bytes.now)) room) }
@@ -220,7 +220,7 @@ fn front_within(bytes: &[u8], room: usize) -> Part<'_>
         columns = more;
         at += sign.size;
     }
-    Part {
+    KeptPart {
         bytes: &bytes[..at],
         cut: at < bytes.len(),
         columns,
@@ -229,7 +229,7 @@ fn front_within(bytes: &[u8], room: usize) -> Part<'_>
 
 /// The suffix of some bytes that fits in a number of columns, including the dots if it is not all
 /// of them.
-fn end_of(bytes: &[u8], room: usize) -> Part<'_>
+fn end_of(bytes: &[u8], room: usize) -> KeptPart<'_>
     requires { (2 ≤ room) × (room ≤ 100) }
     ensures piece { IsPart (end_piece room (signs bytes.now)) result }
     ensures fits { result.columns ≤ room }
@@ -239,14 +239,14 @@ fn end_of(bytes: &[u8], room: usize) -> Part<'_>
         return whole;
     }
     let end = end_within(bytes, room - DOTS.len());
-    Part {
+    KeptPart {
         columns: end.columns + DOTS.len(),
         ..end
     }
 }
 
 /// The suffix of some bytes that fits in a number of columns, without dots.
-fn end_within(bytes: &[u8], room: usize) -> Part<'_>
+fn end_within(bytes: &[u8], room: usize) -> KeptPart<'_>
     requires { room ≤ 100 }
     ensures kept { signs result.bytes.now ≡ end_within room (signs bytes.now) }
     ensures cut { result.cut ≡ not (nat_le (line_width (signs bytes.now)) room) }
@@ -264,7 +264,7 @@ fn end_within(bytes: &[u8], room: usize) -> Part<'_>
         columns = more;
         at -= sign.size;
     }
-    Part {
+    KeptPart {
         bytes: &bytes[at..],
         cut: at > 0,
         columns,

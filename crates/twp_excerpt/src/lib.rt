@@ -6,12 +6,11 @@
 mod escaped;
 mod excerpt;
 mod message;
-mod shown;
 mod spot;
 mod wrapped;
 
 pub use escaped::write_escaped;
 pub use excerpt::write_excerpt;
-pub use message::{Extract, Heading, Message, MessageText, Parts};
+pub use message::{Extract, Message, MessageParts, MessagePlace, MessageText};
 pub use spot::{Span, Spot, end_of_text, first_size, spot_of};
 pub use wrapped::{columns_of, write_wrapped};

@@ -21,7 +21,7 @@ const HELP_LINES: usize = 3;
 
 /// The place that a message names after the file.
 #[derive(Clone, Copy)]
-pub enum Heading {
+pub enum MessagePlace {
     /// The file as a whole.
     File,
     /// A line.
@@ -47,7 +47,7 @@ pub struct Message<'a> {
     /// The file's name.
     pub name: &'a str,
     /// The place in the file.
-    pub heading: Heading,
+    pub heading: MessagePlace,
     /// What is wrong there, or what is noted.
     pub sentence: &'a str,
     /// The excerpt to show, if any.
@@ -58,14 +58,15 @@ pub struct Message<'a> {
 
 /// Where the parts of a message are in its text.
 #[derive(Clone, Copy)]
-pub struct Parts {
+pub struct MessageParts {
     /// The sentence, without the line feed that ends it. A line feed in it is one at which it was broken.
     pub sentence: Span,
     /// The two lines of the excerpt; empty if there is none.
     pub excerpt: Span,
     /// The lines of the help; empty if there is none.
     pub help: Span,
-    /// Which lines of the help continue the one before: bit 1 is for the second line, and bit 2 for the third.
+    /// Which lines of the help continue the one before: bit 1 is for the second line, and bit 2 for the
+    /// third.
     pub continued: u32,
 }
 
@@ -75,7 +76,7 @@ pub struct MessageText {
     /// Lines of at most 100 columns, each with a line feed at its end.
     pub text: String,
     /// Where its parts are.
-    pub parts: Parts,
+    pub parts: MessageParts,
 }
 
 impl Message<'_> {
@@ -95,7 +96,7 @@ impl Message<'_> {
         let end = text.len();
         Ok(MessageText {
             text,
-            parts: Parts {
+            parts: MessageParts {
                 sentence: Span {
                     start: sentence,
                     end: excerpt.saturating_sub(1),
@@ -113,7 +114,7 @@ impl Message<'_> {
 
 /// Appends the file's name and the place in it.
 #[tactic(auto, using(crate::proofs::ShownFacts::adds_trans))]
-fn write_head(name: &str, heading: Heading, out: &mut String) -> Result<(), AllocError>
+fn write_head(name: &str, heading: MessagePlace, out: &mut String) -> Result<(), AllocError>
     ensures head { Adding (message_head name.now heading) result
         (string_bytes out.old) (string_bytes out.new) }
     ensures safe { AddsShown (string_bytes out.old) (string_bytes out.new) }
@@ -126,15 +127,15 @@ fn write_head(name: &str, heading: Heading, out: &mut String) -> Result<(), Allo
 
 /// Appends the line and the column of a heading.
 #[tactic(auto, using(crate::proofs::ShownFacts::adds_trans, crate::proofs::AddingFacts::adding_none))]
-fn write_heading(heading: Heading, out: &mut String) -> Result<(), AllocError>
+fn write_heading(heading: MessagePlace, out: &mut String) -> Result<(), AllocError>
     ensures heading { Adding (heading_text heading) result
         (string_bytes out.old) (string_bytes out.new) }
     ensures safe { AddsShown (string_bytes out.old) (string_bytes out.new) }
 {
     match heading {
-        Heading::File => Ok(()),
-        Heading::Line(line) => write_number(line, out),
-        Heading::Place(spot) => {
+        MessagePlace::File => Ok(()),
+        MessagePlace::Line(line) => write_number(line, out),
+        MessagePlace::Place(spot) => {
             write_number(spot.line, out)?;
             write_number(spot.column, out)
         }

@@ -74,10 +74,10 @@ pub fn columns_of(text: &str) -> usize {
 
 /// Appends a text to a line on which some columns are taken, and ends the line. Text that is too wide is
 /// broken at spaces into lines of at most 100 columns, up to a number of lines; those after the first are
-/// indented by two spaces. A word after a space and a line feed begins a new line. If the text does not fit,
-/// the rest is omitted, and two dots mark the omission. The text is escaped. If memory runs out, only a
-/// prefix of those lines is appended. Returns which of the lines were broken off the one before because it was
-/// too wide: bit 1 is for the second line, and bit 2 for the third.
+/// indented by two spaces. A word after a space and a line feed begins a new line. If the text does not
+/// fit, the rest is omitted, and two dots mark the omission. The text is escaped. If memory runs out,
+/// only a prefix of those lines is appended. Returns which of the lines were broken off the one before
+/// because it was too wide: bit 1 is for the second line, and bit 2 for the third.
 #[tactic(auto, using(crate::proofs::ShownFacts::adds_trans))]
 pub fn write_wrapped(
     text: &str,

@@ -17,8 +17,8 @@ use Rattle.twp_grammar.specs.declared.item.Item.{Item}
 use Rattle.twp_resolve.specs.PlaceFaults as place_faults
 use Rattle.twp_resolve.specs.declared.place_fault.PlaceFault.{PlaceFault}
 use Rattle.twp_answers.specs.Answers.{ArePlatted, IsNoPlat, IsNoDescription, IsRefusal}
-use Rattle.twp_answers.specs.declared.verdict.Verdict.{Verdict}
-use Rattle.twp_answers.specs.declared.verdict.Verdict.TheVariants.{Refused}
+use Rattle.twp_answers.specs.declared.stop.Verdict.{Verdict}
+use Rattle.twp_answers.specs.declared.stop.Verdict.TheVariants.{Refused}
 use Rattle.twp_answers.proofs.OneAnswer.{not_platted, not_described, one_plat_refusal, one_refusal, one_plat}
 use Rattle.twp_read.specs.declared.fault.TextFault.TheVariants as text
 use Rattle.twp_sentences.specs.OtherPlaces.{IsOtherPlace}
@@ -27,10 +27,10 @@ use Rattle.twp_sentences.specs.Underlined.{EndsWithFault, EndsWithSign}
 use Rattle.twp_explain.specs.FoundFaults.{ShowsFound}
 use Rattle.twp_explain.specs.Refusals.{IsOfNone, IsNotOf, DescribeLand}
 use Rattle.twp_diagnose.specs.Findings.{IfFinds, IfFound}
-use Rattle.twp_diagnose.specs.declared.origin.Origin.{Origin}
+use Rattle.twp_diagnose.specs.declared.location.Origin.{Origin}
 use Rattle.twp_diagnose.specs.declared.explanation.Explanation.{Explanation}
-use Rattle.twp_diagnose.specs.declared.finding.Failure.{Failure}
-use Rattle.twp_diagnose.specs.declared.finding.Failure.TheVariants as stop
+use Rattle.twp_diagnose.specs.declared.finding.SearchStop.{SearchStop}
+use Rattle.twp_diagnose.specs.declared.finding.SearchStop.TheVariants as stop
 
 -- what holds where there is a refusal, of one that there is
 pub held : (answered : Option Refusal) (refusal : Refusal) (Held : Type 0)
@@ -39,7 +39,7 @@ held None refusal Held is held_if = absurd (cc is)
 held (Some some) refusal Held is held_if = held_if
 
 -- notes that are refused make no plat
-pub notes_refused : (stopped : Failure) (bytes : List ℕ) (fault : NotesFault)
+pub notes_refused : (stopped : SearchStop) (bytes : List ℕ) (fault : NotesFault)
     → IfSome (notes_faults.refusal_of fault) (λ _. notes_faults.IsFirstFault bytes fault)
     → IfFound stopped (λ found. notes_faults.refusal_of fault ≡ Some found)
     → IfFound stopped (IsNoPlat bytes)
@@ -53,7 +53,7 @@ notes_refused (stop.Found finding) bytes fault first is =
 notes_refused stop.Memory bytes fault first is = tt
 
 -- notes whose lines are out of their limits make no plat
-pub lines_refused : (stopped : Failure) (bytes : List ℕ) (notes : FieldNotes) (fault : PlatFault)
+pub lines_refused : (stopped : SearchStop) (bytes : List ℕ) (notes : FieldNotes) (fault : PlatFault)
     → AreNotes bytes notes → plat_faults.IsFirstFault notes fault
     → IfFound stopped (λ found. plat_faults.refusal_of fault ≡ Some found)
     → IfFound stopped (IsNoPlat bytes)
@@ -62,7 +62,7 @@ lines_refused (stop.Found finding) bytes notes fault are first is =
 lines_refused stop.Memory bytes notes fault are first is = tt
 
 -- a text that isn't read is no description
-pub text_refused : (stopped : Failure) (township : Designation) (bytes : List ℕ) (fault : TextFault)
+pub text_refused : (stopped : SearchStop) (township : Designation) (bytes : List ℕ) (fault : TextFault)
     → IfSome (text_faults.refusal_of fault) (λ _. text_faults.IsFirstTextFault bytes fault)
     → IfFound stopped (λ found. text_faults.refusal_of fault ≡ Some found)
     → IfFound stopped (IsNoDescription township bytes)
@@ -76,7 +76,7 @@ text_refused (stop.Found finding) township bytes fault first is =
 text_refused stop.Memory township bytes fault first is = tt
 
 -- items that don't lie on the plat are no description of land on it
-pub items_refused : (stopped : Failure) (township : Designation) (bytes : List ℕ) (items : List Item)
+pub items_refused : (stopped : SearchStop) (township : Designation) (bytes : List ℕ) (items : List Item)
     (fault : PlaceFault)
     → IsReadAs bytes items → place_faults.IsFirstPlaceFault PLACE_DIGITS township items fault
     → IfFound stopped (λ found. place_faults.refusal_of fault ≡ Some found)
@@ -91,7 +91,7 @@ pub platted_is_none : (bytes : List ℕ) (plat : TownshipPlat) (verdict : Verdic
 platted_is_none bytes plat verdict are refusal none said = not_platted bytes refusal plat none are
 
 -- where what was found isn't the verdict, no refusal of the notes is
-pub other_than_found : (Is : Refusal → Type 0) (stopped : Failure) (verdict : Verdict)
+pub other_than_found : (Is : Refusal → Type 0) (stopped : SearchStop) (verdict : Verdict)
     → ((r r' : Refusal) → Is r → Is r' → r ≡ r') → IfFound stopped Is → IsNotOf stopped verdict
     → IsOfNone Is verdict
 other_than_found Is (stop.Found finding) verdict one found other refusal is said =
@@ -99,7 +99,8 @@ other_than_found Is (stop.Found finding) verdict one found other refusal is said
 other_than_found Is stop.Memory verdict one found other refusal is said = absurd other
 
 -- and so where nothing was explained of the notes, or of the land, since the verdict is another
-pub none_of_notes : {E : Type 0} (result : Result (Option Explanation) E) (bytes : List ℕ) (stopped : Failure)
+pub none_of_notes : {E : Type 0} (result : Result (Option Explanation) E) (bytes : List ℕ)
+    (stopped : SearchStop)
     (verdict : Verdict)
     → IfFound stopped (IsNoPlat bytes)
     → IfOk result (λ explained. explained ≡ None → IsNotOf stopped verdict)
@@ -109,7 +110,7 @@ none_of_notes (Ok explained) bytes stopped verdict found none = λ is.
 none_of_notes (Err fault) bytes stopped verdict found none = tt
 
 pub none_of_land : {E : Type 0} (result : Result (Option Explanation) E) (notes description : List ℕ)
-    (stopped : Failure) (verdict : Verdict)
+    (stopped : SearchStop) (verdict : Verdict)
     → IfFound stopped (IsRefusal notes description)
     → IfOk result (λ explained. explained ≡ None → IsNotOf stopped verdict)
     → IfOk result (λ explained. explained ≡ None → IsOfNone (IsRefusal notes description) verdict)
@@ -119,13 +120,13 @@ none_of_land (Ok explained) notes description stopped verdict found none = λ is
 none_of_land (Err fault) notes description stopped verdict found none = tt
 
 -- notes that make no plat are refused, whatever the description
-pub of_land : (notes description : List ℕ) (stopped : Failure) → IfFound stopped (IsNoPlat notes)
+pub of_land : (notes description : List ℕ) (stopped : SearchStop) → IfFound stopped (IsNoPlat notes)
     → IfFound stopped (IsRefusal notes description)
 of_land notes description (stop.Found finding) none = inl none
 of_land notes description stop.Memory none = tt
 
 -- and so is a description that is of no land on their plat
-pub of_description : (notes description : List ℕ) (plat : TownshipPlat) (stopped : Failure)
+pub of_description : (notes description : List ℕ) (plat : TownshipPlat) (stopped : SearchStop)
     → ArePlatted notes plat → IfFound stopped (IsNoDescription plat.township description)
     → IfFound stopped (IsRefusal notes description)
 of_description notes description plat (stop.Found finding) are none =
@@ -144,7 +145,7 @@ land_is_none notes description plat verdict are land refusal (inr is) said =
     (subst (λ (p : TownshipPlat). IsNoDescription p.township description refusal) same is.refused) land.1
 
 -- a text that isn't read is shown up to the sign at fault
-pub text_shows : (stopped : Failure) (origin : Origin) (township : Designation) (bytes : List ℕ)
+pub text_shows : (stopped : SearchStop) (origin : Origin) (township : Designation) (bytes : List ℕ)
     (fault : TextFault)
     → IfSome (text_faults.refusal_of fault) (λ _. text_faults.IsFirstTextFault bytes fault)
     → IfFound stopped (λ found. text_faults.refusal_of fault ≡ Some found) → IfShown origin bytes stopped
@@ -167,7 +168,7 @@ text_shows (stop.Found finding) origin township bytes fault first is begins ends
 text_shows stop.Memory origin township bytes fault first is begins ends none = tt
 
 -- items that name no land on the plat are shown up to the end of what is at fault
-pub items_show : (stopped : Failure) (origin : Origin) (township : Designation) (bytes : List ℕ)
+pub items_show : (stopped : SearchStop) (origin : Origin) (township : Designation) (bytes : List ℕ)
     (items : List Item) (fault : PlaceFault)
     → IsReadAs bytes items → place_faults.IsFirstPlaceFault PLACE_DIGITS township items fault
     → IfFound stopped (λ found. place_faults.refusal_of fault ≡ Some found) → IfShown origin bytes stopped

@@ -7,12 +7,12 @@ use Rattle.twp_answers.specs.Answers.{ArePlatted, IsNoPlat}
 use Rattle.twp_answers.specs.TractFaults.{AnswersFault, IsFirstTractFault, refusal_of, verdict_of}
 use Rattle.twp_answers.specs.declared.tract_fault.TractFault.{TractFault}
 use Rattle.twp_answers.specs.declared.tract_fault.TractFault.TheVariants as fault
-use Rattle.twp_answers.specs.declared.verdict.Verdict.{Verdict}
-use Rattle.twp_answers.specs.declared.verdict.Verdict.TheVariants.{Refused, TractRefused}
+use Rattle.twp_answers.specs.declared.stop.Verdict.{Verdict}
+use Rattle.twp_answers.specs.declared.stop.Verdict.TheVariants.{Refused, TractRefused}
 use Rattle.twp_explain.specs.Refusals.{first_refusal, IsListRefusal}
 use Rattle.twp_diagnose.specs.Findings.{IfFound, IsOf}
-use Rattle.twp_diagnose.specs.declared.finding.Failure.{Failure}
-use Rattle.twp_diagnose.specs.declared.finding.Failure.TheVariants as stop
+use Rattle.twp_diagnose.specs.declared.finding.SearchStop.{SearchStop}
+use Rattle.twp_diagnose.specs.declared.finding.SearchStop.TheVariants as stop
 
 -- a fault of a list is its first one
 pub is_first : (township : Designation) (bytes : List ℕ) (is : TractFault) → is ≢ fault.Memory
@@ -50,7 +50,7 @@ same_refusal fault.TooManyTracts verdict refusal judged refused =
 same_refusal fault.Memory verdict refusal judged refused = absurd (cc refused)
 
 -- notes that make no plat are what is explained of
-pub told_of_notes : (stopped : Failure) (notes tracts : List ℕ) (verdict : Verdict) (refusal : Refusal)
+pub told_of_notes : (stopped : SearchStop) (notes tracts : List ℕ) (verdict : Verdict) (refusal : Refusal)
     → IfFound stopped (IsNoPlat notes) → IsOf stopped refusal → verdict ≡ Refused refusal
     → IsListRefusal notes tracts verdict refusal
 told_of_notes (stop.Found finding) notes tracts verdict refusal none is judged =

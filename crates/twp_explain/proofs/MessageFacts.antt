@@ -2,17 +2,17 @@
 use Rattle.std.proofs.Common.{Option, Some, None, Result, Ok, Err}
 use Rattle.std.specs.Prelude.{IfOk, IfSome}
 use Rattle.twp_answers.specs.Answers.{MakePlat, IsNoPlat}
-use Rattle.twp_diagnose.specs.declared.given.Given.{Given}
+use Rattle.twp_diagnose.specs.declared.location.Given.{Given}
 use Rattle.twp_diagnose.specs.Findings.{IfFound, IsOf}
 use Rattle.twp_diagnose.specs.ShownMessages.{ShowsIn}
 use Rattle.twp_explain.specs.ShownFaults.{ShowsFault, in_the_notes, in_the_text}
 use Rattle.twp_diagnose.specs.declared.explanation.Explanation.{Explanation}
-use Rattle.twp_diagnose.specs.declared.finding.Failure.{Failure}
+use Rattle.twp_diagnose.specs.declared.finding.SearchStop.{SearchStop}
 use Rattle.twp_explain.proofs.ShownFacts.{found_is}
 
 -- a fault of the notes is shown there
 pub shows_notes : {Error : Type 0} (result : Result (Option Explanation) Error) (notes text : Given)
-    (stop : Failure) → IfFound stop (IsNoPlat notes.bytes.now)
+    (stop : SearchStop) → IfFound stop (IsNoPlat notes.bytes.now)
     → IfOk result (λ explained. IfSome explained (λ explanation. IsOf stop explanation.refusal))
     → IfOk result (λ explained. IfSome explained (ShowsIn notes))
     → IfOk result (λ explained. IfSome explained (ShowsFault notes text))

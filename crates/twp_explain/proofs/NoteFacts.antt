@@ -9,9 +9,9 @@ use Rattle.twp_read.specs.declared.doubt.Doubts.{Doubts}
 use Rattle.twp_diagnose.specs.Origins.{IsFieldAt, IsWholeFile, place_of}
 use Rattle.twp_diagnose.specs.RecordFields.{listed_span, IsListedAt}
 use Rattle.twp_diagnose.specs.Spots.{in_file, IsSpotAt}
-use Rattle.twp_diagnose.specs.declared.given.Given.{Given}
+use Rattle.twp_diagnose.specs.declared.location.Given.{Given}
 use Rattle.twp_diagnose.specs.declared.listed.Listed.{Listed}
-use Rattle.twp_diagnose.specs.declared.origin.Origin.{Origin}
+use Rattle.twp_diagnose.specs.declared.location.Origin.{Origin}
 use Rattle.twp_excerpt.specs.declared.spot.Spot.{Spot}
 use Rattle.twp_explain.specs.ShownNotes.{AreClear, AreClearBefore, IsNoteOf, IsNoteOfList}
 use Rattle.twp_explain.specs.ShownNotes.{IsOfFirstTract, IsSpotOfNote, description_of}

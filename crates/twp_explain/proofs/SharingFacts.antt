@@ -11,7 +11,7 @@ use Rattle.twp_answers.proofs.OneAnswer.{one_land}
 use Rattle.twp_answers.proofs.TractLands.{earlier_or_last}
 use Rattle.twp_diagnose.specs.RecordFields.{number_listed, IsListedAt}
 use Rattle.twp_diagnose.specs.declared.listed.Listed.{Listed}
-use Rattle.twp_explain.specs.steps.Sharing.{IsFirstSharing, IsFirstSharingRecord}
+use Rattle.twp_explain.specs.steps.Sharing.{IsFirstOverlapping, IsFirstSharingRecord}
 
 -- two tracts whose lands have no place in common don't overlap
 pub no_overlap : (township : Designation) (fields next : Fields) (places more : ℕ → ℕ → ℕ → Bool)
@@ -51,7 +51,7 @@ none_more township rows index count before next tract below overlap =
 -- the record of the first tract that shares land
 pub sharing_record : {E : Type 0} (township : Designation) (listed : Listed) (index earlier number : ℕ)
     (common : ℕ → ℕ → ℕ → Bool) (r : Result (Option Listed) E)
-    → IsFirstSharing township (tract_records listed.file.bytes.now) index earlier common
+    → IsFirstOverlapping township (tract_records listed.file.bytes.now) index earlier common
     → index ≡ number_listed listed - 2 → number ≡ earlier + 2
     → (1 ≤ number → IfOk r (λ found. MatchOption found (length (records_of listed.file.bytes.now) < number)
     (IsListedAt listed.file number)))
@@ -66,8 +66,8 @@ sharing_record township listed index earlier number common (Ok (Some other)) fir
       listed_is = subst (λ n. IsListedAt listed.file n other) (sym numbered) at;
       after_heading = omega (arith, number_is, numbered);
       first =
-          subst (λ n. IsFirstSharing township (tract_records listed.file.bytes.now)
+          subst (λ n. IsFirstOverlapping township (tract_records listed.file.bytes.now)
           (number_listed listed - 2) n common) earlier_is
-          (subst (λ n. IsFirstSharing township (tract_records listed.file.bytes.now) n earlier common)
+          (subst (λ n. IsFirstOverlapping township (tract_records listed.file.bytes.now) n earlier common)
           index_is first);
     }

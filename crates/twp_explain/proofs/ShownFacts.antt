@@ -10,15 +10,15 @@ use Rattle.twp_diagnose.specs.Findings.{IfFinds, IfFound, IsOf}
 use Rattle.twp_diagnose.specs.Origins.{IsWholeFile, place_of}
 use Rattle.twp_diagnose.specs.Spots.{MOST_BYTES, IsSpotIn, IsSpotAt, IsSpotOf}
 use Rattle.twp_diagnose.specs.declared.explanation.Explanation.{Explanation}
-use Rattle.twp_diagnose.specs.declared.finding.Failure.{Failure}
-use Rattle.twp_diagnose.specs.declared.finding.Failure.TheVariants as stop
-use Rattle.twp_diagnose.specs.declared.given.Given.{Given}
+use Rattle.twp_diagnose.specs.declared.finding.SearchStop.{SearchStop}
+use Rattle.twp_diagnose.specs.declared.finding.SearchStop.TheVariants as stop
+use Rattle.twp_diagnose.specs.declared.location.Given.{Given}
 use Rattle.twp_diagnose.specs.declared.location.Location.{Location}
 use Rattle.twp_diagnose.proofs.SpotFacts.{same_spot}
 use Rattle.twp_sentences.specs.ShownPlaces.{BeginsAt, ShowsRefused, as_a_whole, there, at_the_end}
 use Rattle.twp_sentences.specs.ShownPlaces.{TOO_LARGE}
 use Rattle.twp_diagnose.specs.declared.explanation.OtherPlace.{OtherPlace}
-use Rattle.twp_diagnose.specs.declared.origin.Origin.{Origin}
+use Rattle.twp_diagnose.specs.declared.location.Origin.{Origin}
 use Rattle.twp_explain.specs.FoundFaults.{IsMessageOf, ShowsFound, ShowsLand, ShowsLandIn}
 use Rattle.twp_answers.specs.Answers.{MakePlat, IsNoPlat}
 use Rattle.twp_answers.proofs.OneAnswer.{not_platted}
@@ -67,7 +67,7 @@ explained_refused origin file refusal place spot whole of_file (at_the_end white
     located_at origin file refusal place spot (end_of file.bytes.now) whole of_file begins
     (λ s here. inr (white, here)) is
 
-pub explained_where : (origin : Origin) (file : Given) (township : Designation) (stopped : Failure)
+pub explained_where : (origin : Origin) (file : Given) (township : Designation) (stopped : SearchStop)
     (explanation : Explanation) → IsWholeFile origin → origin.file ≡ file
     → IfFinds stopped (ShowsFound origin township file.bytes.now) → IsOf stopped explanation.refusal
     → IsSpotOfStop file stopped explanation → IsExplainedWhereRefused file explanation
@@ -78,7 +78,7 @@ explained_where origin file township stop.Memory explanation whole of_file shown
 
 -- what is explained of what was found is explained where the description is refused
 pub tells_where : {Error : Type 0} (result : Result (Option Explanation) Error) (origin : Origin)
-    (file : Given) (township : Designation) (stopped : Failure) → IsWholeFile origin → origin.file ≡ file
+    (file : Given) (township : Designation) (stopped : SearchStop) → IsWholeFile origin → origin.file ≡ file
     → IfFinds stopped (ShowsFound origin township file.bytes.now)
     → IfOk result (λ explained. IfSome explained (λ explanation. IsOf stopped explanation.refusal))
     → IfOk result (λ explained. IfSome explained (IsSpotOfStop file stopped))
@@ -89,7 +89,7 @@ tells_where (Ok None) origin file township stopped whole of_file shown of spot =
 tells_where (Err error) origin file township stopped whole of_file shown of spot = tt
 
 -- so a description is explained by its own first fault
-pub shown_land : (origin : Origin) (file : Given) (township : Designation) (stopped : Failure)
+pub shown_land : (origin : Origin) (file : Given) (township : Designation) (stopped : SearchStop)
     (explanation : Explanation) → IsWholeFile origin → origin.file ≡ file
     → IfFinds stopped (ShowsFound origin township file.bytes.now) → IsMessageOf stopped explanation
     → ShowsLandIn township file explanation
@@ -108,14 +108,14 @@ shown_land origin file township (stop.Found finding) explanation whole of_file s
 shown_land origin file township stop.Memory explanation whole of_file shown of = absurd of
 
 -- what was found is of the refusal that is explained
-pub found_is : (Is : Refusal → Type 0) (stopped : Failure) (refusal : Refusal) → IfFound stopped Is
+pub found_is : (Is : Refusal → Type 0) (stopped : SearchStop) (refusal : Refusal) → IfFound stopped Is
     → IsOf stopped refusal → Is refusal
 found_is Is (stop.Found finding) refusal found of = subst Is of found
 found_is Is stop.Memory refusal found of = absurd of
 
 -- of notes that make a plat nothing is explained
 pub platted_tells_none : {Error : Type 0} (result : Result (Option Explanation) Error) (bytes : List ℕ)
-    (stopped : Failure) (Explained : Explanation → Type 0)
+    (stopped : SearchStop) (Explained : Explanation → Type 0)
     → IfFound stopped (IsNoPlat bytes)
     → IfOk result (λ explained. IfSome explained (λ explanation. IsOf stopped explanation.refusal))
     → MakePlat bytes → IfOk result (λ explained. IfSome explained Explained)

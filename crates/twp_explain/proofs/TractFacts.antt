@@ -9,11 +9,11 @@ use Rattle.twp_answers.proofs.TractLands.{earlier_or_last}
 use Rattle.twp_diagnose.specs.Findings.{IfFinds}
 use Rattle.twp_diagnose.specs.RecordFields.{IsListedAt, fields_listed, number_listed}
 use Rattle.twp_diagnose.specs.declared.explanation.OtherPlace.{OtherPlace}
-use Rattle.twp_diagnose.specs.declared.finding.Failure.{Failure}
-use Rattle.twp_diagnose.specs.declared.finding.Failure.TheVariants as stop
-use Rattle.twp_diagnose.specs.declared.given.Given.{Given}
+use Rattle.twp_diagnose.specs.declared.finding.SearchStop.{SearchStop}
+use Rattle.twp_diagnose.specs.declared.finding.SearchStop.TheVariants as stop
+use Rattle.twp_diagnose.specs.declared.location.Given.{Given}
 use Rattle.twp_diagnose.specs.declared.listed.Listed.{Listed}
-use Rattle.twp_diagnose.specs.declared.origin.Origin.{Origin}
+use Rattle.twp_diagnose.specs.declared.location.Origin.{Origin}
 use Rattle.twp_explain.specs.BlamedTracts.{IsDescriptionOf, IsFirstNamed, IsRefusedTract, description_listed}
 use Rattle.twp_explain.specs.FoundFaults.{ShowsFound}
 use Rattle.twp_explain.specs.OtherTracts.{IsFieldOf, IsNamedBefore}
@@ -24,7 +24,7 @@ holds_on_ok (Ok value) holds = holds
 holds_on_ok (Err error) holds = tt
 
 -- the description of a record is refused where it is in the list
-pub refused_tract : {Value : Type 0} (result : Result Value Failure) (origin : Origin)
+pub refused_tract : {Value : Type 0} (result : Result Value SearchStop) (origin : Origin)
     (township : Designation)
     (listed : Listed) (bytes : List ℕ) → IsDescriptionOf listed origin → bytes ≡ description_listed listed
     → IfErr result (λ stopped. IfFinds stopped (ShowsFound origin township bytes))

@@ -9,19 +9,19 @@ use Rattle.twp_answers.specs.declared.tract_fault.TractFault.TheVariants as faul
 use Rattle.twp_diagnose.specs.Origins.{IsFieldAt}
 use Rattle.twp_diagnose.specs.RecordFields.{fields_listed, listed_span, number_listed, start_listed}
 use Rattle.twp_diagnose.specs.RecordFields.{IsListedAt}
-use Rattle.twp_diagnose.specs.declared.given.Given.{Given}
+use Rattle.twp_diagnose.specs.declared.location.Given.{Given}
 use Rattle.twp_diagnose.specs.declared.listed.Listed.{Listed}
 use Rattle.twp_diagnose.specs.declared.location.Location.{Location}
 use Rattle.twp_diagnose.specs.declared.explanation.OtherPlace.{OtherPlace}
 use Rattle.twp_diagnose.specs.declared.finding.Finding.{Finding}
 use Rattle.twp_diagnose.specs.declared.location.Location.TheVariants.{Whole, Line, Field, Part}
-use Rattle.twp_diagnose.specs.declared.origin.Origin.{Origin}
+use Rattle.twp_diagnose.specs.declared.location.Origin.{Origin}
 use Rattle.twp_explain.specs.FoundFaults.{ShowsFound}
 use Rattle.twp_explain.specs.Refusals.{DescribeLand}
 
 -- the number of fields of a record, and of the first record of a tract
-abbrev pub COLUMNS : ℕ
-COLUMNS = 2
+abbrev pub TRACT_COLUMNS : ℕ
+TRACT_COLUMNS = 2
 
 abbrev pub FIRST_TRACT : ℕ
 FIRST_TRACT = 2
@@ -44,8 +44,8 @@ pub record ShowsHeading (listed : Listed) (location : Location) : Type 0 where
 -- the third field, or the record's end
 pub record ShowsRow (listed : Listed) (location : Location) : Type 0 where
   pub heading : number_listed listed ≡ 1 → ShowsHeading listed location
-  pub columns : number_listed listed ≢ 1 → length (fields_listed listed) ≢ COLUMNS
-      → location ≡ Field (listed_span listed (min (length (fields_listed listed)) COLUMNS))
+  pub columns : number_listed listed ≢ 1 → length (fields_listed listed) ≢ TRACT_COLUMNS
+      → location ≡ Field (listed_span listed (min (length (fields_listed listed)) TRACT_COLUMNS))
 
 -- the record is that of the first tract with this name, of those before the last one; or the last one, if no
 -- other has it

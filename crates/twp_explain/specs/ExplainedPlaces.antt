@@ -7,12 +7,12 @@ use Rattle.twp_grid.specs.declared.refusal.Refusal.{Refusal}
 use Rattle.twp_sentences.specs.ShownPlaces.{TOO_LARGE}
 use Rattle.twp_diagnose.specs.Spots.{MOST_BYTES, IsSpotIn, IsSpotOf}
 use Rattle.twp_diagnose.specs.declared.explanation.Explanation.{Explanation}
-use Rattle.twp_diagnose.specs.declared.given.Given.{Given}
-use Rattle.twp_diagnose.specs.declared.finding.Failure.{Failure}
-use Rattle.twp_diagnose.specs.declared.finding.Failure.TheVariants.{Found, Memory}
+use Rattle.twp_diagnose.specs.declared.location.Given.{Given}
+use Rattle.twp_diagnose.specs.declared.finding.SearchStop.{SearchStop}
+use Rattle.twp_diagnose.specs.declared.finding.SearchStop.TheVariants.{Found, Memory}
 
 -- the spot is the one of what was found
-abbrev pub IsSpotOfStop : Given → Failure → Explanation → Type 0
+abbrev pub IsSpotOfStop : Given → SearchStop → Explanation → Type 0
 IsSpotOfStop file (Found finding) explanation =
     (finding.refusal ≡ explanation.refusal) × IsSpotOf file finding.place explanation.spot
 IsSpotOfStop file Memory explanation = ⊤

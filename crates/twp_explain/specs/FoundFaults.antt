@@ -15,11 +15,11 @@ use Rattle.twp_diagnose.specs.Origins.{IsWholeFile}
 use Rattle.twp_diagnose.specs.declared.explanation.Explanation.{Explanation}
 use Rattle.twp_diagnose.specs.declared.explanation.OtherPlace.{OtherPlace}
 use Rattle.twp_diagnose.specs.declared.finding.Finding.{Finding}
-use Rattle.twp_diagnose.specs.declared.finding.Failure.{Failure}
-use Rattle.twp_diagnose.specs.declared.finding.Failure.TheVariants.{Found, Memory}
-use Rattle.twp_diagnose.specs.declared.given.Given.{Given}
+use Rattle.twp_diagnose.specs.declared.finding.SearchStop.{SearchStop}
+use Rattle.twp_diagnose.specs.declared.finding.SearchStop.TheVariants.{Found, Memory}
+use Rattle.twp_diagnose.specs.declared.location.Given.{Given}
 use Rattle.twp_diagnose.specs.declared.location.Location.{Location}
-use Rattle.twp_diagnose.specs.declared.origin.Origin.{Origin}
+use Rattle.twp_diagnose.specs.declared.location.Origin.{Origin}
 use Rattle.twp_sentences.specs.OtherPlaces.{IsOtherPlace}
 use Rattle.twp_sentences.specs.ShownPlaces.{ShowsRefused}
 use Rattle.twp_sentences.specs.Underlined.{EndsWithFault, EndsWithSign}
@@ -58,7 +58,7 @@ ShowsFound origin township text finding =
     ShowsLand origin township text finding.refusal finding.place finding.other
 
 -- the explanation is the message about what was found
-abbrev pub IsMessageOf : Failure → Explanation → Type 0
+abbrev pub IsMessageOf : SearchStop → Explanation → Type 0
 IsMessageOf (Found finding) explanation =
     (finding.refusal ≡ explanation.refusal) × (finding.place ≡ explanation.place)
     × (finding.other ≡ explanation.other)

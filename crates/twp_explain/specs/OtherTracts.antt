@@ -7,7 +7,7 @@ use Rattle.twp_answers.specs.declared.tract_fault.TractFault.{TractFault}
 use Rattle.twp_answers.specs.declared.tract_fault.TractFault.TheVariants as fault
 use Rattle.twp_diagnose.specs.RecordFields.{IsListedAt, fields_listed, listed_span, number_listed}
 use Rattle.twp_diagnose.specs.declared.explanation.OtherPlace.{OtherPlace}
-use Rattle.twp_diagnose.specs.declared.given.Given.{Given}
+use Rattle.twp_diagnose.specs.declared.location.Given.{Given}
 use Rattle.twp_diagnose.specs.declared.listed.Listed.{Listed}
 use Rattle.twp_diagnose.specs.declared.location.Location.{Location}
 use Rattle.twp_explain.specs.BlamedTracts.{IsFirstNamed, ShowsTract}

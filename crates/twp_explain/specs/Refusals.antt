@@ -7,17 +7,17 @@ use Rattle.twp_answers.specs.Answers.{ArePlatted, Describe, IsNoPlat}
 use Rattle.twp_answers.specs.ReportAnswers.{IsAccountOf}
 use Rattle.twp_answers.specs.TractFaults.{IsFirstTractFault, refusal_of, verdict_of}
 use Rattle.twp_answers.specs.declared.tract_fault.TractFault.{TractFault}
-use Rattle.twp_answers.specs.declared.verdict.Verdict.{Verdict}
-use Rattle.twp_answers.specs.declared.verdict.Verdict.TheVariants.{Accepted, Refused, TractRefused}
-use Rattle.twp_diagnose.specs.declared.finding.Failure.{Failure}
-use Rattle.twp_diagnose.specs.declared.finding.Failure.TheVariants.{Found, Memory}
+use Rattle.twp_answers.specs.declared.stop.Verdict.{Verdict}
+use Rattle.twp_answers.specs.declared.stop.Verdict.TheVariants.{Accepted, Refused, TractRefused}
+use Rattle.twp_diagnose.specs.declared.finding.SearchStop.{SearchStop}
+use Rattle.twp_diagnose.specs.declared.finding.SearchStop.TheVariants.{Found, Memory}
 
 -- the verdict is not one of these refusals
 abbrev pub IsOfNone : (Refusal → Type 0) → Verdict → Type 0
 IsOfNone Is verdict = (refusal : Refusal) → Is refusal → verdict ≢ Refused refusal
 
 -- something was found, and the verdict is another
-abbrev pub IsNotOf : Failure → Verdict → Type 0
+abbrev pub IsNotOf : SearchStop → Verdict → Type 0
 IsNotOf (Found finding) verdict = verdict ≢ Refused finding.refusal
 IsNotOf Memory verdict = ⊥
 
@@ -37,7 +37,7 @@ first_refusal (Refused refusal) = Some refusal
 first_refusal (TractRefused at_ inner) = Some (record { number = 83; at = at_ })
 
 -- the notes make a plat, and the list has this verdict and refusal, for its first fault
-pub record IsListRefused (notes tracts : List ℕ) (verdict : Verdict) (refusal : Refusal)
+pub record IsRefusalOfList (notes tracts : List ℕ) (verdict : Verdict) (refusal : Refusal)
     : Type 0 where
   pub plat : TownshipPlat
   pub platted : ArePlatted notes plat
@@ -50,4 +50,4 @@ pub record IsListRefused (notes tracts : List ℕ) (verdict : Verdict) (refusal 
 abbrev pub IsListRefusal : List ℕ → List ℕ → Verdict → Refusal → Type 0
 IsListRefusal notes tracts verdict refusal =
     (IsNoPlat notes refusal × (verdict ≡ Refused refusal))
-    ⊎ IsListRefused notes tracts verdict refusal
+    ⊎ IsRefusalOfList notes tracts verdict refusal

@@ -2,7 +2,7 @@
 use Rattle.twp_answers.specs.Answers.{MakePlat, IsNoPlat}
 use Rattle.twp_diagnose.specs.ShownMessages.{ShowsIn}
 use Rattle.twp_diagnose.specs.declared.explanation.Explanation.{Explanation}
-use Rattle.twp_diagnose.specs.declared.given.Given.{Given}
+use Rattle.twp_diagnose.specs.declared.location.Given.{Given}
 
 -- A fault of the notes is shown in the notes, and one of what is laid on their plat in that text.
 pub data ShowsFault (notes text : Given) (explanation : Explanation) : Type 0 where

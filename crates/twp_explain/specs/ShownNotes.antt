@@ -5,10 +5,10 @@ use Rattle.twp_answers.specs.Tracts.{TRACTS_MOST, description_in}
 use Rattle.twp_diagnose.specs.Origins.{IsFieldAt, place_of}
 use Rattle.twp_diagnose.specs.RecordFields.{listed_span, IsListedAt}
 use Rattle.twp_diagnose.specs.Spots.{IsSpotAt, IsSpotOf}
-use Rattle.twp_diagnose.specs.declared.given.Given.{Given}
+use Rattle.twp_diagnose.specs.declared.location.Given.{Given}
 use Rattle.twp_diagnose.specs.declared.listed.Listed.{Listed}
 use Rattle.twp_diagnose.specs.declared.location.Location.TheVariants.{Part}
-use Rattle.twp_diagnose.specs.declared.origin.Origin.{Origin}
+use Rattle.twp_diagnose.specs.declared.location.Origin.{Origin}
 use Rattle.twp_read.specs.Doubts.{HasNoDoubtfulPlace, AreDoubts}
 use Rattle.twp_read.specs.declared.doubt.Doubts.{Doubts}
 use Rattle.twp_diagnose.specs.ShownMessages.{IsMessageAt}

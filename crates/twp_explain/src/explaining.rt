@@ -8,11 +8,11 @@ ghost use Rattle.twp_diagnose.specs.Findings.{IfFinds, IfFound, IsOf};
 ghost use Rattle.twp_diagnose.specs.ShownMessages.{ShowsIn};
 ghost use Rattle.twp_explain.specs.FoundFaults.{ShowsFound};
 ghost use Rattle.twp_explain.specs.ShownFaults.{ShowsFault};
-ghost use Rattle.twp_answers.specs.declared.verdict.Verdict.TheVariants.{Refused};
+ghost use Rattle.twp_answers.specs.declared.stop.Verdict.TheVariants.{Refused};
 
 use std::alloc::{AllocError, Global};
 use twp_answers::Verdict;
-use twp_diagnose::{Explanation, Failure, Given, Origin, Suggests};
+use twp_diagnose::{Explanation, Given, Origin, SearchStop, Suggests};
 use twp_grid::{Bytes, Township};
 use twp_land::Lanes;
 use twp_notes::Notes;
@@ -75,7 +75,7 @@ pub fn explain_land<S: Suggests>(
 pub(crate) fn explain(
     alloc: Global,
     file: &Given<'_>,
-    stop: Failure,
+    stop: SearchStop,
     verdict: Verdict,
 ) -> Result<Option<Explanation>, AllocError>
     ensures found { IfOk result (λ explained. IfSome explained (λ explanation.
@@ -86,7 +86,7 @@ pub(crate) fn explain(
     ensures none { IfOk result (λ explained. explained ≡ None → IsNotOf stop verdict) }
     ensures shows { IfOk result (λ explained. IfSome explained (ShowsIn file.now)) }
 {
-    let Failure::Found(finding) = stop else {
+    let SearchStop::Found(finding) = stop else {
         return Err(AllocError);
     };
     if verdict != Verdict::Refused(finding.refusal) {
@@ -98,7 +98,7 @@ pub(crate) fn explain(
 /// The plat of field notes, or what is wrong with them.
 #[tactic(auto, using(crate::proofs::FindingFacts::notes_refused, crate::proofs::FindingFacts::lines_refused))]
 #[inline(never)]
-pub(crate) fn plat_of(alloc: Global, file: &Given<'_>) -> Result<Plat, Failure>
+pub(crate) fn plat_of(alloc: Global, file: &Given<'_>) -> Result<Plat, SearchStop>
     ensures plat { IfOk result (λ plat. ArePlatted file.now.bytes.now plat) }
     ensures found { IfErr result (λ stop. IfFound stop (IsNoPlat file.now.bytes.now)) }
 {
@@ -120,7 +120,7 @@ pub(crate) fn describe<S: Suggests>(
     origin: &Origin<'_>,
     bytes: &[u8],
     township: Township,
-) -> Result<(), Failure>
+) -> Result<(), SearchStop>
     ensures land { IfOk result (λ _. DescribeLand township bytes.now) }
     ensures found { IfErr result (λ stop. IfFound stop (IsNoDescription township bytes.now)) }
     ensures shown { IfErr result (λ stop. IfFinds stop (ShowsFound origin.now township bytes.now)) }

@@ -1,8 +1,8 @@
-//! Explanations of refused input, so that its writer can correct it, and notes on accepted input, so that its writer can
-//! say what is meant. For an explanation, the stages of the run are repeated on the bytes that it read, and the message
-//! shows the fault that stops them; for a list of tracts, it shows the tract with the fault. A note is on a place of a
-//! description that can be read in two ways, though the grammar reads it in one: it gives the reading with its acres, and
-//! says how to write the other one.
+//! Explanations of refused input, so that its writer can correct it, and notes on accepted input, so that
+//! its writer can say what is meant. For an explanation, the stages of the run are repeated on the bytes
+//! that it read, and the message shows the fault that stops them; for a list of tracts, it shows the
+//! tract with the fault. A note is on a place of a description that can be read in two ways, though the
+//! grammar reads it in one: it gives the reading with its acres, and says how to write the other one.
 #![tactic(auto)]
 
 mod explaining;

@@ -25,7 +25,7 @@ use csv::ByteRecord;
 use std::alloc::{AllocError, Global};
 use twp_answers::{TRACTS_MOST, read_plat};
 use twp_diagnose::{Given, Listed, Located, Location, Origin, message_at, text_in};
-use twp_excerpt::{Parts, Span, Spot, write_escaped};
+use twp_excerpt::{MessageParts, Span, Spot, write_escaped};
 use twp_grid::Bytes;
 use twp_notes::Records;
 use twp_plat::{Account, Plat};
@@ -43,7 +43,7 @@ pub struct Note {
     /// Some lines, each with a line feed at its end.
     pub text: String,
     /// Where in the text its parts are.
-    pub parts: Parts,
+    pub parts: MessageParts,
 }
 
 /// The most records of a list: the heading, and one for each tract.

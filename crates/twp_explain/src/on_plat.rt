@@ -13,7 +13,7 @@ use crate::explaining::{describe, plat_of};
 use crate::list::{explain_fault, fault_of};
 use std::alloc::{AllocError, Global};
 use twp_answers::TractFault;
-use twp_diagnose::{Explanation, Failure, Given, Origin, Suggests};
+use twp_diagnose::{Explanation, Given, Origin, SearchStop, Suggests};
 use twp_grid::Township;
 use twp_plat::Plat;
 
@@ -84,13 +84,17 @@ pub fn explain_tracts<S: Suggests>(
 }
 
 /// The message of a stop, where memory didn't run out.
-fn explain_stop(alloc: Global, file: &Given<'_>, stop: Failure) -> Result<Explanation, AllocError>
+fn explain_stop(
+    alloc: Global,
+    file: &Given<'_>,
+    stop: SearchStop,
+) -> Result<Explanation, AllocError>
     ensures refusal { IfOk result (λ explanation. IsOf stop explanation.refusal) }
     ensures spot { IfOk result (IsSpotOfStop file.now stop) }
     ensures shows { IfOk result (ShowsIn file.now) }
     ensures place { IfOk result (IsMessageOf stop) }
 {
-    let Failure::Found(finding) = stop else {
+    let SearchStop::Found(finding) = stop else {
         return Err(AllocError);
     };
     finding.explain(alloc, file)

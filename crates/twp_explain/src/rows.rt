@@ -9,7 +9,7 @@ use twp_excerpt::{Span, write_escaped};
 use twp_read::{Description, TextFault};
 
 /// How many fields a record has.
-const COLUMNS: usize = 2;
+const TRACT_COLUMNS: usize = 2;
 
 /// The most bytes of a tract's name.
 const NAME_MOST: usize = 64;
@@ -30,8 +30,8 @@ pub(crate) fn explain(
     if listed.number() == 1 {
         finding.place = Location::Field(listed.span(heading_place(listed)));
         write_heading_fault(listed, &mut finding.sentence)?;
-    } else if listed.len() != COLUMNS {
-        finding.place = Location::Field(listed.span(listed.len().min(COLUMNS)));
+    } else if listed.len() != TRACT_COLUMNS {
+        finding.place = Location::Field(listed.span(listed.len().min(TRACT_COLUMNS)));
         finding.sentence.push_str("this record has ")?;
         write_count(listed.len(), &mut finding.sentence)?;
         finding.sentence.push_str(", not 2")?;
@@ -66,7 +66,7 @@ fn is_long_heading(listed: &Listed<'_>) -> bool
 /// Appends what is no heading.
 fn write_heading_fault(listed: &Listed<'_>, text: &mut String) -> Result<(), AllocError> {
     text.push_str("the heading must be `name,description`: ")?;
-    if listed.len() != COLUMNS {
+    if listed.len() != TRACT_COLUMNS {
         text.push_str("it has ")?;
         return write_count(listed.len(), text);
     }
@@ -115,11 +115,11 @@ fn character_end(text: &[u8], start: usize) -> usize {
 }
 
 /// A row: what is seen of a record, and what mends it.
-struct Hint(Sign, &'static str);
+struct ListHint(ListPattern, &'static str);
 
 /// What may be seen of a record.
 #[derive(Clone, Copy, PartialEq, Eq)]
-enum Sign {
+enum ListPattern {
     /// Several fields, each of them empty.
     Empty,
     /// One field, with this byte in it.
@@ -137,35 +137,41 @@ enum Sign {
 }
 
 /// The rows, of which the first that fits counts.
-const HINTS: [Hint; 8] = [
-    Hint(Sign::Empty, "delete the empty row"),
-    Hint(
-        Sign::OneField(b';'),
+const HINTS: [ListHint; 8] = [
+    ListHint(ListPattern::Empty, "delete the empty row"),
+    ListHint(
+        ListPattern::OneField(b';'),
         "save the file with commas between the fields",
     ),
-    Hint(
-        Sign::OneField(b'\t'),
+    ListHint(
+        ListPattern::OneField(b'\t'),
         "save the file with commas between the fields",
     ),
-    Hint(
-        Sign::SpacedQuotes,
+    ListHint(
+        ListPattern::SpacedQuotes,
         "delete the space before the quotation marks",
     ),
-    Hint(Sign::Unquoted, "put the description in quotation marks"),
-    Hint(
-        Sign::LongHeading,
+    ListHint(
+        ListPattern::Unquoted,
+        "put the description in quotation marks",
+    ),
+    ListHint(
+        ListPattern::LongHeading,
         "delete the columns after the description",
     ),
-    Hint(Sign::LongRecord, "delete everything after the description"),
-    Hint(Sign::Accent, "write the letter without its accent"),
+    ListHint(
+        ListPattern::LongRecord,
+        "delete everything after the description",
+    ),
+    ListHint(ListPattern::Accent, "write the letter without its accent"),
 ];
 
 /// Appends what mends a record, where that is known.
 fn write_help(alloc: Global, listed: &Listed<'_>, text: &mut String) -> Result<(), AllocError> {
     for hint in &HINTS {
-        let Hint(sign, advice) = hint;
+        let ListHint(sign, advice) = hint;
         if sign.fits(listed) {
-            if *sign == Sign::Unquoted && ends_before_last(alloc, listed)? {
+            if *sign == ListPattern::Unquoted && ends_before_last(alloc, listed)? {
                 return Ok(());
             }
             text.push_str(advice)?;
@@ -175,19 +181,19 @@ fn write_help(alloc: Global, listed: &Listed<'_>, text: &mut String) -> Result<(
     Ok(())
 }
 
-impl Sign {
+impl ListPattern {
     /// Whether it is seen of a record.
     fn fits(self, listed: &Listed<'_>) -> bool {
         match self {
-            Sign::Empty => is_empty_row(listed),
-            Sign::OneField(byte) => listed.len() == 1 && listed.field(0).contains(&byte),
-            Sign::SpacedQuotes => has_spaced_quotes(listed.written(1)),
-            Sign::Unquoted => listed.number() > 1 && is_unquoted(listed),
-            Sign::LongHeading => is_long_heading(listed),
-            Sign::LongRecord => {
+            ListPattern::Empty => is_empty_row(listed),
+            ListPattern::OneField(byte) => listed.len() == 1 && listed.field(0).contains(&byte),
+            ListPattern::SpacedQuotes => has_spaced_quotes(listed.written(1)),
+            ListPattern::Unquoted => listed.number() > 1 && is_unquoted(listed),
+            ListPattern::LongHeading => is_long_heading(listed),
+            ListPattern::LongRecord => {
                 listed.number() > 1 && listed.len() > 2 && listed.written(1).first() == Some(&b'"')
             }
-            Sign::Accent => listed.number() > 1 && has_accent(listed.field(0)),
+            ListPattern::Accent => listed.number() > 1 && has_accent(listed.field(0)),
         }
     }
 }
@@ -229,8 +235,12 @@ fn ends_before_last(alloc: Global, listed: &Listed<'_>) -> Result<bool, AllocErr
 }
 
 /// Appends a record whose description isn't in quotes as it should be, where it is short.
-fn write_mended(sign: Sign, listed: &Listed<'_>, text: &mut String) -> Result<(), AllocError> {
-    if sign != Sign::Unquoted || listed.written_from(0).len() > SHOWN_MOST {
+fn write_mended(
+    sign: ListPattern,
+    listed: &Listed<'_>,
+    text: &mut String,
+) -> Result<(), AllocError> {
+    if sign != ListPattern::Unquoted || listed.written_from(0).len() > SHOWN_MOST {
         return Ok(());
     }
     text.push_str(": ")?;

@@ -1,11 +1,11 @@
 //! Which tracts of a list share land.
 ghost use Rattle.std.specs.Prelude.{◌≡◌, IfOk, IfSome, IsTrue};
 ghost use Rattle.csv.specs.Records.{fields_of};
-ghost use Rattle.twp_notes.specs.Records.{record_at, records_left, IsReading};
+ghost use Rattle.twp_notes.specs.Records.{record_at, records_left, IsBetweenRecords};
 ghost use Rattle.twp_answers.specs.Answers.{Describe};
 ghost use Rattle.twp_answers.specs.Tracts.{tract_records, description_in};
 ghost use Rattle.twp_diagnose.specs.RecordFields.{number_listed};
-ghost use Rattle.twp_explain.specs.steps.Sharing.{IsFirstSharing, IsFirstSharingRecord};
+ghost use Rattle.twp_explain.specs.steps.Sharing.{IsFirstOverlapping, IsFirstSharingRecord};
 
 use csv::ByteRecord;
 use std::alloc::{AllocError, Global};
@@ -49,7 +49,7 @@ fn first_sharing_tract<L: Land>(
     index: u32,
     common: &mut L,
 ) -> Result<Option<u32>, AllocError>
-    ensures { IfOk result (λ found. IfSome found (λ earlier. IsFirstSharing township
+    ensures { IfOk result (λ found. IfSome found (λ earlier. IsFirstOverlapping township
         (tract_records bytes.now) index earlier (L.places common.new))) }
 {
     let mut land = L::empty();
@@ -90,7 +90,7 @@ fn first_before<L: Land>(
 ) -> Result<Option<u32>, AllocError>
     requires { Describe township (description_in (record_at (tract_records bytes.now) index))
         (L.places land.now) }
-    ensures { IfOk result (λ found. IfSome found (λ earlier. IsFirstSharing township
+    ensures { IfOk result (λ found. IfSome found (λ earlier. IsFirstOverlapping township
         (tract_records bytes.now) index earlier (L.places common.new))) }
 {
     let mut records = Records::new(alloc, bytes);
@@ -111,10 +111,10 @@ fn first_left<L: Land>(
     land: &L,
     common: &mut L,
 ) -> Result<Option<u32>, AllocError>
-    requires reading { IsReading records.old }
+    requires reading { IsBetweenRecords records.old }
     requires land { Describe township
         (description_in (record_at (records_left records.old) index)) (L.places land.now) }
-    ensures { IfOk result (λ found. IfSome found (λ earlier. IsFirstSharing township
+    ensures { IfOk result (λ found. IfSome found (λ earlier. IsFirstOverlapping township
         (records_left records.old) index earlier (L.places common.new))) }
 {
     'records: for earlier in 0..index {
@@ -178,7 +178,7 @@ fn read_tract(
     row: &mut ByteRecord,
     index: u32,
 ) -> Result<bool, AllocError>
-    requires { IsReading records.old }
+    requires { IsBetweenRecords records.old }
     ensures { IfOk result (λ found. IsTrue found
         → fields_of row.new ≡ record_at (records_left records.old) index) }
 {

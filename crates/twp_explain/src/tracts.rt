@@ -21,7 +21,7 @@ use csv::ByteRecord;
 use std::alloc::{AllocError, Global};
 use twp_answers::TractFault;
 use twp_diagnose::{
-    Failure, Finding, Given, Listed, Location, Origin, OtherPlace, Suggests, text_in,
+    Finding, Given, Listed, Location, Origin, OtherPlace, SearchStop, Suggests, text_in,
 };
 use twp_excerpt::write_escaped;
 use twp_grid::{Refusal, Township};
@@ -201,8 +201,8 @@ fn explain_tract<S: Suggests>(
 {
     write_tract(listed, &mut finding.sentence)?;
     let inner = match describe_tract::<S>(alloc, listed, township) {
-        Err(Failure::Found(inner)) => inner,
-        Err(Failure::Memory) => return Err(AllocError),
+        Err(SearchStop::Found(inner)) => inner,
+        Err(SearchStop::Memory) => return Err(AllocError),
         Ok(()) => return finding.sentence.push_str(" has an invalid description"),
     };
     finding.sentence.push_str(": ")?;
@@ -238,7 +238,7 @@ fn describe_tract<S: Suggests>(
     alloc: Global,
     listed: &Listed<'_>,
     township: Township,
-) -> Result<(), Failure>
+) -> Result<(), SearchStop>
     ensures land { IfOk result (λ _. DescribeLand township (description_listed listed.now)) }
     ensures shown { IfErr result (λ stop. IfFinds stop (IsRefusedTract township listed.now)) }
 {

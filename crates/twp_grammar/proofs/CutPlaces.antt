@@ -7,7 +7,7 @@ use Rattle.std.proofs.lemmas.Bool.{and_parts, cases_Bool}
 use Rattle.std.proofs.lemmas.Bool.Decides.{nat_tests}
 use Rattle.twp_grid.specs.Cuts.{Cut, rows_asked, columns_asked, AreWithin, reached}
 use Rattle.twp_grid.specs.Places.{is_place, IsPlace, PLACE_DIGITS, places_across}
-use Rattle.twp_grid.specs.Spans.{Span, in_span, in_rectangle, whole_block}
+use Rattle.twp_grid.specs.Spans.{Interval, in_span, in_rectangle, whole_block}
 use Rattle.twp_grid.proofs.CutFacts.{within_span_of, rows_reached, columns_reached, rows_are_digits}
 use Rattle.twp_grid.proofs.CutFacts.{columns_are_digits}
 
@@ -21,7 +21,7 @@ more_than_one zero some = absurd (omega arith)
 more_than_one (suc k) some = let power = pow-succ' 2 k in let least = pow_pos k in omega arith
 
 -- a block that cuts reach lies in the section
-outside_span : (g : ℕ) (span : Span) (n : ℕ) → span.start + span.len ≤ 2 ^ g → nat_lt n (2 ^ g) ≡ false
+outside_span : (g : ℕ) (span : Interval) (n : ℕ) → span.start + span.len ≤ 2 ^ g → nat_lt n (2 ^ g) ≡ false
     → in_span span n ≡ false
 outside_span g span n within outside = grind (arith, nat_tests)
 

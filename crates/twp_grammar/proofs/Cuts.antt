@@ -12,10 +12,10 @@ use Rattle.std.proofs.lemmas.List.{take-append-drop}
 use Rattle.std.proofs.lemmas.List.Sums.{list_all-from_AllPass, prefix_len-le-length}
 use Rattle.std.proofs.lemmas.List.Folds.{length-prefix_len}
 use Rattle.std.proofs.Math.Seq.{take-append_seam}
-use Rattle.twp_grammar.specs.declared.kind.Kind.{Kind}
-use Rattle.twp_grammar.specs.declared.kind.Kind.TheVariants.{Half, Quarter, Number, Comma, Semicolon, Colon}
-use Rattle.twp_grammar.specs.declared.kind.Kind.TheVariants.{Stop, BadNumber, BadByte}
-use Rattle.twp_grammar.specs.declared.lexeme.Lexeme.{Lexeme}
+use Rattle.twp_grammar.specs.declared.tokens.Kind.{Kind}
+use Rattle.twp_grammar.specs.declared.tokens.Kind.TheVariants.{Half, Quarter, Number, Comma, Semicolon, Colon}
+use Rattle.twp_grammar.specs.declared.tokens.Kind.TheVariants.{Stop, BadNumber, BadByte}
+use Rattle.twp_grammar.specs.declared.tokens.Lexeme.{Lexeme}
 use Rattle.twp_grammar.specs.Cutting.{lexeme, cut_word, numeral_of, cut_number, cut_digits, cut_mark}
 use Rattle.twp_grammar.specs.Cutting.{cut}
 use Rattle.std.specs.Str.{str_to_ascii_lowercase}

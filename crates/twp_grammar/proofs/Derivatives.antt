@@ -3,11 +3,12 @@
 use Rattle.std.proofs.Common.{◌≡◌, ◌==◌, ℕ, Bool, true, false, not, cond, ◌&&◌, List, [], ◌∷◌, ◌++◌, get_or}
 use Rattle.std.proofs.Common.{refl, sym, ap, subst, ◌∙◌, inl, inr, append_assoc}
 use Rattle.std.proofs.lemmas.Bool.{eqb-true}
-use Rattle.twp_grammar.specs.declared.kind.Kind.{Kind}
-use Rattle.twp_grammar.specs.declared.kind.Kind.TheVariants.{Sec, Lot, All, And, To, Inclusive, Of, The, T, R}
-use Rattle.twp_grammar.specs.declared.kind.Kind.TheVariants.{NorthSouth, EastWest, Corner, Half, Quarter}
-use Rattle.twp_grammar.specs.declared.kind.Kind.TheVariants.{Number, Comma, Semicolon, Colon, Stop, Other}
-use Rattle.twp_grammar.specs.declared.kind.Kind.TheVariants.{BadNumber, BadByte}
+use Rattle.twp_grammar.specs.declared.tokens.Kind.{Kind}
+use Rattle.twp_grammar.specs.declared.tokens.Kind.TheVariants.{Sec, Lot, All, And, To, Inclusive, Of, The, T}
+use Rattle.twp_grammar.specs.declared.tokens.Kind.TheVariants.{R}
+use Rattle.twp_grammar.specs.declared.tokens.Kind.TheVariants.{NorthSouth, EastWest, Corner, Half, Quarter}
+use Rattle.twp_grammar.specs.declared.tokens.Kind.TheVariants.{Number, Comma, Semicolon, Colon, Stop, Other}
+use Rattle.twp_grammar.specs.declared.tokens.Kind.TheVariants.{BadNumber, BadByte}
 use Rattle.twp_grammar.specs.Tokens.{Token}
 use Rattle.twp_grammar.specs.Grammar.{Class, sec, lot, all, and, to, inclusive, of, the, t, r, north_south}
 use Rattle.twp_grammar.specs.Grammar.{east_west, corner, half, quarter, number, comma, semicolon, colon, stop}

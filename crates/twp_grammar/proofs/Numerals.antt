@@ -6,8 +6,8 @@ use Rattle.std.specs.Char.{is_ascii_digit, digit_value}
 use Rattle.std.specs.Int.{IsInRange}
 use Rattle.std.specs.Str.{all_ascii_digits}
 use Rattle.std.specs.List.{list_all, prefix_len}
-use Rattle.twp_grammar.specs.declared.kind.Kind.TheVariants.{Number, BadNumber}
-use Rattle.twp_grammar.specs.declared.lexeme.Lexeme.{Lexeme}
+use Rattle.twp_grammar.specs.declared.tokens.Kind.TheVariants.{Number, BadNumber}
+use Rattle.twp_grammar.specs.declared.tokens.Lexeme.{Lexeme}
 use Rattle.twp_grammar.specs.Cutting.{lexeme, numeral_of, cut_number, cut_digits}
 use Rattle.std.specs.Str.Parse.{AllDigits, digits_value}
 use Rattle.std.proofs.Math.Nat.{pow-suc}

@@ -11,7 +11,7 @@ use Rattle.twp_grammar.specs.Grammar.{east_west, corner, half, quarter, number, 
 use Rattle.twp_grammar.specs.Grammar.{other, bad_number, bad_byte, Ebnf, never, nothing, one, ◌⨾◌, ◌∣◌, many}
 use Rattle.twp_grammar.specs.Grammar.{description}
 use Rattle.twp_grammar.specs.Machine.{next, is_final}
-use Rattle.twp_grammar.specs.Expected.{reported, named, expected_of, IsNamed}
+use Rattle.twp_grammar.specs.Expected.{reported, named, expected_of, IsClassNamed}
 use Rattle.twp_grammar.proofs.Derivatives.{classes, place_of_class, class_at_place, same_class}
 use Rattle.twp_grammar.proofs.Derivatives.{same_class_tells, is_nullable, has_one_empty, both, after}
 
@@ -329,7 +329,7 @@ follows_named s s' c e =
 
 -- every token that is reported as expected in a state may follow there
 told_among : (s : State) (c : Class) (cs : List Class) → list_all (λ d. is_some (next s d)) cs ≡ true
-    → IsNamed c cs → is_some (next s c) ≡ true
+    → IsClassNamed c cs → is_some (next s c) ≡ true
 told_among s c [] each is = absurd is
 told_among s c (d ∷ ds) each is =
     let parts = both (is_some (next s d)) (list_all (λ e. is_some (next s e)) ds) each in
@@ -338,5 +338,6 @@ told_among s c (d ∷ ds) each is =
       | inr later ↦ told_among s c ds parts.1 later
     ]
 
-pub told_follows : (s : State) (c : Class) → IsNamed c (reported (expected_of s)) → is_some (next s c) ≡ true
+pub told_follows : (s : State) (c : Class) → IsClassNamed c (reported (expected_of s))
+    → is_some (next s c) ≡ true
 told_follows s c is = told_among s c (reported (expected_of s)) (row s).tells_all is

@@ -8,8 +8,8 @@ use Rattle.std.proofs.lemmas.List.{take-append-drop, append-nil, drop_all, drop-
 use Rattle.std.proofs.lemmas.List.Sums.{AllPass-from_list_all, list_all-from_AllPass}
 use Rattle.std.proofs.lemmas.List.Folds.{length-prefix_len}
 use Rattle.std.proofs.Math.Seq.{take-append_seam, drop-append_seam}
-use Rattle.twp_grammar.specs.declared.kind.Kind.{Kind}
-use Rattle.twp_grammar.specs.declared.lexeme.Lexeme.{Lexeme}
+use Rattle.twp_grammar.specs.declared.tokens.Kind.{Kind}
+use Rattle.twp_grammar.specs.declared.tokens.Lexeme.{Lexeme}
 use Rattle.twp_grammar.specs.Cutting.{lexeme, cut, IsFirstIn}
 use Rattle.twp_grammar.specs.Tokens.{is_white, begins_with, StartsWith, HasTokens, Token}
 use Rattle.twp_grammar.proofs.ByteRuns.{run_len, front_passes, front_ends}

@@ -5,10 +5,10 @@ use Rattle.std.proofs.Common.{ap, subst, ◌∙◌, arith, ◌≤◌, ◌↔◌,
 use Rattle.std.specs.Char.{is_ascii_alphabetic, to_ascii_lowercase}
 use Rattle.std.specs.List.{prefix_len}
 use Rattle.std.specs.Str.{str_to_ascii_lowercase}
-use Rattle.twp_grammar.specs.declared.lexeme.Lexeme.{Lexeme}
+use Rattle.twp_grammar.specs.declared.tokens.Lexeme.{Lexeme}
 use Rattle.twp_grammar.specs.Cutting.{small_letter, lexeme, cut_word}
-use Rattle.twp_grammar.specs.declared.kind.Kind.{Kind}
-use Rattle.twp_grammar.specs.declared.kind.Kind.TheVariants.{Other}
+use Rattle.twp_grammar.specs.declared.tokens.Kind.{Kind}
+use Rattle.twp_grammar.specs.declared.tokens.Kind.TheVariants.{Other}
 use Rattle.twp_grammar.specs.Tokens.{Word, kind_of_word, kind_among, words, long_words, short_words}
 use Rattle.twp_grammar.specs.Tokens.{same_bytes}
 use Rattle.std.specs.List.{list_all}

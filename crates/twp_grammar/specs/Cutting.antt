@@ -5,11 +5,11 @@ use Rattle.std.specs.Prelude.{Option, Some, None, slice_index, if◌then◌else�
 use Rattle.std.specs.Char.{is_ascii_alphabetic, is_ascii_digit, to_ascii_lowercase}
 use Rattle.std.specs.List.{prefix_len, AllPass}
 use Rattle.std.specs.Str.Parse.{digits_value}
-use Rattle.twp_grammar.specs.declared.kind.Kind.{Kind}
-use Rattle.twp_grammar.specs.declared.kind.Kind.TheVariants.{Half, Quarter, Number, Comma, Semicolon}
-use Rattle.twp_grammar.specs.declared.kind.Kind.TheVariants.{Colon, Stop, BadNumber, BadByte}
-use Rattle.twp_grammar.specs.declared.lexeme.Lexeme.{Lexeme}
-use Rattle.twp_grammar.specs.declared.token.Token.{Token as Piece}
+use Rattle.twp_grammar.specs.declared.tokens.Kind.{Kind}
+use Rattle.twp_grammar.specs.declared.tokens.Kind.TheVariants.{Half, Quarter, Number, Comma, Semicolon}
+use Rattle.twp_grammar.specs.declared.tokens.Kind.TheVariants.{Colon, Stop, BadNumber, BadByte}
+use Rattle.twp_grammar.specs.declared.tokens.Lexeme.{Lexeme}
+use Rattle.twp_grammar.specs.declared.tokens.Token.{Token as Piece}
 use Rattle.twp_grammar.specs.Tokens.{Token, is_white, kind_of_word, seen, StartsWith}
 
 -- a kind of token, and how many bytes it takes

@@ -69,9 +69,9 @@ abbrev pub named : Expected → List Class
 named e = reported e ++ leading e
 
 -- the class is named
-abbrev pub IsNamed : Class → List Class → Type 0
-IsNamed class [] = ⊥
-IsNamed class (first ∷ rest) = (class ≡ first) ⊎ IsNamed class rest
+abbrev pub IsClassNamed : Class → List Class → Type 0
+IsClassNamed class [] = ⊥
+IsClassNamed class (first ∷ rest) = (class ≡ first) ⊎ IsClassNamed class rest
 
 -- what is expected in each state
 abbrev pub expected_of : State → Expected

@@ -5,11 +5,11 @@ use Rattle.std.specs.Prelude.{ℕ}
 use Rattle.twp_grid.specs.declared.township.NorthSouth.{NorthSouth as NorthOrSouth}
 use Rattle.twp_grid.specs.declared.township.EastWest.{EastWest as EastOrWest}
 use Rattle.twp_grid.specs.declared.block.Corner.{Corner as OneCorner}
-use Rattle.twp_grammar.specs.declared.kind.Kind.{Kind}
-use Rattle.twp_grammar.specs.declared.kind.Kind.TheVariants.{Sec, Lot, All, And, To, Inclusive, Of}
-use Rattle.twp_grammar.specs.declared.kind.Kind.TheVariants.{The, T, R, NorthSouth, EastWest, Corner}
-use Rattle.twp_grammar.specs.declared.kind.Kind.TheVariants.{Half, Quarter, Number, Comma, Semicolon}
-use Rattle.twp_grammar.specs.declared.kind.Kind.TheVariants.{Colon, Stop, Other, BadNumber, BadByte}
+use Rattle.twp_grammar.specs.declared.tokens.Kind.{Kind}
+use Rattle.twp_grammar.specs.declared.tokens.Kind.TheVariants.{Sec, Lot, All, And, To, Inclusive, Of}
+use Rattle.twp_grammar.specs.declared.tokens.Kind.TheVariants.{The, T, R, NorthSouth, EastWest, Corner}
+use Rattle.twp_grammar.specs.declared.tokens.Kind.TheVariants.{Half, Quarter, Number, Comma, Semicolon}
+use Rattle.twp_grammar.specs.declared.tokens.Kind.TheVariants.{Colon, Stop, Other, BadNumber, BadByte}
 
 -- a kind of token without its value
 pub data Class : Type 0 where

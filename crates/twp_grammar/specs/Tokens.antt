@@ -8,12 +8,12 @@ use Rattle.std.specs.Str.Parse.{digits_value}
 use Rattle.twp_grid.specs.declared.township.NorthSouth.TheVariants as ns
 use Rattle.twp_grid.specs.declared.township.EastWest.TheVariants as ew
 use Rattle.twp_grid.specs.declared.block.Corner.TheVariants as corner
-use Rattle.twp_grammar.specs.declared.token.Token.{Token as Piece}
-use Rattle.twp_grammar.specs.declared.kind.Kind.{Kind}
-use Rattle.twp_grammar.specs.declared.kind.Kind.TheVariants.{Sec, Lot, All, And, To, Inclusive, Of}
-use Rattle.twp_grammar.specs.declared.kind.Kind.TheVariants.{The, T, R, NorthSouth, EastWest, Corner}
-use Rattle.twp_grammar.specs.declared.kind.Kind.TheVariants.{Half, Quarter, Number, Comma, Semicolon}
-use Rattle.twp_grammar.specs.declared.kind.Kind.TheVariants.{Colon, Stop, Other, BadNumber, BadByte}
+use Rattle.twp_grammar.specs.declared.tokens.Token.{Token as Piece}
+use Rattle.twp_grammar.specs.declared.tokens.Kind.{Kind}
+use Rattle.twp_grammar.specs.declared.tokens.Kind.TheVariants.{Sec, Lot, All, And, To, Inclusive, Of}
+use Rattle.twp_grammar.specs.declared.tokens.Kind.TheVariants.{The, T, R, NorthSouth, EastWest, Corner}
+use Rattle.twp_grammar.specs.declared.tokens.Kind.TheVariants.{Half, Quarter, Number, Comma, Semicolon}
+use Rattle.twp_grammar.specs.declared.tokens.Kind.TheVariants.{Colon, Stop, Other, BadNumber, BadByte}
 
 -- a token: its kind, its bytes, and its place in the text
 pub record Token : Type 0 where

@@ -6,13 +6,12 @@ ghost use Rattle.std.specs.List.{prefix_len};
 ghost use Rattle.std.specs.Str.Parse.{AllDigits, digits_value};
 ghost use Rattle.std.specs.Str.{str_to_ascii_lowercase};
 ghost use Rattle.twp_grammar.specs.Tokens.{kind_among, long_words};
-ghost use Rattle.twp_grammar.specs.declared.kind.Kind.TheVariants.{Number};
+ghost use Rattle.twp_grammar.specs.declared.tokens.Kind.TheVariants.{Number};
 ghost use Rattle.twp_grammar.specs.Cutting.{lexeme, small_letter, cut_word, cut_number};
 ghost use Rattle.twp_grammar.specs.Cutting.{cut_digits};
 ghost use Rattle.twp_grammar.specs.Cutting.{cut_mark, cut};
 
-use crate::kind::Kind;
-use crate::lexeme::Lexeme;
+use crate::tokens::{Kind, Lexeme};
 use crate::word::{self, one_letter, three_letters, two_letters};
 
 /// How many letters of a long word are known.

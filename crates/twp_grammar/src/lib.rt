@@ -6,22 +6,15 @@
 mod cutting;
 mod expected;
 mod item;
-mod kind;
 pub mod laws;
-mod lexeme;
 mod state;
-mod token;
 mod tokens;
 mod transition;
-mod white;
 mod word;
 
 pub use cutting::{byte_at, digits, lexeme_at};
 pub use expected::Expected;
 pub use item::{Item, Numeral, Step, Steps};
-pub use kind::Kind;
-pub use lexeme::Lexeme;
 pub use state::State;
-pub use token::Token;
-pub use tokens::{Tokens, first_token};
-pub use white::after_white;
+pub use tokens::{Kind, Lexeme, Token, Tokens, first_token};
+pub use word::after_white;

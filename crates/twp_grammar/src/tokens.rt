@@ -3,10 +3,81 @@ ghost use Rattle.twp_grammar.specs.Cutting.{GivesFirst};
 ghost use Rattle.std.specs.Iterator.{at_most};
 
 use crate::cutting::lexeme_at;
-use crate::lexeme::Lexeme;
-use crate::token::Token;
-use crate::white::after_white;
+use crate::word::after_white;
 use std::marker::Model;
+use twp_grid::{Corner, EastWest, NorthSouth};
+
+/// What a token of a description is. The words are those of the Specifications for Descriptions of
+/// Land, in uppercase or lowercase letters.
+#[derive(Clone, Copy, PartialEq, Eq)]
+pub enum Kind {
+    /// `sec`, `secs`, `section`, or `sections`.
+    Sec,
+    /// `lot` or `lots`.
+    Lot,
+    /// `all`.
+    All,
+    /// `and`.
+    And,
+    /// `to`, `thru`, or `through`.
+    To,
+    /// `inclusive`.
+    Inclusive,
+    /// `of`.
+    Of,
+    /// `the`.
+    The,
+    /// `t`, the township's letter.
+    T,
+    /// `r`, the range's letter.
+    R,
+    /// `n` or `s`: a direction from a base line, or a half.
+    NorthSouth(NorthSouth),
+    /// `e` or `w`: a direction from a principal meridian, or a half.
+    EastWest(EastWest),
+    /// `ne`, `nw`, `sw`, or `se`: a quarter.
+    Corner(Corner),
+    /// `1/2` or U+00BD.
+    Half,
+    /// `1/4` or U+00BC.
+    Quarter,
+    /// One to four digits, and their value, 0 to 9999.
+    Number(u16),
+    /// `,`.
+    Comma,
+    /// `;`.
+    Semicolon,
+    /// `:`.
+    Colon,
+    /// `.`.
+    Stop,
+    /// Any other word.
+    Other,
+    /// More than four digits.
+    BadNumber,
+    /// A byte that begins no other token.
+    BadByte,
+}
+
+/// A token that begins at a place: its kind, and its length in bytes.
+#[derive(Clone, Copy, PartialEq, Eq)]
+pub struct Lexeme {
+    /// What the token is.
+    pub kind: Kind,
+    /// How many bytes it takes.
+    pub size: usize,
+}
+
+/// A piece of a description: a word, a number, a half or a quarter, a mark, or something else.
+#[derive(Clone, Copy, PartialEq, Eq)]
+pub struct Token<'a> {
+    /// What the token is.
+    pub kind: Kind,
+    /// The bytes of the token: a slice of the text, at offset `at`.
+    pub text: &'a [u8],
+    /// The offset of its first byte in the text.
+    pub at: usize,
+}
 
 /// The first token of a text at a place or after it.
 #[inline(always)]

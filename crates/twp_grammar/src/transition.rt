@@ -8,8 +8,8 @@ ghost use Rattle.twp_grammar.specs.Grammar.{east_west, corner, number, comma, se
 ghost use Rattle.twp_grammar.specs.Grammar.{r};
 ghost use Rattle.twp_grammar.specs.Machine.{next};
 
-use crate::kind::Kind;
 use crate::state::State;
+use crate::tokens::Kind;
 
 impl State {
     /// The state after one more token. `None` if no description begins with the tokens so far and

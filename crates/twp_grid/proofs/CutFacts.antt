@@ -8,7 +8,7 @@ use Rattle.std.proofs.lemmas.List.{append-nil}
 use Rattle.std.proofs.lemmas.Bool.{cases_lt}
 use Rattle.std.proofs.lemmas.Bool.Decides.{nat_tests}
 use Rattle.twp_grid.specs.Places.{IsPlace, binary, begins}
-use Rattle.twp_grid.specs.Spans.{Span, in_span, lower_half, upper_half, whole_span, Rectangle}
+use Rattle.twp_grid.specs.Spans.{Interval, in_span, lower_half, upper_half, whole_span, Rectangle}
 use Rattle.twp_grid.specs.Spans.{in_rectangle}
 use Rattle.twp_grid.specs.Cuts.{Cut, row_asked, column_asked, rows_asked, columns_asked, AreWithin}
 use Rattle.twp_grid.specs.Cuts.{part_of, reached}
@@ -17,11 +17,11 @@ use Rattle.twp_grid.specs.declared.block.Side.TheVariants as side
 use Rattle.twp_grid.specs.declared.block.Corner.TheVariants as corner
 
 -- a span of half the side, in the half that its first digit gives
-abbrev moved : ℕ → Span → Span
+abbrev moved : ℕ → Interval → Interval
 moved by span = record { start = by + span.start; len = span.len }
 
 -- the span of the places whose digits begin with these
-abbrev pub span_of : ℕ → List ℕ → Span
+abbrev pub span_of : ℕ → List ℕ → Interval
 span_of g [] = whole_span g
 span_of zero (d ∷ asked) = whole_span zero
 span_of (suc g) (d ∷ asked) = moved (d * 2 ^ g) (span_of g asked)
@@ -31,9 +31,9 @@ abbrev pub AreDigits : List ℕ → Type 0
 AreDigits [] = Unit {0}
 AreDigits (d ∷ asked) = (d < 2) × AreDigits asked
 
-same_span : (a b : Span) → a.start ≡ b.start → a.len ≡ b.len → a ≡ b
+same_span : (a b : Interval) → a.start ≡ b.start → a.len ≡ b.len → a ≡ b
 same_span a b start len =
-    let made : (s l : ℕ) → Span = λ s l. record { start = s; len = l } in
+    let made : (s l : ℕ) → Interval = λ s l. record { start = s; len = l } in
     ap (λ s. made s a.len) start ∙ ap (λ l. made b.start l) len
 
 pub len_span_of : (g : ℕ) (asked : List ℕ) → length asked ≤ g → (span_of g asked).len ≡ 2 ^ (g - length asked)
@@ -105,14 +105,14 @@ first_digit_high n place high below =
     let one_is : place / 2 ^ n ≡ 1 = rw same at quotient in
     omega arith
 
-in_moved : (span : Span) (by place less : ℕ) → place ≡ by + less
+in_moved : (span : Interval) (by place less : ℕ) → place ≡ by + less
     → in_span (moved by span) place ≡ in_span span less
 in_moved span by place less is = grind (arith, nat_tests)
 
-in_moved_below : (span : Span) (by place : ℕ) → place < by → in_span (moved by span) place ≡ false
+in_moved_below : (span : Interval) (by place : ℕ) → place < by → in_span (moved by span) place ≡ false
 in_moved_below span by place below = grind (arith, nat_tests)
 
-in_span_above : (span : Span) (place : ℕ) → span.start + span.len ≤ place → in_span span place ≡ false
+in_span_above : (span : Interval) (place : ℕ) → span.start + span.len ≤ place → in_span span place ≡ false
 in_span_above span place above = grind (arith, nat_tests)
 
 in_whole_span : (side place : ℕ) → place < side → in_span (record { start = 0; len = side }) place ≡ true
@@ -160,7 +160,7 @@ IsDigitAtMost (d ∷ []) = d < 2
 IsDigitAtMost (d ∷ e ∷ more) = ⊥
 
 -- the rest of a span when one digit is asked for, or none
-abbrev narrowed : List ℕ → Span → Span
+abbrev narrowed : List ℕ → Interval → Interval
 narrowed [] span = span
 narrowed (zero ∷ more) span = lower_half span
 narrowed (suc d ∷ more) span = upper_half span

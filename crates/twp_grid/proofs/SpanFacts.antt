@@ -4,7 +4,7 @@ use Rattle.std.proofs.Common.{arith}
 use Rattle.std.proofs.Math.Nat.{pow-succ'}
 use Rattle.std.proofs.lemmas.Nat.{div-add-mod', mod-mul-add, mul-le}
 use Rattle.std.proofs.lemmas.Bool.{cases_lt}
-use Rattle.twp_grid.specs.Spans.{Span, lower_half, upper_half, IsDyadic}
+use Rattle.twp_grid.specs.Spans.{Interval, lower_half, upper_half, IsDyadic}
 
 -- an odd divisor of a power of two is 1
 odd_divisor : (g half times : ℕ) → times * (2 * half + 1) ≡ 2 ^ g → half ≡ 0
@@ -36,7 +36,7 @@ divided n len half some twice divides =
     )
 
 -- the length of a dyadic span is twice its half
-even_length : (g : ℕ) (span : Span) → IsDyadic g span → 1 < span.len → span.len ≡ 2 * (span.len / 2)
+even_length : (g : ℕ) (span : Interval) → IsDyadic g span → 1 < span.len → span.len ≡ 2 * (span.len / 2)
 even_length g span even more = elim (cases_lt 0 (span.len % 2)) [
   | inl odd ↦
       let half = span.len / 2 in
@@ -50,7 +50,8 @@ even_length g span even more = elim (cases_lt 0 (span.len % 2)) [
   | inr none_left ↦ omega arith
 ]
 
-pub lower_is_dyadic : (g : ℕ) (span : Span) → IsDyadic g span → 1 < span.len → IsDyadic g (lower_half span)
+pub lower_is_dyadic : (g : ℕ) (span : Interval) → IsDyadic g span → 1 < span.len
+    → IsDyadic g (lower_half span)
 lower_is_dyadic g span even more =
     let twice = even_length g span even more in
     let half = span.len / 2 in
@@ -62,7 +63,8 @@ lower_is_dyadic g span even more =
       aligned = (divided span.start span.len half (omega arith) twice even.aligned).0;
     }
 
-pub upper_is_dyadic : (g : ℕ) (span : Span) → IsDyadic g span → 1 < span.len → IsDyadic g (upper_half span)
+pub upper_is_dyadic : (g : ℕ) (span : Interval) → IsDyadic g span → 1 < span.len
+    → IsDyadic g (upper_half span)
 upper_is_dyadic g span even more =
     let twice = even_length g span even more in
     let half = span.len / 2 in

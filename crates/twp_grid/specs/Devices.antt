@@ -3,7 +3,7 @@
 use Rattle.std.specs.Prelude.{◌≡◌, ℕ, ◌≤◌, List, length, Option, Some, None, ⊤, Bool, take, IfSome}
 use Rattle.std.specs.Io.KnownBytes.{Consumes, IsAtEnd}
 use Rattle.twp_grid.specs.declared.device.Device.{Device}
-use Rattle.twp_grid.specs.declared.bytes.Bytes.{Bytes}
+use Rattle.twp_grid.specs.declared.device.Bytes.{Bytes}
 
 -- these are the bytes, if they are known
 abbrev pub Tells : Option (List ℕ) → List ℕ → Type 0

@@ -6,37 +6,37 @@ use Rattle.twp_grid.specs.Places.{places_across, places_to_position}
 use Rattle.twp_grid.specs.Lots.{POSITIONS_ACROSS}
 
 -- consecutive columns or rows: the first of them, and how many there are
-pub record Span : Type 0 where
+pub record Interval : Type 0 where
   pub start : ℕ
   pub len : ℕ
 
 -- a number of columns or rows from a first one
-abbrev pub span_from : ℕ → ℕ → Span
+abbrev pub span_from : ℕ → ℕ → Interval
 span_from start len = record { start = start; len = len }
 
 -- the span contains this column or row
-abbrev pub in_span : Span → ℕ → Bool
+abbrev pub in_span : Interval → ℕ → Bool
 in_span span place = nat_le span.start place && nat_lt place (span.start + span.len)
 
 -- the half with the smaller numbers, in the east or the south
-abbrev pub lower_half : Span → Span
+abbrev pub lower_half : Interval → Interval
 lower_half span = span_from span.start (span.len / 2)
 
 -- the half with the larger numbers, in the west or the north
-abbrev pub upper_half : Span → Span
+abbrev pub upper_half : Interval → Interval
 upper_half span = span_from (span.start + span.len / 2) (span.len / 2)
 
 -- all columns or rows of a section
-abbrev pub whole_span : ℕ → Span
+abbrev pub whole_span : ℕ → Interval
 whole_span g = span_from 0 (places_across g)
 
 -- the columns or rows of a position
-abbrev pub position_span : ℕ → ℕ → Span
+abbrev pub position_span : ℕ → ℕ → Interval
 position_span g position = span_from (position * places_to_position g) (places_to_position g)
 
 -- The span is one of those that result from halving: it lies in the section, its length divides the
 -- section's side, and its start is a multiple of its length.
-pub record IsDyadic (g : ℕ) (span : Span) : Type 0 where
+pub record IsDyadic (g : ℕ) (span : Interval) : Type 0 where
   pub some : 0 < span.len
   pub within : span.start + span.len ≤ places_across g
   pub divides : places_across g % span.len ≡ 0
@@ -44,11 +44,11 @@ pub record IsDyadic (g : ℕ) (span : Span) : Type 0 where
 
 -- a rectangle of places: its columns, from the east, and its rows, from the south
 pub record Rectangle : Type 0 where
-  pub columns : Span
-  pub rows : Span
+  pub columns : Interval
+  pub rows : Interval
 
 -- the rectangle with these columns and rows
-abbrev pub rectangle : Span → Span → Rectangle
+abbrev pub rectangle : Interval → Interval → Rectangle
 rectangle columns rows = record { columns = columns; rows = rows }
 
 -- the rectangle contains the place at this column and row

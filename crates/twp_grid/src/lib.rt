@@ -4,22 +4,18 @@
 #![tactic(auto)]
 
 mod block;
-mod bytes;
 mod device;
 pub mod laws;
 mod line;
 mod lot;
 mod refusal;
 mod section;
-mod span;
 mod township;
 
-pub use block::{Block, Corner, Side};
-pub use bytes::Bytes;
-pub use device::{Device, DeviceFault, Sink, Source};
+pub use block::{Block, Corner, PLACE_DIGITS, PLACES_ACROSS, PLACES_TO_POSITION, Side};
+pub use device::{Bytes, Device, DeviceFault, Sink, Source};
 pub use line::{LINES, Line, Run, sides};
 pub use lot::{POSITIONS_ACROSS, lot_at, lot_count, lot_place};
 pub use refusal::Refusal;
 pub use section::{SECTIONS, Section};
-pub use span::{PLACE_DIGITS, PLACES_ACROSS, PLACES_TO_POSITION};
 pub use township::{EastWest, NorthSouth, Township};

@@ -14,13 +14,13 @@ use Rattle.std.proofs.lemmas.Bool.{cases_eq, cases_Bool, cases_lt}
 use Rattle.std.proofs.lemmas.Bool.Decides.{nat_tests}
 use Rattle.std.proofs.Math.Nat.{two-pow-succ, mod-eq_of_lt, mul_comm, mul-add, mul-sub}
 use Rattle.std.proofs.Math.Pow.{pow_mono}
-use Rattle.twp_grid.specs.Spans.{Span, in_span}
+use Rattle.twp_grid.specs.Spans.{Interval, in_span}
 use Rattle.twp_grid.specs.Spans.{total, one_where}
 use Rattle.twp_land.specs.steps.BitLanes.{LANE_BITS}
 use Rattle.twp_grid.proofs.TotalFacts.{total-zero, total-ext, total-front}
 
 -- consecutive ones are a span
-pub bit_of_ones : (span : Span) (i : ℕ)
+pub bit_of_ones : (span : Interval) (i : ℕ)
     → bit_at (2 ^ (span.start + span.len) - 2 ^ span.start) i ≡ one_where (in_span span i)
 bit_of_ones span i = elim (cases_lt i span.start) [
   | inl below ↦

@@ -5,7 +5,7 @@ use Rattle.std.proofs.Math.Nat.{min-zero}
 use Rattle.std.proofs.lemmas.Bool.{and_parts, and_right}
 use Rattle.std.proofs.lemmas.Bool.Decides.{nat_tests}
 use Rattle.twp_grid.specs.Places.{PLACE_DIGITS, places_across}
-use Rattle.twp_grid.specs.Spans.{Span, in_span, IsDyadic, Rectangle, in_rectangle}
+use Rattle.twp_grid.specs.Spans.{Interval, in_span, IsDyadic, Rectangle, in_rectangle}
 use Rattle.twp_grid.specs.Spans.{total, one_where}
 use Rattle.twp_grid.proofs.TotalFacts.{total-ext, total-add, total-all_zero}
 use Rattle.twp_grid.specs.Lands.{count_held}
@@ -26,7 +26,8 @@ place_inside block column row lies inside =
     let parts = and_parts (in_span block.columns column) (in_span block.rows row) inside in
     (below block.columns column parts.0 lies.columns, below block.rows row parts.1 lies.rows)
   where
-    below : (span : Span) (n : ℕ) → in_span span n ≡ true → span.start + span.len ≤ places_across PLACE_DIGITS
+    below : (span : Interval) (n : ℕ) → in_span span n ≡ true
+        → span.start + span.len ≤ places_across PLACE_DIGITS
         → n < places_across PLACE_DIGITS
     below span n inside within =
         let parts = and_parts (nat_le span.start n) (nat_lt n (span.start + span.len)) inside in
@@ -34,7 +35,7 @@ place_inside block column row lies inside =
         omega arith
 
 -- a sum in which only the terms of a span count
-total_of_span : (n : ℕ) (span : Span) (f g : ℕ → ℕ) → span.start + span.len ≤ n
+total_of_span : (n : ℕ) (span : Interval) (f g : ℕ → ℕ) → span.start + span.len ≤ n
     → ((k : ℕ) → k < span.len → f (span.start + k) ≡ g k)
     → ((k : ℕ) → in_span span k ≡ false → f k ≡ 0) → total n f ≡ total span.len g
 total_of_span n span f g within same none =
@@ -69,7 +70,7 @@ total_of_block held block lies =
     (λ column out. out_of_columns column (block.rows.start + up) out))
     (λ row out. total-all_zero (places_across PLACE_DIGITS) _ (λ column _. out_of_rows column row out))
   where
-    at_offset : (span : Span) (k : ℕ) → k < span.len → in_span span (span.start + k) ≡ true
+    at_offset : (span : Interval) (k : ℕ) → k < span.len → in_span span (span.start + k) ≡ true
     at_offset span k below = grind (arith, nat_tests)
 
     inside : (column row : ℕ) → in_span block.columns column ≡ true → in_span block.rows row ≡ true

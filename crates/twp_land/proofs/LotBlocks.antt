@@ -10,7 +10,7 @@ use Rattle.twp_land.specs.steps.Crossing.{Cross}
 use Rattle.twp_land.proofs.LotFacts.{fills, block_of, in_lot, lot_inside}
 use Rattle.std.proofs.lemmas.Bool.{cases_lt, and_parts, eqb-true, eq-eqb}
 use Rattle.twp_grid.specs.Lots.{POSITIONS_ACROSS, lot_at_position, position_of_lot, number_of_lots}
-use Rattle.twp_grid.specs.Spans.{Span, in_span, IsDyadic, Rectangle, in_rectangle, position_block}
+use Rattle.twp_grid.specs.Spans.{Interval, in_span, IsDyadic, Rectangle, in_rectangle, position_block}
 use Rattle.twp_grid.proofs.LotFacts.{each, each_of_three}
 use Rattle.std.proofs.lemmas.Nat.{div-add-mod', mul-le}
 use Rattle.std.proofs.Math.Nat.{mul_assoc}
@@ -30,12 +30,12 @@ lot_is_place s n c r range is =
     grind (arith, nat_tests)
 
 -- a column or row in both spans
-record Common (a b : Span) : Type 0 where
+record Common (a b : Interval) : Type 0 where
   at : ℕ
   in_first : in_span a at ≡ true
   in_second : in_span b at ≡ true
 
-common : (a b : Span) → 0 < a.len → 0 < b.len → Cross a b → Common a b
+common : (a b : Interval) → 0 < a.len → 0 < b.len → Cross a b → Common a b
 common a b some some' over = elim (cases_lt a.start b.start) [
   | inl before ↦
       record { at = b.start; in_first = grind (arith, nat_tests); in_second = grind (arith, nat_tests) }
@@ -43,7 +43,7 @@ common a b some some' over = elim (cases_lt a.start b.start) [
       record { at = a.start; in_first = grind (arith, nat_tests); in_second = grind (arith, nat_tests) }
 ]
 
-crossing : (a b : Span) (n : ℕ) → in_span a n ≡ true → in_span b n ≡ true → Cross a b
+crossing : (a b : Interval) (n : ℕ) → in_span a n ≡ true → in_span b n ≡ true → Cross a b
 crossing a b n in-a in-b =
     let x = and_parts (nat_le a.start n) (nat_lt n (a.start + a.len)) in-a in
     let y = and_parts (nat_le b.start n) (nat_lt n (b.start + b.len)) in-b in
@@ -169,14 +169,14 @@ in_position n start place some most divides aligned least less =
           absurd (omega (arith, whole, ends, start_is, aligned))
     ]
 
-along_position : (span : Span) (place : ℕ) → IsDyadic PLACE_DIGITS span → span.len ≤ POSITION
+along_position : (span : Interval) (place : ℕ) → IsDyadic PLACE_DIGITS span → span.len ≤ POSITION
     → in_span span place ≡ true → position_along PLACE_DIGITS place ≡ position_along PLACE_DIGITS span.start
 along_position span place dyadic most inside =
     let both = and_parts (nat_le span.start place) (nat_lt place (span.start + span.len)) inside in
     in_position span.len span.start place dyadic.some most dyadic.divides dyadic.aligned
     (grind (arith, nat_tests)) (grind (arith, nat_tests))
 
-first_in : (span : Span) → 0 < span.len → in_span span span.start ≡ true
+first_in : (span : Interval) → 0 < span.len → in_span span span.start ≡ true
 first_in span some = grind (arith, nat_tests)
 
 pub small_holds : (section : ℕ) (block : Rectangle) → IsDyadic PLACE_DIGITS block.columns

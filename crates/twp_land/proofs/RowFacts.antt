@@ -7,7 +7,7 @@ use Rattle.std.proofs.lemmas.List.{get_or-set_same, get_or-set_other}
 use Rattle.std.proofs.lemmas.Bool.{cases_eq, and_parts, cases_Bool, and_right}
 use Rattle.std.proofs.lemmas.Bool.Decides.{nat_tests}
 use Rattle.twp_grid.specs.Places.{PLACE_DIGITS, places_across, is_place}
-use Rattle.twp_grid.specs.Spans.{Span, in_span, IsDyadic, Rectangle, in_rectangle}
+use Rattle.twp_grid.specs.Spans.{Interval, in_span, IsDyadic, Rectangle, in_rectangle}
 use Rattle.twp_grid.specs.Spans.{total, one_where}
 use Rattle.twp_grid.proofs.TotalFacts.{total-zero, total-next, total-ext}
 use Rattle.twp_grid.specs.Lands.{Meets, HoldsAll, count_held}
@@ -47,14 +47,14 @@ held_inside rows column row in-column in-row =
     rw place refl
 
 -- the offset of an index in a span
-offset : (span : Span) (n : ℕ) → in_span span n ≡ true → (k : ℕ) × (k < span.len) × (n ≡ span.start + k)
+offset : (span : Interval) (n : ℕ) → in_span span n ≡ true → (k : ℕ) × (k < span.len) × (n ≡ span.start + k)
 offset span n inside =
     let parts = and_parts (nat_le span.start n) (nat_lt n (span.start + span.len)) inside in
     let least : span.start ≤ n = grind (arith, nat_tests) in
     let below : n < span.start + span.len = grind (arith, nat_tests) in
     (n - span.start, omega arith, omega arith)
 
-at_offset : (span : Span) (k : ℕ) → k < span.len → in_span span (span.start + k) ≡ true
+at_offset : (span : Interval) (k : ℕ) → k < span.len → in_span span (span.start + k) ≡ true
 at_offset span k below = grind (arith, nat_tests)
 
 pub meets_found : (rows : List (List Bool)) (block : Rectangle) (up : ℕ) → IsDyadic PLACE_DIGITS block.rows

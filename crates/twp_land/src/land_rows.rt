@@ -6,6 +6,7 @@ ghost use Rattle.twp_grid.specs.Lands.{HasWholeLots};
 use crate::land::Land;
 use crate::lanes::{LaneRows, Lanes};
 use crate::lots::lots_whole;
+use crate::place_set::PlaceSet;
 use crate::plot::Plot;
 use crate::sections::Sections;
 use twp_grid::{PLACES_ACROSS, SECTIONS, Section};
@@ -17,7 +18,7 @@ pub type LandRows = [[u32; PLACES_ACROSS]; SECTIONS as usize];
 impl Sections<LaneRows> {
     /// The places of the set.
     pub fn rows(&self) -> LandRows
-        ensures { land_of_rows result ≡ ⟦<Lanes as Land>⟧.places self.now }
+        ensures { land_of_rows result ≡ ⟦<Lanes as PlaceSet>⟧.places self.now }
     {
         let mut rows = [[0; PLACES_ACROSS]; SECTIONS as usize];
         for number in 1..SECTIONS + 1 {
@@ -31,7 +32,7 @@ impl Sections<LaneRows> {
     pub fn from_rows(rows: &LandRows) -> Option<Lanes>
         ensures { MatchOption result (¬ HasWholeLots PLACE_DIGITS (land_of_rows rows.now)) (λ land.
             HasWholeLots PLACE_DIGITS (land_of_rows rows.now)
-            × (⟦<Lanes as Land>⟧.places land ≡ land_of_rows rows.now)) }
+            × (⟦<Lanes as PlaceSet>⟧.places land ≡ land_of_rows rows.now)) }
     {
         if !lots_whole(rows) {
             return None;
@@ -42,7 +43,7 @@ impl Sections<LaneRows> {
 
 /// The set of these places, whether or not it contains each lot wholly.
 fn stored(rows: &LandRows) -> Lanes
-    ensures { ⟦<Lanes as Land>⟧.places result ≡ land_of_rows rows.now }
+    ensures { ⟦<Lanes as PlaceSet>⟧.places result ≡ land_of_rows rows.now }
 {
     let mut land = Lanes::empty();
     for number in 1..SECTIONS + 1 {

@@ -3,8 +3,8 @@ ghost use Rattle.twp_grid.specs.Places.{PLACE_DIGITS};
 ghost use Rattle.twp_grid.specs.Spans.{IsDyadic};
 ghost use Rattle.twp_land.specs.Storage.{held_by_lane, nothing_held};
 
-use crate::bits::{Lane, block_lanes, column_bits, count_bits, vector};
 use crate::plot::Plot;
+use crate::row::{Lane, block_lanes, column_bits, count_bits, vector};
 use crate::sections::Sections;
 use std::simd::prelude::*;
 use twp_grid::{Block, PLACES_ACROSS};

@@ -1,34 +1,29 @@
-//! Land: sets of places in a township. The trait `Land` says what such a set does; `Grid` stores a
-//! test for each place, and `Lanes` a bit. `OneLanes` has room for the places of one section; the
-//! trait `PlaceSet` says what it does, and what each `Land` does, too.
+//! Land: sets of places in a township. The trait `PlaceSet` says what each such set does, and the trait
+//! `Land` what else a set does that has room for all sections. `Grid` stores a test for each place, and
+//! `Lanes` a bit. `OneLanes` has room for the places of one section.
 #![tactic(auto)]
 
-mod bits;
 mod comparing;
 mod land;
 mod land_rows;
 mod lanes;
 pub mod laws;
-mod lot_places;
 mod lots;
 mod one_section;
 mod place_set;
 mod plot;
-mod reach;
 mod relation;
 mod row;
 mod row_combining;
 mod row_comparing;
 mod rows;
 mod sections;
-mod window;
 
 pub use comparing::{Comparison, compare};
 pub use land::Land;
 pub use land_rows::LandRows;
 pub use lanes::{LaneRows, Lanes};
-pub use lot_places::holds_of_lot;
-pub use lots::lots_whole;
+pub use lots::{holds_of_lot, lots_whole};
 pub use one_section::{OneLanes, OneSection};
 pub use place_set::PlaceSet;
 pub use plot::Plot;

@@ -5,11 +5,11 @@ ghost use Rattle.twp_grid.specs.Spans.{whole_block};
 ghost use Rattle.twp_grid.specs.Lands.{no_places, union, block_places, count_held, Meets, HoldsAll};
 ghost use Rattle.twp_grid.specs.Lands.{LieWithin};
 
-use crate::land::Land;
 use twp_grid::{Block, Section};
 
-/// A set of places in a township that may have room for the places of some sections only. Each
-/// `Land` is one, with room for all sections.
+/// A set of places in a township that may have room for the places of some sections only. A place's
+/// column is counted from the east and its row from the south of its section, from 0 to less than
+/// `PLACES_ACROSS`.
 pub trait PlaceSet: Drop {
     /// Whether the set contains the place at a column and a row of a section.
     ghost places: { Self → ℕ → ℕ → ℕ → Bool };
@@ -70,61 +70,4 @@ pub trait PlaceSet: Drop {
     /// The set contains only places of a township.
     ghost within: { (set : Self) (section column row : ℕ) → places set section column row ≡ true
         → IsSection section × IsPlace PLACE_DIGITS column row };
-}
-
-impl<L: Land> PlaceSet for L {
-    ghost places = { λ land. L.places land };
-
-    ghost has_room = { λ land section. true };
-
-    ghost within = { λ land section column row held. L.within land section column row held };
-
-    #[inline]
-    fn holds(&self, section: Section, column: u8, row: u8) -> bool {
-        Land::holds(self, section, column, row)
-    }
-
-    #[inline]
-    fn meets(&self, section: Section, block: Block) -> bool {
-        Land::meets(self, section, block)
-    }
-
-    #[inline]
-    fn full(&self, section: Section, block: Block) -> bool {
-        Land::full(self, section, block)
-    }
-
-    #[inline]
-    fn is_untouched(&self, section: Section) -> bool {
-        Land::is_untouched(self, section)
-    }
-
-    #[inline]
-    fn count(&self, section: Section, block: Block) -> u32 {
-        Land::count(self, section, block)
-    }
-
-    #[inline]
-    fn make_room(&mut self, _section: Section) -> bool {
-        true
-    }
-
-    #[inline(always)]
-    fn add_apart(&mut self, section: Section, block: Block) -> bool {
-        if Land::meets(self, section, block) {
-            return false;
-        }
-        Land::add(self, section, block);
-        true
-    }
-
-    #[inline]
-    fn clear(&mut self) {
-        Land::clear(self);
-    }
-
-    #[inline]
-    fn sections(&self) -> Option<(Section, Section)> {
-        Land::sections(self)
-    }
 }

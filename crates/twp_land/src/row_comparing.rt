@@ -5,13 +5,13 @@ ghost use Rattle.twp_land.specs.steps.Relating.{HoldsWholeLots};
 ghost use Rattle.twp_land.specs.Storage.{land_of_rows, held_by_lane, held_by_either, nothing_held};
 ghost use Rattle.twp_land.specs.Storage.{SameHeld, ContainsHeld, ShareHeld};
 
-use crate::bits::Lane;
 use crate::comparing::Comparison;
 use crate::land_rows::LandRows;
 use crate::lanes::LaneRows;
 use crate::lots::has_whole_lots;
 use crate::plot::Plot;
 use crate::relation::Relation;
+use crate::row::Lane;
 use twp_grid::{PLACES_ACROSS, SECTIONS, Section};
 
 /// How a set of places compares to another. `None` if either contains part of a lot.

@@ -2,11 +2,10 @@ ghost use Rattle.twp_land.specs.Storage.{held_by_row};
 
 use crate::plot::Plot;
 use crate::row::{
-    Row, alike, cleared, common, contains, count_held, each_held, filled, joined, share, some_held,
-    taken,
+    Row, Window, alike, cleared, common, contains, count_held, each_held, filled, joined, share,
+    some_held, taken,
 };
 use crate::sections::Sections;
-use crate::window::Window;
 use twp_grid::{Block, PLACES_ACROSS};
 
 /// A `Land` that stores a test for each place, in rows.

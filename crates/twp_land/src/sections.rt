@@ -1,12 +1,12 @@
-ghost use Rattle.std.specs.Prelude.{◌≡◌, ◌+◌, ◌≤◌};
+ghost use Rattle.std.specs.Prelude.{◌≡◌, ◌+◌, ◌≤◌, true, refl, min, max};
 ghost use Rattle.twp_grid.specs.Winding.{SECTION_COUNT};
 ghost use Rattle.twp_grid.specs.Lands.{LieWithin};
 ghost use Rattle.twp_land.specs.Storage.{held_by_section};
 ghost use Rattle.twp_land.specs.steps.Exchanges.{exchanged};
 
 use crate::land::Land;
+use crate::place_set::PlaceSet;
 use crate::plot::Plot;
-use crate::reach::Reach;
 use twp_grid::{Block, SECTIONS, Section};
 
 /// One set for each section.
@@ -48,7 +48,7 @@ impl<P: Plot> Sections<P> {
     }
 }
 
-impl<P: Plot> Land for Sections<P> {
+impl<P: Plot> PlaceSet for Sections<P> {
     ghost places = { λ land. held_by_section P.held land.plots };
 
     ghost use Rattle.twp_land.specs.steps.Within.{held_within};
@@ -56,12 +56,7 @@ impl<P: Plot> Land for Sections<P> {
     ghost within = { λ land section column row held.
         held_within P.held land.plots section column row P.within held };
 
-    fn empty() -> Self {
-        Sections {
-            plots: [P::empty(); SETS],
-            reach: NOWHERE,
-        }
-    }
+    ghost has_room = { λ land section. true };
 
     fn holds(&self, section: Section, column: u8, row: u8) -> bool {
         self.plot(section).holds(column, row)
@@ -83,14 +78,17 @@ impl<P: Plot> Land for Sections<P> {
         self.plot(section).count(block)
     }
 
-    fn add(&mut self, section: Section, block: Block) {
-        let index = usize::from(section.number() - 1);
-        self.plots[index].add(block);
-        self.reach.widen(index, index + 1);
+    fn make_room(&mut self, _section: Section) -> bool {
+        true
     }
 
-    fn remove(&mut self, section: Section, block: Block) {
-        self.plots[usize::from(section.number() - 1)].remove(block);
+    #[inline(always)]
+    fn add_apart(&mut self, section: Section, block: Block) -> bool {
+        if self.meets(section, block) {
+            return false;
+        }
+        self.add(section, block);
+        true
     }
 
     fn clear(&mut self) {
@@ -107,6 +105,27 @@ impl<P: Plot> Land for Sections<P> {
         let first = Section::new(self.reach.first as u8 + 1)?;
         let last = Section::new(self.reach.end as u8)?;
         Some((first, last))
+    }
+}
+
+impl<P: Plot> Land for Sections<P> {
+    ghost roomy = { λ land section. refl };
+
+    fn empty() -> Self {
+        Sections {
+            plots: [P::empty(); SETS],
+            reach: NOWHERE,
+        }
+    }
+
+    fn add(&mut self, section: Section, block: Block) {
+        let index = usize::from(section.number() - 1);
+        self.plots[index].add(block);
+        self.reach.widen(index, index + 1);
+    }
+
+    fn remove(&mut self, section: Section, block: Block) {
+        self.plots[usize::from(section.number() - 1)].remove(block);
     }
 
     fn same(&self, other: &Self) -> bool {
@@ -152,6 +171,30 @@ impl<P: Plot> Land for Sections<P> {
     fn keep_common(&mut self, other: &Self) {
         for index in self.reach.first..self.reach.end {
             self.plots[index].keep_common_plot(&other.plots[index]);
+        }
+    }
+}
+
+/// The indexes from `first` up to, but not including, `end`. There are none unless `end` is greater
+/// than `first`.
+#[derive(Clone, Copy)]
+pub(crate) struct Reach {
+    pub(crate) first: usize,
+    pub(crate) end: usize,
+}
+
+impl Reach {
+    /// Widens the range to include the indexes from one up to another.
+    #[inline(always)]
+    pub(crate) fn widen(&mut self, first: usize, end: usize)
+        ensures first { self.new.first ≡ min self.old.first first }
+        ensures end { self.new.end ≡ max self.old.end end }
+    {
+        if first < self.first {
+            self.first = first;
+        }
+        if end > self.end {
+            self.end = end;
         }
     }
 }

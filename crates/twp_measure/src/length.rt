@@ -1,10 +1,9 @@
-ghost use Rattle.std.specs.Prelude.{◌≡◌, ℕ, ◌+◌, ◌*◌, ◌%◌, ◌^◌, ◌<◌, ◌≤◌, ◌++◌, ◌↔◌, length};
-ghost use Rattle.std.specs.Prelude.{IsTrue, IfOk, IfErr, OnOk, OnErr};
-ghost use Rattle.std.specs.Char.{is_ascii_digit};
-ghost use Rattle.std.specs.List.{list_all};
+ghost use Rattle.std.specs.Prelude.{◌≡◌, ℕ, ◌+◌, ◌*◌, ◌<◌, ◌≤◌, ◌++◌, length, IfOk, IfErr};
+ghost use Rattle.std.specs.Prelude.{OnOk, OnErr};
 ghost use Rattle.std.specs.Str.Parse.{IsNumeral, digits_value};
 ghost use Rattle.twp_measure.specs.LengthTexts.{fraction_of, place_of_point};
 
+use crate::numeral::{digit, is_numeral, numeral_value};
 use itoa::write_digits;
 use std::alloc::AllocError;
 use std::marker::Model;
@@ -97,7 +96,7 @@ impl Length {
             return Err(LengthFault::TooLong);
         }
         Ok(Length {
-            thousandths: 1000 * number(digits),
+            thousandths: 1000 * numeral_value(digits),
         })
     }
 
@@ -133,35 +132,6 @@ fn point_place(text: &[u8]) -> usize
     text.iter().take_while(|byte| **byte != POINT).count()
 }
 
-/// Whether the text consists of one or more digits.
-#[tactic(auto, using(crate::proofs::Numerals::digits_tested, crate::proofs::Numerals::digits_test))]
-fn is_numeral(text: &[u8]) -> bool
-    ensures { IsTrue result ↔ IsNumeral 10 text.now }
-{
-    !text.is_empty() && has_only_digits(text)
-}
-
-/// Whether every byte is a digit.
-fn has_only_digits(text: &[u8]) -> bool
-    ensures { result ≡ list_all is_ascii_digit text.now }
-{
-    text.iter().all(|byte| byte.is_ascii_digit())
-}
-
-/// The number that up to three digits spell.
-fn number(digits: &[u8]) -> u32
-    requires digits { IsNumeral 10 digits.now }
-    requires few { length digits.now ≤ 3 }
-    ensures value { result ≡ digits_value 10 digits.now }
-    ensures range { result < 10 ^ length digits.now }
-{
-    let mut value = 0;
-    for byte in digits {
-        value = 10 * value + u32::from(*byte - b'0');
-    }
-    value
-}
-
 /// One to three decimals of a chain, in thousandths.
 fn fraction(decimals: &[u8]) -> u32
     requires digits { IsNumeral 10 decimals.now }
@@ -169,17 +139,10 @@ fn fraction(decimals: &[u8]) -> u32
     ensures value { result ≡ fraction_of decimals.now }
     ensures range { result < 1000 }
 {
-    let value = number(decimals);
+    let value = numeral_value(decimals);
     match decimals.len() {
         1 => 100 * value,
         2 => 10 * value,
         _ => value,
     }
-}
-
-/// The last decimal digit of a number.
-fn digit(number: u32) -> u8
-    ensures { result ≡ 48 + number % 10 }
-{
-    b'0' + (number % 10) as u8
 }

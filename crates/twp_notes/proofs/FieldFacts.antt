@@ -6,7 +6,7 @@ use Rattle.std.specs.Str.Parse.{AllDigits, digits_value}
 use Rattle.twp_notes.specs.Records.{Fields, field}
 use Rattle.twp_notes.specs.FieldNotes.{Returns}
 use Rattle.twp_notes.specs.NotesFaults.{HasNoLength}
-use Rattle.twp_notes.specs.declared.returned.Returned.{Returned}
+use Rattle.twp_notes.specs.declared.parsing.Returned.{Returned}
 
 -- a text of one byte
 pub record IsOneDigit (text : List ℕ) : Type 0 where

@@ -6,17 +6,20 @@ use Rattle.std.specs.Prelude.{slice_index_or}
 use Rattle.std.proofs.lemmas.List.{get_or_past}
 use Rattle.twp_grid.specs.Lines.{LINE_COUNT, IsLine}
 use Rattle.twp_notes.specs.Records.{Fields, records_of, record_at, record_numbered}
-use Rattle.twp_notes.specs.FieldNotes.{FIELDS, IsLineNumber, IsNamed, NamesLine, AreNotes, nothing_returned}
+use Rattle.twp_notes.specs.FieldNotes.{FIELDS, IsLineNumber, IsLineNamed, NamesLine, AreNotes}
+use Rattle.twp_notes.specs.FieldNotes.{nothing_returned}
 use Rattle.twp_notes.specs.NotesFaults.{HasNoRun, HasNoSection, NamesNoLine, HasNoLength, HasOnLine}
-use Rattle.twp_notes.specs.NotesFaults.{IsRepeated, HasFault, IsFrom, IsFirstFault, AnswersNotes, refusal_of}
-use Rattle.twp_notes.specs.steps.Tables.{entry_of, AreEntries, IsTaken, IsNamedBy, AreTaken, IsLeastMissing}
-use Rattle.twp_notes.specs.steps.LineFaults.{IsRefusedNext, IsRefusedAfter}
+use Rattle.twp_notes.specs.NotesFaults.{IsLineRepeated, HasFault, IsFrom, IsFirstFault, AnswersNotes}
+use Rattle.twp_notes.specs.NotesFaults.{refusal_of}
+use Rattle.twp_notes.specs.steps.Tables.{entry_of, AreEntries, IsLineTaken, IsLineNamedBy, AreTaken}
+use Rattle.twp_notes.specs.steps.Tables.{IsLeastMissing}
+use Rattle.twp_notes.specs.steps.LineFaults.{IsLineRefusedNext, IsLineRefusedAfter}
 use Rattle.twp_notes.specs.declared.fault.NotesFault.{NotesFault}
 use Rattle.twp_notes.specs.declared.fault.NotesFault.TheVariants as fault
 use Rattle.twp_notes.specs.steps.PassedFaults.{notes_fault_of}
 use Rattle.twp_notes.specs.declared.reading.ReadFault.{ReadFault}
 use Rattle.twp_notes.specs.declared.reading.ReadFault.TheVariants as reading
-use Rattle.twp_notes.specs.declared.returned.Returned.{Returned}
+use Rattle.twp_notes.specs.declared.parsing.Returned.{Returned}
 use Rattle.twp_notes.proofs.NameFacts.{names_one, has_run, has_section}
 use Rattle.twp_notes.proofs.FieldFacts.{has_lengths}
 use Rattle.twp_notes.proofs.RecordPlaces.{AreAfter, IsPlaced, placed, on_line}
@@ -59,7 +62,7 @@ pub record IsGoodBefore (fields : Fields) (number : ℕ) : Type 0 where
 -- of the records that were entered, none is for the line of an earlier one
 not_repeated : (bytes : List ℕ) (rows : List Fields) (count number at : ℕ) (table : List (Option Returned))
     → AreAfter bytes rows → AreTaken rows count table → number ≤ 10
-    → IsLineNumber (records_of bytes) at → IsRepeated (records_of bytes) at
+    → IsLineNumber (records_of bytes) at → IsLineRepeated (records_of bytes) at
     → IsAfter (count + 3) number at 10
 not_repeated bytes rows count number at table after taken most is again =
     let at_is : IsPlaced bytes rows at = placed bytes rows at after is in
@@ -126,8 +129,8 @@ none_before bytes rows count number table after taken good most fault.Memory has
 
 -- the record that names the line of an entry is before the next one
 repeated_is : (bytes : List ℕ) (rows : List Fields) (count line : ℕ) → AreAfter bytes rows
-    → count < length rows → IsNamedBy rows count line
-    → NamesLine (record_at rows count) line → IsRepeated (records_of bytes) (count + 3)
+    → count < length rows → IsLineNamedBy rows count line
+    → NamesLine (record_at rows count) line → IsLineRepeated (records_of bytes) (count + 3)
 repeated_is bytes rows count line after within earlier names =
     let before =
     on_line (λ (f : Fields). NamesLine f line) bytes rows earlier.place after
@@ -144,7 +147,7 @@ repeated_is bytes rows count line after within earlier names =
 
 -- the record that is not entered has the first fault
 pub first_of_next : (bytes : List ℕ) (rows : List Fields) (is : NotesFault) → AreAfter bytes rows
-    → IsRefusedNext rows is → IsFirstFault bytes is
+    → IsLineRefusedNext rows is → IsFirstFault bytes is
 first_of_next bytes rows (fault.Columns at) after next =
     let (at_is, wrong) = next.not_taken in
     let good : IsGoodBefore (record_at rows next.count) 4 = record {
@@ -234,7 +237,7 @@ first_of_next bytes rows _ after next = absurd next.not_taken
 
 -- the result if the records of lines were refused
 pub answer_refused : (bytes : List ℕ) (rows : List Fields) (is : NotesFault) → AreAfter bytes rows
-    → IsRefusedAfter rows is → IfSome (refusal_of is) (λ _. IsFirstFault bytes is)
+    → IsLineRefusedAfter rows is → IfSome (refusal_of is) (λ _. IsFirstFault bytes is)
 answer_refused bytes rows fault.Memory after refused = tt
 answer_refused bytes rows fault.Read after refused = tt
 answer_refused bytes rows (fault.Columns at) after refused =
@@ -265,19 +268,19 @@ not_further bytes rows number at own after within (inr (inr here)) =
 -- a line with an entry is named
 named_of : (bytes : List ℕ) (rows : List Fields) (table : List (Option Returned)) (line : ℕ)
     → AreAfter bytes rows → AreTaken rows (length rows) table
-    → IsSome (entry_of table line) → IsNamed (records_of bytes) line
+    → IsSome (entry_of table line) → IsLineNamed (records_of bytes) line
 named_of bytes rows table line after taken some =
-    let by : IsNamedBy rows (length rows) line = taken.named line some in
+    let by : IsLineNamedBy rows (length rows) line = taken.named line some in
     let is = on_line (λ (f : Fields). NamesLine f line) bytes rows by.place after by.within by.names in
     (by.place + 3, is.0, is.1)
 
 -- a line without an entry is not named
 unnamed_of : (bytes : List ℕ) (rows : List Fields) (table : List (Option Returned)) (line : ℕ)
     → AreAfter bytes rows → AreTaken rows (length rows) table
-    → entry_of table line ≡ None → IsNamed (records_of bytes) line → ⊥
+    → entry_of table line ≡ None → IsLineNamed (records_of bytes) line → ⊥
 unnamed_of bytes rows table line after taken none (number, is, names) =
     let at : IsPlaced bytes rows number = placed bytes rows number after is in
-    let entry : IsTaken (record_at rows at.place) table = taken.each at.place at.within in
+    let entry : IsLineTaken (record_at rows at.place) table = taken.each at.place at.within in
     let same : entry.line ≡ line =
     names_one _ _ _ entry.is.names (subst (λ (f : Fields). NamesLine f line) at.is names) in
     absurd (cc (sym entry.taken ∙ ap (λ l. entry_of table l) same ∙ none))
@@ -355,7 +358,7 @@ notes_of_table bytes rows table lines after taken entries = record {
     township_is = rw after.split after.township_is;
     each = λ number is.
         let at : IsPlaced bytes rows number = placed bytes rows number after is in
-        let entry : IsTaken (record_at rows at.place) table = taken.each at.place at.within in
+        let entry : IsLineTaken (record_at rows at.place) table = taken.each at.place at.within in
         let line : IsLine entry.line = entry_is_line table entry.line entry.returned taken.size entry.taken in
         let same : entry.returned ≡ slice_index_or lines entry.line nothing_returned =
         cc (sym entry.taken ∙ entries.each entry.line line) in

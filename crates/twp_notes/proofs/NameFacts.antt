@@ -5,7 +5,7 @@ use Rattle.twp_grid.specs.declared.line.Run.{Run}
 use Rattle.twp_grid.specs.declared.line.Run.TheVariants as run
 use Rattle.twp_grid.proofs.LineFacts.{one_line}
 use Rattle.twp_notes.specs.Records.{Fields, field}
-use Rattle.twp_notes.specs.FieldNotes.{run_text, IsSectionText, IsNeighborText, NamesLine}
+use Rattle.twp_notes.specs.FieldNotes.{run_text, IsSectionNumber, IsNeighborText, NamesLine}
 use Rattle.twp_notes.specs.NotesFaults.{HasNoRun, HasNoSection}
 use Rattle.twp_notes.specs.declared.fault.NotesFault.{NotesFault}
 use Rattle.twp_notes.specs.declared.fault.NotesFault.TheVariants as fault
@@ -21,11 +21,11 @@ one_run run.North run.West e = absurd (other_letter _ _ refl refl (ap (λ text. 
 one_run run.West run.North e = absurd (other_letter _ _ refl refl (sym (ap (λ text. get_or text 0 0) e)))
 one_run run.West run.West e = refl
 
-one_section : (text : List ℕ) (a b : ℕ) → IsSectionText text a → IsSectionText text b → a ≡ b
+one_section : (text : List ℕ) (a b : ℕ) → IsSectionNumber text a → IsSectionNumber text b → a ≡ b
 one_section text a b is is' = is.0.value ∙ sym is'.0.value
 
 -- an empty field is not a section's number
-not_section : (section : ℕ) → IsSectionText [] section → ⊥
+not_section : (section : ℕ) → IsSectionNumber [] section → ⊥
 not_section section is = omega (arith, is.0.numeral.0)
 
 one_neighbor : (text : List ℕ) (a b : Option ℕ) → IsNeighborText text a → IsNeighborText text b → a ≡ b

@@ -18,10 +18,10 @@ use Rattle.twp_notes.specs.FieldNotes.{IsTownshipRecord}
 use Rattle.twp_notes.specs.FieldNotes.{IsLineNumber, IsLineRecord, AreNotes}
 use Rattle.twp_notes.specs.NotesFaults.{HasFault, IsFirstFault, AnswersNotes, number_of, place_of}
 use Rattle.twp_notes.specs.NotesFaults.{refusal_of}
-use Rattle.twp_notes.specs.Laws.{IsAnswered, OneAnswer}
+use Rattle.twp_notes.specs.Laws.{IsNotesAnswer, OneAnswer}
 use Rattle.twp_notes.specs.declared.fault.NotesFault.{NotesFault}
 use Rattle.twp_notes.specs.declared.fault.NotesFault.TheVariants as fault
-use Rattle.twp_notes.specs.declared.returned.Returned.{Returned}
+use Rattle.twp_notes.specs.declared.parsing.Returned.{Returned}
 use Rattle.twp_notes.proofs.FieldFacts.{same_returned, has_lengths}
 use Rattle.twp_notes.proofs.NameFacts.{names_one, has_run, has_section}
 
@@ -171,7 +171,7 @@ if_some (Some x) P h some = h
 if_some None P h some = cc some
 
 -- a numbered fault is the first
-is_first : (bytes : List ℕ) (is : NotesFault) → AnswersNotes bytes (Err is) → IsAnswered (Err is)
+is_first : (bytes : List ℕ) (is : NotesFault) → AnswersNotes bytes (Err is) → IsNotesAnswer (Err is)
     → IsFirstFault bytes is
 is_first bytes is answers numbered = if_some (refusal_of is) _ answers numbered
 

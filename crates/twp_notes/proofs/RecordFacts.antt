@@ -12,8 +12,8 @@ use Rattle.csv.specs.Reading.{ReadRecord, reader_state, is_flexible, took_first}
 use Rattle.csv.specs.Records.{field_at}
 use Rattle.csv.specs.declared.parser.State.{State}
 use Rattle.csv.specs.declared.parser.State.TheVariants as st
-use Rattle.twp_notes.specs.Records.{Fields, records_of, records_left, bytes_ahead, IsReading}
-use Rattle.twp_notes.specs.declared.records.Records.{Records}
+use Rattle.twp_notes.specs.Records.{Fields, records_of, records_left, bytes_ahead, IsBetweenRecords}
+use Rattle.twp_notes.specs.declared.reading.Records.{Records}
 
 either_way : {A : Type 0} (b : Bool) (x y z : A) → (if b then x else y) ≡ z
     → ((b ≡ true) × (x ≡ z)) ⊎ ((b ≡ false) × (y ≡ z))
@@ -144,10 +144,10 @@ abbrev known : Bor (List ℕ) → Option (List ℕ)
 known s = Some s.now
 
 -- a read takes the first of the remaining records, or finds none
-pub reads_first : (a b : Records) (found : Bool) (row : Fields) → IsReading a
+pub reads_first : (a b : Records) (found : Bool) (row : Fields) → IsBetweenRecords a
     → ReadRecord known a.reader b.reader found row
     → took_first b.reader ≡ true → is_flexible b.reader ≡ is_flexible a.reader
-    → MatchBool found ((records_left a ≡ row ∷ records_left b) × IsReading b) (records_left a ≡ [])
+    → MatchBool found ((records_left a ≡ row ∷ records_left b) × IsBetweenRecords b) (records_left a ≡ [])
 reads_first a b true row reading reads first flexible =
     let next =
     next_given (reader_state a.reader) (reader_state b.reader) (bytes_ahead a) _ true row

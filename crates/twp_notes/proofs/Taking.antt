@@ -6,9 +6,9 @@ use Rattle.std.proofs.lemmas.Bool.{cases_lt, cases_eq}
 use Rattle.std.proofs.lemmas.List.{get_or-set_same, get_or-set_other, length-set}
 use Rattle.twp_notes.specs.Records.{Fields, record_at}
 use Rattle.twp_notes.specs.FieldNotes.{NamesLine}
-use Rattle.twp_notes.specs.steps.Tables.{entry_of, TakesDown, IsTaken, IsNamedBy, AreTaken}
-use Rattle.twp_notes.specs.declared.returned.Returned.{Returned}
-use Rattle.twp_notes.specs.steps.LineFaults.{IsNotTaken, IsRefusedAfter}
+use Rattle.twp_notes.specs.steps.Tables.{entry_of, TakesDown, IsLineTaken, IsLineNamedBy, AreTaken}
+use Rattle.twp_notes.specs.declared.parsing.Returned.{Returned}
+use Rattle.twp_notes.specs.steps.LineFaults.{IsNotTaken, IsLineRefusedAfter}
 use Rattle.twp_notes.specs.declared.fault.NotesFault.{NotesFault}
 use Rattle.twp_notes.specs.declared.fault.NotesFault.TheVariants as fault
 use Rattle.twp_notes.proofs.NameFacts.{names_one}
@@ -33,8 +33,8 @@ no_record_left rows k e =
     omega arith
 
 -- an entry stays when another line is entered
-still_taken : (fields next : Fields) (old new : List (Option Returned)) → IsTaken fields old
-    → TakesDown next old new → IsTaken fields new
+still_taken : (fields next : Fields) (old new : List (Option Returned)) → IsLineTaken fields old
+    → TakesDown next old new → IsLineTaken fields new
 still_taken fields next old new is takes =
     let other : is.line ≢ takes.line =
     λ same. absurd (cc (sym is.taken ∙ ap (λ line. entry_of old line) same ∙ takes.first)) in
@@ -53,7 +53,7 @@ not_before : (rows : List Fields) (count : ℕ) (old new : List (Option Returned
     → (place line : ℕ) → place < count → NamesLine (record_at rows place) line
     → NamesLine (record_at rows count) line → ⊥
 not_before rows count old new taken takes place line below names names' =
-    let is : IsTaken (record_at rows place) old = taken.each place below in
+    let is : IsLineTaken (record_at rows place) old = taken.each place below in
     let here : is.line ≡ takes.line =
     names_one _ _ _ is.is.names names ∙ names_one _ _ _ names' takes.is.names in
     absurd (cc (sym is.taken ∙ ap (λ line. entry_of old line) here ∙ takes.first))
@@ -95,7 +95,7 @@ taken_more rows count old new taken takes = record {
   named = λ line some. elim (cases_eq line takes.line) [
     | inl same ↦ record { place = count; within = omega arith; names = rw same takes.is.names }
     | inr other ↦
-        let before : IsNamedBy rows count line = taken.named line (rw (
+        let before : IsLineNamedBy rows count line = taken.named line (rw (
           takes.new_is,
           get_or-set_other old takes.line line (Some takes.returned) None other,
         ) at some) in
@@ -107,7 +107,7 @@ taken_more rows count old new taken takes = record {
 -- the next record is refused
 pub refused_next : (rows : List Fields) (count : ℕ) (table : List (Option Returned)) (is : NotesFault)
     → count < length rows → AreTaken rows count table
-    → IsNotTaken (record_at rows count) table (count + 3) is → IsRefusedAfter rows is
+    → IsNotTaken (record_at rows count) table (count + 3) is → IsLineRefusedAfter rows is
 refused_next rows count table fault.Memory within taken not = tt
 refused_next rows count table _ within taken not =
     record { count = count; table = table; within = within; taken = taken; not_taken = not }

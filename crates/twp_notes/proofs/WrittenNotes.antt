@@ -20,12 +20,12 @@ use Rattle.twp_notes.specs.Records.{Fields, records_of, record_at, record_number
 use Rattle.twp_grid.specs.Townships.{north_south_letter, east_west_letter}
 use Rattle.twp_notes.specs.FieldNotes.{FieldNotes, NOTES_MOST, heading}
 use Rattle.twp_notes.specs.FieldNotes.{run_text, returned_of, IsTownshipRecord}
-use Rattle.twp_notes.specs.FieldNotes.{IsSectionText, IsNeighborText, NamesLine, IsLineRecord}
+use Rattle.twp_notes.specs.FieldNotes.{IsSectionNumber, IsNeighborText, NamesLine, IsLineRecord}
 use Rattle.twp_notes.specs.FieldNotes.{IsLineNumber, AreNoteRecords, AreNotes}
 use Rattle.twp_notes.specs.NotesTexts.{record_text, township_fields, neighbor_text, AreLineFields}
 use Rattle.twp_notes.specs.NotesTexts.{AreLineRecords, text_before, AreWithinLimits}
 use Rattle.twp_notes.specs.Laws.{WrittenIsRead}
-use Rattle.twp_notes.specs.declared.returned.Returned.{Returned}
+use Rattle.twp_notes.specs.declared.parsing.Returned.{Returned}
 use Rattle.twp_notes.proofs.NameFacts.{names_one}
 use Rattle.twp_notes.proofs.WrittenRecords.{IsPlain, IsPlainRecord, fields_of, records_back}
 use Rattle.twp_notes.proofs.WrittenRecords.{plain_decimal, plain_length, length_short, texts_short}
@@ -56,7 +56,7 @@ section_range section line side = elim side.stands.winds [
   )
 ]
 
-section_text : (section line : ℕ) → IsSide section line → IsSectionText (decimal section) section
+section_text : (section line : ℕ) → IsSide section line → IsSectionNumber (decimal section) section
 section_text section line side =
     let range : IsSection section = section_range section line side in
     (short_number section (omega arith), range)

@@ -10,7 +10,7 @@ use Rattle.twp_grid.specs.Townships.{north_south_letter, east_west_letter}
 use Rattle.twp_grid.specs.declared.line.Run.{Run}
 use Rattle.twp_grid.specs.declared.line.Run.TheVariants as run
 use Rattle.twp_notes.specs.Records.{Fields, field, records_of, record_numbered}
-use Rattle.twp_notes.specs.declared.returned.Returned.{Returned}
+use Rattle.twp_notes.specs.declared.parsing.Returned.{Returned}
 
 -- the most bytes of field notes
 abbrev pub NOTES_MOST : ℕ
@@ -52,13 +52,13 @@ run_text run.North = codes "N"
 run_text run.West = codes "W"
 
 -- a section's number
-abbrev pub IsSectionText : List ℕ → ℕ → Type 0
-IsSectionText text section = IsShortNumber text section × IsSection section
+abbrev pub IsSectionNumber : List ℕ → ℕ → Type 0
+IsSectionNumber text section = IsShortNumber text section × IsSection section
 
 -- a second section's number, or nothing if the line is on the township's boundary
 abbrev pub IsNeighborText : List ℕ → Option ℕ → Type 0
 IsNeighborText text None = text ≡ []
-IsNeighborText text (Some section) = IsSectionText text section
+IsNeighborText text (Some section) = IsSectionNumber text section
 
 -- the record's first three fields name a line: its run and the sections beside it
 pub record NamesLine (fields : Fields) (line : ℕ) : Type 0 where
@@ -67,7 +67,7 @@ pub record NamesLine (fields : Fields) (line : ℕ) : Type 0 where
   pub other : Option ℕ
   pub columns : length fields ≡ FIELDS
   pub run_is : field fields 0 ≡ run_text run
-  pub section_is : IsSectionText (field fields 1) section
+  pub section_is : IsSectionNumber (field fields 1) section
   pub other_is : IsNeighborText (field fields 2) other
   pub line_is : IsLineOf run section other line
 
@@ -86,8 +86,8 @@ abbrev pub IsLineNumber : List Fields → ℕ → Type 0
 IsLineNumber records number = (3 ≤ number) × (number ≤ length records)
 
 -- one of the records of lines names the line
-abbrev pub IsNamed : List Fields → ℕ → Type 0
-IsNamed records line = (number : ℕ) × IsLineNumber records number
+abbrev pub IsLineNamed : List Fields → ℕ → Type 0
+IsLineNamed records line = (number : ℕ) × IsLineNumber records number
     × NamesLine (record_numbered records number) line
 
 -- The records are these notes: the heading, the township, and exactly one record for each line.
@@ -99,7 +99,7 @@ pub record AreNoteRecords (records : List Fields) (notes : FieldNotes) : Type 0 
   pub once : (number other line : ℕ) → IsLineNumber records number → IsLineNumber records other
       → NamesLine (record_numbered records number) line
       → NamesLine (record_numbered records other) line → number ≡ other
-  pub all : (line : ℕ) → IsLine line → IsNamed records line
+  pub all : (line : ℕ) → IsLine line → IsLineNamed records line
   pub lines : length notes.lines ≡ LINE_COUNT
 
 -- the bytes are these notes

@@ -6,15 +6,15 @@ use Rattle.twp_notes.specs.NotesTexts.{IsNotesText, AreWithinLimits}
 use Rattle.twp_notes.specs.declared.fault.NotesFault.{NotesFault}
 
 -- notes, or a numbered refusal: not a failure to read
-abbrev pub IsAnswered : Result FieldNotes NotesFault → Type 0
-IsAnswered (Ok notes) = ⊤
-IsAnswered (Err fault) = IsSome (refusal_of fault)
+abbrev pub IsNotesAnswer : Result FieldNotes NotesFault → Type 0
+IsNotesAnswer (Ok notes) = ⊤
+IsNotesAnswer (Err fault) = IsSome (refusal_of fault)
 
 -- the same bytes are always the same notes, or have the same first fault
 abbrev pub OneAnswer : Type 0
 OneAnswer = (bytes : List ℕ) (answer answer' : Result FieldNotes NotesFault)
-    → AnswersNotes bytes answer → AnswersNotes bytes answer' → IsAnswered answer
-    → IsAnswered answer' → answer ≡ answer'
+    → AnswersNotes bytes answer → AnswersNotes bytes answer' → IsNotesAnswer answer
+    → IsNotesAnswer answer' → answer ≡ answer'
 
 -- the text of notes is those notes, so they can be read back from it
 abbrev pub WrittenIsRead : Type 0

@@ -9,8 +9,8 @@ use Rattle.twp_grid.specs.declared.line.Run.{Run}
 use Rattle.twp_grid.specs.declared.refusal.Refusal.{Refusal}
 use Rattle.twp_notes.specs.Records.{Fields, field, records_of, record_numbered}
 use Rattle.twp_notes.specs.FieldNotes.{FieldNotes, NOTES_MOST, FIELDS, heading, run_text}
-use Rattle.twp_notes.specs.FieldNotes.{IsTownshipRecord, IsSectionText, IsNeighborText, NamesLine}
-use Rattle.twp_notes.specs.FieldNotes.{IsLineNumber, IsNamed, AreNotes}
+use Rattle.twp_notes.specs.FieldNotes.{IsTownshipRecord, IsSectionNumber, IsNeighborText, NamesLine}
+use Rattle.twp_notes.specs.FieldNotes.{IsLineNumber, IsLineNamed, AreNotes}
 use Rattle.twp_notes.specs.declared.fault.NotesFault.{NotesFault}
 use Rattle.twp_notes.specs.declared.fault.NotesFault.TheVariants as fault
 
@@ -40,7 +40,7 @@ HasNoRun fields = HasNone (λ (run : Run). field fields 0 ≡ run_text run)
 
 -- a record without a section, or whose neighbor is neither a section nor empty
 abbrev pub HasNoSection : Fields → Type 0
-HasNoSection fields = HasNone (IsSectionText (field fields 1))
+HasNoSection fields = HasNone (IsSectionNumber (field fields 1))
     ⊎ HasNone (IsNeighborText (field fields 2))
 
 -- a record that names no line of the township
@@ -58,7 +58,7 @@ HasOnLine bytes number IsBad = IsLineNumber (records_of bytes) number
     × IsBad (record_numbered (records_of bytes) number)
 
 -- an earlier record is for the same line
-pub record IsRepeated (records : List Fields) (number : ℕ) : Type 0 where
+pub record IsLineRepeated (records : List Fields) (number : ℕ) : Type 0 where
   pub earlier : ℕ
   pub line : ℕ
   pub is_earlier : earlier < number
@@ -80,8 +80,8 @@ HasFault bytes (fault.Section number) = HasOnLine bytes number HasNoSection
 HasFault bytes (fault.NoLine number) = HasOnLine bytes number NamesNoLine
 HasFault bytes (fault.Length number) = HasOnLine bytes number HasNoLength
 HasFault bytes (fault.Repeated number) = IsLineNumber (records_of bytes) number
-    × IsRepeated (records_of bytes) number
-HasFault bytes (fault.Missing line) = IsLine line × ¬ IsNamed (records_of bytes) line
+    × IsLineRepeated (records_of bytes) number
+HasFault bytes (fault.Missing line) = IsLine line × ¬ IsLineNamed (records_of bytes) line
 HasFault bytes fault.Read = ⊥
 HasFault bytes fault.Memory = ⊥
 

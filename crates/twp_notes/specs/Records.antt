@@ -7,7 +7,7 @@ use Rattle.csv.specs.Machine.{ends_at_end}
 use Rattle.csv.specs.Reading.{records, records_from, strip_bom, default_config, source_of, Ready}
 use Rattle.csv.specs.Reading.{reader_config, reader_state, reader_trim, is_flexible}
 use Rattle.csv.specs.declared.reader.Trim.TheVariants as trim
-use Rattle.twp_notes.specs.declared.records.Records.{Records}
+use Rattle.twp_notes.specs.declared.reading.Records.{Records}
 
 -- a record is the list of its fields
 abbrev pub Fields : Type 0
@@ -39,7 +39,7 @@ records_left r =
     records_from default_config (length (bytes_ahead r) + 1) (reader_state r.reader) (bytes_ahead r)
 
 -- the reader is between two records
-pub record IsReading (r : Records) : Type 0 where
+pub record IsBetweenRecords (r : Records) : Type 0 where
   pub plain : reader_trim r.reader ≡ trim.None
   pub ready : Ready r.reader
   pub config : reader_config r.reader ≡ default_config

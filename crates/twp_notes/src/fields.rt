@@ -9,14 +9,14 @@ ghost use Rattle.twp_grid.specs.declared.township.EastWest.{EastWest};
 ghost use Rattle.twp_grid.specs.Finding.{Finds};
 ghost use Rattle.twp_grid.specs.Townships.{north_south_letter, east_west_letter};
 ghost use Rattle.twp_notes.specs.FieldNotes.{FIELDS, heading, IsTownshipRecord};
-ghost use Rattle.twp_notes.specs.FieldNotes.{run_text, IsSectionText};
+ghost use Rattle.twp_notes.specs.FieldNotes.{run_text, IsSectionNumber};
 ghost use Rattle.twp_notes.specs.FieldNotes.{IsNeighborText, NamesLine, Returns};
 ghost use Rattle.twp_notes.specs.NotesFaults.{HasNoLength};
 ghost use Rattle.twp_notes.specs.steps.LineFaults.{IsUnnamed};
 
 use crate::fault::NotesFault;
-use crate::records::field;
-use crate::returned::Returned;
+use crate::parsing::Returned;
+use crate::reading::{field, is_text};
 use csv::ByteRecord;
 use twp_grid::{EastWest, Line, NorthSouth, Run, Section, Township};
 use twp_measure::Length;
@@ -140,7 +140,7 @@ fn east_west_of(text: &[u8]) -> Option<EastWest>
 
 /// The section whose number one or two digits spell.
 pub fn section_of(text: &[u8]) -> Option<Section>
-    ensures { Finds result (IsSectionText text.now) }
+    ensures { Finds result (IsSectionNumber text.now) }
 {
     Section::new(short_number(text)?)
 }
@@ -171,10 +171,10 @@ pub fn short_number(text: &[u8]) -> Option<u8>
     ensures { Finds result (IsShortNumber text.now) }
 {
     match text {
-        [ones] => digit(*ones),
+        [ones] => digit_of(*ones),
         [tens, ones] => {
-            let tens = digit(*tens)?;
-            let ones = digit(*ones)?;
+            let tens = digit_of(*tens)?;
+            let ones = digit_of(*ones)?;
             Some(10 * tens + ones)
         }
         _ => None,
@@ -182,7 +182,7 @@ pub fn short_number(text: &[u8]) -> Option<u8>
 }
 
 /// The value of a digit.
-fn digit(byte: u8) -> Option<u8>
+fn digit_of(byte: u8) -> Option<u8>
     ensures { SomeIff result (digit_value byte < 10) (digit_value byte) }
 {
     if byte.is_ascii_digit() {
@@ -190,11 +190,4 @@ fn digit(byte: u8) -> Option<u8>
     } else {
         None
     }
-}
-
-/// Whether the bytes are exactly this text.
-fn is_text(bytes: &[u8], text: &str) -> bool
-    ensures { IsTrue result ↔ (bytes.now ≡ text.now) }
-{
-    bytes == text.as_bytes()
 }

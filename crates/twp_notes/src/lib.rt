@@ -9,15 +9,11 @@ pub mod laws;
 mod notes;
 mod parsing;
 mod reading;
-mod records;
-mod returned;
-mod table;
 mod writing;
 
 pub use fault::NotesFault;
 pub use fields::{FIELDS, named_line, section_of, short_number, township_of};
 pub use notes::Notes;
-pub use reading::{ReadFault, read_up_to, read_whole};
-pub use records::{Records, field};
-pub use returned::Returned;
+pub use parsing::Returned;
+pub use reading::{ReadFault, Records, field, is_text, read_up_to, read_whole};
 pub use writing::{LineNames, names_of};

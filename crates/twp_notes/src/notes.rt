@@ -7,9 +7,8 @@ ghost use Rattle.twp_notes.specs.NotesTexts.{AppendsNotes};
 ghost use Rattle.twp_grid.specs.Devices.{TakesFirst};
 
 use crate::fault::{MOST_BYTES, NotesFault};
-use crate::parsing::parse;
+use crate::parsing::{Returned, parse};
 use crate::reading::read_whole;
-use crate::returned::Returned;
 use crate::writing::write_notes;
 use std::alloc::{AllocError, Global};
 use std::marker::Model;

@@ -1,9 +1,12 @@
 ghost use Rattle.std.specs.Prelude.{◌≡◌, ℕ, ◌+◌, ◌^◌, ◌≤◌, ◌<◌, ◌↔◌, Bool, true, false, List};
-ghost use Rattle.std.specs.Prelude.{length, take, IfOk, OnOk, IsErrOf, MatchOption};
+ghost use Rattle.std.specs.Prelude.{length, take, IfOk, OnOk, IsErrOf, MatchOption, [], ◌∷◌};
+ghost use Rattle.std.specs.Prelude.{IsTrue, MatchBool};
 ghost use Rattle.std.specs.Io.KnownBytes.{Consumes, IsAtEnd};
-ghost use Rattle.twp_grid.specs.Devices.{Tells, TakesAtMost};
-ghost use Rattle.twp_grid.specs.Devices.{TakesJust, TakesAll, TakesFirst};
+ghost use Rattle.twp_grid.specs.Devices.{Tells, TakesAtMost, TakesJust, TakesAll, TakesFirst};
+ghost use Rattle.csv.specs.Records.{fields_of};
+ghost use Rattle.twp_notes.specs.Records.{field, records_of, records_left, IsBetweenRecords};
 
+use csv::{ByteRecord, ErrorKind, Reader, ReaderBuilder};
 use std::alloc::{AllocError, Global};
 use thiserror::Error;
 use twp_grid::{DeviceFault, Source};
@@ -105,4 +108,60 @@ pub fn read_up_to<S: Source>(
         read.extend_from_slice(&piece[..count])?;
     }
     Ok(read)
+}
+
+/// The records of bytes, one after another.
+#[derive(Drop)]
+pub struct Records<'a> {
+    reader: Reader<&'a [u8]>,
+}
+
+impl<'a> Records<'a> {
+    /// The records of these bytes, before the first one is read.
+    pub fn new(alloc: Global, bytes: &'a [u8]) -> Records<'a>
+        ensures reading { IsBetweenRecords result }
+        ensures all { records_left result ≡ records_of bytes.now }
+    {
+        Records {
+            reader: ReaderBuilder::new()
+                .has_headers(false)
+                .flexible(true)
+                .from_reader(alloc, bytes),
+        }
+    }
+
+    /// Reads the next record into `row`, and returns whether there was one.
+    pub fn read(&mut self, row: &mut ByteRecord) -> Result<bool, AllocError>
+        requires { IsBetweenRecords self.old }
+        ensures { IfOk result (λ found. MatchBool found
+            ((records_left self.old ≡ fields_of row.new ∷ records_left self.new)
+            × IsBetweenRecords self.new)
+            (records_left self.old ≡ [])) }
+    {
+        match self.reader.read_byte_record(row) {
+            Ok(found) => Ok(found),
+            Err(error) => match error.into_kind() {
+                // Bytes in memory cause no device fault, but `csv` does not promise that for every
+                // reader.
+                ErrorKind::OutOfMemory | ErrorKind::Io(_) => Err(AllocError),
+                _ => unreachable!(),
+            },
+        }
+    }
+}
+
+/// The field of a record at an index.
+#[tactic(auto, using(crate::proofs::RecordFacts::field_at_is))]
+pub fn field(row: &ByteRecord, place: usize) -> &[u8]
+    requires { place < length (fields_of row.now) }
+    ensures { result.now ≡ field (fields_of row.now) place }
+{
+    row.get(place).unwrap()
+}
+
+/// Whether the bytes of a field are exactly this text.
+pub fn is_text(bytes: &[u8], text: &str) -> bool
+    ensures { IsTrue result ↔ (bytes.now ≡ text.now) }
+{
+    bytes == text.as_bytes()
 }

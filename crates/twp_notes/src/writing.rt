@@ -12,7 +12,7 @@ ghost use Rattle.twp_notes.specs.NotesTexts.{neighbor_text};
 
 use crate::fields::FIELDS;
 use crate::notes::Notes;
-use crate::returned::Returned;
+use crate::parsing::Returned;
 use itoa::Buffer;
 use std::alloc::AllocError;
 use twp_grid::{EastWest, LINES, Line, NorthSouth, Run, Section, Township};

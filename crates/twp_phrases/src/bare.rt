@@ -2,7 +2,7 @@
 
 use crate::finder::Finder;
 use twp_asides::plus;
-use twp_draft::{Form, LeftOut, Names, Numeral};
+use twp_draft::{Form, LeftOut, Names, WrittenNumber};
 use twp_grammar::Kind;
 use twp_rules::Rule;
 
@@ -42,7 +42,7 @@ impl<'a> Finder<'a> {
     }
 
     /// The number of a section after the letter for it at an index.
-    fn number_of_letter(&self, index: usize) -> Option<Numeral> {
+    fn number_of_letter(&self, index: usize) -> Option<WrittenNumber> {
         let pieces = &self.draft.pieces;
         let digits = plus(index, 1);
         let next = plus(index, 2);

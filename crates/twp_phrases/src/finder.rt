@@ -1,22 +1,25 @@
 //! The search for the phrases of a text: the draft of it, and what only the search has to know.
 
-use std::alloc::{AllocError, Global};
+use std::alloc::AllocError;
+use std::mem;
 use twp_draft::{Draft, FindsPhrases};
 
 /// Finds the phrases of a text, by a search from left to right.
 pub struct Phrases;
 
 impl FindsPhrases for Phrases {
-    fn phrases_of<'a>(alloc: Global, text: &'a [u8]) -> Result<Draft<'a>, AllocError> {
+    fn add_phrases<'a>(draft: &mut Draft<'a>) -> Result<(), AllocError> {
+        draft.begin()?;
+        let spare = Draft::new(*draft.phrases.allocator(), draft.pieces.text);
         let mut finder = Finder {
-            draft: Draft::new(alloc, text)?,
+            draft: mem::replace(draft, spare),
             names_land: false,
             has_depths: false,
             has_open: false,
         };
         finder.add_phrases();
-        finder.draft.all_added()?;
-        Ok(finder.draft)
+        *draft = finder.draft;
+        draft.all_added()
     }
 }
 
@@ -24,7 +27,7 @@ impl FindsPhrases for Phrases {
 /// it adds the phrase at an index to the draft, and returns the index after it.
 #[derive(Drop)]
 pub(crate) struct Finder<'a> {
-    /// What was found so far.
+    /// What was found so far. The search owns it: a reference to it in a field can't be lent again.
     pub(crate) draft: Draft<'a>,
     /// Whether a section or land was found.
     pub(crate) names_land: bool,

@@ -3,7 +3,7 @@
 
 use crate::finder::Finder;
 use twp_asides::plus;
-use twp_draft::{LeftOut, Names, Numeral};
+use twp_draft::{LeftOut, Names, WrittenNumber};
 use twp_grammar::Kind;
 use twp_rules::Rule;
 use twp_words::{is_range_name, is_township_name};
@@ -255,7 +255,7 @@ impl<'a> Finder<'a> {
             .write(start, start.saturating_add(zeros), b"", Rule::Zeros);
         self.draft
             .write(end.saturating_sub(1), end, b"", Rule::FractionDigit);
-        self.draft.add_number(Numeral {
+        self.draft.add_number(WrittenNumber {
             value: value / 10,
             first: index,
             last: index,

@@ -3,7 +3,7 @@
 use crate::finder::Finder;
 use crate::numbered::{Join, Joined};
 use twp_asides::plus;
-use twp_draft::{Names, Numeral};
+use twp_draft::{Names, WrittenNumber};
 use twp_grammar::Kind;
 use twp_rules::Rule;
 
@@ -165,7 +165,7 @@ impl<'a> Finder<'a> {
 
     /// White space between the number of a lot and that of the next one, after a word in the plural, as in
     /// `LTS 2 3`. Other lots may be the first and the last of several.
-    pub(crate) fn join_of_lots(&self, index: usize, last: Numeral) -> Option<Joined> {
+    pub(crate) fn join_of_lots(&self, index: usize, last: WrittenNumber) -> Option<Joined> {
         let pieces = &self.draft.pieces;
         let is_list = pieces.has_digits(index.saturating_sub(1), 1)
             && pieces.has_digits(index, 1)

@@ -3,7 +3,7 @@
 use crate::finder::Finder;
 use crate::sections::SECTIONS;
 use twp_asides::{plus, tens_of};
-use twp_draft::{Names, Numeral};
+use twp_draft::{Names, WrittenNumber};
 use twp_grammar::Kind;
 use twp_rules::Rule;
 
@@ -31,7 +31,7 @@ impl<'a> Finder<'a> {
     /// Writes the numbers that follow one, and what joins them: the index after the last one.
     pub(crate) fn numbers_after(
         &mut self,
-        number: Numeral,
+        number: WrittenNumber,
         names: Names,
         is_plural: bool,
     ) -> usize {
@@ -91,7 +91,7 @@ impl<'a> Finder<'a> {
     }
 
     /// Whether a number may be the unit of the one before it, as in `thirty and one`, or `twenty, one`.
-    fn may_be_unit(&self, last: Numeral, more: Numeral, join: Join) -> bool {
+    fn may_be_unit(&self, last: WrittenNumber, more: WrittenNumber, join: Join) -> bool {
         let pieces = &self.draft.pieces;
         let is_word = matches!(pieces.kind(more.first), Kind::Other);
         let is_joined = join == Join::And || (join == Join::Comma && is_word);
@@ -147,7 +147,7 @@ impl<'a> Finder<'a> {
     /// Whether a number after a join is one more of the same, and not the number of another section.
     pub(crate) fn continues(
         &self,
-        more: Numeral,
+        more: WrittenNumber,
         join: Join,
         names: Names,
         is_plural: bool,

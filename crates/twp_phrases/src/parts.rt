@@ -10,20 +10,23 @@ use twp_words::{Size, written_step};
 /// The most steps of a part: each halves a side of the section, which can be halved five times each way.
 const STEPS_MOST: usize = 10;
 
-/// An aliquot part that was read, and isn't added yet: the index after it, and how it is written.
+/// An aliquot part that was read, and isn't added yet: the index after it, how it is written, and whether it is called
+/// fractional.
 #[derive(Clone, Copy)]
-pub(crate) struct Part {
+pub(crate) struct ReadPart {
     pub(crate) end: usize,
     pub(crate) form: Form,
+    pub(crate) is_fractional: bool,
 }
 
 impl<'a> Finder<'a> {
     /// The aliquot part at an index: steps joined without white space, or by `of`.
-    pub(crate) fn part(&mut self, index: usize) -> Option<Part> {
+    pub(crate) fn part(&mut self, index: usize) -> Option<ReadPart> {
         let from = self.draft.extent();
         let mut first = self.draft.pieces.after_fractional(index);
+        let is_fractional = first > index;
         self.draft.leave_out_each(index, first, Rule::Word);
-        if first == index && self.draft.pieces.is(index, b"the") {
+        if !is_fractional && self.draft.pieces.is(index, b"the") {
             self.draft.leave_out(index, plus(index, 1), Rule::Word);
             first = plus(index, 1);
         }
@@ -55,7 +58,11 @@ impl<'a> Finder<'a> {
             form = Form::WithOf;
             end = after;
         }
-        Some(Part { end, form })
+        Some(ReadPart {
+            end,
+            form,
+            is_fractional,
+        })
     }
 
     /// The index after the step before an index in parentheses, if `of` follows them, as in

@@ -1,8 +1,8 @@
 //! The phrases of a text, from left to right.
 
 use crate::finder::Finder;
-use crate::parts::Part;
-use crate::sought::{OF_NUMBERS, OF_WORDS, Sought};
+use crate::parts::ReadPart;
+use crate::sought::{OF_NUMBERS, OF_WORDS, SoughtPhrase};
 use twp_asides::plus;
 use twp_draft::{LastSection, Names, Placed};
 use twp_grammar::Kind;
@@ -15,7 +15,7 @@ const JOINING_MOST: usize = 16;
 enum Beginning {
     Nothing,
     /// A phrase, most often of this kind.
-    Phrase(Option<Sought>),
+    Phrase(Option<SoughtPhrase>),
 }
 
 impl<'a> Finder<'a> {
@@ -140,7 +140,7 @@ impl<'a> Finder<'a> {
 
     /// Adds the phrase at an index, which is looked for first as the kind that most such pieces begin, and
     /// then as the others: the index after it.
-    fn phrase_at(&mut self, index: usize, likely: Option<Sought>) -> Option<usize> {
+    fn phrase_at(&mut self, index: usize, likely: Option<SoughtPhrase>) -> Option<usize> {
         let from = self.draft.extent();
         if let Some(likely) = likely {
             if let Some(end) = self.phrase_of_kind(likely, index) {
@@ -148,7 +148,7 @@ impl<'a> Finder<'a> {
             }
             self.draft.shrink(from);
         }
-        let kinds: &[Sought] = match self.draft.pieces.kind(index) {
+        let kinds: &[SoughtPhrase] = match self.draft.pieces.kind(index) {
             Kind::Number(_) => &OF_NUMBERS,
             _ => &OF_WORDS,
         };
@@ -175,36 +175,36 @@ impl<'a> Finder<'a> {
                 Beginning::Nothing
             }
             Kind::Other => Beginning::Phrase(self.likely_kind_of_word(index)),
-            Kind::Sec => Beginning::Phrase(Some(Sought::Sections)),
-            Kind::Lot => Beginning::Phrase(Some(Sought::Lots)),
-            Kind::All if self.is_after_all(next) => Beginning::Phrase(Some(Sought::All)),
-            Kind::T => Beginning::Phrase(Some(Sought::Heading)),
-            Kind::Corner(_) => Beginning::Phrase(Some(Sought::Part)),
+            Kind::Sec => Beginning::Phrase(Some(SoughtPhrase::Sections)),
+            Kind::Lot => Beginning::Phrase(Some(SoughtPhrase::Lots)),
+            Kind::All if self.is_after_all(next) => Beginning::Phrase(Some(SoughtPhrase::All)),
+            Kind::T => Beginning::Phrase(Some(SoughtPhrase::Heading)),
+            Kind::Corner(_) => Beginning::Phrase(Some(SoughtPhrase::Part)),
             Kind::NorthSouth(_) | Kind::EastWest(_) if !pieces.is(next, b".") => {
-                Beginning::Phrase(Some(Sought::HalfOrSection))
+                Beginning::Phrase(Some(SoughtPhrase::HalfOrSection))
             }
-            Kind::The if pieces.begins_land(next) => Beginning::Phrase(Some(Sought::Part)),
+            Kind::The if pieces.begins_land(next) => Beginning::Phrase(Some(SoughtPhrase::Part)),
             Kind::Number(_) if self.begins_tier_or_register(index) => {
-                Beginning::Phrase(Some(Sought::RegisterOrHeading))
+                Beginning::Phrase(Some(SoughtPhrase::RegisterOrHeading))
             }
             _ => Beginning::Phrase(None),
         }
     }
 
     /// The kind of phrase that a word begins most often, which no description has.
-    fn likely_kind_of_word(&self, index: usize) -> Option<Sought> {
+    fn likely_kind_of_word(&self, index: usize) -> Option<SoughtPhrase> {
         let pieces = &self.draft.pieces;
         if pieces.begins_step(index) {
-            return Some(Sought::Part);
+            return Some(SoughtPhrase::Part);
         }
         if pieces.is_township_word(index) {
-            return Some(Sought::Heading);
+            return Some(SoughtPhrase::Heading);
         }
         if self.may_be_lots(index) {
-            return Some(Sought::Lots);
+            return Some(SoughtPhrase::Lots);
         }
         if pieces.is(index, b"less") || pieces.is(index, b"except") {
-            return Some(Sought::Except);
+            return Some(SoughtPhrase::Except);
         }
         None
     }
@@ -278,9 +278,13 @@ impl<'a> Finder<'a> {
     #[inline(never)]
     pub(crate) fn sure_part(&mut self, index: usize) -> Option<usize> {
         let from = self.draft.extent();
-        let Part { end, form } = self.part(index)?;
+        let ReadPart {
+            end,
+            form,
+            is_fractional,
+        } = self.part(index)?;
         self.doubt_part(index, end);
-        if self.draft.pieces.after_fractional(index) > index {
+        if is_fractional {
             self.draft.add_fractional(end);
         }
         if self.draft.pieces.is(end, b"thereof") {

@@ -2,7 +2,7 @@
 
 use crate::finder::Finder;
 use twp_asides::plus;
-use twp_draft::{LeftOut, Names, Numeral};
+use twp_draft::{LeftOut, Names, WrittenNumber};
 use twp_grammar::Kind;
 use twp_rules::Rule;
 
@@ -92,7 +92,7 @@ impl<'a> Finder<'a> {
         self.draft
             .write(end.saturating_sub(1), end, b"", Rule::FractionDigit);
         let next = plus(index, 3);
-        self.draft.add_number(Numeral {
+        self.draft.add_number(WrittenNumber {
             value: value / 10,
             first: digits,
             last: digits,

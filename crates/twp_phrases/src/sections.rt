@@ -3,7 +3,7 @@
 use crate::finder::Finder;
 use crate::numbered::Joined;
 use twp_asides::{is_worn_section, plus};
-use twp_draft::{Form, Names, Numeral, Phrase};
+use twp_draft::{Form, Names, Phrase, WrittenNumber};
 use twp_grammar::Kind;
 use twp_rules::Rule;
 
@@ -184,7 +184,7 @@ impl<'a> Finder<'a> {
     }
 
     /// The number of a section at an index.
-    pub(crate) fn section_number(&self, index: usize) -> Option<Numeral> {
+    pub(crate) fn section_number(&self, index: usize) -> Option<WrittenNumber> {
         match self.draft.numeral(index) {
             Some(number) if number.value >= 1 && number.value <= SECTIONS => Some(number),
             _ => None,
@@ -192,7 +192,7 @@ impl<'a> Finder<'a> {
     }
 
     /// Writes the word at an index, a section's number, and those that follow it: the index after them.
-    fn section_list(&mut self, word: usize, number: Numeral, is_plural: bool) -> usize {
+    fn section_list(&mut self, word: usize, number: WrittenNumber, is_plural: bool) -> usize {
         if let Some(written) = self.written_word(word, number, is_plural) {
             self.draft.replace(word, written, Rule::SectionWord);
         }
@@ -205,7 +205,7 @@ impl<'a> Finder<'a> {
     fn written_word(
         &self,
         index: usize,
-        number: Numeral,
+        number: WrittenNumber,
         is_plural: bool,
     ) -> Option<&'static [u8]> {
         let pieces = &self.draft.pieces;
@@ -224,7 +224,7 @@ impl<'a> Finder<'a> {
     }
 
     /// Whether more numbers of sections follow one.
-    fn has_more(&self, number: Numeral, is_plural: bool) -> bool {
+    fn has_more(&self, number: WrittenNumber, is_plural: bool) -> bool {
         let Some(Joined { join, end }) = self.join_at(number.end) else {
             return false;
         };

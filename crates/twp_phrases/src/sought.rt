@@ -6,7 +6,7 @@ use twp_grammar::Kind;
 
 /// A kind of phrase that is looked for.
 #[derive(Clone, Copy)]
-pub(crate) enum Sought {
+pub(crate) enum SoughtPhrase {
     Aside,
     Register,
     LetterOfRegister,
@@ -27,54 +27,54 @@ pub(crate) enum Sought {
 }
 
 /// What a number may begin, in the order in which it is looked for.
-pub(crate) const OF_NUMBERS: [Sought; 8] = [
-    Sought::SectionBeforeColon,
-    Sought::Aside,
-    Sought::Register,
-    Sought::Heading,
-    Sought::DamagedSections,
-    Sought::DamagedPart,
-    Sought::BareSection,
-    Sought::Remark,
+pub(crate) const OF_NUMBERS: [SoughtPhrase; 8] = [
+    SoughtPhrase::SectionBeforeColon,
+    SoughtPhrase::Aside,
+    SoughtPhrase::Register,
+    SoughtPhrase::Heading,
+    SoughtPhrase::DamagedSections,
+    SoughtPhrase::DamagedPart,
+    SoughtPhrase::BareSection,
+    SoughtPhrase::Remark,
 ];
 
 /// What a word or a mark may begin.
-pub(crate) const OF_WORDS: [Sought; 10] = [
-    Sought::Aside,
-    Sought::LetterOfRegister,
-    Sought::Heading,
-    Sought::Sections,
-    Sought::SectionOfLetter,
-    Sought::Lots,
-    Sought::All,
-    Sought::Part,
-    Sought::Except,
-    Sought::Remark,
+pub(crate) const OF_WORDS: [SoughtPhrase; 10] = [
+    SoughtPhrase::Aside,
+    SoughtPhrase::LetterOfRegister,
+    SoughtPhrase::Heading,
+    SoughtPhrase::Sections,
+    SoughtPhrase::SectionOfLetter,
+    SoughtPhrase::Lots,
+    SoughtPhrase::All,
+    SoughtPhrase::Part,
+    SoughtPhrase::Except,
+    SoughtPhrase::Remark,
 ];
 
 impl<'a> Finder<'a> {
     /// Adds the phrase of a kind at an index: the index after it. None of these calls is inlined, so that
     /// this only jumps to one of them, and needs no room for what they do.
     #[inline(never)]
-    pub(crate) fn phrase_of_kind(&mut self, kind: Sought, index: usize) -> Option<usize> {
+    pub(crate) fn phrase_of_kind(&mut self, kind: SoughtPhrase, index: usize) -> Option<usize> {
         match kind {
-            Sought::Aside => self.aside(index),
-            Sought::Register => self.of_register(index),
-            Sought::LetterOfRegister => self.letter_of_register(index),
-            Sought::Heading => self.heading(index),
-            Sought::Sections => self.sections(index),
-            Sought::SectionOfLetter => self.section_of_letter(index),
-            Sought::BareSection => self.bare_section(index),
-            Sought::SectionBeforeColon => self.section_before_colon(index),
-            Sought::DamagedSections => self.damaged_sections(index),
-            Sought::Lots => self.lots(index),
-            Sought::All => self.all(index),
-            Sought::Part => self.sure_part(index),
-            Sought::DamagedPart => self.damaged_part(index),
-            Sought::Except => self.except(index),
-            Sought::Remark => self.remark(index),
-            Sought::RegisterOrHeading => self.register_or_heading(index),
-            Sought::HalfOrSection => self.half_or_section(index),
+            SoughtPhrase::Aside => self.aside(index),
+            SoughtPhrase::Register => self.of_register(index),
+            SoughtPhrase::LetterOfRegister => self.letter_of_register(index),
+            SoughtPhrase::Heading => self.heading(index),
+            SoughtPhrase::Sections => self.sections(index),
+            SoughtPhrase::SectionOfLetter => self.section_of_letter(index),
+            SoughtPhrase::BareSection => self.bare_section(index),
+            SoughtPhrase::SectionBeforeColon => self.section_before_colon(index),
+            SoughtPhrase::DamagedSections => self.damaged_sections(index),
+            SoughtPhrase::Lots => self.lots(index),
+            SoughtPhrase::All => self.all(index),
+            SoughtPhrase::Part => self.sure_part(index),
+            SoughtPhrase::DamagedPart => self.damaged_part(index),
+            SoughtPhrase::Except => self.except(index),
+            SoughtPhrase::Remark => self.remark(index),
+            SoughtPhrase::RegisterOrHeading => self.register_or_heading(index),
+            SoughtPhrase::HalfOrSection => self.half_or_section(index),
         }
     }
 

@@ -1,7 +1,7 @@
 //! All of a section: `ALL`, `all public domain lands in`, `entire section`.
 
 use crate::finder::Finder;
-use crate::parts::Part;
+use crate::parts::ReadPart;
 use twp_asides::plus;
 use twp_draft::{LeftOut, Names};
 use twp_grammar::Kind;
@@ -44,7 +44,7 @@ impl<'a> Finder<'a> {
         next = plus(next, 1);
         if self.draft.pieces.is(next, b"of") && self.draft.pieces.begins_part(plus(next, 1)) {
             self.draft.leave_out_each(index, plus(next, 1), Rule::Word);
-            let Part { end, form } = self.part(plus(next, 1))?;
+            let ReadPart { end, form, .. } = self.part(plus(next, 1))?;
             self.draft.add(Names::Part, index, end, from);
             self.draft.note_form(form);
             return Some(end);

@@ -21,8 +21,8 @@ use Rattle.twp_plat.specs.Closing.{CLOSING_MOST}
 use Rattle.twp_plat.specs.PlatAccounts.{lots_held, places_off_lots, printed_units}
 use Rattle.twp_plat.specs.PlatAccounts.{IsAreaBy}
 use Rattle.twp_plat.specs.steps.Accounts.{over_by, position_units, AreUnitsBy}
-use Rattle.twp_plat.specs.declared.account.Account.{Account}
-use Rattle.twp_plat.specs.declared.account.Account.TheVariants.{Exact, Plat}
+use Rattle.twp_plat.specs.declared.land_area.Account.{Account}
+use Rattle.twp_plat.specs.declared.land_area.Account.TheVariants.{Exact, Plat}
 use Rattle.twp_plat.proofs.SectionPieces.{pieces_of}
 use Rattle.twp_plat.proofs.SectionSums.{none_held}
 use Rattle.twp_plat.proofs.PlatFigureFacts.{plat_figures}

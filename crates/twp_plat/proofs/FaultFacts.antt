@@ -6,7 +6,7 @@ use Rattle.std.proofs.lemmas.Int.{ints}
 use Rattle.std.proofs.lemmas.List.{get_or-set_same, get_or-set_other}
 use Rattle.twp_grid.specs.Lines.{IsLine}
 use Rattle.twp_notes.specs.FieldNotes.{FieldNotes, returned_of}
-use Rattle.twp_notes.specs.declared.returned.Returned.{Returned}
+use Rattle.twp_notes.specs.declared.parsing.Returned.{Returned}
 use Rattle.twp_plat.specs.Closing.{IsInLimits, last_quarter, CLOSING_LEAST, CLOSING_MOST}
 use Rattle.twp_plat.specs.PlatFaults.{place_of, HasLineFault, IsFirstFault}
 use Rattle.twp_plat.specs.steps.LineFaults.{IsFirstLineFault, AnswersLine}

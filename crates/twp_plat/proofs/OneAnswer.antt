@@ -6,7 +6,7 @@ use Rattle.std.proofs.lemmas.Int.{ints}
 use Rattle.twp_measure.specs.Areas.{Fraction}
 use Rattle.twp_grid.specs.Townships.{Designation}
 use Rattle.twp_notes.specs.FieldNotes.{FieldNotes, returned_of}
-use Rattle.twp_notes.specs.declared.returned.Returned.{Returned}
+use Rattle.twp_notes.specs.declared.parsing.Returned.{Returned}
 use Rattle.twp_plat.specs.Closing.{CLOSING_LEAST, CLOSING_MOST, last_quarter, IsInLimits}
 use Rattle.twp_plat.specs.Closing.{IsClosingQuarter}
 use Rattle.twp_plat.specs.Plats.{TownshipPlat, closing_quarter_of, IsPlat, IsPlatOf}

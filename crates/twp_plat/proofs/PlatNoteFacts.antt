@@ -13,7 +13,7 @@ use Rattle.twp_grid.specs.Lines.{IsLine, IsClosing}
 use Rattle.twp_grid.proofs.LineFacts.{closing_north, closing_west, closing_test}
 use Rattle.twp_notes.specs.FieldNotes.{FieldNotes, nothing_returned}
 use Rattle.twp_notes.specs.NotesTexts.{AppendsNotes, IsNotesText}
-use Rattle.twp_notes.specs.declared.returned.Returned.{Returned}
+use Rattle.twp_notes.specs.declared.parsing.Returned.{Returned}
 use Rattle.twp_plat.specs.Closing.{IsInLimits, IsClosingQuarter, CLOSING_LEAST, CLOSING_MOST}
 use Rattle.twp_plat.specs.Plats.{TownshipPlat, IsPlat, IsPlatOf, IsQuarterOnPlat, closing_quarter_of}
 use Rattle.twp_plat.specs.PlatNotes.{AreNotesFor, returned_with}

@@ -8,8 +8,8 @@ use Rattle.twp_plat.specs.Pieces.{ArePieces}
 use Rattle.twp_plat.proofs.FormulaFacts.{piece_terms}
 use Rattle.twp_plat.proofs.RatioFacts.{parts_of_whole}
 use Rattle.twp_plat.specs.steps.Accounts.{over_by, AreUnitsBy}
-use Rattle.twp_plat.specs.declared.account.Account.{Account}
-use Rattle.twp_plat.specs.declared.account.Account.TheVariants.{Exact, Plat}
+use Rattle.twp_plat.specs.declared.land_area.Account.{Account}
+use Rattle.twp_plat.specs.declared.land_area.Account.TheVariants.{Exact, Plat}
 use Rattle.twp_plat.proofs.SectionSums.{AreRegular}
 use Rattle.twp_plat.proofs.RegularFacts.{piece_off_lots}
 

@@ -5,7 +5,7 @@ use Rattle.std.specs.Str.Parse.{IsNumeral, digits_value}
 use Rattle.twp_measure.specs.LengthTexts.{IsShortNumber, point}
 use Rattle.twp_grid.specs.Winding.{IsSection}
 use Rattle.twp_notes.specs.Records.{Fields, field, records_of, record_numbered}
-use Rattle.twp_notes.specs.FieldNotes.{IsTownshipRecord, IsSectionText}
+use Rattle.twp_notes.specs.FieldNotes.{IsTownshipRecord, IsSectionNumber}
 use Rattle.twp_plat.specs.LotTables.{ReturnedLots, IsLotTable, IsLotNumber, figure_of}
 
 -- the most bytes of a lot table
@@ -36,7 +36,7 @@ pub record IsAcresText (text : List ℕ) (hundredths : ℕ) : Type 0 where
 -- the record's first two fields name a lot: its section and its number there
 pub record NamesLot (fields : Fields) (section number : ℕ) : Type 0 where
   pub columns : length fields ≡ LOT_FIELDS
-  pub section_is : IsSectionText (field fields 0) section
+  pub section_is : IsSectionNumber (field fields 0) section
   pub number_is : IsShortNumber (field fields 1) number
   pub has : IsLotNumber section number
 
@@ -50,8 +50,8 @@ abbrev pub IsRowNumber : List Fields → ℕ → Type 0
 IsRowNumber records number = (3 ≤ number) × (number ≤ length records)
 
 -- one of the records of lots names the lot
-abbrev pub IsNamed : List Fields → ℕ → ℕ → Type 0
-IsNamed records section lot = (number : ℕ) × IsRowNumber records number
+abbrev pub IsLotNamed : List Fields → ℕ → ℕ → Type 0
+IsLotNamed records section lot = (number : ℕ) × IsRowNumber records number
     × NamesLot (record_numbered records number) section lot
 
 -- The records are this table: the heading, the township, and at most one record for each lot; the
@@ -66,7 +66,7 @@ pub record AreLotRecords (records : List Fields) (table : ReturnedLots) : Type 0
       → IsRowNumber records other → NamesLot (record_numbered records number) section lot
       → NamesLot (record_numbered records other) section lot → number ≡ other
   pub others : (section lot : ℕ) → IsSection section → IsLotNumber section lot
-      → ¬ IsNamed records section lot → figure_of table section lot ≡ 0
+      → ¬ IsLotNamed records section lot → figure_of table section lot ≡ 0
   pub table_is : IsLotTable table
 
 -- the bytes are this lot table

@@ -44,7 +44,7 @@ HasOnRow bytes number IsBad = IsRowNumber (records_of bytes) number
     × IsBad (record_numbered (records_of bytes) number)
 
 -- an earlier record is for the same lot
-pub record IsRepeated (records : List Fields) (number : ℕ) : Type 0 where
+pub record IsLotRepeated (records : List Fields) (number : ℕ) : Type 0 where
   pub earlier : ℕ
   pub section : ℕ
   pub lot : ℕ
@@ -71,7 +71,7 @@ HasFault bytes fault.Township = (township : _)
 HasFault bytes (fault.NoLot number) = HasOnRow bytes number NamesNoLot
 HasFault bytes (fault.Acres number) = HasOnRow bytes number HasNoAcres
 HasFault bytes (fault.Repeated number) = IsRowNumber (records_of bytes) number
-    × IsRepeated (records_of bytes) number
+    × IsLotRepeated (records_of bytes) number
 HasFault bytes fault.Read = ⊥
 HasFault bytes fault.Memory = ⊥
 

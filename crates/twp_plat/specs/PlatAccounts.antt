@@ -11,8 +11,8 @@ use Rattle.twp_grid.specs.Lands.{off_lots}
 use Rattle.twp_plat.specs.Closing.{QUARTER_MILE}
 use Rattle.twp_plat.specs.Plats.{TownshipPlat}
 use Rattle.twp_plat.specs.LandAreas.{places_of_position, IsLandArea}
-use Rattle.twp_plat.specs.declared.account.Account.{Account}
-use Rattle.twp_plat.specs.declared.account.Account.TheVariants.{Exact, Plat}
+use Rattle.twp_plat.specs.declared.land_area.Account.{Account}
+use Rattle.twp_plat.specs.declared.land_area.Account.TheVariants.{Exact, Plat}
 use Rattle.twp_plat.specs.PlatFigures.{PlatFigures, AreFigures}
 
 -- the set contains the lot: all places of the position that the lot fills

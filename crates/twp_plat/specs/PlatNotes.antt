@@ -3,7 +3,7 @@ use Rattle.std.specs.Prelude.{◌≡◌, ℕ, ◌+◌, List, length}
 use Rattle.twp_grid.specs.Lines.{LINE_COUNT, IsLine}
 use Rattle.twp_notes.specs.FieldNotes.{FieldNotes, returned_of}
 use Rattle.twp_notes.specs.NotesTexts.{IsNotesText}
-use Rattle.twp_notes.specs.declared.returned.Returned.{Returned}
+use Rattle.twp_notes.specs.declared.parsing.Returned.{Returned}
 use Rattle.twp_plat.specs.Closing.{HALF_MILE, QUARTER_MILE}
 use Rattle.twp_plat.specs.Plats.{TownshipPlat, closing_quarter_of}
 

@@ -1,20 +1,26 @@
-ghost use Rattle.std.specs.Prelude.{◌≡◌, ℕ, ◌*◌, ◌≤◌};
+//! The areas of land, of sections, and of the township; and the two accounts of land, which differ in how
+//! they count whole lots.
+ghost use Rattle.std.specs.Prelude.{◌≡◌, ℕ, ◌*◌, ◌≤◌, ◌<◌, Some};
 ghost use Rattle.twp_grid.specs.Places.{PLACE_DIGITS};
 ghost use Rattle.twp_grid.specs.Lands.{HasWholeLots};
-ghost use Rattle.twp_plat.specs.Pieces.{OVER_MOST};
+ghost use Rattle.twp_plat.specs.Pieces.{OVER_MOST, over_of, ArePieces, IsSectionArea};
+ghost use Rattle.twp_plat.specs.Pieces.{IsTownshipArea};
 ghost use Rattle.twp_plat.specs.LandAreas.{places_of_position, section_sum, IsLandArea};
-ghost use Rattle.twp_plat.specs.PlatAccounts.{IsPlatArea};
-ghost use Rattle.twp_plat.specs.PlatAccounts.{IsAreaBy};
+ghost use Rattle.twp_plat.specs.PlatAccounts.{IsPlatArea, IsAreaBy};
 ghost use Rattle.twp_plat.specs.steps.Accounts.{over_by, AreUnitsBy};
 ghost use Rattle.twp_plat.specs.steps.Bounds.{REGULAR_PLACE_UNITS, SECTION_PLACES_MOST};
 ghost use Rattle.twp_plat.specs.steps.Bounds.{SECTION_UNITS_MOST};
+ghost use Rattle.twp_grid.specs.Lots.{POSITIONS_ACROSS, POSITIONS, number_of_lots, position_of_lot};
+ghost use Rattle.twp_grid.specs.Spans.{total, over_positions};
+ghost use Rattle.twp_plat.specs.Closing.{CLOSING_MOST};
+ghost use Rattle.twp_plat.specs.Plats.{IsPlat};
 
-use crate::account::Account;
-use crate::closing::QUARTER_MILE;
-use crate::plat::Plat;
-use twp_grid::{Block, PLACES_TO_POSITION, Section, lot_count, lot_place};
+use crate::plat::{Plat, QUARTER_MILE};
+use twp_grid::{
+    Block, PLACES_TO_POSITION, POSITIONS_ACROSS, SECTIONS, Section, lot_count, lot_place,
+};
 use twp_land::{Land, PlaceSet};
-use twp_measure::Area;
+use twp_measure::{Area, HUNDREDTH_OF_AN_ACRE};
 
 /// The number of places in a position.
 const PLACES_OF_POSITION: u32 = PLACES_TO_POSITION as u32 * PLACES_TO_POSITION as u32;
@@ -98,4 +104,91 @@ fn regular_units(places: u32, over: u64) -> u128
     ensures { result ≡ REGULAR_PLACE_UNITS * (over * places) }
 {
     REGULAR_PLACE * (u128::from(over) * u128::from(places))
+}
+
+impl Plat {
+    /// The area of a section: the exact sum of its positions' areas.
+    pub fn section_area(&self, section: Section) -> Area
+        ensures sum { IsSectionArea self.now section result }
+        ensures units { (pieces : ℕ → ℕ → ℕ → ℕ) → ArePieces self.now pieces
+            → result.units ≡ over_positions (pieces section) }
+        ensures most { result.units ≤ POSITIONS * (CLOSING_MOST * CLOSING_MOST * OVER_MOST) }
+    {
+        let mut area = Area::zero(self.over());
+        for row in 0..POSITIONS_ACROSS {
+            area = area.plus(&self.row_area(section, row));
+        }
+        area
+    }
+
+    /// The area of the township: the exact sum of its 36 sections' areas.
+    pub fn township_area(&self) -> Area
+        ensures sum { IsTownshipArea self.now result }
+    {
+        let mut area = Area::zero(self.over());
+        for number in 1..SECTIONS + 1 {
+            let section = Section::new(number).unwrap();
+            area = area.plus(&self.section_area(section));
+        }
+        area
+    }
+
+    /// The area of the positions in one row of a section.
+    fn row_area(&self, section: Section, row: u8) -> Area
+        requires { row < POSITIONS_ACROSS }
+        ensures over { result.over ≡ over_of self.now }
+        ensures units { (pieces : ℕ → ℕ → ℕ → ℕ) → ArePieces self.now pieces
+            → result.units ≡ total POSITIONS_ACROSS (λ column. pieces section column row) }
+        ensures most { result.units ≤ POSITIONS_ACROSS * (CLOSING_MOST * CLOSING_MOST * OVER_MOST) }
+    {
+        let mut area = Area::zero(self.over());
+        for column in 0..POSITIONS_ACROSS {
+            area = area.plus(&self.piece_area(section, column, row));
+        }
+        area
+    }
+}
+
+/// Which area the acreage run counts for a whole lot (this project's rule).
+#[derive(Clone, Copy, PartialEq, Eq)]
+pub enum Account {
+    /// The exact area of its position.
+    Exact,
+    /// The acreage that the plat shows for it.
+    Plat,
+}
+
+impl Account {
+    /// The number that the account's areas are divided by.
+    pub(crate) fn over(self, plat: &Plat) -> u64
+        ensures value { result ≡ over_by self plat.now }
+        ensures range { (0 < result) × (result ≤ OVER_MOST) }
+        ensures plat { IsPlat plat.now }
+    {
+        let over = plat.over();
+        match self {
+            Account::Exact => over,
+            Account::Plat => 1,
+        }
+    }
+
+    /// The area of a lot of a section, in parts of the account's denominator.
+    pub(crate) fn lot_units(self, plat: &Plat, section: Section, lot: u8) -> u128
+        requires least { 1 ≤ lot }
+        requires most { lot ≤ number_of_lots section }
+        ensures units { (units : ℕ → ℕ → ℕ → ℕ) (column row : ℕ) → AreUnitsBy self plat.now units
+            → position_of_lot section lot ≡ Some (column, row) → result ≡ units section column row }
+        ensures most { result ≤ CLOSING_MOST * CLOSING_MOST * over_by self plat.now }
+    {
+        match self {
+            Account::Exact => {
+                let (column, row) = lot_place(section, lot).unwrap();
+                plat.piece_area(section, column, row).units()
+            }
+            Account::Plat => {
+                let hundredths = plat.lot_hundredths(section, lot).unwrap();
+                HUNDREDTH_OF_AN_ACRE * u128::from(hundredths)
+            }
+        }
+    }
 }

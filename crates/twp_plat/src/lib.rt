@@ -6,9 +6,6 @@
 //! the same areas.
 #![tactic(auto)]
 
-mod account;
-mod area;
-mod closing;
 mod fault;
 mod land_area;
 pub mod laws;
@@ -16,13 +13,10 @@ mod lot_figure;
 mod lots;
 mod piece;
 mod plat;
-mod quarters;
 mod writing;
 
-pub use account::Account;
-pub use closing::{CLOSING_LEAST, CLOSING_MOST, HALF_LEAST, HALF_MOST, QUARTER_MILE};
 pub use fault::{HalfMile, PlatFault};
-pub use land_area::{area_by, area_of, plat_area_of};
+pub use land_area::{Account, area_by, area_of, plat_area_of};
 pub use lots::{LOTS, LotTable, LotsFault, area_by_lots};
-pub use plat::Plat;
+pub use plat::{CLOSING_LEAST, CLOSING_MOST, HALF_LEAST, HALF_MOST, Plat, QUARTER_MILE};
 pub use writing::notes_text;

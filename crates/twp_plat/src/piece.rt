@@ -7,7 +7,7 @@ ghost use Rattle.twp_plat.specs.Pieces.{piece, line_length, divisor_of};
 ghost use Rattle.twp_plat.specs.Formula.{west_length, north_length, both_ends, both_widths};
 ghost use Rattle.twp_plat.specs.Formula.{both_heights};
 
-use crate::closing::QUARTER_MILE;
+use crate::plat::QUARTER_MILE;
 use std::marker::Model;
 
 /// The closing quarters of a section's four lines, in thousandths of a chain.

@@ -1,20 +1,22 @@
-ghost use Rattle.std.specs.Prelude.{◌≡◌, ◌*◌, ◌≤◌, ◌<◌, pos};
+//! The plat of field notes; which numbers can be its closing quarters; and the closing quarter of a line,
+//! or the line's fault.
+ghost use Rattle.std.specs.Prelude.{◌≡◌, ◌*◌, ◌≤◌, ◌<◌, pos, ◌↔◌, IsTrue};
 ghost use Rattle.std.specs.Option.{SomeIff};
 ghost use Rattle.twp_grid.specs.Lots.{POSITIONS_ACROSS};
-ghost use Rattle.twp_plat.specs.Closing.{CLOSING_MOST};
+ghost use Rattle.twp_plat.specs.Closing.{CLOSING_MOST, IsRegular};
 ghost use Rattle.twp_plat.specs.Plats.{IsPlat, AreClosingQuarters, closing_quarter_of};
-ghost use Rattle.twp_plat.specs.Plats.{IsQuarterOnPlat, plat_of_parts};
+ghost use Rattle.twp_plat.specs.Plats.{IsQuarterOnPlat, plat_of_parts, AreQuartersOnPlat};
 ghost use Rattle.twp_plat.specs.PlatFaults.{AnswersPlat};
 ghost use Rattle.twp_plat.specs.Pieces.{IsPieceArea, over_of, OVER_MOST};
+ghost use Rattle.twp_grid.specs.Lines.{LINE_COUNT};
+ghost use Rattle.twp_plat.specs.steps.LineFaults.{AnswersLine};
 
-use crate::closing::closing_quarter;
-use crate::fault::PlatFault;
+use crate::fault::{HalfMile, PlatFault};
 use crate::piece::SideQuarters;
-use crate::quarters::are_on_plat;
 use std::marker::Model;
 use twp_grid::{LINES, Line, Section, Township, sides};
 use twp_measure::Area;
-use twp_notes::Notes;
+use twp_notes::{Notes, Returned};
 
 /// The section in the township's northwest corner, whose north and west lines are both closing
 /// lines.
@@ -155,4 +157,107 @@ impl Plat {
     {
         self.closing_quarters[usize::from(line.index())]
     }
+}
+
+/// The least closing quarter that each line can have, by index: 5 chains for a closing line, and a
+/// quarter mile for another.
+const LEAST: [u32; LINES] = [
+    5_000, 5_000, 5_000, 5_000, 5_000, 5_000, 5_000, 20_000, 20_000, 20_000, 20_000, 20_000,
+    20_000, 20_000, 20_000, 20_000, 20_000, 20_000, 20_000, 20_000, 20_000, 20_000, 20_000, 20_000,
+    20_000, 20_000, 20_000, 20_000, 20_000, 20_000, 20_000, 20_000, 20_000, 20_000, 20_000, 20_000,
+    20_000, 20_000, 20_000, 20_000, 20_000, 20_000, 20_000, 20_000, 20_000, 20_000, 20_000, 5_000,
+    20_000, 20_000, 20_000, 20_000, 20_000, 5_000, 20_000, 20_000, 20_000, 20_000, 20_000, 5_000,
+    20_000, 20_000, 20_000, 20_000, 20_000, 5_000, 20_000, 20_000, 20_000, 20_000, 20_000, 5_000,
+    20_000, 20_000, 20_000, 20_000, 20_000, 5_000, 20_000, 20_000, 20_000, 20_000, 20_000, 5_000,
+];
+
+/// By how much more than the least one each line's closing quarter can be, by index: 20 chains for a
+/// closing line, and nothing for another.
+const SPAN: [u32; LINES] = [
+    20_000, 20_000, 20_000, 20_000, 20_000, 20_000, 20_000, 0, 0, 0, 0, 0, 0, 0, 0, 0, 0, 0, 0, 0,
+    0, 0, 0, 0, 0, 0, 0, 0, 0, 0, 0, 0, 0, 0, 0, 0, 0, 0, 0, 0, 0, 0, 0, 0, 0, 0, 0, 20_000, 0, 0,
+    0, 0, 0, 20_000, 0, 0, 0, 0, 0, 20_000, 0, 0, 0, 0, 0, 20_000, 0, 0, 0, 0, 0, 20_000, 0, 0, 0,
+    0, 0, 20_000, 0, 0, 0, 0, 0, 20_000,
+];
+
+/// Whether each line can have the closing quarter at its index. The loop never ends early, so several
+/// lines are compared at once.
+pub fn are_on_plat(closing_quarters: &[u32; LINES]) -> bool
+    ensures { IsTrue result ↔ AreQuartersOnPlat closing_quarters.now }
+{
+    let mut outside = 0;
+    for index in 0..LINES {
+        outside += outside_limits(index, closing_quarters[index]);
+    }
+    outside == 0
+}
+
+/// 0 if a line, by its index, can have a closing quarter, and 1 if it can't. One comparison tests both
+/// limits: what is less than the least one wraps around.
+#[inline(always)]
+fn outside_limits(index: usize, quarter: u32) -> u32
+    requires { index < LINE_COUNT }
+    ensures none { (result ≡ 0) ↔ IsQuarterOnPlat index quarter }
+    ensures most { result ≤ 1 }
+{
+    if quarter.wrapping_sub(LEAST[index]) > SPAN[index] {
+        return 1;
+    }
+    0
+}
+
+/// A quarter mile, in thousandths of a chain.
+pub const QUARTER_MILE: u32 = 20_000;
+
+/// The least length of a half mile, other than a closing line's second, in thousandths of a chain
+/// (this project's rule, like the limits below).
+pub const HALF_LEAST: u32 = 39_750;
+
+/// The greatest length of such a half mile, in thousandths of a chain.
+pub const HALF_MOST: u32 = 40_250;
+
+/// The least length of a closing quarter, in thousandths of a chain.
+pub const CLOSING_LEAST: u32 = 5_000;
+
+/// The greatest length of a closing quarter, in thousandths of a chain.
+pub const CLOSING_MOST: u32 = 25_000;
+
+/// The closing quarter of a line, in thousandths of a chain, or the line's fault. The first half
+/// mile is checked before the second.
+pub fn closing_quarter(line: Line, returned: Returned) -> Result<u32, PlatFault>
+    ensures { AnswersLine line returned result }
+{
+    let quarter = returned.quarter.thousandths();
+    let corner = returned.corner.thousandths();
+    let place = line.index();
+    if !is_regular(quarter) {
+        return Err(PlatFault::Irregular {
+            line: place,
+            half: HalfMile::First,
+        });
+    }
+    if line.is_closing() {
+        let last = corner.saturating_sub(quarter + QUARTER_MILE);
+        if last < CLOSING_LEAST {
+            return Err(PlatFault::ClosingShort(place));
+        }
+        if last > CLOSING_MOST {
+            return Err(PlatFault::ClosingLong(place));
+        }
+        return Ok(last);
+    }
+    if !is_regular(corner.saturating_sub(quarter)) {
+        return Err(PlatFault::Irregular {
+            line: place,
+            half: HalfMile::Second,
+        });
+    }
+    Ok(QUARTER_MILE)
+}
+
+/// Whether a half mile is 40 chains, within the tolerance.
+fn is_regular(half: u32) -> bool
+    ensures { IsTrue result ↔ IsRegular (pos half) }
+{
+    HALF_LEAST <= half && half <= HALF_MOST
 }

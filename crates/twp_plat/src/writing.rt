@@ -1,13 +1,12 @@
 //! Field notes that make a plat: each half mile is 40 chains, except for the second ones of closing lines.
-ghost use Rattle.std.specs.Prelude.{◌≡◌, ◌+◌, ◌%◌, ◌<◌, ◌≤◌, IfOk};
+ghost use Rattle.std.specs.Prelude.{◌≡◌, ◌<◌, ◌≤◌, IfOk};
 ghost use Rattle.twp_plat.specs.Closing.{CLOSING_MOST};
 ghost use Rattle.twp_plat.specs.PlatNotes.{AreNotesFor, IsTextFor, returned_with};
 
-use crate::closing::QUARTER_MILE;
-use crate::plat::Plat;
+use crate::plat::{Plat, QUARTER_MILE};
 use std::alloc::{AllocError, Global};
 use twp_grid::LINES;
-use twp_measure::Length;
+use twp_measure::{Length, digit};
 use twp_notes::{Notes, Returned};
 
 /// A half mile, in thousandths of a chain.
@@ -62,11 +61,4 @@ fn length_of(thousandths: u32) -> Length
         digit(thousandths),
     ];
     Length::read(&text).unwrap()
-}
-
-/// The last decimal digit of a number.
-fn digit(number: u32) -> u8
-    ensures { result ≡ 48 + number % 10 }
-{
-    b'0' + (number % 10) as u8
 }

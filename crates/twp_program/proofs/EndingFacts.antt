@@ -6,16 +6,16 @@ use Rattle.twp_answers.specs.PlatAnswers.{IsPlatAnswer}
 use Rattle.twp_answers.specs.Answers.{IsAcresAnswer}
 use Rattle.twp_answers.specs.Uses.{Reads, Use}
 use Rattle.twp_answers.specs.Runs.{IsRun, RunsOnPlat}
-use Rattle.twp_answers.specs.declared.verdict.Verdict.{Verdict}
-use Rattle.twp_answers.specs.declared.verdict.RunFault.{RunFault}
-use Rattle.twp_answers.specs.declared.verdict.RunFault.TheVariants.{Read, Write, Memory}
+use Rattle.twp_answers.specs.declared.stop.Verdict.{Verdict}
+use Rattle.twp_answers.specs.declared.stop.RunFault.{RunFault}
+use Rattle.twp_answers.specs.declared.stop.RunFault.TheVariants.{Read, Write, Memory}
 use Rattle.twp_program.specs.Endings.{AnswerTo, EndsAs, FailsOn, IsJoinedVerdict, IsRunFailure}
 use Rattle.twp_program.specs.Endings.{IsVerdictOf, RunsOnNotes}
 use Rattle.twp_program.specs.Joined.{joined_description, joined_notes}
 use Rattle.twp_program.specs.Statuses.{ending_of, ending_of_fault, failing}
 use Rattle.twp_program.specs.Tasks.{IsFaultOf, IsTaskOf}
-use Rattle.twp_program.specs.declared.ending.Failure.{Failure}
-use Rattle.twp_program.specs.declared.ending.Failure.TheVariants.{Open, Run}
+use Rattle.twp_program.specs.declared.program.Failure.{Failure}
+use Rattle.twp_program.specs.declared.program.Failure.TheVariants.{Open, Run}
 use Rattle.twp_program.specs.declared.task.Task.{Task}
 use Rattle.twp_program.specs.declared.task.Task.TheVariants.{Plat}
 use Rattle.twp_program.specs.declared.task.TaskFault.{TaskFault}

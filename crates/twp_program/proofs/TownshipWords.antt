@@ -21,11 +21,11 @@ use Rattle.clap.specs.Faults.{check_fault, defaults_fault, entered_fault, level_
 use Rattle.clap.specs.Faults.{walk_fault}
 use Rattle.clap.specs.declared.builder.value_parser.ValueParser.{ValueParser}
 use Rattle.clap.specs.declared.builder.value_parser.ValueParser.TheVariants as vp
-use Rattle.twp_plat.specs.declared.account.Account.{Account}
-use Rattle.twp_plat.specs.declared.account.Account.TheVariants as account
+use Rattle.twp_plat.specs.declared.land_area.Account.{Account}
+use Rattle.twp_plat.specs.declared.land_area.Account.TheVariants as account
 use Rattle.twp_program.specs.Commands.{TakesAccounts, account_name, acres, normal, plat, report, township}
 use Rattle.twp_program.specs.Commands.{township_with}
-use Rattle.twp_program.specs.steps.Parses.{HasAccount, HasValue, IsWhole}
+use Rattle.twp_program.specs.steps.Parses.{HasAccountName, HasValue, IsWhole}
 use Rattle.twp_program.proofs.HelpWords.{IsNoHelp, StoppedWell}
 use Rattle.twp_program.proofs.CommandWalk.{EachFits, Good, first_empty, second_empty, is_walked}
 use Rattle.twp_program.proofs.CommandDefaults.{defaulted_row, finished_good, given_row, row_value}
@@ -192,7 +192,7 @@ acres_whole parser words takes e =
     row_value MayHave (codes "ACCOUNT") rows given.rows
     (defaulted_row (codes "ACCOUNT") walked s.rules (inr (inr (inl (refl, refl))))) in
     let is = named.2 refl in
-    let account : HasAccount rows = (is.0, named.1 ∙ ap (λ (value : Text). Some value) is.1) in (
+    let account : HasAccountName rows = (is.0, named.1 ∙ ap (λ (value : Text). Some value) is.1) in (
       has_value (codes "NOTES") rows _ given.rows given.required,
       inr (inr (inr (
         refl,

@@ -13,15 +13,15 @@ use Rattle.twp_answers.specs.Answers.{IsAcresAnswer}
 use Rattle.twp_answers.specs.AccountAnswers.{IsAcresAnswerBy}
 use Rattle.twp_answers.specs.NormalAnswers.{IsNormalAnswer}
 use Rattle.twp_answers.specs.ReportAnswers.{IsReportAnswer}
-use Rattle.twp_answers.specs.declared.verdict.Verdict.{Verdict}
-use Rattle.twp_answers.specs.declared.verdict.RunFault.{RunFault}
-use Rattle.twp_answers.specs.declared.verdict.RunFault.TheVariants.{Read, Write, Memory}
+use Rattle.twp_answers.specs.declared.stop.Verdict.{Verdict}
+use Rattle.twp_answers.specs.declared.stop.RunFault.{RunFault}
+use Rattle.twp_answers.specs.declared.stop.RunFault.TheVariants.{Read, Write, Memory}
 use Rattle.twp_program.specs.Joined.{joined_description, joined_notes}
 use Rattle.twp_program.specs.Tasks.{HasKindAt, IsFaultOf, IsTaskOf}
-use Rattle.twp_program.specs.declared.ending.Ending.{Ending}
-use Rattle.twp_program.specs.declared.ending.Ending.TheVariants.{Answered, Helps, Misused, Failed}
-use Rattle.twp_program.specs.declared.ending.Failure.{Failure}
-use Rattle.twp_program.specs.declared.ending.Failure.TheVariants.{Open, Run}
+use Rattle.twp_program.specs.declared.program.Ending.{Ending}
+use Rattle.twp_program.specs.declared.program.Ending.TheVariants.{Answered, Helps, Misused, Failed}
+use Rattle.twp_program.specs.declared.program.Failure.{Failure}
+use Rattle.twp_program.specs.declared.program.Failure.TheVariants.{Open, Run}
 use Rattle.twp_program.specs.declared.task.Task.{Task}
 use Rattle.twp_program.specs.declared.task.Task.TheVariants.{Plat, Acres, Normal, Report}
 use Rattle.twp_program.specs.declared.task.TaskFault.TheVariants.{Usage}

@@ -1,6 +1,6 @@
 -- The copy of the bytes that a source has given.
 use Rattle.std.specs.Prelude.{◌≡◌, ℕ, List, ◌++◌, Option, Some, None, option_map, ⊤}
-use Rattle.twp_program.specs.declared.kept.Kept.{Kept}
+use Rattle.twp_program.specs.declared.files.Kept.{Kept}
 
 -- the source whose bytes are kept
 abbrev pub inner_source : {S : Type 0} → Kept S → S

@@ -2,9 +2,9 @@
 use Rattle.std.specs.Prelude.{◌≡◌, ◌==◌, ℕ, Bool, List, Option, Some, codes}
 use Rattle.std.specs.List.{before_first, after_first}
 use Rattle.twp_grid.specs.Townships.{line_feed}
-use Rattle.twp_answers.specs.declared.verdict.Verdict.{Verdict}
-use Rattle.twp_answers.specs.declared.verdict.Verdict.TheVariants.{Refused}
-use Rattle.twp_diagnose.specs.declared.given.Given.{Given}
+use Rattle.twp_answers.specs.declared.stop.Verdict.{Verdict}
+use Rattle.twp_answers.specs.declared.stop.Verdict.TheVariants.{Refused}
+use Rattle.twp_diagnose.specs.declared.location.Given.{Given}
 use Rattle.twp_diagnose.specs.ShownMessages.{ShowsIn}
 use Rattle.twp_explain.specs.ShownFaults.{ShowsFault}
 use Rattle.twp_explain.specs.ShownNotes.{ShowsNoteIn}

@@ -2,14 +2,14 @@
 use Rattle.std.specs.Prelude.{◌≡◌, ◌⊎◌, ℕ, Result, Ok, Err}
 use Rattle.std.specs.declared.io.ErrorKind.{ErrorKind}
 use Rattle.std.specs.declared.io.ErrorKind.TheVariants.{OutOfMemory}
-use Rattle.twp_answers.specs.declared.verdict.RunFault.{RunFault}
-use Rattle.twp_answers.specs.declared.verdict.RunFault.TheVariants as fault
-use Rattle.twp_answers.specs.declared.verdict.Verdict.{Verdict}
-use Rattle.twp_answers.specs.declared.verdict.Verdict.TheVariants.{Accepted, Refused, TractRefused}
-use Rattle.twp_program.specs.declared.ending.Ending.{Ending}
-use Rattle.twp_program.specs.declared.ending.Ending.TheVariants.{Answered, Helps, Misused, Failed}
-use Rattle.twp_program.specs.declared.ending.Failure.{Failure}
-use Rattle.twp_program.specs.declared.ending.Failure.TheVariants.{Run}
+use Rattle.twp_answers.specs.declared.stop.RunFault.{RunFault}
+use Rattle.twp_answers.specs.declared.stop.RunFault.TheVariants as fault
+use Rattle.twp_answers.specs.declared.stop.Verdict.{Verdict}
+use Rattle.twp_answers.specs.declared.stop.Verdict.TheVariants.{Accepted, Refused, TractRefused}
+use Rattle.twp_program.specs.declared.program.Ending.{Ending}
+use Rattle.twp_program.specs.declared.program.Ending.TheVariants.{Answered, Helps, Misused, Failed}
+use Rattle.twp_program.specs.declared.program.Failure.{Failure}
+use Rattle.twp_program.specs.declared.program.Failure.TheVariants.{Run}
 use Rattle.twp_program.specs.declared.task.TaskFault.{TaskFault}
 use Rattle.twp_program.specs.declared.task.TaskFault.TheVariants.{Usage, Help, Memory}
 

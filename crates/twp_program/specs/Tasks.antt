@@ -3,7 +3,7 @@ use Rattle.std.specs.Prelude.{◌≡◌, ◌≢◌, List, [], ◌∷◌, Option,
 use Rattle.clap.specs.Words.{App, IsAmong, Row, Text, fault_of, first_of, subcommand_of}
 use Rattle.clap.specs.declared.error.kind.ErrorKind.{ErrorKind}
 use Rattle.clap.specs.declared.error.kind.ErrorKind.TheVariants.{DisplayHelp}
-use Rattle.twp_plat.specs.declared.account.Account.{Account}
+use Rattle.twp_plat.specs.declared.land_area.Account.{Account}
 use Rattle.twp_program.specs.Commands.{IsTownship, account_name}
 use Rattle.twp_program.specs.declared.task.Task.{Task}
 use Rattle.twp_program.specs.declared.task.Task.TheVariants.{Plat, Acres, Normal, Report}
@@ -11,27 +11,27 @@ use Rattle.twp_program.specs.declared.task.TaskFault.{TaskFault}
 use Rattle.twp_program.specs.declared.task.TaskFault.TheVariants.{Usage, Help, Memory}
 
 -- a word or an option of a subcommand, and its value
-pub record Given : Type 0 where
+pub record GivenOption : Type 0 where
   pub word : Text
   pub value : Text
 
 -- they have these values in the rows of a parse
-abbrev pub HaveValues : List Row → List Given → Type 0
+abbrev pub HaveValues : List Row → List GivenOption → Type 0
 HaveValues rows [] = ⊤
 HaveValues rows (given ∷ more) =
     (first_of given.word rows ≡ Some given.value) × HaveValues rows more
 
-abbrev pub given_notes : Text → Given
+abbrev pub given_notes : Text → GivenOption
 given_notes name = record { word = codes "NOTES"; value = name }
 
-abbrev pub given_description : Text → Given
+abbrev pub given_description : Text → GivenOption
 given_description name = record { word = codes "DESCRIPTION"; value = name }
 
-abbrev pub given_tracts : Text → Given
+abbrev pub given_tracts : Text → GivenOption
 given_tracts name = record { word = codes "TRACTS"; value = name }
 
 -- the value that the words give the option, or its default if they do not name it
-abbrev pub given_account : Account → Given
+abbrev pub given_account : Account → GivenOption
 given_account account = record { word = codes "ACCOUNT"; value = account_name account }
 
 -- the subcommand that asks for a task
@@ -42,7 +42,7 @@ subcommand_name (Normal notes description) = codes "normal"
 subcommand_name (Report notes tracts) = codes "report"
 
 -- the subcommand's words and option, with the task's files and account
-abbrev pub given_of : Task → List Given
+abbrev pub given_of : Task → List GivenOption
 given_of (Plat notes) = given_notes notes ∷ []
 given_of (Acres notes description account) =
     given_notes notes ∷ given_description description ∷ given_account account ∷ []

@@ -1,19 +1,21 @@
-//! The program over the host's capabilities, which `main` passes to it.
+//! The program over the host's capabilities, which `main` passes to it; and how it ends, with its exit
+//! status.
 ghost use Rattle.std.specs.Prelude.{◌≡◌, map, string_bytes, IfErr, IfOk};
-ghost use Rattle.twp_program.specs.Endings.{EndsAs, EndsProgram, IsJoinedVerdict};
-ghost use Rattle.twp_program.specs.Endings.{IsRunFailure, IsWordsFault};
-ghost use Rattle.twp_program.specs.Statuses.{IsStatusOf, words_fault};
+ghost use Rattle.twp_program.specs.Endings.{EndsAs, EndsProgram, IsJoinedVerdict, IsRunFailure};
+ghost use Rattle.twp_program.specs.Endings.{IsWordsFault};
+ghost use Rattle.twp_program.specs.Statuses.{IsStatusOf, words_fault, ending_of, ending_of_fault};
+ghost use Rattle.twp_program.specs.Statuses.{failing, status_of};
 
-use crate::ending::{Ended, Ending, Failure, NO_ANSWER, outcome_of};
+use crate::files::{Kept, Name};
 use crate::joined::run_joined_noting;
-use crate::kept::Kept;
 use crate::showing::show_joined;
 use crate::subcommand::run_task;
-use crate::task::read_task;
+use crate::task::{TaskFault, read_task};
 use std::env::Env;
 use std::io::ErrorKind;
 use std::rt::Files;
 use std::{env, io};
+use thiserror::Error;
 use twp_answers::{RunFault, Verdict};
 use twp_diagnose::Suggests;
 use twp_grid::Device;
@@ -126,4 +128,87 @@ fn conclude_failure<R: Eprint>(rt: &R, failure: &Failure) -> u8
 {
     let _ = eprintln!(rt; "township: {failure}");
     NO_ANSWER
+}
+
+/// How the program ends.
+#[derive(Drop)]
+pub enum Ending {
+    /// A run gave an answer, and wrote it.
+    Answered(Verdict),
+    /// Help was asked for, which is in the text.
+    Helps { text: String },
+    /// The command line was misused, as the text says.
+    Misused { text: String },
+    /// There is no answer.
+    Failed(Failure),
+}
+
+/// How the program ended, and its exit status.
+#[derive(Drop)]
+pub struct Ended {
+    /// How it ended.
+    pub ending: Ending,
+    /// The status of that ending.
+    pub status: u8,
+}
+
+/// Why the program has no answer.
+#[derive(Debug, Drop, Error)]
+pub enum Failure {
+    /// A file can't be opened.
+    #[error("cannot open {name}")]
+    Open { name: Name },
+    /// A run gave no verdict, or the same fault occurred in reading the words of the command line
+    /// or writing its help.
+    #[error("{0}")]
+    Run(RunFault),
+}
+
+/// The outcome of a run, as the program's.
+pub fn outcome_of(ran: Result<Verdict, RunFault>) -> Result<Verdict, Failure>
+    ensures { result ≡ failing ran }
+{
+    match ran {
+        Ok(verdict) => Ok(verdict),
+        Err(fault) => Err(Failure::Run(fault)),
+    }
+}
+
+/// The status if there is no answer.
+pub const NO_ANSWER: u8 = 3;
+
+impl Ending {
+    /// How the program ends after a run.
+    pub fn after(outcome: Result<Verdict, Failure>) -> Ending
+        ensures { result ≡ ending_of outcome }
+    {
+        match outcome {
+            Ok(verdict) => Ending::Answered(verdict),
+            Err(failure) => Ending::Failed(failure),
+        }
+    }
+
+    /// How the program ends if the words of its command line are not a task.
+    pub fn after_fault(fault: TaskFault) -> Ending
+        ensures { result ≡ ending_of_fault fault }
+    {
+        match fault {
+            TaskFault::Usage { text } => Ending::Misused { text },
+            TaskFault::Help { text } => Ending::Helps { text },
+            TaskFault::Memory => Ending::Failed(Failure::Run(RunFault::Memory)),
+        }
+    }
+
+    /// The exit status of the program: 0 if the input was accepted or help was asked for, 1 if the
+    /// input was refused, 2 if the command line was misused, and 3 if there is no answer.
+    pub fn status(&self) -> u8
+        ensures { result ≡ status_of self.now }
+    {
+        match self {
+            Ending::Answered(Verdict::Accepted) | Ending::Helps { .. } => 0,
+            Ending::Answered(Verdict::Refused(_) | Verdict::TractRefused { .. }) => 1,
+            Ending::Misused { .. } => 2,
+            Ending::Failed(_) => NO_ANSWER,
+        }
+    }
 }

@@ -2,16 +2,15 @@
 //! explanation of a refusal or, for accepted land, a note if a place in its description can be read
 //! in two ways. It is left out if memory for it runs out.
 ghost use Rattle.std.specs.Prelude.{◌≡◌, ◌≢◌, ◌↔◌, Ok, Some, IfSome, IsTrue};
-ghost use Rattle.twp_answers.specs.declared.verdict.Verdict.TheVariants.{Accepted};
+ghost use Rattle.twp_answers.specs.declared.stop.Verdict.TheVariants.{Accepted};
 ghost use Rattle.twp_explain.specs.Refusals.{first_refusal};
 ghost use Rattle.twp_program.specs.KeptBytes.{copy_of};
 ghost use Rattle.twp_program.specs.ShownExplanations.{AreJoinedNotes, IsExplanationOf, IsFile};
 ghost use Rattle.twp_program.specs.ShownExplanations.{IsJoinedDescription, ShowsEither, ShowsNoted};
 ghost use Rattle.twp_program.specs.ShownExplanations.{ShowsText};
 
-use crate::files::{OpenedNotes, OpenedText};
+use crate::files::{Kept, OpenedNotes, OpenedText};
 use crate::joined::split_at_line_feed;
-use crate::kept::Kept;
 use std::alloc::Global;
 use twp_answers::{Account, Ran, RunFault, Verdict};
 use twp_diagnose::{Explanation, Given, Suggests};

@@ -11,9 +11,8 @@ ghost use Rattle.twp_answers.specs.Runs.{RunsOnPlat};
 ghost use Rattle.twp_answers.specs.Tracts.{TRACTS_LIMIT};
 ghost use Rattle.twp_program.specs.Endings.{FailsOn, IsVerdictOf, RunsOnNotes};
 
-use crate::ending::{Failure, outcome_of};
-use crate::files::{OpenedNotes, OpenedText, open_notes, open_text};
-use crate::name::Name;
+use crate::files::{Name, OpenedNotes, OpenedText, open_notes, open_text};
+use crate::program::{Failure, outcome_of};
 use crate::showing::{show_land, show_list, show_plat};
 use crate::task::Task;
 use std::alloc::Global;

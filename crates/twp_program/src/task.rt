@@ -2,11 +2,11 @@ ghost use Rattle.std.specs.Prelude.{◌≡◌, IfErr, IfOk, Some, map, option_ma
 ghost use Rattle.std.specs.Prelude.{codes};
 ghost use Rattle.clap.specs.Words.{first_of, found_of, kind_of, rows_of, subcommand_rows_of};
 ghost use Rattle.twp_program.specs.Commands.{account_name};
-ghost use Rattle.twp_program.specs.steps.Parses.{HasAccount, HasValue, IsWhole, ShowsAs};
+ghost use Rattle.twp_program.specs.steps.Parses.{HasAccountName, HasValue, IsWhole, ShowsAs};
 ghost use Rattle.twp_program.specs.Tasks.{IsFaultOf, IsTaskIn, IsTaskOf};
 
 use crate::command::township;
-use crate::name::Name;
+use crate::files::Name;
 use clap::error::ErrorKind;
 use clap::{ArgMatches, Error as ParseError};
 use std::alloc::{AllocError, AllocFailed, Global};
@@ -123,7 +123,7 @@ fn name_of(alloc: Global, found: &ArgMatches<'_>, word: &str) -> Result<Name, Al
 
 /// The account that the option names.
 fn account_of(found: &ArgMatches<'_>) -> Account
-    requires { HasAccount (rows_of (found_of found.now)) }
+    requires { HasAccountName (rows_of (found_of found.now)) }
     ensures { first_of (codes "ACCOUNT") (rows_of (found_of found.now))
         ≡ Some (account_name result) }
 {

@@ -8,13 +8,13 @@ use Rattle.twp_grid.specs.declared.township.NorthSouth.{NorthSouth as NorthOrSou
 use Rattle.twp_grid.specs.declared.township.NorthSouth.TheVariants as ns
 use Rattle.twp_grid.specs.declared.township.EastWest.{EastWest as EastOrWest}
 use Rattle.twp_grid.specs.declared.township.EastWest.TheVariants as ew
-use Rattle.twp_read.specs.declared.item_change.Change.TheVariants.{TownshipSide, RangeSide}
+use Rattle.twp_read.specs.declared.watch.ItemChange.TheVariants.{TownshipSide, RangeSide}
 use Rattle.twp_grammar.specs.declared.item.Item.{Item}
 use Rattle.twp_grammar.specs.declared.item.Item.TheVariants.{Sections}
 use Rattle.twp_grammar.specs.declared.item.Numeral.{Numeral}
-use Rattle.twp_grammar.specs.declared.kind.Kind.{Kind}
-use Rattle.twp_grammar.specs.declared.kind.Kind.TheVariants.{T, R, NorthSouth, EastWest, Sec, Lot, Stop}
-use Rattle.twp_grammar.specs.declared.kind.Kind.TheVariants.{Comma, Colon, Number}
+use Rattle.twp_grammar.specs.declared.tokens.Kind.{Kind}
+use Rattle.twp_grammar.specs.declared.tokens.Kind.TheVariants.{T, R, NorthSouth, EastWest, Sec, Lot, Stop}
+use Rattle.twp_grammar.specs.declared.tokens.Kind.TheVariants.{Comma, Colon, Number}
 use Rattle.twp_grammar.specs.declared.state.State.{State}
 use Rattle.twp_grammar.specs.declared.state.State.TheVariants as past
 use Rattle.twp_grammar.specs.Cutting.{IsFirstIn}

@@ -8,8 +8,8 @@ use Rattle.std.proofs.lemmas.List.Folds.{length-prefix_len}
 use Rattle.std.proofs.lemmas.List.{take-append-drop, drop-drop}
 use Rattle.std.proofs.lemmas.List.Sums.{AllPass-from_list_all, list_all-from_AllPass}
 use Rattle.twp_grammar.specs.declared.item.Item.{Item}
-use Rattle.twp_grammar.specs.declared.kind.Kind.{Kind}
-use Rattle.twp_grammar.specs.declared.kind.Kind.TheVariants.{Half, Quarter, Of, The, And, Comma}
+use Rattle.twp_grammar.specs.declared.tokens.Kind.{Kind}
+use Rattle.twp_grammar.specs.declared.tokens.Kind.TheVariants.{Half, Quarter, Of, The, And, Comma}
 use Rattle.twp_grammar.specs.declared.state.State.{State}
 use Rattle.twp_grammar.specs.declared.state.State.TheVariants as past
 use Rattle.twp_grammar.specs.declared.state.State.TheVariants.{Start}

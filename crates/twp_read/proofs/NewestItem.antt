@@ -6,7 +6,7 @@ use Rattle.std.proofs.Math.ListN.{set}
 use Rattle.std.proofs.Math.Seq.{get_or-append_seam, set-append_seam}
 use Rattle.std.proofs.lemmas.List.{reverse-append}
 use Rattle.twp_grammar.specs.declared.item.Item.{Item}
-use Rattle.twp_read.specs.declared.item_change.Change.{Change}
+use Rattle.twp_read.specs.declared.watch.ItemChange.{ItemChange}
 use Rattle.twp_read.specs.steps.TokenSteps.{with_newest, changed}
 use Rattle.twp_grammar.specs.declared.state.State.{State}
 use Rattle.twp_read.specs.steps.Usual.{Leads}
@@ -22,7 +22,7 @@ has_last first (second ∷ more) =
     let rest : HasLast (second ∷ more) = has_last second more in
     record { front = first ∷ rest.front; last = rest.last; is = ap (λ xs. first ∷ xs) rest.is }
 
-changes_last : (change : Change) (items : List Item) (last new : Item) → 0 < length items
+changes_last : (change : ItemChange) (items : List Item) (last new : Item) → 0 < length items
     → last ≡ get_or items (length items - 1) last → new ≡ changed change last
     → reverse (set items (length items - 1) new) ≡ with_newest change (reverse items)
 changes_last change [] last new some is made = absurd (omega arith)
@@ -50,7 +50,7 @@ changes_last change (first ∷ more) last new some is made =
           it,
         ) refl
 
-pub changes_newest : (change : Change) (items : List Item) (n : ℕ) (last new : Item) → n ≡ length items
+pub changes_newest : (change : ItemChange) (items : List Item) (n : ℕ) (last new : Item) → n ≡ length items
     → 0 < n → last ≡ get_or items (n - 1) last → new ≡ changed change last
     → reverse (set items (n - 1) new) ≡ with_newest change (reverse items)
 changes_newest change items n last new long some is made =

@@ -1,11 +1,11 @@
 -- Tokens that cloud no text have no doubtful place.
 use Rattle.std.proofs.Common.{◌≡◌, ℕ, ◌&&◌, ◌||◌, Bool, true, false, List, [], ◌∷◌, Option, Some, None}
 use Rattle.std.proofs.Common.{refl, ap, ◌∙◌, ltb, if◌then◌else◌}
-use Rattle.twp_grammar.specs.declared.kind.Kind.{Kind}
-use Rattle.twp_grammar.specs.declared.kind.Kind.TheVariants.{Sec, Lot, And, Of, The, T, R}
-use Rattle.twp_grammar.specs.declared.kind.Kind.TheVariants.{NorthSouth, EastWest}
-use Rattle.twp_grammar.specs.declared.kind.Kind.TheVariants.{Corner, Half, Quarter, Number, Comma, Colon}
-use Rattle.twp_grammar.specs.declared.kind.Kind.TheVariants.{Stop}
+use Rattle.twp_grammar.specs.declared.tokens.Kind.{Kind}
+use Rattle.twp_grammar.specs.declared.tokens.Kind.TheVariants.{Sec, Lot, And, Of, The, T, R}
+use Rattle.twp_grammar.specs.declared.tokens.Kind.TheVariants.{NorthSouth, EastWest}
+use Rattle.twp_grammar.specs.declared.tokens.Kind.TheVariants.{Corner, Half, Quarter, Number, Comma, Colon}
+use Rattle.twp_grammar.specs.declared.tokens.Kind.TheVariants.{Stop}
 use Rattle.twp_grammar.specs.declared.state.State.{State}
 use Rattle.twp_grammar.specs.declared.state.State.TheVariants as past
 use Rattle.twp_grammar.specs.Tokens.{Token}

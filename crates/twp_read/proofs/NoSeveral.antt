@@ -1,10 +1,10 @@
 -- A word in the singular and several numbers cloud a text.
 use Rattle.std.proofs.Common.{◌≡◌, ℕ, ◌&&◌, ◌||◌, Bool, true, false, List, [], ◌∷◌, Option, Some, None}
 use Rattle.std.proofs.Common.{refl, if◌then◌else◌}
-use Rattle.twp_grammar.specs.declared.kind.Kind.{Kind}
-use Rattle.twp_grammar.specs.declared.kind.Kind.TheVariants.{Sec, Lot, And, To}
-use Rattle.twp_grammar.specs.declared.kind.Kind.TheVariants.{Number, Comma}
-use Rattle.twp_grammar.specs.declared.kind.Kind.TheVariants.{Stop}
+use Rattle.twp_grammar.specs.declared.tokens.Kind.{Kind}
+use Rattle.twp_grammar.specs.declared.tokens.Kind.TheVariants.{Sec, Lot, And, To}
+use Rattle.twp_grammar.specs.declared.tokens.Kind.TheVariants.{Number, Comma}
+use Rattle.twp_grammar.specs.declared.tokens.Kind.TheVariants.{Stop}
 use Rattle.twp_grammar.specs.declared.state.State.{State}
 use Rattle.twp_grammar.specs.declared.state.State.TheVariants as past
 use Rattle.twp_grammar.specs.Tokens.{Token}

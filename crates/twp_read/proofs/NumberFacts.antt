@@ -6,11 +6,11 @@ use Rattle.std.specs.Char.{is_ascii_digit}
 use Rattle.std.specs.List.{prefix_len}
 use Rattle.twp_grammar.specs.declared.item.Item.{Item}
 use Rattle.twp_grammar.specs.declared.item.Numeral.{Numeral}
-use Rattle.twp_grammar.specs.declared.kind.Kind.{Kind}
-use Rattle.twp_grammar.specs.declared.kind.Kind.TheVariants.{Number, Comma}
-use Rattle.twp_grammar.specs.declared.lexeme.Lexeme.{Lexeme}
-use Rattle.twp_read.specs.declared.usual.list.Listed.{Listed}
-use Rattle.twp_read.specs.declared.usual.list.Listed.TheVariants as listed
+use Rattle.twp_grammar.specs.declared.tokens.Kind.{Kind}
+use Rattle.twp_grammar.specs.declared.tokens.Kind.TheVariants.{Number, Comma}
+use Rattle.twp_grammar.specs.declared.tokens.Lexeme.{Lexeme}
+use Rattle.twp_read.specs.declared.usual.list.ListKind.{ListKind}
+use Rattle.twp_read.specs.declared.usual.list.ListKind.TheVariants as listed
 use Rattle.twp_grammar.specs.declared.state.State.{State}
 use Rattle.twp_grammar.specs.declared.state.State.TheVariants as past
 use Rattle.twp_grammar.specs.Cutting.{IsFirstIn, cut_digits, cut}
@@ -18,7 +18,7 @@ use Rattle.twp_grammar.specs.Tokens.{Token, StartsWith, is_white}
 use Rattle.twp_grammar.specs.Grammar.{class_of, comma, number}
 use Rattle.twp_grammar.specs.Machine.{next}
 use Rattle.twp_read.specs.steps.TokenSteps.{take_number, take_token, with_newest}
-use Rattle.twp_read.specs.declared.item_change.Change.TheVariants.{Last}
+use Rattle.twp_read.specs.declared.watch.ItemChange.TheVariants.{Last}
 use Rattle.twp_read.specs.steps.Usual.{Leads, IsNumberAfter, IsNumberToken, IsAfterWhite, entry_of}
 use Rattle.twp_read.specs.steps.Usual.{state_after}
 use Rattle.twp_read.specs.steps.Usual.{last_state_after, listed_in, listed_after_and, listed_after_to}
@@ -170,14 +170,14 @@ comma_leads text at to state after items spelled within white is =
     (white_leads text (at + 1) to after items white.0 white.1 (comma_no_step state after is))
 
 -- how a list continues from a state
-record GoesOn (state : State) (list : Listed) : Type 0 where
+record GoesOn (state : State) (list : ListKind) : Type 0 where
   between : State
   comma_is : next state comma ≡ Some between
   number_is : next between number ≡ Some (state_after list)
   taken : (it : Numeral) (items : List Item) → take_number between it items ≡ entry_of list it ∷ items
   plain : (bytes : List ℕ) → may_be_doubtful between bytes ≡ false
 
-goes_on : (state : State) (list : Listed) → listed_in state ≡ Some list → GoesOn state list
+goes_on : (state : State) (list : ListKind) → listed_in state ≡ Some list → GoesOn state list
 goes_on past.LotNumber listed.Lots h =
     record {
       between = past.LotComma;
@@ -229,7 +229,7 @@ goes_on past.ListInclusive listed.Sections h =
 goes_on _ _ h = cc h
 
 -- one more number of a list leads on, after a comma
-pub entry_leads : (text : List ℕ) (at to : ℕ) (state : State) (items : List Item) (list : Listed)
+pub entry_leads : (text : List ℕ) (at to : ℕ) (state : State) (items : List Item) (list : ListKind)
     (it : Numeral) (end : ℕ)
     → listed_in state ≡ Some list
     → drop at text ≡ codes "," ++ drop (at + 1) text → at + 1 ≤ length text → IsAfterWhite text (at + 1) to
@@ -244,18 +244,18 @@ entry_leads text at to state items list it end is spelled within white leads =
     (leads by.between (state_after list) items by.number_is (by.plain (drop it.at text))))
 
 -- and after an `and`
-record IsEntry (state : State) (list : Listed) : Type 0 where
+record IsEntry (state : State) (list : ListKind) : Type 0 where
   number_is : next state number ≡ Some (state_after list)
   taken : (it : Numeral) (items : List Item) → take_number state it items ≡ entry_of list it ∷ items
   plain : (bytes : List ℕ) → may_be_doubtful state bytes ≡ false
 
-is_entry : (state : State) (list : Listed) → listed_after_and state ≡ Some list → IsEntry state list
+is_entry : (state : State) (list : ListKind) → listed_after_and state ≡ Some list → IsEntry state list
 is_entry past.LotAnd listed.Lots h = record { number_is = refl; taken = λ it items. refl; plain = λ _. refl }
 is_entry past.ListAnd listed.Sections h =
     record { number_is = refl; taken = λ it items. refl; plain = λ _. refl }
 is_entry _ _ h = cc h
 
-pub joined_leads : (text : List ℕ) (from : ℕ) (state : State) (items : List Item) (list : Listed)
+pub joined_leads : (text : List ℕ) (from : ℕ) (state : State) (items : List Item) (list : ListKind)
     (it : Numeral) (end : ℕ)
     → listed_after_and state ≡ Some list → IsNumberAfter text from it end
     → Leads text from state items end (state_after list) (entry_of list it ∷ items)
@@ -265,18 +265,19 @@ joined_leads text from state items list it end is leads =
     (leads state (state_after list) items by.number_is (by.plain (drop it.at text)))
 
 -- and after `to`, as the last of a range
-record IsLast (state : State) (list : Listed) : Type 0 where
+record IsLast (state : State) (list : ListKind) : Type 0 where
   number_is : next state number ≡ Some (last_state_after list)
   taken : (it : Numeral) (items : List Item) → take_number state it items ≡ with_newest (Last it) items
   plain : (bytes : List ℕ) → may_be_doubtful state bytes ≡ false
 
-is_last : (state : State) (list : Listed) → listed_after_to state ≡ Some list → IsLast state list
+is_last : (state : State) (list : ListKind) → listed_after_to state ≡ Some list → IsLast state list
 is_last past.LotTo listed.Lots h = record { number_is = refl; taken = λ it items. refl; plain = λ _. refl }
 is_last past.ListTo listed.Sections h =
     record { number_is = refl; taken = λ it items. refl; plain = λ _. refl }
 is_last _ _ h = cc h
 
-pub last_leads : (text : List ℕ) (from : ℕ) (state : State) (items : List Item) (list : Listed) (it : Numeral)
+pub last_leads : (text : List ℕ) (from : ℕ) (state : State) (items : List Item) (list : ListKind)
+    (it : Numeral)
     (end : ℕ)
     → listed_after_to state ≡ Some list → IsNumberAfter text from it end
     → Leads text from state items end (last_state_after list) (with_newest (Last it) items)
@@ -287,11 +288,11 @@ last_leads text from state items list it end is leads =
     (leads state (last_state_after list) items by.number_is (by.plain (drop it.at text)))
 
 -- and the list continues there
-pub goes_on_after : (list : Listed) → listed_in (state_after list) ≡ Some list
+pub goes_on_after : (list : ListKind) → listed_in (state_after list) ≡ Some list
 goes_on_after listed.Lots = refl
 goes_on_after listed.Sections = refl
 
 -- it continues after no step
-pub list_no_step : (state : State) (list : Listed) → listed_in state ≡ Some list → is_step state ≡ false
+pub list_no_step : (state : State) (list : ListKind) → listed_in state ≡ Some list → is_step state ≡ false
 list_no_step past.Step list h = cc h
 list_no_step _ list h = refl

@@ -1,9 +1,10 @@
 -- What a quiet token leaves as it was.
 use Rattle.std.proofs.Common.{◌≡◌, ℕ, ◌&&◌, ◌||◌, not, Bool, true, false, Some, refl, sym}
 use Rattle.std.proofs.Common.{if◌then◌else◌}
-use Rattle.twp_grammar.specs.declared.kind.Kind.{Kind}
-use Rattle.twp_grammar.specs.declared.kind.Kind.TheVariants.{Sec, Lot, And, To, NorthSouth, EastWest, Corner}
-use Rattle.twp_grammar.specs.declared.kind.Kind.TheVariants.{Number}
+use Rattle.twp_grammar.specs.declared.tokens.Kind.{Kind}
+use Rattle.twp_grammar.specs.declared.tokens.Kind.TheVariants.{Sec, Lot, And, To, NorthSouth, EastWest}
+use Rattle.twp_grammar.specs.declared.tokens.Kind.TheVariants.{Corner}
+use Rattle.twp_grammar.specs.declared.tokens.Kind.TheVariants.{Number}
 use Rattle.twp_grammar.specs.declared.state.State.{State}
 use Rattle.twp_grammar.specs.Tokens.{Token}
 use Rattle.twp_read.specs.declared.watch.ListWord.{ListWord}

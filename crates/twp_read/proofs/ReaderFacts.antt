@@ -14,8 +14,8 @@ use Rattle.twp_grammar.specs.Items.{BeginWithSections}
 use Rattle.twp_grammar.specs.Sentences.{IsSentence, HasItems, MayFollow}
 use Rattle.twp_grammar.specs.Machine.{next, is_final}
 use Rattle.twp_read.specs.steps.TokenSteps.{take_token, run}
-use Rattle.twp_grammar.specs.declared.kind.Kind.{Kind}
-use Rattle.twp_grammar.specs.declared.kind.Kind.TheVariants.{BadByte, BadNumber}
+use Rattle.twp_grammar.specs.declared.tokens.Kind.{Kind}
+use Rattle.twp_grammar.specs.declared.tokens.Kind.TheVariants.{BadByte, BadNumber}
 use Rattle.twp_read.specs.declared.fault.TextFault.{TextFault}
 use Rattle.twp_grammar.specs.declared.expected.Expected.{Expected}
 use Rattle.twp_grammar.specs.Expected.{expected_of}

@@ -21,7 +21,7 @@ use Rattle.twp_grammar.specs.Sentences.{HasItems, IsSentence, IsFront, IsFault, 
 use Rattle.twp_read.specs.Laws.{classes_of, ClassesDecide}
 use Rattle.twp_grammar.specs.Machine.{next, is_final}
 use Rattle.twp_read.specs.steps.TokenSteps.{take_token, run}
-use Rattle.twp_grammar.specs.Expected.{reported, named, expected_of, IsNamed}
+use Rattle.twp_grammar.specs.Expected.{reported, named, expected_of, IsClassNamed}
 use Rattle.twp_grammar.proofs.Derivatives.{same_class, same_class_tells, Derives, derives_none, takes_token}
 use Rattle.twp_grammar.proofs.Table as table
 use Rattle.twp_read.proofs.ListWalk.{newest_first}
@@ -263,7 +263,7 @@ short_completion ts more is_sentence = by_run (run (Some Start) [] ts) refl
         (not_stuck (ts ++ more) (run-append (Some Start) [] ts more ∙ ap (λ o. go_on o more) h) is_sentence)
     by_run (Some (s, its)) h = front ts s its h
 
-named_of : (c : Class) (cs : List Class) → list_any (λ d. same_class c d) cs ≡ true → IsNamed c cs
+named_of : (c : Class) (cs : List Class) → list_any (λ d. same_class c d) cs ≡ true → IsClassNamed c cs
 named_of c [] h = cc h
 named_of c (d ∷ ds) h = elim (cases_Bool (same_class c d)) [
   | inl same ↦ inl (same_class_tells c d same)
@@ -273,11 +273,11 @@ named_of c (d ∷ ds) h = elim (cases_Bool (same_class c d)) [
 -- whatever a sentence has after some tokens is named in the state that they lead to
 pub what_follows : (before : List Token) (token : Token) (more : List Token) (s : State) (its : List Item)
     → run (Some Start) [] before ≡ ended s its → IsSentence (before ++ token ∷ more)
-    → IsNamed (class_of token.kind) (named (expected_of s))
+    → IsClassNamed (class_of token.kind) (named (expected_of s))
 what_follows before token more s its h is = follows (next s (class_of token.kind)) refl
   where
     follows : (o : Option State) → next s (class_of token.kind) ≡ o
-        → IsNamed (class_of token.kind) (named (expected_of s))
+        → IsClassNamed (class_of token.kind) (named (expected_of s))
     follows None stuck =
         absurd
         (not_stuck (before ++ token ∷ more)
@@ -291,7 +291,7 @@ what_follows before token more s its h is = follows (next s (class_of token.kind
 
 -- a sentence has a token of each class that is reported in the state that some tokens lead to
 pub what_is_told : (before : List Token) (s : State) (its : List Item)
-    → run (Some Start) [] before ≡ ended s its → (c : Class) → IsNamed c (reported (expected_of s))
+    → run (Some Start) [] before ≡ ended s its → (c : Class) → IsClassNamed c (reported (expected_of s))
     → MayFollow before c
 what_is_told before s its h c is = follows (next s c) refl (table.told_follows s c is)
   where

@@ -8,7 +8,7 @@ use Rattle.std.proofs.lemmas.List.Sums.{AllPass-from_list_all}
 use Rattle.twp_grammar.specs.declared.item.Item.{Item}
 use Rattle.twp_grammar.specs.declared.item.Item.TheVariants.{Sections}
 use Rattle.twp_grammar.specs.declared.item.Numeral.{Numeral}
-use Rattle.twp_grammar.specs.declared.kind.Kind.TheVariants.{Sec, Stop, Comma, Number}
+use Rattle.twp_grammar.specs.declared.tokens.Kind.TheVariants.{Sec, Stop, Comma, Number}
 use Rattle.twp_grammar.specs.declared.state.State.{State}
 use Rattle.twp_grammar.specs.declared.state.State.TheVariants as past
 use Rattle.twp_grammar.specs.Tokens.{Token, StartsWith, is_white}

@@ -6,9 +6,9 @@ use Rattle.std.specs.Char.{is_ascii_lowercase, is_ascii_alphabetic, to_ascii_low
 use Rattle.std.proofs.lemmas.List.{get_or-drop, drop-drop}
 use Rattle.std.proofs.lemmas.List.Sums.{AllPass-from_list_all}
 use Rattle.twp_grammar.specs.declared.item.Step.{Step}
-use Rattle.twp_grammar.specs.declared.kind.Kind.{Kind}
-use Rattle.twp_grammar.specs.declared.kind.Kind.TheVariants.{Half, Quarter}
-use Rattle.twp_read.specs.declared.usual.step.UsualStep.{UsualStep}
+use Rattle.twp_grammar.specs.declared.tokens.Kind.{Kind}
+use Rattle.twp_grammar.specs.declared.tokens.Kind.TheVariants.{Half, Quarter}
+use Rattle.twp_read.specs.declared.usual.chain.UsualStep.{UsualStep}
 use Rattle.twp_grammar.specs.Cutting.{small_letter}
 use Rattle.twp_grammar.specs.Tokens.{IsToken, IsGoodToken, begins_with, is_white, kind_among, words}
 use Rattle.twp_grammar.specs.Tokens.IsToken.{good}

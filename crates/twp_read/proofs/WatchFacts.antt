@@ -10,9 +10,10 @@ use Rattle.twp_grid.specs.declared.block.Side.TheVariants as side
 use Rattle.twp_grammar.specs.declared.item.Item.{Item}
 use Rattle.twp_grammar.specs.declared.item.Step.{Step}
 use Rattle.twp_grammar.specs.declared.item.Step.TheVariants as step
-use Rattle.twp_grammar.specs.declared.kind.Kind.{Kind}
-use Rattle.twp_grammar.specs.declared.kind.Kind.TheVariants.{Sec, Lot, And, To, NorthSouth, EastWest, Corner}
-use Rattle.twp_grammar.specs.declared.kind.Kind.TheVariants.{Number}
+use Rattle.twp_grammar.specs.declared.tokens.Kind.{Kind}
+use Rattle.twp_grammar.specs.declared.tokens.Kind.TheVariants.{Sec, Lot, And, To, NorthSouth, EastWest}
+use Rattle.twp_grammar.specs.declared.tokens.Kind.TheVariants.{Corner}
+use Rattle.twp_grammar.specs.declared.tokens.Kind.TheVariants.{Number}
 use Rattle.twp_grammar.specs.declared.state.State.{State}
 use Rattle.twp_grammar.specs.declared.state.State.TheVariants as past
 use Rattle.twp_grammar.specs.Tokens.{Token, StartsWith}

@@ -4,8 +4,8 @@ use Rattle.std.proofs.Common.{Some, drop, refl, sym, ap, subst, ◌∙◌, arith
 use Rattle.std.proofs.Common.{inl, inr}
 use Rattle.std.specs.List.{AllPass}
 use Rattle.twp_grammar.specs.declared.item.Item.{Item}
-use Rattle.twp_grammar.specs.declared.kind.Kind.{Kind}
-use Rattle.twp_grammar.specs.declared.kind.Kind.TheVariants.{And}
+use Rattle.twp_grammar.specs.declared.tokens.Kind.{Kind}
+use Rattle.twp_grammar.specs.declared.tokens.Kind.TheVariants.{And}
 use Rattle.twp_grammar.specs.declared.state.State.{State}
 use Rattle.twp_grammar.specs.declared.state.State.TheVariants.{Start}
 use Rattle.twp_grammar.specs.Tokens.{Token, StartsWith, is_white}
@@ -16,7 +16,7 @@ use Rattle.twp_read.specs.declared.watch.ListWord.TheVariants as word
 use Rattle.twp_read.specs.declared.watch.Watch.{Watch}
 use Rattle.twp_read.specs.Doubts.{end_of, HasNoDoubtfulPlace}
 use Rattle.twp_read.specs.steps.TokenSteps.{take_token}
-use Rattle.twp_read.specs.declared.reached.Reached.{Reached}
+use Rattle.twp_read.specs.declared.description.Reached.{Reached}
 use Rattle.twp_read.specs.steps.Usual.{Leads, MovesOn}
 use Rattle.twp_read.specs.steps.Watching.{is_step, end_from, clouds}
 use Rattle.twp_read.specs.steps.Watching.{joins_parts, begins_list, word_after, word_from, watch_after}

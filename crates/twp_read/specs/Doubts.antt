@@ -2,11 +2,11 @@
 -- pattern over tokens in a row.
 use Rattle.std.specs.Prelude.{◌≡◌, ◌==◌, ◌||◌, ◌&&◌, not, ℕ, ◌+◌, nat_lt, Bool, true, false, List, [], ◌∷◌}
 use Rattle.std.specs.Prelude.{if◌then◌else◌, Option, Some, None, length}
-use Rattle.twp_grammar.specs.declared.kind.Kind.{Kind}
-use Rattle.twp_grammar.specs.declared.kind.Kind.TheVariants.{Sec, Lot, And, To, Of, The, T, R}
-use Rattle.twp_grammar.specs.declared.kind.Kind.TheVariants.{NorthSouth, EastWest}
-use Rattle.twp_grammar.specs.declared.kind.Kind.TheVariants.{Corner, Half, Quarter, Number, Comma, Colon}
-use Rattle.twp_grammar.specs.declared.kind.Kind.TheVariants.{Stop}
+use Rattle.twp_grammar.specs.declared.tokens.Kind.{Kind}
+use Rattle.twp_grammar.specs.declared.tokens.Kind.TheVariants.{Sec, Lot, And, To, Of, The, T, R}
+use Rattle.twp_grammar.specs.declared.tokens.Kind.TheVariants.{NorthSouth, EastWest}
+use Rattle.twp_grammar.specs.declared.tokens.Kind.TheVariants.{Corner, Half, Quarter, Number, Comma, Colon}
+use Rattle.twp_grammar.specs.declared.tokens.Kind.TheVariants.{Stop}
 use Rattle.twp_grammar.specs.Tokens.{Token, HasTokens}
 use Rattle.twp_read.specs.declared.doubt.Doubt.{Doubt}
 use Rattle.twp_read.specs.declared.doubt.Doubt.TheVariants as doubt

@@ -4,14 +4,14 @@ use Rattle.std.specs.Prelude.{◌≡◌, ◌⊎◌, ℕ, ◌≤◌, ◌<◌, zer
 use Rattle.std.specs.Prelude.{None, length, take, ⊤}
 use Rattle.std.specs.Option.{option_map_or}
 use Rattle.twp_grid.specs.declared.refusal.Refusal.{Refusal}
-use Rattle.twp_grammar.specs.declared.kind.Kind.{Kind}
-use Rattle.twp_grammar.specs.declared.kind.Kind.TheVariants.{BadByte, BadNumber}
+use Rattle.twp_grammar.specs.declared.tokens.Kind.{Kind}
+use Rattle.twp_grammar.specs.declared.tokens.Kind.TheVariants.{BadByte, BadNumber}
 use Rattle.twp_read.specs.declared.fault.TextFault.{TextFault}
 use Rattle.twp_read.specs.declared.fault.TextFault.TheVariants as fault
 use Rattle.twp_grammar.specs.Tokens.{Token, HasTokens}
 use Rattle.twp_grammar.specs.Grammar.{Class, class_of}
 use Rattle.twp_grammar.specs.Sentences.{IsSentence, IsFault, MayFollow}
-use Rattle.twp_grammar.specs.Expected.{reported, named, IsNamed}
+use Rattle.twp_grammar.specs.Expected.{reported, named, IsClassNamed}
 use Rattle.twp_grammar.specs.declared.expected.Expected.{Expected}
 pub use Rattle.twp_grammar.specs.Sentences.{TEXT_LIMIT, IsReadAs}
 
@@ -86,8 +86,8 @@ pub record NamesWhatFollows (text : List ℕ) (at : ℕ) (expected : Expected) :
   pub wrong : GoesWrong text at
   pub named_is : (token : Token) (more : List Token)
       → IsSentence (take wrong.i wrong.tokens ++ token ∷ more)
-      → IsNamed (class_of token.kind) (named expected)
-  pub reported_is : (class : Class) → IsNamed class (reported expected)
+      → IsClassNamed (class_of token.kind) (named expected)
+  pub reported_is : (class : Class) → IsClassNamed class (reported expected)
       → MayFollow (take wrong.i wrong.tokens) class
 
 -- the refusal of syntax names whatever could be at its place, and what it reports could

@@ -1,5 +1,5 @@
-ghost use Rattle.std.specs.Prelude.{◌≡◌, ◌≤◌, List, length, IfOk, IfErr, IfSome};
-ghost use Rattle.std.specs.Prelude.{MatchOption, MatchResult};
+ghost use Rattle.std.specs.Prelude.{◌≡◌, ◌≤◌, List, length, IfOk, IfErr, IfSome, MatchOption};
+ghost use Rattle.std.specs.Prelude.{MatchResult};
 ghost use Rattle.twp_read.specs.TextFaults.{refusal_of, IsFirstTextFault, NamesWhatFollows, Helps};
 ghost use Rattle.twp_read.specs.Doubts.{HasNoDoubtfulPlace};
 ghost use Rattle.twp_read.specs.steps.BadTokens.{fault_of_bad, HasNoneBad, IsLeftmostBad};
@@ -8,7 +8,6 @@ ghost use Rattle.twp_read.specs.steps.Usual.{HasNoneBadBefore};
 use crate::doubt::Clarity;
 use crate::fault::{TEXT_LIMIT, TextFault};
 use crate::items::Items;
-use crate::reached::Reached;
 use crate::watch::Watch;
 use std::alloc::Global;
 use std::marker::Model;
@@ -182,4 +181,11 @@ fn fault_of_bad(kind: Kind, at: u32) -> Option<TextFault>
         Kind::BadNumber => Some(TextFault::BadNumber { at }),
         _ => None,
     }
+}
+
+/// A place in a text, and what the tokens before it are the beginning of.
+#[derive(Clone, Copy)]
+pub struct Reached {
+    pub at: usize,
+    pub state: State,
 }

@@ -2,7 +2,7 @@ ghost use Rattle.std.specs.Prelude.{◌≡◌, ◌≤◌, ◌∷◌, ◌+◌, []
 ghost use Rattle.twp_grammar.specs.Items.{north_or_south, east_or_west};
 ghost use Rattle.twp_grammar.specs.declared.item.Item.{Item};
 
-use crate::item_change::{Change, change_item};
+use crate::watch::{ItemChange, change_item};
 use std::alloc::{AllocError, Global};
 use std::marker::Model;
 use twp_grammar::{Item, Kind, Numeral, State, Step, Steps};
@@ -58,7 +58,7 @@ impl Items {
 
     /// Changes the newest item, if there is one.
     #[inline(always)]
-    pub(crate) fn change(&mut self, change: Change) -> Result<(), AllocError>
+    pub(crate) fn change(&mut self, change: ItemChange) -> Result<(), AllocError>
         ensures { OnOk result (self.new ≡ with_newest change self.old) }
     {
         let Some(item) = self.items.last_mut() else {
@@ -117,7 +117,7 @@ impl Items {
         ensures { OnOk result (self.new ≡ take_north_south state side at self.old) }
     {
         match state {
-            State::TownshipNumber => self.change(Change::TownshipSide(side)),
+            State::TownshipNumber => self.change(ItemChange::TownshipSide(side)),
             _ => self.take_step(alloc, state, Step::Half(north_or_south(side)), at),
         }
     }
@@ -134,7 +134,7 @@ impl Items {
         ensures { OnOk result (self.new ≡ take_east_west state side at self.old) }
     {
         match state {
-            State::RangeNumber => self.change(Change::RangeSide(side)),
+            State::RangeNumber => self.change(ItemChange::RangeSide(side)),
             _ => self.take_step(alloc, state, Step::Half(east_or_west(side)), at),
         }
     }
@@ -151,7 +151,7 @@ impl Items {
         ensures { OnOk result (self.new ≡ take_step state step at self.old) }
     {
         if state.is_in_chain() {
-            self.change(Change::Grown(step))
+            self.change(ItemChange::Grown(step))
         } else {
             self.before_parts(state)?;
             self.push_chain(alloc, step, at)
@@ -180,10 +180,10 @@ impl Items {
     {
         match state {
             State::Township | State::TownshipStop => {
-                self.change(Change::TownshipNumber(number.value))
+                self.change(ItemChange::TownshipNumber(number.value))
             }
-            State::Range | State::RangeStop => self.change(Change::RangeNumber(number.value)),
-            State::ListTo | State::LotTo => self.change(Change::Last(number)),
+            State::Range | State::RangeStop => self.change(ItemChange::RangeNumber(number.value)),
+            State::ListTo | State::LotTo => self.change(ItemChange::Last(number)),
             State::Lot | State::LotComma | State::LotLastComma | State::LotAnd => {
                 self.push(Item::Lots {
                     first: number,
@@ -223,7 +223,7 @@ impl Items {
         ensures { OnOk result (self.new ≡ before_parts state self.old) }
     {
         match state {
-            State::SectionNumber | State::SectionComma => self.change(Change::Parted),
+            State::SectionNumber | State::SectionComma => self.change(ItemChange::Parted),
             _ => Ok(()),
         }
     }

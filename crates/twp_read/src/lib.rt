@@ -7,10 +7,8 @@ mod description;
 mod doubt;
 mod doubts;
 mod fault;
-mod item_change;
 mod items;
 pub mod laws;
-mod reached;
 mod usual;
 mod watch;
 

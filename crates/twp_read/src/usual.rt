@@ -9,17 +9,15 @@ ghost use Rattle.std.specs.Prelude.{◌≤◌, length, IfOk};
 ghost use Rattle.twp_grammar.specs.Sentences.{TEXT_LIMIT};
 ghost use Rattle.twp_read.specs.steps.Usual.{Leads, MovesOn};
 
-mod bytes;
 mod chain;
 mod heading;
 mod list;
 mod part;
 mod section;
-mod step;
 
+use crate::description::Reached;
 use crate::items::Items;
-use crate::reached::Reached;
-use crate::usual::bytes::goes_on;
+use crate::usual::chain::goes_on;
 use crate::usual::part::{after_fraction, after_stop};
 use crate::watch::Watch;
 use std::alloc::{AllocError, Global};

@@ -1,14 +1,18 @@
 //! What the reader's loop watches for, so that it can say that a text has no doubtful place. It looks at the
 //! tokens that it takes one by one. What is taken as a whole, in its usual spelling, is never doubtful.
-ghost use Rattle.std.specs.Prelude.{◌≡◌, Some, true, false, IsTrue};
+//! Also what a token changes in the newest item.
+ghost use Rattle.std.specs.Prelude.{◌≡◌, Some, true, false, IsTrue, OnOk};
 ghost use Rattle.twp_grammar.specs.Tokens.{seen};
-ghost use Rattle.twp_read.specs.steps.Watching.{is_step, is_section, is_heading, is_lot_join, is_pending};
-ghost use Rattle.twp_read.specs.steps.Watching.{word_after, clouds, joins_parts, begins_list, is_quiet};
-ghost use Rattle.twp_read.specs.steps.Watching.{watch_after};
+ghost use Rattle.twp_read.specs.steps.Watching.{is_step, is_section, is_heading, is_lot_join};
+ghost use Rattle.twp_read.specs.steps.Watching.{is_pending, word_after, clouds, joins_parts};
+ghost use Rattle.twp_read.specs.steps.Watching.{begins_list, is_quiet, watch_after};
+ghost use Rattle.twp_read.specs.steps.TokenSteps.{changed};
 
+use crate::description::Reached;
 use crate::doubt::{Clarity, begins_step, is_padded, is_singular};
-use crate::reached::Reached;
-use twp_grammar::{Kind, State, Token};
+use std::alloc::AllocError;
+use twp_grammar::{Item, Kind, Numeral, State, Step, Token};
+use twp_grid::{EastWest, NorthSouth};
 
 /// The word whose numbers are read one by one, until it is known whether there are several.
 #[derive(Clone, Copy)]
@@ -176,4 +180,64 @@ fn is_pending(state: State) -> bool
     matches!(state, State::SectionStop | State::LotNumber)
         || is_section(state)
         || is_lot_join(state)
+}
+
+/// What a token says of the newest item.
+#[derive(Clone, Copy, PartialEq, Eq)]
+pub enum ItemChange {
+    TownshipNumber(u16),
+    TownshipSide(NorthSouth),
+    RangeNumber(u16),
+    RangeSide(EastWest),
+    /// The last number of a range.
+    Last(Numeral),
+    /// Parts of the section follow.
+    Parted,
+    /// One more step, of which the last one is a part.
+    Grown(Step),
+}
+
+/// Changes an item by what a token says of it.
+#[inline(always)]
+pub fn change_item(item: &mut Item, change: ItemChange) -> Result<(), AllocError>
+    ensures { OnOk result (item.new ≡ changed change item.old) }
+{
+    match change {
+        ItemChange::TownshipNumber(value) => {
+            if let Item::Heading { number, .. } = item {
+                *number = value;
+            }
+        }
+        ItemChange::TownshipSide(side) => {
+            if let Item::Heading { north_south, .. } = item {
+                *north_south = side;
+            }
+        }
+        ItemChange::RangeNumber(value) => {
+            if let Item::Heading { range, .. } = item {
+                *range = value;
+            }
+        }
+        ItemChange::RangeSide(side) => {
+            if let Item::Heading { east_west, .. } = item {
+                *east_west = side;
+            }
+        }
+        ItemChange::Last(number) => match item {
+            Item::Sections { last, .. } => *last = number,
+            Item::Lots { last, .. } => *last = number,
+            _ => {}
+        },
+        ItemChange::Parted => {
+            if let Item::Sections { whole, .. } = item {
+                *whole = false;
+            }
+        }
+        ItemChange::Grown(step) => {
+            if let Item::Chain { steps, .. } = item {
+                steps.push(step)?;
+            }
+        }
+    }
+    Ok(())
 }

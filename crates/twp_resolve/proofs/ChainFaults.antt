@@ -16,7 +16,7 @@ use Rattle.twp_grammar.specs.OnPlat.{HoldsOfLot}
 use Rattle.twp_resolve.specs.PlaceFaults.{HasFault, number_of}
 use Rattle.twp_grammar.specs.ItemPlaces.{item_of}
 use Rattle.twp_grid.specs.Lands.{HoldsLotPlace}
-use Rattle.twp_resolve.specs.steps.ResolvingSteps.{IsTaken, IsItemsFirstFault}
+use Rattle.twp_resolve.specs.steps.ResolvingSteps.{IsItemTaken, IsItemsFirstFault}
 use Rattle.twp_land.proofs.LotBlocks.{same_section, share_of_meets, meets_of_share}
 use Rattle.twp_resolve.proofs.ChainFacts.{chain_places}
 
@@ -97,7 +97,7 @@ pub chain_taken : {A : Type 0} (result : Result A PlaceFault) (section : ℕ) (s
     → ¬ HoldsLotPlace PLACE_DIGITS section block
     → AddsBlock old new section block at result
     → IfOk result
-    (λ _. (township : Designation) → IsTaken PLACE_DIGITS township section (Chain steps at) old new)
+    (λ _. (township : Designation) → IsItemTaken PLACE_DIGITS township section (Chain steps at) old new)
 chain_taken (Err e) section steps at old new block within is off adds = tt
 chain_taken (Ok _) section steps at old new block within is off adds = λ township.
     let places : item_places PLACE_DIGITS (item_of section (Chain steps at)) ≡ block_places section block =

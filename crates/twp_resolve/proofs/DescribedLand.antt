@@ -10,7 +10,7 @@ use Rattle.std.proofs.lemmas.Bool.Decides.{nat_tests}
 use Rattle.twp_grid.specs.Winding.{IsSection}
 use Rattle.twp_grid.specs.Lots.{position_of_lot}
 use Rattle.twp_grid.specs.Places.{PLACE_DIGITS, IsPlace, is_place, places_to_position}
-use Rattle.twp_grid.specs.Spans.{Span, in_span, position_span}
+use Rattle.twp_grid.specs.Spans.{Interval, in_span, position_span}
 use Rattle.twp_grid.specs.Cuts.{AreWithin, reached}
 use Rattle.twp_grid.specs.Townships.{Designation}
 use Rattle.twp_grid.specs.declared.township.NorthSouth.{NorthSouth}
@@ -209,7 +209,7 @@ chain_place : (section : ℕ) (steps : List Step) (at : ℕ) → AreWithin PLACE
 chain_place section steps at within =
     let block = reached PLACE_DIGITS (cuts_of steps) in
     let sides = sides_as_asked PLACE_DIGITS (cuts_of steps) within in
-    let begins : (s : Span) (k : ℕ) → s.len ≡ 2 ^ k → in_span s s.start ≡ true =
+    let begins : (s : Interval) (k : ℕ) → s.len ≡ 2 ^ k → in_span s s.start ≡ true =
     λ s k is. let some = pow_pos k in grind (arith, nat_tests) in
     record {
       of = section;

@@ -14,7 +14,7 @@ use Rattle.twp_grammar.specs.ItemPlaces.{item_places}
 use Rattle.twp_resolve.specs.declared.place_fault.PlaceFault.{PlaceFault}
 use Rattle.twp_resolve.specs.PlaceFaults.{HasFault, number_of}
 use Rattle.twp_grammar.specs.ItemPlaces.{item_of}
-use Rattle.twp_resolve.specs.steps.ResolvingSteps.{AreAdded, IsTaken, IsItemsFirstFault}
+use Rattle.twp_resolve.specs.steps.ResolvingSteps.{AreAdded, IsItemTaken, IsItemsFirstFault}
 use Rattle.twp_land.proofs.LotBlocks.{share_of_meets, meets_of_share}
 use Rattle.twp_resolve.proofs.RangeFacts.{added_none}
 use Rattle.twp_grammar.proofs.CutPlaces.{whole_is_place}
@@ -23,7 +23,7 @@ use Rattle.twp_grammar.proofs.CutPlaces.{whole_is_place}
 pub heading_taken : (section number : ℕ) (north_south : NorthSouth) (range : ℕ) (east_west : EastWest)
     (at : ℕ) (old : ℕ → ℕ → ℕ → Bool) (township : Designation)
     → designation number north_south range east_west ≡ township
-    → IsTaken PLACE_DIGITS township section (Heading number north_south range east_west at) old old
+    → IsItemTaken PLACE_DIGITS township section (Heading number north_south range east_west at) old old
 heading_taken section number north_south range east_west at old township is =
     let none : AreAdded (λ s c r. is_place PLACE_DIGITS c r && false) old old =
     added_none (λ s c r. is_place PLACE_DIGITS c r && false) old
@@ -63,7 +63,7 @@ all_places section at = fun_ext (λ s. fun_ext (λ c. fun_ext (λ r.
 pub all_taken : (section at : ℕ) (old new : ℕ → ℕ → ℕ → Bool) (township : Designation)
     → ¬ Meets (old section) (whole_block PLACE_DIGITS)
     → new ≡ union old (block_places section (whole_block PLACE_DIGITS))
-    → IsTaken PLACE_DIGITS township section (All at) old new
+    → IsItemTaken PLACE_DIGITS township section (All at) old new
 all_taken section at old new township free grown = record {
   lies = tt;
   apart = λ shared.

@@ -12,7 +12,7 @@ use Rattle.twp_resolve.specs.declared.place_fault.PlaceFault.TheVariants as faul
 use Rattle.twp_grid.specs.Lands.{SharePlace}
 use Rattle.twp_grammar.specs.OnPlat.{HasLot}
 use Rattle.twp_resolve.specs.PlaceFaults.{IsFirstUnlike, HasFault, number_of}
-use Rattle.twp_resolve.specs.steps.ResolvingSteps.{sections_from, lots_from, AreAdded, IsTaken}
+use Rattle.twp_resolve.specs.steps.ResolvingSteps.{sections_from, lots_from, AreAdded, IsItemTaken}
 use Rattle.twp_resolve.specs.steps.ResolvingSteps.{IsItemsFirstFault}
 use Rattle.twp_resolve.proofs.RangeFacts.{has_lot_between}
 
@@ -84,7 +84,7 @@ pub lots_taken : {A : Type 0} (result : Result A PlaceFault) (section : ℕ) (fi
     → IsSection section → first.value ≤ last.value → HasLot section first.value → HasLot section last.value
     → AddsLots old new section first.value last.value first.at result
     → IfOk result
-    (λ _. (township : Designation) → IsTaken PLACE_DIGITS township section (Lots first last) old new)
+    (λ _. (township : Designation) → IsItemTaken PLACE_DIGITS township section (Lots first last) old new)
 lots_taken (Err e) section first last old new range order low high adds = tt
 lots_taken (Ok _) section first last old new range order low high adds = λ township. record {
   lies =

@@ -21,7 +21,7 @@ use Rattle.twp_grammar.specs.ItemPlaces.{land_of}
 use Rattle.twp_grammar.specs.OnPlat.{LiesOnPlat, IsLandOfItems}
 use Rattle.twp_resolve.specs.PlaceFaults.{HasFault, HasFaultAt, IsFrom, IsFirstPlaceFault}
 use Rattle.twp_grammar.specs.ItemPlaces.{item_of}
-use Rattle.twp_resolve.specs.steps.ResolvingSteps.{IsTaken, IsItemsFirstFault, IsBeforeParts}
+use Rattle.twp_resolve.specs.steps.ResolvingSteps.{IsItemTaken, IsItemsFirstFault, IsBeforeParts}
 use Rattle.twp_resolve.specs.steps.ResolvingSteps.{number_of_section}
 use Rattle.twp_resolve.proofs.PlaceAnswers.{none_of_item, pairs_of_apart}
 
@@ -86,7 +86,7 @@ next_is items index section it inside at left = record {
 pub taken_next : (g : ℕ) (township : Designation) (items : List Item) (index section : ℕ) (it : Item)
     (places new : ℕ → ℕ → ℕ → Bool)
     → index < length items → get_or items index it ≡ it
-    → AreTaken g township items index section places → IsTaken g township section it places new
+    → AreTaken g township items index section places → IsItemTaken g township section it places new
     → AreTaken g township items (index + 1) (section_after section it) new
 taken_next g township items index section it places new inside at so_far taken =
     let next : IsNext items index section it = next_is items index section it inside at so_far.left in

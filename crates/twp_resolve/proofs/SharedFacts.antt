@@ -18,7 +18,8 @@ use Rattle.twp_resolve.specs.declared.place_fault.PlaceFault.{PlaceFault}
 use Rattle.twp_resolve.specs.declared.place_fault.PlaceFault.TheVariants as fault
 use Rattle.twp_resolve.specs.PlaceFaults.{HasFault, HasFaultAt, IsFrom, IsFirstPlaceFault, number_of}
 use Rattle.twp_resolve.specs.SharedLand.{places_at, AreRefusedForOverlap}
-use Rattle.twp_resolve.specs.steps.ResolvingSteps.{IsTaken, IsItemsFirstFault, HasSomeFault, IsBeforeParts}
+use Rattle.twp_resolve.specs.steps.ResolvingSteps.{IsItemTaken, IsItemsFirstFault, HasSomeFault}
+use Rattle.twp_resolve.specs.steps.ResolvingSteps.{IsBeforeParts}
 use Rattle.twp_resolve.specs.steps.ResolvingSteps.{number_of_section}
 use Rattle.twp_resolve.specs.declared.shared.RefusedItem.{RefusedItem}
 use Rattle.twp_resolve.specs.steps.SharingSteps.{IsOverlap, IsRefusedItem, IsRefusedLand, IsFirstSharing}
@@ -80,7 +81,7 @@ no_fault_alone g township items index section it refused before part some =
 
 -- the places of an item on its own
 pub only_places : (g : ℕ) (township : Designation) (section : ℕ) (it : Item) (new : ℕ → ℕ → ℕ → Bool)
-    → IsTaken g township section it no_places new → new ≡ item_places g (item_of section it)
+    → IsItemTaken g township section it no_places new → new ≡ item_places g (item_of section it)
 only_places g township section it new taken = taken.added
 
 -- another first fault is not an overlap
@@ -128,7 +129,7 @@ refused_item_here g township items index section it places is inside there so_fa
 pub refused_land : (g : ℕ) (township : Designation) (items : List Item) (index section : ℕ) (it : Item)
     (new : ℕ → ℕ → ℕ → Bool)
     → slice_get items index ≡ Some it
-    → IsRefusedItem g township items index section → IsTaken g township section it no_places new
+    → IsRefusedItem g township items index section → IsItemTaken g township section it no_places new
     → IsRefusedLand g township items index new
 refused_land g township items index section it new there refused taken = record {
   refused = refused.refused;
@@ -160,7 +161,7 @@ pub apart_next : (g : ℕ) (township : Designation) (items : List Item) (index s
     (new named : ℕ → ℕ → ℕ → Bool)
     → index < length items → get_or items index it ≡ it
     → AreApart g items index section later
-    → IsTaken g township section it no_places new → named ≡ places_at g items later
+    → IsItemTaken g township section it no_places new → named ≡ places_at g items later
     → ¬ SharePlace new named
     → AreApart g items (index + 1) (section_after section it) later
 apart_next g township items index section later it new named inside there so_far taken are free =
@@ -184,7 +185,7 @@ pub sharing_here : (g : ℕ) (township : Designation) (items : List Item) (index
     (new named common : ℕ → ℕ → ℕ → Bool)
     → index < length items → get_or items index it ≡ it → index < later
     → AreApart g items index section later
-    → IsTaken g township section it no_places new → named ≡ places_at g items later
+    → IsItemTaken g township section it no_places new → named ≡ places_at g items later
     → SharePlace new named → common ≡ intersection new named
     → IsFirstSharing g items index later common
 sharing_here g township items index section later it new named common inside there before so_far taken are

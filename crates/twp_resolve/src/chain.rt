@@ -6,12 +6,12 @@ ghost use Rattle.twp_grid.specs.Places.{PLACE_DIGITS};
 ghost use Rattle.twp_grid.specs.Cuts.{AreWithin, part_of, reached};
 ghost use Rattle.twp_grid.specs.Townships.{Designation};
 ghost use Rattle.twp_grammar.specs.ItemPlaces.{cut_of, cuts_of};
-ghost use Rattle.twp_resolve.specs.steps.ResolvingSteps.{CanCut, IsCutTo, IsTaken, IsItemsFirstFault};
+ghost use Rattle.twp_resolve.specs.steps.ResolvingSteps.{CanCut, IsCutTo, IsItemTaken, IsItemsFirstFault};
 ghost use Rattle.twp_grammar.specs.declared.item.Item.TheVariants.{Chain};
 ghost use Rattle.twp_grammar.specs.declared.item.Step.{Step as TakenStep};
 
-use crate::blocks::add_block;
 use crate::place_fault::PlaceFault;
+use crate::ranges::add_block;
 use twp_grammar::{Step, Steps};
 use twp_grid::{Block, PLACE_DIGITS, Section};
 use twp_land::{PlaceSet, holds_of_lot};
@@ -31,7 +31,7 @@ pub(crate) fn resolve_chain<L: PlaceSet>(
 ) -> Result<(), PlaceFault>
     requires { IsTrue (L.has_room land.old section) }
     ensures taken { IfOk result (λ _. (township : Designation)
-        → IsTaken PLACE_DIGITS township section (Chain steps.now at)
+        → IsItemTaken PLACE_DIGITS township section (Chain steps.now at)
         (L.places land.old) (L.places land.new)) }
     ensures refused { IfErr result (λ fault. (township : Designation)
         → IsItemsFirstFault PLACE_DIGITS township section (Chain steps.now at) (L.places land.old) fault) }
@@ -56,7 +56,7 @@ fn resolve_block<L: PlaceSet>(
     requires { IsTrue (L.has_room land.old section) }
     ensures taken { (steps : List TakenStep) → IsCutTo PLACE_DIGITS steps 0 block
         → IfOk result (λ _. (township : Designation)
-        → IsTaken PLACE_DIGITS township section (Chain steps at)
+        → IsItemTaken PLACE_DIGITS township section (Chain steps at)
         (L.places land.old) (L.places land.new)) }
     ensures refused { (steps : List TakenStep) → IsCutTo PLACE_DIGITS steps 0 block
         → IfErr result (λ fault. (township : Designation)

@@ -2,17 +2,14 @@
 //! reason that they do not lie on it without overlapping.
 #![tactic(auto)]
 
-mod blocks;
 mod chain;
 pub mod laws;
 mod place_fault;
 mod ranges;
 mod resolving;
-mod room;
 mod shared;
 
 pub use chain::chain_block;
 pub use place_fault::PlaceFault;
-pub use resolving::{resolve, resolve_if_room, resolve_into};
-pub use room::names_one_section;
+pub use resolving::{names_one_section, resolve, resolve_if_room, resolve_into};
 pub use shared::{SharingItems, shared_into};

@@ -1,17 +1,14 @@
-ghost use Rattle.std.specs.Prelude.{◌≡◌, ℕ, ◌≤◌, ◌<◌, IsTrue, IfOk, IfErr};
-ghost use Rattle.std.specs.Prelude.{MatchResult};
+ghost use Rattle.std.specs.Prelude.{◌≡◌, ℕ, ◌≤◌, ◌<◌, IsTrue, IfOk, IfErr, MatchResult};
 ghost use Rattle.std.specs.Option.{SomeIff};
 ghost use Rattle.twp_grid.specs.Places.{PLACE_DIGITS};
 ghost use Rattle.twp_grid.specs.Townships.{Designation};
 ghost use Rattle.twp_grid.specs.Winding.{IsSection};
-ghost use Rattle.twp_grid.specs.Lands.{SharePlace};
+ghost use Rattle.twp_grid.specs.Lands.{SharePlace, Meets, block_places, union};
 ghost use Rattle.twp_grammar.specs.OnPlat.{HasLot};
 ghost use Rattle.twp_resolve.specs.steps.ResolvingSteps.{sections_from, lots_from, AreAdded};
-ghost use Rattle.twp_resolve.specs.steps.ResolvingSteps.{IsTaken, IsItemsFirstFault};
-ghost use Rattle.twp_resolve.specs.steps.ResolvingSteps.{HaveRoom};
+ghost use Rattle.twp_resolve.specs.steps.ResolvingSteps.{IsItemTaken, IsItemsFirstFault, HaveRoom};
 ghost use Rattle.twp_grammar.specs.declared.item.Item.TheVariants.{Sections, Lots};
 
-use crate::blocks::add_block;
 use crate::place_fault::PlaceFault;
 use twp_grammar::Numeral;
 use twp_grid::{Block, Section, lot_count};
@@ -27,7 +24,7 @@ pub(crate) fn resolve_sections<L: PlaceSet>(
 ) -> Result<Section, PlaceFault>
     requires { IsTrue whole → HaveRoom (L.has_room land.old) first.value last.value }
     ensures taken { IfOk result (λ _. (township : Designation) (section : ℕ)
-        → IsTaken PLACE_DIGITS township section (Sections first last whole)
+        → IsItemTaken PLACE_DIGITS township section (Sections first last whole)
         (L.places land.old) (L.places land.new)) }
     ensures first { IfOk result (λ section. section ≡ first.value) }
     ensures refused { IfErr result (λ fault. (township : Designation) (section : ℕ)
@@ -53,7 +50,7 @@ pub(crate) fn resolve_lots<L: PlaceSet>(
 ) -> Result<(), PlaceFault>
     requires { IsTrue (L.has_room land.old section) }
     ensures taken { IfOk result (λ _. (township : Designation)
-        → IsTaken PLACE_DIGITS township section (Lots first last)
+        → IsItemTaken PLACE_DIGITS township section (Lots first last)
         (L.places land.old) (L.places land.new)) }
     ensures refused { IfErr result (λ fault. (township : Designation)
         → IsItemsFirstFault PLACE_DIGITS township section (Lots first last) (L.places land.old) fault) }
@@ -145,4 +142,24 @@ fn lot_of(section: Section, number: Numeral) -> Result<u8, PlaceFault>
         return Err(PlaceFault::NoLot { at: number.at });
     }
     Ok(number.value as u8)
+}
+
+/// Adds a block of a section. It is refused as an overlap if the land contains a place of it.
+pub(crate) fn add_block<L: PlaceSet>(
+    land: &mut L,
+    section: Section,
+    block: Block,
+    at: u32,
+) -> Result<(), PlaceFault>
+    requires { IsTrue (L.has_room land.old section) }
+    ensures added { MatchResult result
+        (λ _. (¬ Meets (L.places land.old section) block)
+        × (L.places land.new ≡ union (L.places land.old) (block_places section block)))
+        (λ fault. (fault ≡ PlaceFault.Overlap at) × Meets (L.places land.old section) block) }
+    ensures room { L.has_room land.new ≡ L.has_room land.old }
+{
+    if !land.add_apart(section, block) {
+        return Err(PlaceFault::Overlap { at });
+    }
+    Ok(())
 }

@@ -1,21 +1,22 @@
-ghost use Rattle.std.specs.Prelude.{◌≡◌, ◌≢◌, ◌↔◌, ◌⊎◌, ℕ, IsSome, IfOk, OnOk, IfErr, IsTrue, is_ok};
-ghost use Rattle.std.specs.Prelude.{MatchResult};
+//! The land of a description, item by item; and room for the places of items.
+ghost use Rattle.std.specs.Prelude.{◌≡◌, ◌≢◌, ◌↔◌, ◌⊎◌, ℕ, IsSome, IfOk, OnOk, IfErr, IsTrue};
+ghost use Rattle.std.specs.Prelude.{is_ok, MatchResult};
 ghost use Rattle.twp_grid.specs.Places.{PLACE_DIGITS};
 ghost use Rattle.twp_grid.specs.Townships.{Designation, designation};
 ghost use Rattle.twp_grid.specs.Lands.{HasWholeLots};
 ghost use Rattle.twp_grammar.specs.ItemPlaces.{section_after};
 ghost use Rattle.twp_grammar.specs.OnPlat.{AreOnPlat, IsLandOfItems};
 ghost use Rattle.twp_resolve.specs.PlaceFaults.{IsFirstPlaceFault};
-ghost use Rattle.twp_resolve.specs.steps.ResolvingSteps.{IsTaken, IsItemsFirstFault, IsBeforeParts};
-ghost use Rattle.twp_resolve.specs.steps.ResolvingSteps.{number_of_section, HasRoomFor};
+ghost use Rattle.twp_resolve.specs.steps.ResolvingSteps.{IsItemTaken, IsItemsFirstFault};
+ghost use Rattle.twp_resolve.specs.steps.ResolvingSteps.{IsBeforeParts, number_of_section};
+ghost use Rattle.twp_resolve.specs.steps.ResolvingSteps.{HasRoomFor, HaveRoom};
+ghost use Rattle.twp_grid.specs.Winding.{IsSection};
 
-use crate::blocks::add_block;
 use crate::chain::resolve_chain;
 use crate::place_fault::PlaceFault;
-use crate::ranges::{resolve_lots, resolve_sections};
-use crate::room::make_room_for;
+use crate::ranges::{add_block, resolve_lots, resolve_sections};
 use twp_grammar::Item;
-use twp_grid::{Block, EastWest, NorthSouth, Section, Township};
+use twp_grid::{Block, EastWest, NorthSouth, SECTIONS, Section, Township};
 use twp_land::{Land, PlaceSet};
 use twp_read::Description;
 
@@ -50,7 +51,7 @@ pub fn resolve_into<L: Land>(
 {
     let items = description.items();
     let mut section = None;
-    Land::clear(land);
+    PlaceSet::clear(land);
     for item in items {
         section = resolve_item(land, section, item, township)?;
     }
@@ -92,7 +93,7 @@ pub(crate) fn resolve_item<L: PlaceSet>(
 ) -> Result<Option<Section>, PlaceFault>
     requires known { IsSome section ⊎ IsBeforeParts item.now }
     requires room { HasRoomFor (L.has_room land.old) (number_of_section section) item.now }
-    ensures taken { IfOk result (λ after. IsTaken PLACE_DIGITS township (number_of_section section)
+    ensures taken { IfOk result (λ after. IsItemTaken PLACE_DIGITS township (number_of_section section)
         item.now (L.places land.old) (L.places land.new)) }
     ensures after { IfOk result (λ after. number_of_section after
         ≡ section_after (number_of_section section) item.now) }
@@ -140,4 +141,70 @@ fn resolve_heading(
     } else {
         Err(PlaceFault::OtherTownship { at })
     }
+}
+
+/// The most items for which a set of places with room for one section is sought: with more, what is saved
+/// is little beside what they take.
+const ITEMS_MOST: usize = 16;
+
+/// Whether a short description names land in one section alone, for which a set of places with room for
+/// one is enough.
+pub fn names_one_section(description: &Description) -> bool {
+    let items = description.items();
+    if items.len() > ITEMS_MOST {
+        return false;
+    }
+    let mut is_named = false;
+    for item in items {
+        if let Item::Sections { first, last, .. } = item {
+            if is_named || first.value != last.value {
+                return false;
+            }
+            is_named = true;
+        }
+    }
+    true
+}
+
+/// Makes room for the places of an item. `false` if there is none.
+#[inline(always)]
+pub(crate) fn make_room_for<L: PlaceSet>(
+    land: &mut L,
+    section: &Option<Section>,
+    item: &Item,
+) -> bool
+    requires { IsSome section.now ⊎ IsBeforeParts item.now }
+    ensures places { L.places land.new ≡ L.places land.old }
+    ensures room { IsTrue result
+        → HasRoomFor (L.has_room land.new) (number_of_section section.now) item.now }
+{
+    match item {
+        Item::Heading { .. } => true,
+        Item::Sections { first, last, whole } => {
+            if !*whole {
+                return true;
+            }
+            make_room_from(land, first.value, last.value)
+        }
+        Item::Lots { .. } | Item::Chain { .. } | Item::All { .. } => {
+            land.make_room(section.unwrap())
+        }
+    }
+}
+
+/// Makes room for the places of the sections from a first number to a last. `false` if there is not
+/// enough.
+fn make_room_from<L: PlaceSet>(land: &mut L, first: u16, last: u16) -> bool
+    ensures places { L.places land.new ≡ L.places land.old }
+    ensures room { IsTrue result → HaveRoom (L.has_room land.new) first last }
+{
+    for number in first..last.min(u16::from(SECTIONS)) + 1 {
+        let Some(section) = Section::new(number as u8) else {
+            continue;
+        };
+        if !land.make_room(section) {
+            return false;
+        }
+    }
+    true
 }

@@ -6,7 +6,7 @@ ghost use Rattle.twp_grid.specs.Lands.{no_places};
 ghost use Rattle.twp_grammar.specs.Items.{BeginWithSections};
 ghost use Rattle.twp_grammar.specs.ItemPlaces.{section_after};
 ghost use Rattle.twp_resolve.specs.SharedLand.{AreRefusedForOverlap, AreFirstSharing};
-ghost use Rattle.twp_resolve.specs.steps.ResolvingSteps.{IsTaken, IsBeforeParts, HasSomeFault};
+ghost use Rattle.twp_resolve.specs.steps.ResolvingSteps.{IsItemTaken, IsBeforeParts, HasSomeFault};
 ghost use Rattle.twp_resolve.specs.steps.ResolvingSteps.{number_of_section};
 ghost use Rattle.twp_resolve.specs.steps.SharingSteps.{IsOverlap, IsRefusedItem, IsRefusedLand};
 ghost use Rattle.twp_resolve.specs.steps.SharingSteps.{IsFirstSharing};
@@ -140,7 +140,7 @@ fn place_item<L: Land>(
     requires { IsSome section ⊎ IsBeforeParts item.now }
     ensures { MatchOption result
         (HasSomeFault PLACE_DIGITS township (number_of_section section) item.now)
-        (λ after. IsTaken PLACE_DIGITS township (number_of_section section) item.now no_places
+        (λ after. IsItemTaken PLACE_DIGITS township (number_of_section section) item.now no_places
         (L.places land.new)
         × (number_of_section after ≡ section_after (number_of_section section) item.now)) }
 {

@@ -4,7 +4,7 @@ use Rattle.std.proofs.Common.{drop, map}
 use Rattle.std.proofs.Common.{add-one, arith, not, refl, slice_index_or, slice_range}
 use Rattle.std.proofs.Math.Seq.{drop-cons}
 use Rattle.twp_rules.proofs.SameTexts.{both}
-use Rattle.twp_rules.specs.declared.role.Role.{Role}
+use Rattle.twp_rules.specs.declared.role.NumberRole.{NumberRole}
 use Rattle.twp_rules.specs.declared.seam.Seam.{Seam}
 use Rattle.twp_rules.specs.declared.named.Named.{Named}
 use Rattle.twp_rules.specs.Moves.{is_written_by, keep_moved, named_after}
@@ -67,7 +67,7 @@ end_of text at (piece ∷ pieces) (suc i) default h (first, order, allowed, rest
     end_of text piece.end pieces i default (omega arith) rest
 
 -- a change fits, and the rest decides of numbers
-pub next_numbers : (text : List ℕ) (role : Role) (place copied : ℕ) (changes : List Piece) (index : ℕ)
+pub next_numbers : (text : List ℕ) (role : NumberRole) (place copied : ℕ) (changes : List Piece) (index : ℕ)
     (default : Piece)
     → index < length changes
     → fits_by text role place copied (seen (slice_index_or changes index default))

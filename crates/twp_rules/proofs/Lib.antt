@@ -4,6 +4,7 @@ pub mod HeadFacts
 pub mod EdgeFacts
 pub mod ChangeFacts
 pub mod NamingFacts
+pub mod SayingFacts
 pub mod RoleFacts
 pub mod MoveFacts
 pub mod SeamFacts

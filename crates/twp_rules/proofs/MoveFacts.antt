@@ -4,7 +4,7 @@ use Rattle.std.proofs.Common.{◌&&◌, length, not, refl, slice_index, slice_ra
 use Rattle.std.specs.Char.{is_ascii_digit}
 use Rattle.std.proofs.Math.Seq.{drop-cons}
 use Rattle.twp_rules.specs.declared.named.Named.{Named}
-use Rattle.twp_rules.specs.declared.role.Role.{Role}
+use Rattle.twp_rules.specs.declared.role.NumberRole.{NumberRole}
 use Rattle.twp_rules.specs.declared.rule.Rule.{Rule}
 use Rattle.twp_rules.specs.declared.rule.Rule.TheVariants.{Half, Quarter, Direction, Numeral, Copied}
 use Rattle.twp_rules.specs.declared.rule.Rule.TheVariants.{CopiedStep, Damage, Exception, Zeros}
@@ -16,13 +16,13 @@ use Rattle.twp_rules.specs.declared.rule.Rule.TheVariants.{Label}
 use Rattle.twp_rules.specs.Changes.{Change}
 use Rattle.twp_rules.specs.Moves.{are_written_from, is_written_at, is_written_by, keep_moved, named_after}
 use Rattle.twp_rules.specs.Moves.{first_place, is_copied_by, is_named_last, is_number_at}
-use Rattle.twp_rules.specs.declared.role.Role.TheVariants.{Section, Tier}
+use Rattle.twp_rules.specs.declared.role.NumberRole.TheVariants.{Section, Tier}
 use Rattle.twp_rules.specs.steps.Moved.{are_copied_from, are_moved_copied, is_copied_at, is_copied_if_moved}
 use Rattle.twp_rules.specs.steps.Moved.{moves}
 use Rattle.twp_rules.proofs.SameTexts.{both}
 
 -- the number at a place is written
-pub next_is_written : (text : List ℕ) (changes : List Change) (role : Role) (it : Named) (start : ℕ)
+pub next_is_written : (text : List ℕ) (changes : List Change) (role : NumberRole) (it : Named) (start : ℕ)
     (bytes : List ℕ) (index : ℕ)
     → index < length bytes
     → is_written_at text changes role it start (start + index) ≡ true
@@ -34,7 +34,7 @@ next_is_written text changes role it start bytes index within is =
     rw (f, add-one index, add-one (start + index), e, is) refl
 
 -- or it isn't
-pub is_not_written : (text : List ℕ) (changes : List Change) (role : Role) (it : Named) (start : ℕ)
+pub is_not_written : (text : List ℕ) (changes : List Change) (role : NumberRole) (it : Named) (start : ℕ)
     (bytes : List ℕ) (index : ℕ)
     → index < length bytes
     → is_written_at text changes role it start (start + index) ≡ false
@@ -69,7 +69,7 @@ either false true z h = refl
 either false false z h = h
 
 -- what is copied is written
-copied_is_written : (text : List ℕ) (all : List Change) (role : Role) (it : Named) (start at : ℕ)
+copied_is_written : (text : List ℕ) (all : List Change) (role : NumberRole) (it : Named) (start at : ℕ)
     (bytes : List ℕ)
     → are_copied_from text all start at bytes ≡ true
     → are_written_from text all role it start at bytes ≡ true

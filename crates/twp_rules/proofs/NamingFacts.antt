@@ -33,7 +33,7 @@ abbrev pub none_from : List ℕ → ℕ → List ℕ → Bool
 none_from seen at name =
     has_no_land_from seen at (drop at seen) && has_no_bare_number_from seen at name (drop at seen)
 
-not_true : (x : Bool) → not x ≡ true → x ≡ false
+pub not_true : (x : Bool) → not x ≡ true → x ≡ false
 not_true true h = cc h
 not_true false h = refl
 

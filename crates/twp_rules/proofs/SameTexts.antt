@@ -57,6 +57,14 @@ begins_when answer seen front first fits is_first is =
     (le-leb (length front) (length seen) fits))
 
 -- texts of different lengths are different
+pub other_size : (seen text : List ℕ) → (length seen ≡ length text → ⊥) → same_bytes seen text ≡ false
+other_size seen text other = by_test (same_bytes seen text) refl
+  where
+    by_test : (t : Bool) → same_bytes seen text ≡ t → t ≡ false
+    by_test true e = absurd (other (ap length (same_tells seen text e)))
+    by_test false e = refl
+
+-- so they are in lowercase
 pub other_length : (seen text : List ℕ) → (length seen ≡ length text → ⊥)
     → same_bytes (str_to_ascii_lowercase seen) text ≡ false
 other_length seen text other = by_test (same_bytes (str_to_ascii_lowercase seen) text) refl

@@ -8,7 +8,7 @@ use Rattle.twp_rules.specs.Apart.{begins_with_step, ends_after}
 use Rattle.twp_rules.specs.Changes.{Change, changed_from}
 use Rattle.twp_rules.specs.Edges.{begins_with, ends_with_one, is_one_of, without_white}
 use Rattle.twp_rules.specs.Lists.{texts, words}
-use Rattle.twp_rules.specs.declared.run.Run.{Run}
+use Rattle.twp_rules.specs.declared.run.CopiedSteps.{CopiedSteps}
 use Rattle.twp_rules.specs.declared.rule.Rule.{Rule}
 use Rattle.twp_rules.specs.declared.rule.Rule.TheVariants.{CopiedStep}
 
@@ -36,11 +36,11 @@ are_cut_at_of made from to =
     && begins_with (without_white (drop to made)) (codes "of"))
 
 -- the steps that were written again are all of their part, those after an `of`, or those before one
-abbrev pub is_whole : List ℕ → List Change → Run → Bool
+abbrev pub is_whole : List ℕ → List Change → CopiedSteps → Bool
 is_whole made all run = are_cut_at_of made (seat 0 0 all run.from) (seat 0 0 all run.to)
 
 -- so are those before a change, unless it writes the next step of their part at the same place
-abbrev pub fits_run : List ℕ → List Change → Option Run → ℕ → Rule → Bool
+abbrev pub fits_run : List ℕ → List Change → Option CopiedSteps → ℕ → Rule → Bool
 fits_run made all None start rule = true
 fits_run made all (Some run) start (CopiedStep from to) =
     if run.place == start
@@ -49,7 +49,7 @@ fits_run made all (Some run) start (CopiedStep from to) =
 fits_run made all (Some run) start rule = is_whole made all run
 
 -- the steps that were written again, after a change at a place
-abbrev pub run_after : Option Run → ℕ → Rule → Option Run
+abbrev pub run_after : Option CopiedSteps → ℕ → Rule → Option CopiedSteps
 run_after (Some run) start (CopiedStep from to) =
     if run.place == start then Some (record { place = start; from = run.from; to = to })
     else Some (record { place = start; from = from; to = to })
@@ -57,7 +57,7 @@ run_after None start (CopiedStep from to) = Some (record { place = start; from =
 run_after run start rule = None
 
 -- so are all steps that are written again, from a change on
-abbrev pub keep_steps : List ℕ → List Change → Option Run → List Change → Bool
+abbrev pub keep_steps : List ℕ → List Change → Option CopiedSteps → List Change → Bool
 keep_steps made all None [] = true
 keep_steps made all (Some run) [] = is_whole made all run
 keep_steps made all run (change ∷ changes) =

@@ -4,8 +4,8 @@ use Rattle.std.specs.Prelude.{◌==◌, ◌||◌, ◌&&◌, ℕ, ◌+◌, ◌-�
 use Rattle.std.specs.Prelude.{if◌then◌else◌, codes, drop, length, nat_le, nat_lt, not, slice_index}
 use Rattle.std.specs.Char.{is_ascii_alphabetic, is_ascii_digit}
 use Rattle.twp_grammar.specs.Tokens.{same_bytes}
-use Rattle.twp_rules.specs.declared.role.Role.{Role}
-use Rattle.twp_rules.specs.declared.role.Role.TheVariants.{Nothing, Section, Tier, Range}
+use Rattle.twp_rules.specs.declared.role.NumberRole.{NumberRole}
+use Rattle.twp_rules.specs.declared.role.NumberRole.TheVariants.{Nothing, Section, Tier, Range}
 use Rattle.twp_rules.specs.declared.rule.Rule.{Rule}
 use Rattle.twp_rules.specs.declared.rule.Rule.TheVariants.{Copied, SectionWord, Heading, Comma}
 use Rattle.twp_rules.specs.Changes.{Change}
@@ -20,7 +20,7 @@ abbrev pub leaves_nothing_out : Change → Bool
 leaves_nothing_out change = change.start == change.end
 
 -- what a number is that is copied after a change
-abbrev pub role_by : Role → Rule → Bool → List ℕ → Role
+abbrev pub role_by : NumberRole → Rule → Bool → List ℕ → NumberRole
 role_by role SectionWord inserts written = if inserts then Section else Nothing
 role_by role Heading inserts written =
     if same_bytes written (codes "T. ") then Tier
@@ -30,7 +30,7 @@ role_by role (Copied from to) inserts written = role
 role_by role Comma inserts written = if inserts then role else Nothing
 role_by role rule inserts written = Nothing
 
-abbrev pub role_after : Role → Change → Role
+abbrev pub role_after : NumberRole → Change → NumberRole
 role_after role change = role_by role change.rule (leaves_nothing_out change) change.written
 
 -- where the last number that was copied ends in the text
@@ -82,7 +82,7 @@ side_after text at =
     word_of (without_parentheses (without_location_marks (after_fraction_digit text at)))
 
 -- a township and range are written with their sides
-abbrev pub has_its_side : List ℕ → Role → ℕ → List ℕ → Bool
+abbrev pub has_its_side : List ℕ → NumberRole → ℕ → List ℕ → Bool
 has_its_side text Tier copied written =
     same_bytes written (codes " N., R. ") && is_one_of (side_after text copied) north_words
     || same_bytes written (codes " S., R. ") && is_one_of (side_after text copied) south_words
@@ -105,7 +105,7 @@ abbrev pub is_said_at : List ℕ → ℕ → Bool
 is_said_at text at = is_said_here text (without_zeros (without_white (drop at text)))
 
 -- a number that is copied is not that of a section, or the text says that it is
-abbrev pub is_said_if_section : List ℕ → Role → ℕ → ℕ → Bool
+abbrev pub is_said_if_section : List ℕ → NumberRole → ℕ → ℕ → Bool
 is_said_if_section text Section from to = is_said_section text from to
 is_said_if_section text Nothing from to = false
 is_said_if_section text role from to = true
@@ -121,7 +121,7 @@ ends_whole_copy text to changes =
     next_copies_from to changes || ends_whole text to && not (is_damaged_digit text to)
 
 -- it is whole, and the text says that it is that of a section, if it is copied as one
-abbrev pub fits_copy : List ℕ → Role → ℕ → ℕ → ℕ → List Change → Bool
+abbrev pub fits_copy : List ℕ → NumberRole → ℕ → ℕ → ℕ → List Change → Bool
 fits_copy text role copied from to changes =
     begins_whole_copy text copied from && ends_whole_copy text to changes
     && is_said_if_section text role from to
@@ -131,7 +131,7 @@ abbrev pub is_copy : List ℕ → ℕ → ℕ → ℕ → ℕ → Bool
 is_copy text place start from to = (start == place) && nat_le from to && nat_le to (length text)
 
 -- what a change writes of numbers fits what was written before it
-abbrev pub fits_by : List ℕ → Role → ℕ → ℕ → Change → List Change → Rule → Bool
+abbrev pub fits_by : List ℕ → NumberRole → ℕ → ℕ → Change → List Change → Rule → Bool
 fits_by text role place copied change changes (Copied from to) =
     is_copy text place change.start from to && fits_copy text role copied from to changes
 fits_by text role place copied change changes Heading =
@@ -142,7 +142,7 @@ fits_by text role place copied change changes SectionWord =
 fits_by text role place copied change changes rule = true
 
 -- NUMBERS ARE KEPT, from a change on: each that is copied is whole, and is what the text says that it is
-abbrev pub keep_numbers : List ℕ → Role → ℕ → ℕ → List Change → Bool
+abbrev pub keep_numbers : List ℕ → NumberRole → ℕ → ℕ → List Change → Bool
 keep_numbers text role place copied [] = true
 keep_numbers text role place copied (change ∷ changes) =
     fits_by text role place copied change changes change.rule

@@ -6,8 +6,8 @@ use Rattle.std.specs.Prelude.{if◌then◌else◌, codes, drop, length, nat_le, 
 use Rattle.std.specs.Prelude.{slice_range, take}
 use Rattle.std.specs.Char.{is_ascii_alphabetic, is_ascii_digit, to_ascii_lowercase}
 use Rattle.twp_rules.specs.declared.named.Named.{Named}
-use Rattle.twp_rules.specs.declared.role.Role.{Role}
-use Rattle.twp_rules.specs.declared.role.Role.TheVariants.{Nothing, Section, Tier, Range}
+use Rattle.twp_rules.specs.declared.role.NumberRole.{NumberRole}
+use Rattle.twp_rules.specs.declared.role.NumberRole.TheVariants.{Nothing, Section, Tier, Range}
 use Rattle.twp_rules.specs.declared.rule.Rule.{Rule}
 use Rattle.twp_rules.specs.declared.rule.Rule.TheVariants.{Copied, MovedSection, MovedHeading}
 use Rattle.twp_rules.specs.Changes.{AreChangesFrom, Change}
@@ -29,7 +29,7 @@ value_from value [] = value
 value_from value (digit ∷ digits) = value_from (grown value digit) digits
 
 -- what a number is that follows a word
-abbrev pub role_named_by : Role → List ℕ → Role
+abbrev pub role_named_by : NumberRole → List ℕ → NumberRole
 role_named_by next word =
     if is_one_of word section_names then Section
     else (if is_one_of word tier_words then Tier
@@ -37,14 +37,14 @@ role_named_by next word =
     else (if is_one_of word list_words then next else Nothing)))
 
 -- the number that is named last after a digit, if it is one of these
-abbrev pub named_by : Role → Role → ℕ → ℕ → ℕ → ℕ
+abbrev pub named_by : NumberRole → NumberRole → ℕ → ℕ → ℕ → ℕ
 named_by Section Section value before digit = if is_ascii_digit before then grown value digit else digit - 48
 named_by Tier Tier value before digit = if is_ascii_digit before then grown value digit else digit - 48
 named_by Range Range value before digit = if is_ascii_digit before then grown value digit else digit - 48
 named_by wanted next value before digit = value
 
 -- the side that is named last after a word
-abbrev pub side_by : Role → Role → ℕ → ℕ → ℕ
+abbrev pub side_by : NumberRole → NumberRole → ℕ → ℕ → ℕ
 side_by Tier Tier side byte = to_ascii_lowercase byte
 side_by Range Range side byte = to_ascii_lowercase byte
 side_by wanted next side byte = side
@@ -142,7 +142,7 @@ is_same_number value last side letter =
     (value == last) && (to_ascii_lowercase (slice_index side 0) == letter)
 
 -- the number at a place is that of the section named last, or of the township or range with its side
-abbrev pub is_named_last : List ℕ → Role → Named → ℕ → Bool
+abbrev pub is_named_last : List ℕ → NumberRole → Named → ℕ → Bool
 is_named_last text Section it at = value_from 0 (number_at text at) == it.section
 is_named_last text Tier it at =
     if is_north_south_word (side_after text (end_of_number text at))
@@ -153,14 +153,14 @@ is_named_last text Tier it at =
 is_named_last text role it at = false
 
 -- so is the number at a place, if one begins there, or it is copied
-abbrev pub is_written_at : List ℕ → List Change → Role → Named → ℕ → ℕ → Bool
+abbrev pub is_written_at : List ℕ → List Change → NumberRole → Named → ℕ → ℕ → Bool
 is_written_at text changes role it start at =
     not (is_number_at text start at)
     || is_ascii_digit (slice_index text at) && is_named_last text role it at
     || is_copied_by changes (first_place text at)
 
 -- and each number of what is left out, from a place on
-abbrev pub are_written_from : List ℕ → List Change → Role → Named → ℕ → ℕ → List ℕ → Bool
+abbrev pub are_written_from : List ℕ → List Change → NumberRole → Named → ℕ → ℕ → List ℕ → Bool
 are_written_from text changes role it start at [] = true
 are_written_from text changes role it start at (byte ∷ bytes) =
     is_written_at text changes role it start at && are_written_from text changes role it start (suc at) bytes

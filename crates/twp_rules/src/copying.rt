@@ -12,7 +12,7 @@ use crate::context::before;
 use crate::figures::{is_white, without_white};
 use crate::keeping::rest_of;
 use crate::rule::Rule;
-use crate::run::Run;
+use crate::run::CopiedSteps;
 use crate::same::{begins_with, ends_with};
 
 /// Whether the steps that changes of a text write again are all of their part, those after an `of`, or those
@@ -29,7 +29,7 @@ fn keep_steps(made: &[u8], changes: &[Change<'_>]) -> bool
     ensures { result ≡ true →
         keep_steps made.now (map seen changes.now) None (map seen changes.now) ≡ true }
 {
-    let mut run: Option<Run> = None;
+    let mut run: Option<CopiedSteps> = None;
     for change in changes {
         if run.is_none() && !matches!(change.rule, Rule::CopiedStep(_, _)) {
             continue;
@@ -47,7 +47,13 @@ fn keep_steps(made: &[u8], changes: &[Change<'_>]) -> bool
 
 /// Whether the steps before a change are whole, unless it writes the next step of their part at the same
 /// place.
-fn fits_run(made: &[u8], changes: &[Change<'_>], run: Option<Run>, start: usize, rule: Rule) -> bool
+fn fits_run(
+    made: &[u8],
+    changes: &[Change<'_>],
+    run: Option<CopiedSteps>,
+    start: usize,
+    rule: Rule,
+) -> bool
     ensures { result ≡ true →
         fits_run made.now (map seen changes.now) run start rule ≡ true }
 {
@@ -74,19 +80,19 @@ fn are_joined(made: &[u8], changes: &[Change<'_>], end: usize, next: usize) -> b
 }
 
 /// The steps that were written again, after a change at a place.
-fn run_after(run: Option<Run>, start: usize, rule: Rule) -> Option<Run>
+fn run_after(run: Option<CopiedSteps>, start: usize, rule: Rule) -> Option<CopiedSteps>
     ensures { result ≡ run_after run start rule }
 {
     let Rule::CopiedStep(from, to) = rule else {
         return None;
     };
     match run {
-        Some(run) if run.place == start => Some(Run {
+        Some(run) if run.place == start => Some(CopiedSteps {
             place: start,
             from: run.from,
             to,
         }),
-        _ => Some(Run {
+        _ => Some(CopiedSteps {
             place: start,
             from,
             to,
@@ -95,7 +101,7 @@ fn run_after(run: Option<Run>, start: usize, rule: Rule) -> Option<Run>
 }
 
 /// Whether steps that are written again are all of their part, those after an `of`, or those before one.
-fn is_whole(made: &[u8], changes: &[Change<'_>], run: Run) -> bool
+fn is_whole(made: &[u8], changes: &[Change<'_>], run: CopiedSteps) -> bool
     ensures { result ≡ true → is_whole made.now (map seen changes.now) run ≡ true }
 {
     let (Some(from), Some(to)) = (seat(changes, run.from), seat(changes, run.to)) else {

@@ -1,7 +1,7 @@
 //! What changes keep of numbers, one after another: whether they are whole, and what the text says of them.
 ghost use Rattle.std.specs.Prelude.{◌≡◌, ◌≤◌, ◌&&◌, IsTrue, true, drop, length, map};
 ghost use Rattle.twp_rules.specs.Changes.{AreChangesFrom, seen};
-ghost use Rattle.twp_rules.specs.declared.role.Role.TheVariants.{Nothing};
+ghost use Rattle.twp_rules.specs.declared.role.NumberRole.TheVariants.{Nothing};
 ghost use Rattle.twp_rules.specs.declared.rule.Rule.TheVariants.{Heading};
 ghost use Rattle.twp_rules.specs.Keeping.{after_fraction_digit, after_parenthesis, begins_whole_copy, copied_by, ends_whole_copy};
 ghost use Rattle.twp_rules.specs.Keeping.{fits_by, fits_copy};
@@ -14,7 +14,7 @@ use crate::change::Change;
 use crate::context::is_fraction_digit;
 use crate::figures::without_white;
 use crate::naming::{byte_at, byte_before, digits_of, word_of};
-use crate::role::Role;
+use crate::role::NumberRole;
 use crate::roles::{begins_whole, ends_whole, is_said_section, without_location_marks};
 use crate::rule::Rule;
 use crate::same::are_same;
@@ -27,7 +27,7 @@ pub(crate) fn keep_numbers(text: &[u8], changes: &[Change<'_>]) -> bool
     requires { AreChangesFrom 0 text.now (map seen changes.now) }
     ensures { result ≡ true → keep_numbers text.now Nothing 0 0 (map seen changes.now) ≡ true }
 {
-    let mut role = Role::Nothing;
+    let mut role = NumberRole::Nothing;
     let mut place = 0;
     let mut copied = 0;
     for index in 0..changes.len() {
@@ -41,7 +41,7 @@ pub(crate) fn keep_numbers(text: &[u8], changes: &[Change<'_>]) -> bool
                 role = role_after(role, change);
                 copied = copied_by(copied, change.rule);
             }
-            _ => role = Role::Nothing,
+            _ => role = NumberRole::Nothing,
         }
         place = change.end;
     }
@@ -49,36 +49,36 @@ pub(crate) fn keep_numbers(text: &[u8], changes: &[Change<'_>]) -> bool
 }
 
 /// What a number is that is copied after a change.
-fn role_after(role: Role, change: &Change<'_>) -> Role
+fn role_after(role: NumberRole, change: &Change<'_>) -> NumberRole
     ensures { result ≡ role_after role (seen change.now) }
 {
     let inserts = change.start == change.end;
     match change.rule {
         Rule::SectionWord => {
             if inserts {
-                Role::Section
+                NumberRole::Section
             } else {
-                Role::Nothing
+                NumberRole::Nothing
             }
         }
         Rule::Heading => role_of_heading(change.written),
         Rule::Copied(_, _) => role,
-        Rule::Comma => { if inserts { role } else { Role::Nothing } }
-        _ => Role::Nothing,
+        Rule::Comma => { if inserts { role } else { NumberRole::Nothing } }
+        _ => NumberRole::Nothing,
     }
 }
 
 /// What a number is that is copied after a piece of a heading.
-fn role_of_heading(written: &[u8]) -> Role
+fn role_of_heading(written: &[u8]) -> NumberRole
     ensures { result ≡ role_by Nothing Heading true written.now }
 {
     if are_same(written, b"T. ") {
-        return Role::Tier;
+        return NumberRole::Tier;
     }
     if are_same(written, b" N., R. ") || are_same(written, b" S., R. ") {
-        return Role::Range;
+        return NumberRole::Range;
     }
-    Role::Nothing
+    NumberRole::Nothing
 }
 
 /// Where the last number that was copied ends in the text.
@@ -94,7 +94,7 @@ fn copied_by(copied: usize, rule: Rule) -> usize
 /// Whether what a change writes of numbers fits what was written before it.
 fn fits(
     text: &[u8],
-    role: Role,
+    role: NumberRole,
     place: usize,
     copied: usize,
     change: &Change<'_>,
@@ -133,7 +133,7 @@ fn is_copy(text: &[u8], place: usize, start: usize, from: usize, to: usize) -> b
 /// Whether a number that is copied is whole, and that of a section only if the text says so.
 fn fits_copy(
     text: &[u8],
-    role: Role,
+    role: NumberRole,
     copied: usize,
     from: usize,
     to: usize,
@@ -165,13 +165,13 @@ fn ends_whole_copy(text: &[u8], to: usize, more: &[Change<'_>]) -> bool
 }
 
 /// Whether a number that is copied is not that of a section, or the text says that it is.
-fn is_said_if_section(text: &[u8], role: Role, from: usize, to: usize) -> bool
+fn is_said_if_section(text: &[u8], role: NumberRole, from: usize, to: usize) -> bool
     requires { from ≤ length text.now }
     ensures { result ≡ is_said_if_section text.now role from to }
 {
     match role {
-        Role::Section => is_said_section(text, from, to),
-        Role::Nothing => false,
+        NumberRole::Section => is_said_section(text, from, to),
+        NumberRole::Nothing => false,
         _ => true,
     }
 }
@@ -213,16 +213,16 @@ fn is_damaged_digit(text: &[u8], at: usize) -> bool
 }
 
 /// Whether a township and range are written with their sides.
-fn has_its_side(text: &[u8], role: Role, copied: usize, written: &[u8]) -> bool
+fn has_its_side(text: &[u8], role: NumberRole, copied: usize, written: &[u8]) -> bool
     ensures { result ≡ has_its_side text.now role copied written.now }
 {
     match role {
-        Role::Tier => {
+        NumberRole::Tier => {
             let side = side_after(text, copied);
             (are_same(written, b" N., R. ") && is_in_north_words(side))
                 || (are_same(written, b" S., R. ") && is_in_south_words(side))
         }
-        Role::Range => {
+        NumberRole::Range => {
             let side = side_after(text, copied);
             (are_same(written, b" E., ") && is_in_east_words(side))
                 || (are_same(written, b" W., ") && is_in_west_words(side))

@@ -1,7 +1,12 @@
 //! What a rule leaves out: a moved section or township, a meridian, acreage, a label.
-ghost use Rattle.std.specs.Prelude.{◌≡◌};
+ghost use Rattle.std.specs.Prelude.{◌≡◌, ◌&&◌, ◌||◌};
+ghost use Rattle.twp_rules.specs.declared.saying.Saying.TheVariants.{Remark};
+ghost use Rattle.twp_rules.specs.Edges.{ends_with_one, is_one_of, without_white};
+ghost use Rattle.twp_rules.specs.Endings.{digits, meridian_letters};
+ghost use Rattle.twp_rules.specs.Naming.{has_no_bare_number, has_no_land};
 ghost use Rattle.twp_rules.specs.Rules.{is_acreage, is_meridian, is_moved_heading, is_moved_section, is_no_land_word};
-ghost use Rattle.twp_rules.specs.Rules.{is_apart_from_digit, is_place_name, is_row_number, may_be_left_out};
+ghost use Rattle.twp_rules.specs.Rules.{is_apart_from_digit, is_place_name, is_row_number, is_township, may_be_left_out};
+ghost use Rattle.twp_rules.specs.Sayings.{has_no_limit};
 
 use crate::context::{is_township, less, without_spaces};
 use crate::endings::beside::*;
@@ -95,7 +100,22 @@ fn is_meridian(seen: &[u8], after: &[u8]) -> bool
         || is_place_name(seen)
         || has_meridian_fronts(without_white(seen))
         || has_meridian_labels(without_white(seen)))
-        && has_no_land(seen)
+        && names_only_place(seen, after)
+}
+
+/// Whether a text names no land; limits none, unless it is the letters of a meridian; and has no number that may be
+/// that of a section, unless it is a meridian's code before a township. Most such texts are remarks.
+#[tactic(auto, using(crate::proofs::SayingFacts::remark_names_place))]
+fn names_only_place(seen: &[u8], after: &[u8]) -> bool
+    ensures { result ≡ (has_no_land seen.now
+        && (has_no_limit Remark seen.now || is_one_of (without_white seen.now) meridian_letters)
+        && (has_no_bare_number seen.now
+        || ends_with_one seen.now digits && is_township (without_white after.now))) }
+{
+    if is_remark(seen) {
+        return true;
+    }
+    has_no_land(seen)
         && (has_no_limit(Saying::Remark, seen) || is_in_meridian_letters(without_white(seen)))
         && (has_no_bare_number(seen) || (has_digits(seen) && is_township(without_white(after))))
 }

@@ -12,7 +12,7 @@ use crate::context::{before, is_fraction_digit, less};
 use crate::keeping::{rest_of, side_after, without_zeros};
 use crate::named::Named;
 use crate::naming::{begins_word, byte_at, byte_before, digits_of, word_of};
-use crate::role::Role;
+use crate::role::NumberRole;
 use crate::roles::is_north_south_word;
 use crate::rule::Rule;
 use crate::same::begins_with;
@@ -31,7 +31,7 @@ pub(crate) fn is_moved_text_written(text: &[u8], changes: &[Change<'_>]) -> bool
     }
     let mut at = 0;
     let mut named = Named {
-        next: Role::Nothing,
+        next: NumberRole::Nothing,
         section: 0,
         tier: 0,
         tier_side: 0,
@@ -108,8 +108,8 @@ fn is_written_by(
     ensures { result ≡ is_written_by text.now (map seen changes.now) it start (slice_range text.now start end) rule }
 {
     match rule {
-        Rule::MovedSection => are_written(text, changes, Role::Section, it, start, end),
-        Rule::MovedHeading => are_written(text, changes, Role::Tier, it, start, end),
+        Rule::MovedSection => are_written(text, changes, NumberRole::Section, it, start, end),
+        Rule::MovedHeading => are_written(text, changes, NumberRole::Tier, it, start, end),
         _ => true,
     }
 }
@@ -119,7 +119,7 @@ fn is_written_by(
 fn are_written(
     text: &[u8],
     changes: &[Change<'_>],
-    role: Role,
+    role: NumberRole,
     it: Named,
     start: usize,
     end: usize,
@@ -141,7 +141,7 @@ fn are_written(
 fn is_written_at(
     text: &[u8],
     changes: &[Change<'_>],
-    role: Role,
+    role: NumberRole,
     it: Named,
     start: usize,
     at: usize,
@@ -185,13 +185,13 @@ fn first_place(text: &[u8], at: usize) -> usize
 }
 
 /// Whether the number at a place is that of the section named last, or of the township or range with its side.
-fn is_named_last(text: &[u8], role: Role, it: Named, at: usize) -> bool
+fn is_named_last(text: &[u8], role: NumberRole, it: Named, at: usize) -> bool
     requires { at < length text.now }
     ensures { result ≡ is_named_last text.now role it at }
 {
     match role {
-        Role::Section => value_of(number_at(text, at)) == it.section,
-        Role::Tier => {
+        NumberRole::Section => value_of(number_at(text, at)) == it.section,
+        NumberRole::Tier => {
             let value = value_of(number_at(text, at));
             let side = side_after(text, end_of_number(text, at));
             if is_north_south_word(side) {
@@ -305,9 +305,9 @@ fn named_with(it: Named, rest: &[u8]) -> Named
     let byte = byte_at(rest, 0);
     if byte.is_ascii_digit() {
         return Named {
-            section: named_by(Role::Section, it.next, it.section, it.before, byte),
-            tier: named_by(Role::Tier, it.next, it.tier, it.before, byte),
-            range: named_by(Role::Range, it.next, it.range, it.before, byte),
+            section: named_by(NumberRole::Section, it.next, it.section, it.before, byte),
+            tier: named_by(NumberRole::Tier, it.next, it.tier, it.before, byte),
+            range: named_by(NumberRole::Range, it.next, it.range, it.before, byte),
             before: byte,
             ..it
         };
@@ -315,8 +315,8 @@ fn named_with(it: Named, rest: &[u8]) -> Named
     if byte.is_ascii_alphabetic() && !it.before.is_ascii_alphabetic() {
         return Named {
             next: role_named_by(it.next, word_of(rest)),
-            tier_side: side_by(Role::Tier, it.next, it.tier_side, byte),
-            range_side: side_by(Role::Range, it.next, it.range_side, byte),
+            tier_side: side_by(NumberRole::Tier, it.next, it.tier_side, byte),
+            range_side: side_by(NumberRole::Range, it.next, it.range_side, byte),
             before: byte,
             ..it
         };
@@ -325,31 +325,33 @@ fn named_with(it: Named, rest: &[u8]) -> Named
 }
 
 /// What a number is that follows a word.
-fn role_named_by(next: Role, word: &[u8]) -> Role
+fn role_named_by(next: NumberRole, word: &[u8]) -> NumberRole
     ensures { result ≡ role_named_by next word.now }
 {
     if is_in_section_names(word) {
-        return Role::Section;
+        return NumberRole::Section;
     }
     if is_in_tier_words(word) {
-        return Role::Tier;
+        return NumberRole::Tier;
     }
     if is_in_range_words(word) {
-        return Role::Range;
+        return NumberRole::Range;
     }
     if is_in_list_words(word) {
         return next;
     }
-    Role::Nothing
+    NumberRole::Nothing
 }
 
 /// The number that is named last after a digit, if it is of this role.
-fn named_by(wanted: Role, next: Role, value: u16, before: u8, digit: u8) -> u16
+fn named_by(wanted: NumberRole, next: NumberRole, value: u16, before: u8, digit: u8) -> u16
     ensures { result ≡ named_by wanted next value before digit }
 {
     let is_named = matches!(
         (wanted, next),
-        (Role::Section, Role::Section) | (Role::Tier, Role::Tier) | (Role::Range, Role::Range)
+        (NumberRole::Section, NumberRole::Section)
+            | (NumberRole::Tier, NumberRole::Tier)
+            | (NumberRole::Range, NumberRole::Range)
     );
     if !is_named {
         return value;
@@ -361,11 +363,12 @@ fn named_by(wanted: Role, next: Role, value: u16, before: u8, digit: u8) -> u16
 }
 
 /// The side that is named last after a word, if it is of this role.
-fn side_by(wanted: Role, next: Role, side: u8, byte: u8) -> u8
+fn side_by(wanted: NumberRole, next: NumberRole, side: u8, byte: u8) -> u8
     ensures { result ≡ side_by wanted next side byte }
 {
     match (wanted, next) {
-        (Role::Tier, Role::Tier) | (Role::Range, Role::Range) => byte.to_ascii_lowercase(),
+        (NumberRole::Tier, NumberRole::Tier) | (NumberRole::Range, NumberRole::Range) =>
+            byte.to_ascii_lowercase(),
         _ => side,
     }
 }

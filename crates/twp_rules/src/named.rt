@@ -1,10 +1,10 @@
-use crate::role::Role;
+use crate::role::NumberRole;
 
 /// What the text that changes make has named so far: the last section, and the last township and range.
 #[derive(Clone, Copy)]
 pub(crate) struct Named {
     /// What a number is that follows.
-    pub(crate) next: Role,
+    pub(crate) next: NumberRole,
     /// The last number of a section.
     pub(crate) section: u16,
     /// The last number of a township.

@@ -52,7 +52,7 @@ pub(crate) fn names_no_land(seen: &[u8]) -> bool
 }
 
 /// Whether neither a word nor a number begins at a place.
-fn begins_nothing(seen: &[u8], at: usize) -> bool
+pub(crate) fn begins_nothing(seen: &[u8], at: usize) -> bool
     ensures { result ≡ (not (begins_word seen.now at) && not (begins_number seen.now at)) }
 {
     !begins_word(seen, at) && !begins_number(seen, at)
@@ -88,7 +88,7 @@ pub(crate) fn has_no_bare_number(seen: &[u8]) -> bool
 
 /// Whether a number at a place, if there is one, belongs to something other than a section or a lot. The word before it
 /// is the one with which `named` begins.
-fn is_explained_at(seen: &[u8], at: usize, named: &[u8]) -> bool
+pub(crate) fn is_explained_at(seen: &[u8], at: usize, named: &[u8]) -> bool
     requires { at ≤ length seen.now }
     ensures { result ≡ is_explained_at seen.now at (word_of named.now) (drop at seen.now) }
 {
@@ -96,7 +96,7 @@ fn is_explained_at(seen: &[u8], at: usize, named: &[u8]) -> bool
 }
 
 /// The text from the last word on that may name a number: a number ends it.
-fn named_after<'a>(seen: &'a [u8], at: usize, named: &'a [u8]) -> &'a [u8]
+pub(crate) fn named_after<'a>(seen: &'a [u8], at: usize, named: &'a [u8]) -> &'a [u8]
     requires { at ≤ length seen.now }
     ensures { word_of result.now ≡ name_after seen.now at (word_of named.now) (drop at seen.now) }
 {
@@ -110,7 +110,7 @@ fn named_after<'a>(seen: &'a [u8], at: usize, named: &'a [u8]) -> &'a [u8]
 }
 
 /// Whether land is named at a place.
-fn names_land_at(seen: &[u8], at: usize) -> bool
+pub(crate) fn names_land_at(seen: &[u8], at: usize) -> bool
     requires { at ≤ length seen.now }
     ensures { result ≡ names_land_at seen.now at (drop at seen.now) }
 {

@@ -13,7 +13,7 @@ use twp_grammar::{Item, Numeral};
 
 /// A place in the text, and how far the changed text was followed for it.
 #[derive(Clone, Copy)]
-pub(crate) struct Spot {
+pub(crate) struct FollowedPlace {
     pub(crate) place: usize,
     pub(crate) cursor: Cursor,
 }
@@ -113,7 +113,12 @@ fn add_land(
 
 /// The origin of the byte at an offset, and how far the changed text was followed for it. None if that offset is before
 /// what was followed.
-pub(crate) fn found(changes: &[Change<'_>], base: usize, at: u32, from: Cursor) -> Option<Spot>
+pub(crate) fn found(
+    changes: &[Change<'_>],
+    base: usize,
+    at: u32,
+    from: Cursor,
+) -> Option<FollowedPlace>
     requires { IsFollowed changes.now from }
     ensures place { IfSome result (λ it. it.place ≡ origin 0 (map seen changes.now) (base + at)) }
     ensures followed { IfSome result (λ it. IsFollowed changes.now it.cursor) }
@@ -124,7 +129,7 @@ pub(crate) fn found(changes: &[Change<'_>], base: usize, at: u32, from: Cursor) 
     }
     let cursor = advanced(changes, from, offset);
     let place = place_from(changes, cursor, offset)?;
-    Some(Spot { place, cursor })
+    Some(FollowedPlace { place, cursor })
 }
 
 /// A cursor advanced to the change that writes the byte at an offset, or to the first one after that byte.

@@ -1,6 +1,6 @@
 /// What a number is that is copied at a place.
 #[derive(Clone, Copy)]
-pub(crate) enum Role {
+pub(crate) enum NumberRole {
     /// No number is expected there.
     Nothing,
     /// That of a section.

@@ -1,6 +1,6 @@
 /// Steps of a part that are written again at a place.
 #[derive(Clone, Copy)]
-pub(crate) struct Run {
+pub(crate) struct CopiedSteps {
     /// Where they are written again in the text.
     pub(crate) place: usize,
     /// Where the first of them begins in the text.

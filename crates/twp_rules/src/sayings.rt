@@ -1,5 +1,5 @@
 //! What a phrase says that names no land, and whether a word in it limits land.
-ghost use Rattle.std.specs.Prelude.{◌≡◌, drop};
+ghost use Rattle.std.specs.Prelude.{◌≡◌, ◌≤◌, ◌&&◌, drop, length};
 ghost use Rattle.twp_rules.specs.Naming.{word_of};
 ghost use Rattle.twp_rules.specs.Sayings.{begins_whole_word, has_no_limit, has_only_columns_from, is_mentioned};
 ghost use Rattle.twp_rules.specs.Sayings.{is_more_or_less, is_remark, is_said_of_interests, is_said_of_land, is_said_of_rights};
@@ -7,17 +7,45 @@ ghost use Rattle.twp_rules.specs.Sayings.{is_said_of_terms, limits_land, may_con
 
 use crate::endings::labels::*;
 use crate::figures::from;
-use crate::naming::{begins_word, byte_at, byte_before, names_no_land, word_of};
+use crate::naming::{
+    begins_nothing, begins_word, byte_at, byte_before, is_explained_at, named_after, names_land_at,
+    names_no_land, word_of,
+};
 use crate::saying::Saying;
 use crate::words::limits::*;
 use crate::words::sections::*;
 use crate::words::sides::*;
 
-/// Whether a text is a remark.
+/// Whether a text is a remark. Land, numbers, and limits are looked for at once, where a word or a number begins.
+#[tactic(auto, using(crate::proofs::SayingFacts::nothing_begins, crate::proofs::SayingFacts::goes_on_here, crate::proofs::SayingFacts::land_begins, crate::proofs::SayingFacts::bare_begins, crate::proofs::SayingFacts::limit_begins))]
 pub fn is_remark(seen: &[u8]) -> bool
     ensures { result ≡ is_remark seen.now }
 {
-    names_no_land(seen) && has_no_limit(Saying::Remark, seen)
+    let mut named: &[u8] = b"";
+    for at in 0..seen.len() {
+        if begins_nothing(seen, at) {
+            continue;
+        }
+        if names_land_at(seen, at) {
+            return false;
+        }
+        if !is_explained_at(seen, at, named) {
+            return false;
+        }
+        if limits_land_at(seen, at) {
+            return false;
+        }
+        named = named_after(seen, at, named);
+    }
+    true
+}
+
+/// Whether a word that limits land begins at a place.
+fn limits_land_at(seen: &[u8], at: usize) -> bool
+    requires { at ≤ length seen.now }
+    ensures { result ≡ (begins_whole_word seen.now at && limits_land (word_of (drop at seen.now))) }
+{
+    begins_whole_word(seen, at) && limits_land(word_of(from(seen, at)))
 }
 
 /// Whether a text says something of land, without naming any.

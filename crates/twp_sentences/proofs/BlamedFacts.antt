@@ -11,7 +11,7 @@ use Rattle.twp_grid.specs.declared.township.NorthSouth.{NorthSouth}
 use Rattle.twp_grid.specs.declared.township.NorthSouth.TheVariants as side
 use Rattle.twp_grid.specs.declared.township.EastWest.{EastWest}
 use Rattle.twp_notes.specs.Records.{Fields, field, records_of}
-use Rattle.twp_notes.specs.FieldNotes.{FIELDS, heading, IsTownshipRecord, IsSectionText, IsNeighborText}
+use Rattle.twp_notes.specs.FieldNotes.{FIELDS, heading, IsTownshipRecord, IsSectionNumber, IsNeighborText}
 use Rattle.twp_notes.specs.FieldNotes.{NamesLine}
 use Rattle.twp_notes.specs.NotesFaults.{HasNone, HasNoSection, HasNoLength}
 use Rattle.twp_notes.proofs.FieldFacts.{five_fields}
@@ -63,7 +63,7 @@ no_way fields size none mark number (inr south) range way is =
     })
 
 -- where the first of two is one, the second isn't
-pub no_neighbor : (fields : Fields) (section : ℕ) → IsSectionText (field fields 1) section
+pub no_neighbor : (fields : Fields) (section : ℕ) → IsSectionNumber (field fields 1) section
     → HasNoSection fields → HasNone (IsNeighborText (field fields 2))
 no_neighbor fields section is (inl none) = absurd (none section is)
 no_neighbor fields section is (inr none) = none

@@ -12,9 +12,9 @@ use Rattle.twp_read.specs.declared.fault.TextFault.TheVariants as faults
 use Rattle.twp_diagnose.specs.Findings.{IfFinds, IsStopOf}
 use Rattle.twp_diagnose.specs.Sights.{shown_place}
 use Rattle.twp_diagnose.specs.declared.finding.Finding.{Finding}
-use Rattle.twp_diagnose.specs.declared.finding.Failure.{Failure}
+use Rattle.twp_diagnose.specs.declared.finding.SearchStop.{SearchStop}
 use Rattle.twp_diagnose.specs.declared.location.Location.{Location}
-use Rattle.twp_diagnose.specs.declared.origin.Origin.{Origin}
+use Rattle.twp_diagnose.specs.declared.location.Origin.{Origin}
 use Rattle.twp_sentences.specs.ShownPlaces.{BeginsAt, ShowsAt, ShowsRefused, as_a_whole, there, at_the_end}
 use Rattle.twp_sentences.specs.ShownPlaces.{IfShown}
 use Rattle.twp_sentences.specs.Underlined.{EndsWithSign}
@@ -44,7 +44,7 @@ shows_refused origin bytes (faults.Syntax at_ expected) refusal place is shows =
 shows_refused origin bytes faults.Memory refusal place is shows =
     begins_refused origin bytes refusal place (list_all is_white (drop refusal.at bytes)) refl shows
 
-pub text_shown : {Error : Type 0} (found : Result Finding Error) (stopped : Failure) (origin : Origin)
+pub text_shown : {Error : Type 0} (found : Result Finding Error) (stopped : SearchStop) (origin : Origin)
     (bytes : List ℕ) (fault : TextFault) (refusal : Refusal)
     → text_faults.refusal_of fault ≡ Some refusal → IsStopOf found stopped
     → IfOk found (λ finding. finding.refusal ≡ refusal)
@@ -57,7 +57,7 @@ text_shown (Ok finding) stopped origin bytes fault refusal has stop_is same show
 text_shown (Err error) stopped origin bytes fault refusal has stop_is same shows =
     subst (IfShown origin bytes) (sym stop_is) tt
 
-pub items_shown : {Error : Type 0} (found : Result Finding Error) (stopped : Failure) (origin : Origin)
+pub items_shown : {Error : Type 0} (found : Result Finding Error) (stopped : SearchStop) (origin : Origin)
     (bytes : List ℕ) (refusal : Refusal)
     → IsStopOf found stopped → IfOk found (λ finding. finding.refusal ≡ refusal)
     → IfOk found (λ finding. BeginsAt origin refusal.at finding.place) → IfShown origin bytes stopped
@@ -68,14 +68,16 @@ items_shown (Err error) stopped origin bytes refusal stop_is same begins =
     subst (IfShown origin bytes) (sym stop_is) tt
 
 -- and what was found ends with its sign
-pub ends_there : {Error : Type 0} (found : Result Finding Error) (stopped : Failure) (origin : Origin)
+pub ends_there : {Error : Type 0} (found : Result Finding Error) (stopped : SearchStop) (origin : Origin)
     (bytes : List ℕ) (refusal : Refusal)
     → IsStopOf found stopped → IfOk found (λ finding. finding.refusal ≡ refusal)
     → IfOk found (λ finding. EndsWithSign origin bytes refusal.at finding.place)
     → IfFinds stopped (λ finding. EndsWithSign origin bytes finding.refusal.at finding.place)
 ends_there (Ok finding) stopped origin bytes refusal stop_is same ends =
-    subst (λ (s : Failure). IfFinds s (λ it. EndsWithSign origin bytes it.refusal.at it.place)) (sym stop_is)
+    subst (λ (s : SearchStop). IfFinds s (λ it. EndsWithSign origin bytes it.refusal.at it.place))
+    (sym stop_is)
     (subst (λ (r : Refusal). EndsWithSign origin bytes r.at finding.place) (sym same) ends)
 ends_there (Err error) stopped origin bytes refusal stop_is same ends =
-    subst (λ (s : Failure). IfFinds s (λ it. EndsWithSign origin bytes it.refusal.at it.place)) (sym stop_is)
+    subst (λ (s : SearchStop). IfFinds s (λ it. EndsWithSign origin bytes it.refusal.at it.place))
+    (sym stop_is)
     tt

@@ -9,7 +9,7 @@ use Rattle.twp_diagnose.specs.Origins.{place_of}
 use Rattle.twp_diagnose.specs.Sights.{shown_place, TakesSign}
 use Rattle.twp_diagnose.specs.declared.location.Location.{Location}
 use Rattle.twp_diagnose.specs.declared.location.Location.TheVariants.{Part}
-use Rattle.twp_diagnose.specs.declared.origin.Origin.{Origin}
+use Rattle.twp_diagnose.specs.declared.location.Origin.{Origin}
 
 -- what is too large alone is shown as a whole
 pub shows_a_part : (origin : Origin) (at : ℕ) (it : TextFault) (span : Span)

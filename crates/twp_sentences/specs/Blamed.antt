@@ -6,7 +6,7 @@ use Rattle.twp_grid.specs.Townships.{IsTownshipNumber}
 use Rattle.twp_grid.specs.declared.township.NorthSouth.{NorthSouth}
 use Rattle.twp_grid.specs.declared.township.EastWest.{EastWest}
 use Rattle.twp_notes.specs.Records.{Fields, field, records_of}
-use Rattle.twp_notes.specs.FieldNotes.{FIELDS, heading, IsTownshipRecord, IsSectionText, IsNeighborText}
+use Rattle.twp_notes.specs.FieldNotes.{FIELDS, heading, IsTownshipRecord, IsSectionNumber, IsNeighborText}
 use Rattle.twp_notes.specs.NotesFaults.{HasNone, HasNoSection, HasNoLength}
 use Rattle.twp_notes.specs.declared.fault.NotesFault.{NotesFault}
 use Rattle.twp_notes.specs.declared.fault.NotesFault.TheVariants as fault
@@ -48,7 +48,7 @@ IsNotOfTownship fields (suc (suc (suc (suc (suc more))))) = ⊥
 -- the field at this index should be a section, or a neighbor, and is not
 abbrev pub IsNoSection : Fields → ℕ → Type 0
 IsNoSection fields zero = ⊥
-IsNoSection fields (suc zero) = HasNone (IsSectionText (field fields 1))
+IsNoSection fields (suc zero) = HasNone (IsSectionNumber (field fields 1))
 IsNoSection fields (suc (suc zero)) = HasNone (IsNeighborText (field fields 2))
 IsNoSection fields (suc (suc (suc more))) = ⊥
 

@@ -10,7 +10,7 @@ use Rattle.twp_resolve.specs.declared.place_fault.PlaceFault.TheVariants as faul
 use Rattle.twp_resolve.specs.declared.shared.SharingItems.{SharingItems}
 use Rattle.twp_diagnose.specs.Origins.{place_of}
 use Rattle.twp_diagnose.specs.declared.explanation.OtherPlace.{OtherPlace}
-use Rattle.twp_diagnose.specs.declared.origin.Origin.{Origin}
+use Rattle.twp_diagnose.specs.declared.location.Origin.{Origin}
 use Rattle.twp_sentences.specs.Underlined.{IsItemSpan}
 
 -- the other place is where these bytes of a text are in its file; it is in no record of its own

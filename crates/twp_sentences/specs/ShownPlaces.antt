@@ -9,9 +9,9 @@ use Rattle.twp_read.specs.declared.fault.TextFault.TheVariants.{TooLarge}
 use Rattle.twp_diagnose.specs.Origins.{place_of}
 use Rattle.twp_diagnose.specs.declared.location.Location.{Location}
 use Rattle.twp_diagnose.specs.declared.location.Location.TheVariants.{Whole, Part}
-use Rattle.twp_diagnose.specs.declared.finding.Failure.{Failure}
-use Rattle.twp_diagnose.specs.declared.finding.Failure.TheVariants.{Found, Memory}
-use Rattle.twp_diagnose.specs.declared.origin.Origin.{Origin}
+use Rattle.twp_diagnose.specs.declared.finding.SearchStop.{SearchStop}
+use Rattle.twp_diagnose.specs.declared.finding.SearchStop.TheVariants.{Found, Memory}
+use Rattle.twp_diagnose.specs.declared.location.Origin.{Origin}
 
 -- what is underlined begins where this place of a text is in its file
 pub record BeginsAt (origin : Origin) (at : ℕ) (place : Location) : Type 0 where
@@ -37,6 +37,6 @@ pub data ShowsRefused (origin : Origin) (text : List ℕ) (refusal : Refusal) (p
       → ShowsRefused origin text refusal place
 
 -- nothing was found, or it is so shown
-abbrev pub IfShown : Origin → List ℕ → Failure → Type 0
+abbrev pub IfShown : Origin → List ℕ → SearchStop → Type 0
 IfShown origin text (Found finding) = ShowsRefused origin text finding.refusal finding.place
 IfShown origin text Memory = ⊤

@@ -11,7 +11,7 @@ use Rattle.twp_diagnose.specs.Origins.{place_of}
 use Rattle.twp_diagnose.specs.Sights.{shown_place, TakesSign}
 use Rattle.twp_diagnose.specs.declared.location.Location.{Location}
 use Rattle.twp_diagnose.specs.declared.location.Location.TheVariants.{Part}
-use Rattle.twp_diagnose.specs.declared.origin.Origin.{Origin}
+use Rattle.twp_diagnose.specs.declared.location.Origin.{Origin}
 
 -- what is underlined ends where this place of a text is in its file
 pub record EndsAt (origin : Origin) (end : ℕ) (place : Location) : Type 0 where
@@ -61,7 +61,7 @@ IsFaultSpan text items (fault.OnLot at) span = IsChainSpan text at span
 IsFaultSpan text items (fault.Overlap at) span = IsSpanAt text items at span
 
 -- some bytes that are of this kind end here
-pub record EndsAs (IsOfKind : Span → Type 0) (end : ℕ) : Type 0 where
+pub record EndsLike (IsOfKind : Span → Type 0) (end : ℕ) : Type 0 where
   pub span : Span
   pub is : IsOfKind span
   pub ends : end ≡ span.end
@@ -70,5 +70,5 @@ pub record EndsAs (IsOfKind : Span → Type 0) (end : ℕ) : Type 0 where
 pub record EndsWithFault (origin : Origin) (text : List ℕ) (items : List Item) (fault : PlaceFault)
     (place : Location) : Type 0 where
   pub end : ℕ
-  pub of_fault : EndsAs (IsFaultSpan text items fault) end
+  pub of_fault : EndsLike (IsFaultSpan text items fault) end
   pub ends : EndsAt origin end place

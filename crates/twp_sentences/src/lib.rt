@@ -1,6 +1,6 @@
-//! The sentences of explanations: for each fault of field notes, of notes that make no plat (`field_notes`), and of
-//! descriptions (`descriptions`), a sentence, a hint, and for descriptions the only reading of the text. What is at
-//! fault, and where, comes from `twp_diagnose`.
+//! The sentences of explanations: for each fault of field notes, of notes that make no plat
+//! (`field_notes`), and of descriptions (`descriptions`), a sentence, a hint, and for descriptions the
+//! only reading of the text. What is at fault, and where, comes from `twp_diagnose`.
 #![tactic(auto)]
 
 mod descriptions;

@@ -12,7 +12,7 @@ use Rattle.twp_grid.specs.Lands.{Meets, off_lots}
 use Rattle.twp_spell.specs.WrittenParts.{IsInPart, IsFull, IsOnSide}
 use Rattle.twp_spell.specs.WrittenParts.Part.{square, half_of_square}
 use Rattle.twp_spell.specs.steps.Spelling.{IsBlockOf, AreOfSquare}
-use Rattle.twp_spell.specs.steps.OpenHalves.{open_at, IsClosed, AreOpen}
+use Rattle.twp_spell.specs.steps.OpenHalves.{open_at, IsHalfEmpty, AreOpen}
 use Rattle.twp_spell.specs.declared.open_halves.OpenHalves.{OpenHalves}
 use Rattle.twp_spell.proofs.DescentLists.{of_empty}
 use Rattle.twp_spell.proofs.HalfPlaces.{half_in}
@@ -34,7 +34,7 @@ half_block g side quarters block fits of_square = record {
 pub half_closed : (g section : ℕ) (held : ℕ → ℕ → Bool) (side : Side) (quarters : List Corner)
     (block half : Rectangle) (meets : Bool) → length quarters < g → IsBlockOf g (square quarters) block
     → half ≡ half_of block side → IsTrue meets ↔ Meets held half → meets ≡ false
-    → IsClosed g (off_lots g section held) quarters side
+    → IsHalfEmpty g (off_lots g section held) quarters side
 half_closed g section held side quarters block half meets fits of_square is judged none =
     empty_block g section held (half_of_square side quarters) half
     (rw is (half_block g side quarters block fits of_square))
@@ -42,7 +42,7 @@ half_closed g section held side quarters block half meets fits of_square is judg
 
 -- so has each quarter in it
 in_closed : (g : ℕ) (held : ℕ → ℕ → Bool) (side : Side) (corner : Corner) (quarters : List Corner)
-    → length quarters < g → IsOnSide side corner → IsClosed g held quarters side → (column row : ℕ)
+    → length quarters < g → IsOnSide side corner → IsHalfEmpty g held quarters side → (column row : ℕ)
     → IsInPart g (square (corner ∷ quarters)) column row → ¬ (held column row ≡ true)
 in_closed g held side corner quarters fits on closed column row inside =
     let above =

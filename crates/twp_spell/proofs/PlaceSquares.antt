@@ -12,7 +12,7 @@ use Rattle.twp_grid.specs.Lots.{lot_at_position}
 use Rattle.twp_grid.specs.Places.{PLACE_DIGITS, places_to_position, position_along}
 use Rattle.twp_grid.specs.Lands.{lot_of_place}
 use Rattle.twp_grid.specs.Lands.{off_lots}
-use Rattle.twp_grid.specs.Spans.{Span, in_span, Rectangle}
+use Rattle.twp_grid.specs.Spans.{Interval, in_span, Rectangle}
 use Rattle.twp_grid.proofs.CutFacts.{sides_as_asked}
 use Rattle.twp_grammar.specs.ItemPlaces.{cuts_of}
 use Rattle.twp_spell.specs.declared.full_quarters.FullQuarters.{FullQuarters}
@@ -25,10 +25,10 @@ use Rattle.twp_grammar.proofs.CutPlaces.{more_than_one}
 use Rattle.twp_spell.proofs.SquareBlocks.{block_places_of, in_block, quarter_block, deeper}
 
 -- a span of length 1 contains only its start
-at_start : (span : Span) → span.len ≡ 1 → in_span span span.start ≡ true
+at_start : (span : Interval) → span.len ≡ 1 → in_span span span.start ≡ true
 at_start span one = grind (arith, nat_tests)
 
-only_start : (span : Span) (place : ℕ) → span.len ≡ 1 → in_span span place ≡ true → place ≡ span.start
+only_start : (span : Interval) (place : ℕ) → span.len ≡ 1 → in_span span place ≡ true → place ≡ span.start
 only_start span place one is =
     let both = and_parts (nat_le span.start place) (nat_lt place (span.start + span.len)) is in
     grind (arith, nat_tests)
@@ -249,7 +249,7 @@ fine_free section column row held a b none place place' least most least' most' 
     (rw (lot_of_fine section column row place place' a b least most least' most') none))
 
 -- no part is written in a lot's fine squares
-bounds : (span : Span) (place : ℕ) → span.len ≡ FINE_SIDE → in_span span place ≡ true
+bounds : (span : Interval) (place : ℕ) → span.len ≡ FINE_SIDE → in_span span place ≡ true
     → (span.start ≤ place) × (place < span.start + FINE_SIDE)
 bounds span place four is =
     let both = and_parts (nat_le span.start place) (nat_lt place (span.start + span.len)) is in

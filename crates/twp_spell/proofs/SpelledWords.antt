@@ -13,9 +13,9 @@ use Rattle.twp_grid.specs.declared.township.EastWest.{EastWest}
 use Rattle.twp_grid.specs.declared.township.EastWest.TheVariants as ew
 use Rattle.twp_grid.specs.declared.block.Side.TheVariants.{N, S, E, W}
 use Rattle.twp_grid.specs.declared.block.Corner.TheVariants.{NE, NW, SW, SE}
-use Rattle.twp_grammar.specs.declared.kind.Kind.{Kind}
-use Rattle.twp_grammar.specs.declared.kind.Kind.TheVariants.{Number}
-use Rattle.twp_grammar.specs.declared.kind.Kind.TheVariants as kind
+use Rattle.twp_grammar.specs.declared.tokens.Kind.{Kind}
+use Rattle.twp_grammar.specs.declared.tokens.Kind.TheVariants.{Number}
+use Rattle.twp_grammar.specs.declared.tokens.Kind.TheVariants as kind
 use Rattle.twp_grammar.specs.declared.item.Step.{Step}
 use Rattle.twp_grammar.specs.declared.item.Step.TheVariants.{Half, Quarter}
 use Rattle.twp_grammar.specs.Tokens.{is_white, kind_of_word, begins_with, Begins, IsGoodToken, a_word}

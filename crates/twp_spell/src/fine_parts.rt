@@ -8,10 +8,8 @@ ghost use Rattle.twp_spell.specs.WrittenParts.Part.{square};
 ghost use Rattle.twp_spell.specs.steps.Spelling.{AreOfSquare, AreOfQuarter, AreWritten, AreFull};
 ghost use Rattle.twp_spell.specs.steps.Spelling.{PART_MOST, BUFFER_MOST, chosen_of, quarters_text};
 
-use crate::full_quarters::FullQuarters;
-use crate::part_buffer::PartBuffer;
-use crate::part_text::{half_at, push_half_if_first};
-use crate::path::Path;
+use crate::full_quarters::{FullQuarters, Path};
+use crate::part_text::{PartBuffer, half_at, push_half_if_first};
 use twp_grid::Corner;
 
 /// Adds the written parts of a fine square that is not full. Each of its quarters has four places.

@@ -8,9 +8,7 @@ mod full_quarters;
 pub mod laws;
 mod line_start;
 mod open_halves;
-mod part_buffer;
 mod part_text;
-mod path;
 mod spelling;
 mod written_parts;
 

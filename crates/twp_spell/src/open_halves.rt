@@ -9,7 +9,7 @@ ghost use Rattle.twp_spell.specs.WrittenParts.{IsFull};
 ghost use Rattle.twp_spell.specs.WrittenParts.Part.{square};
 ghost use Rattle.twp_grid.specs.Lands.{off_lots};
 ghost use Rattle.twp_spell.specs.steps.Spelling.{IsBlockOf, AreFull};
-ghost use Rattle.twp_spell.specs.steps.OpenHalves.{open_at, IsClosed, AreOpen};
+ghost use Rattle.twp_spell.specs.steps.OpenHalves.{open_at, IsHalfEmpty, AreOpen};
 
 use crate::blocks::half_toward;
 use crate::full_quarters::FullQuarters;
@@ -78,9 +78,9 @@ fn open_across<L: PlaceSet>(
 ) -> OpenHalves
     requires { CanQuarter block }
     ensures { (quarters : List Corner) → IsBlockOf PLACE_DIGITS (square quarters) block
-        → (north ≡ false → IsClosed PLACE_DIGITS
+        → (north ≡ false → IsHalfEmpty PLACE_DIGITS
         (off_lots PLACE_DIGITS section (L.places land.now section)) quarters N)
-        → (south ≡ false → IsClosed PLACE_DIGITS
+        → (south ≡ false → IsHalfEmpty PLACE_DIGITS
         (off_lots PLACE_DIGITS section (L.places land.now section)) quarters S)
         → AreOpen PLACE_DIGITS (off_lots PLACE_DIGITS section (L.places land.now section))
         quarters result }
@@ -107,7 +107,7 @@ fn open_across<L: PlaceSet>(
 fn half_meets<L: PlaceSet>(land: &L, section: Section, block: Block, side: Side) -> bool
     requires { CanQuarter block }
     ensures { (quarters : List Corner) → IsBlockOf PLACE_DIGITS (square quarters) block
-        → result ≡ false → IsClosed PLACE_DIGITS
+        → result ≡ false → IsHalfEmpty PLACE_DIGITS
         (off_lots PLACE_DIGITS section (L.places land.now section)) quarters side }
 {
     land.meets(section, half_toward(block, side))

@@ -13,11 +13,9 @@ ghost use Rattle.twp_spell.specs.steps.OpenHalves.{AreOpen};
 ghost use Rattle.twp_spell.specs.steps.Spelling.{AreWritten, AreFull, FINE_SIDE, quarters_text};
 
 use crate::fine_parts::push_fine_square;
-use crate::full_quarters::FullQuarters;
+use crate::full_quarters::{FullQuarters, Path};
 use crate::open_halves::{OpenHalves, full_open_quarters, open_halves};
-use crate::part_buffer::{FINE_SIDE, PartBuffer};
-use crate::part_text::{half_at, write_full_quarter, write_half_if_first};
-use crate::path::Path;
+use crate::part_text::{FINE_SIDE, PartBuffer, half_at, write_full_quarter, write_half_if_first};
 use std::alloc::AllocError;
 use twp_grid::{Block, Corner, PLACES_TO_POSITION, Section, lot_at};
 use twp_land::{PlaceSet, holds_of_lot};

@@ -1,7 +1,7 @@
 -- Tokens of a text, one after another, with `and` for `&`.
 use Rattle.std.proofs.Common.{◌≡◌, ◌+◌, ℕ, List, [], ◌∷◌, ◌++◌, length, map, refl, sym, ap, ◌∙◌}
 use Rattle.std.specs.List.{AllPass}
-use Rattle.twp_grammar.specs.declared.token.Token.{Token as Piece}
+use Rattle.twp_grammar.specs.declared.tokens.Token.{Token as Piece}
 use Rattle.twp_grammar.specs.Tokens.{StartsWith, Token, is_white, seen}
 use Rattle.twp_read.proofs.DoubtFacts.{Cut, cut_begun, cut_next, cut_whole}
 use Rattle.twp_rules.specs.Changes.{Change}

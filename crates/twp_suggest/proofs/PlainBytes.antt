@@ -5,9 +5,9 @@ use Rattle.std.proofs.lemmas.Bool.{false≢true, le-ltb}
 use Rattle.std.specs.List.{AllPass, list_any}
 use Rattle.std.specs.Str.{str_to_ascii_lowercase}
 use Rattle.std.specs.Str.Parse.{digits_value}
-use Rattle.twp_grammar.specs.declared.kind.Kind.{Kind}
-use Rattle.twp_grammar.specs.declared.kind.Kind.TheVariants.{BadByte, BadNumber, Colon, Comma, Number}
-use Rattle.twp_grammar.specs.declared.kind.Kind.TheVariants.{Semicolon, Stop}
+use Rattle.twp_grammar.specs.declared.tokens.Kind.{Kind}
+use Rattle.twp_grammar.specs.declared.tokens.Kind.TheVariants.{BadByte, BadNumber, Colon, Comma, Number}
+use Rattle.twp_grammar.specs.declared.tokens.Kind.TheVariants.{Semicolon, Stop}
 use Rattle.twp_grammar.specs.Tokens.{HasTokens, IsGoodToken, IsToken, StartsWith, Token, is_white, words}
 use Rattle.twp_grammar.specs.Tokens.IsGoodToken.{a_bad_number, a_colon, a_comma, a_half, a_half_sign}
 use Rattle.twp_grammar.specs.Tokens.IsGoodToken.{a_number}

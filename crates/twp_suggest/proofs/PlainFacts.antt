@@ -12,7 +12,7 @@ use Rattle.twp_suggest.specs.Sharing.{head_after, head_by, head_of, is_comma, is
 use Rattle.twp_suggest.specs.Sharing.{is_fraction, is_listed, is_part_of, is_within, last_part}
 use Rattle.twp_suggest.specs.Sharing.{leads_part, of_count, part_after_and, tail_after, tail_of}
 use Rattle.twp_suggest.specs.declared.plain.Passed.{Passed}
-use Rattle.twp_suggest.specs.declared.sharing.Sought.TheVariants.{Copies}
+use Rattle.twp_suggest.specs.declared.sharing.SoughtChanges.TheVariants.{Copies}
 use Rattle.twp_suggest.specs.declared.way.Way.{Way}
 use Rattle.twp_suggest.specs.declared.way.Way.TheVariants.{Apart}
 use Rattle.twp_suggest.specs.Ways.{IfWay, way_if}

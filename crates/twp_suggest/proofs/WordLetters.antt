@@ -6,9 +6,9 @@ use Rattle.std.specs.Char.{to_ascii_lowercase}
 use Rattle.std.specs.List.{list_all, list_any}
 use Rattle.std.specs.Str.{str_to_ascii_lowercase}
 use Rattle.std.specs.Str.Parse.{digits_value}
-use Rattle.twp_grammar.specs.declared.kind.Kind.{Kind}
-use Rattle.twp_grammar.specs.declared.kind.Kind.TheVariants.{BadByte, BadNumber, Colon, Comma, Half, Number}
-use Rattle.twp_grammar.specs.declared.kind.Kind.TheVariants.{Other, Quarter, Semicolon, Stop}
+use Rattle.twp_grammar.specs.declared.tokens.Kind.{Kind}
+use Rattle.twp_grammar.specs.declared.tokens.Kind.TheVariants.{BadByte, BadNumber, Colon, Comma, Half, Number}
+use Rattle.twp_grammar.specs.declared.tokens.Kind.TheVariants.{Other, Quarter, Semicolon, Stop}
 use Rattle.twp_grammar.specs.Tokens.{IsGoodToken, IsToken, Word, kind_among, kind_of_word, same_bytes, words}
 use Rattle.twp_grammar.specs.Tokens.IsGoodToken.{a_bad_number, a_colon, a_comma, a_half, a_half_sign}
 use Rattle.twp_grammar.specs.Tokens.IsGoodToken.{a_number}

@@ -4,8 +4,8 @@
 use Rattle.std.specs.Prelude.{◌≡◌, ◌==◌, ◌||◌, ◌&&◌, ℕ, ◌+◌, ◌-◌, Bool, true, false, List, [], ◌∷◌}
 use Rattle.std.specs.Prelude.{if◌then◌else◌, length, map, nat_le, nat_lt, not, Option, None}
 use Rattle.std.specs.Prelude.{slice_index}
-use Rattle.twp_grammar.specs.declared.kind.Kind.{Kind}
-use Rattle.twp_grammar.specs.declared.kind.Kind.TheVariants.{And, Comma, Colon, Half, Quarter, The}
+use Rattle.twp_grammar.specs.declared.tokens.Kind.{Kind}
+use Rattle.twp_grammar.specs.declared.tokens.Kind.TheVariants.{And, Comma, Colon, Half, Quarter, The}
 use Rattle.twp_grammar.specs.Tokens.{Token, HasTokens, is_white}
 use Rattle.twp_read.specs.Doubts.{after_part, begins_step, end_of, is_and, is_number, is_of, is_of_part}
 use Rattle.twp_read.specs.Doubts.{is_of_step}
@@ -13,8 +13,8 @@ use Rattle.twp_rules.specs.declared.rule.Rule.{Rule}
 use Rattle.twp_rules.specs.declared.rule.Rule.TheVariants as rule
 use Rattle.twp_rules.specs.Changes.{Change}
 use Rattle.twp_rules.specs.Naming.{is_side}
-use Rattle.twp_suggest.specs.declared.sharing.Sought.{Sought}
-use Rattle.twp_suggest.specs.declared.sharing.Sought.TheVariants.{Copies, Phrases}
+use Rattle.twp_suggest.specs.declared.sharing.SoughtChanges.{SoughtChanges}
+use Rattle.twp_suggest.specs.declared.sharing.SoughtChanges.TheVariants.{Copies, Phrases}
 use Rattle.twp_suggest.specs.declared.way.Way.{Way}
 use Rattle.twp_suggest.specs.declared.way.Way.TheVariants.{Again, Apart}
 use Rattle.twp_suggest.specs.Ways.{IfWay, way_if}
@@ -85,7 +85,7 @@ last_part count (token ∷ more) =
     else (if is_listed token.kind then last_part count more else [])
 
 -- a rule writes steps again, or leaves out a phrase
-abbrev pub is_sought : Sought → Rule → Bool
+abbrev pub is_sought : SoughtChanges → Rule → Bool
 is_sought Copies (rule.CopiedStep from to) = true
 is_sought Phrases rule.Repeated = true
 is_sought Phrases rule.MovedSection = true
@@ -96,7 +96,7 @@ is_sought Phrases rule.Label = true
 is_sought sought other = false
 
 -- such a change is between two places of the text that changes make
-abbrev pub is_within : Sought → ℕ → ℕ → ℕ → ℕ → List Change → Bool
+abbrev pub is_within : SoughtChanges → ℕ → ℕ → ℕ → ℕ → List Change → Bool
 is_within sought from to at place [] = false
 is_within sought from to at place (change ∷ changes) =
     is_sought sought change.rule && nat_le from (place + (change.start - at))

@@ -2,10 +2,10 @@
 
 use crate::arranged::Plan;
 use crate::outline::{Choice, JointWay, Outline, change};
-use crate::writer::Writer;
+use crate::writer::ChangeWriter;
 use std::alloc::{AllocError, Global};
 use std::mem;
-use twp_draft::FindsPhrases;
+use twp_draft::{FindsPhrases, Placed};
 use twp_read::TEXT_LIMIT;
 use twp_rules::{Change, Rule};
 
@@ -20,23 +20,45 @@ pub(crate) fn outline_of<'a, F: FindsPhrases>(
     if text.len() > TEXT_LIMIT {
         return Ok(None);
     }
-    let mut plan = Plan::of(F::phrases_of(alloc, text)?);
-    let mut writer = Writer { plan: &mut plan };
-    if writer.plan.draft.is_unsure {
-        return Ok(None);
+    let mut plan = Plan::new(alloc, text);
+    let mut writer = ChangeWriter { plan: &mut plan };
+    writer.outline_by::<F>(alloc)
+}
+
+impl<'p, 'a> ChangeWriter<'p, 'a> {
+    /// The changes by the phrases that are found. This only borrows the plan, which has many vectors: a function that
+    /// owned it would need code to drop each of them, at each of its ends.
+    fn outline_by<F: FindsPhrases>(
+        &mut self,
+        alloc: Global,
+    ) -> Result<Option<Outline<'a>>, AllocError> {
+        F::add_phrases(&mut self.plan.draft)?;
+        self.plan.count_phrases();
+        if self.plan.draft.is_unsure {
+            return Ok(None);
+        }
+        let arranged = self.plan.arranged(alloc)?;
+        self.sure_outline(alloc, arranged.as_slice())
     }
-    let arranged = writer.plan.arranged(alloc)?;
-    if writer.plan.draft.is_unsure
-        || !writer.plan.acreage_fits(arranged.as_slice())
-        || !writer.fractional_fit(alloc, arranged.as_slice())?
-    {
-        return Ok(None);
+
+    /// The changes by phrases that are arranged.
+    fn sure_outline(
+        &mut self,
+        alloc: Global,
+        list: &[Placed],
+    ) -> Result<Option<Outline<'a>>, AllocError> {
+        if self.plan.draft.is_unsure
+            || !self.plan.acreage_fits(list)
+            || !self.fractional_fit(alloc, list)?
+        {
+            return Ok(None);
+        }
+        let outline = self.outline(alloc, list)?;
+        if self.plan.draft.is_unsure {
+            return Ok(None);
+        }
+        Ok(Some(outline))
     }
-    let outline = writer.outline(alloc, arranged.as_slice())?;
-    if writer.plan.draft.is_unsure {
-        return Ok(None);
-    }
-    Ok(Some(outline))
 }
 
 impl<'a> Outline<'a> {

@@ -13,12 +13,12 @@ use crate::meaning::{Manner, find_land, find_own_land};
 use crate::plain::is_plain;
 use crate::reading::Reading;
 use crate::sharing::{apart_after, has_place, head_after, here, joined_tokens, tail_after};
-use crate::turned::{Before, way_after};
+use crate::turned::{ChangeBefore, way_after};
 use crate::way::{Way, text_by};
 use std::alloc::{AllocError, Global};
 use twp_grammar::Token;
 use twp_grid::Township;
-use twp_land::{Land, Lanes};
+use twp_land::{Land, Lanes, PlaceSet};
 use twp_rules::{Change, Rule, changed};
 
 /// Whether each other way to read a place of a text is given by some readings of it, if it names land.
@@ -103,7 +103,7 @@ fn are_turned(
         AreTurned (IsWayGiven readings.now own.now made.now) text.now made.now Word 0 0
         (map seen own.now.changes.items)) }
 {
-    let mut before = Before {
+    let mut before = ChangeBefore {
         rule: Rule::Word,
         at: 0,
     };
@@ -124,7 +124,7 @@ fn are_turned(
             return Ok(false);
         };
         place = next;
-        before = Before {
+        before = ChangeBefore {
             rule: change.rule,
             at: change.end,
         };
@@ -319,7 +319,7 @@ fn have_land(
     township: Township,
 ) -> Result<bool, AllocError>
     ensures { IfOk result (λ it. it ≡ true →
-        Any (NamesSame township (⟦<Lanes as Land>⟧.places land.now)) readings.now) }
+        Any (NamesSame township (⟦<Lanes as PlaceSet>⟧.places land.now)) readings.now) }
 {
     for reading in readings {
         let is_same = names_land(alloc, land, reading, township)?;
@@ -340,7 +340,7 @@ fn names_land(
     township: Township,
 ) -> Result<bool, AllocError>
     ensures { IfOk result (λ it. it ≡ true →
-        NamesSame township (⟦<Lanes as Land>⟧.places land.now) reading.now) }
+        NamesSame township (⟦<Lanes as PlaceSet>⟧.places land.now) reading.now) }
 {
     let mut more = Lanes::empty();
     let has_more = find_land(alloc, reading.text.as_slice(), township, &mut more)?;

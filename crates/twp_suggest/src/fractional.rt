@@ -1,15 +1,15 @@
 //! Parts that are called fractional: they have to include lots.
 
 use crate::meaning::{find_land, find_named_land, first_township};
-use crate::writer::Writer;
+use crate::writer::ChangeWriter;
 use std::alloc::{AllocError, Global};
 use twp_asides::plus;
-use twp_draft::{Names, Phrase, Placed, Role, Span};
+use twp_draft::{IndexRange, Names, Phrase, Placed, Role};
 use twp_land::{Land, Lanes};
 
 /// The land before a place, which moves from one place to the next.
 #[derive(Clone, Copy)]
-struct Before {
+struct LandBefore {
     /// How many phrases are before the place.
     count: usize,
     /// The index of the first phrase of the last group.
@@ -18,9 +18,9 @@ struct Before {
     last: Option<Placed>,
 }
 
-impl Before {
+impl LandBefore {
     /// The land before a place after that.
-    fn moved_to(self, place: usize, list: &[Placed]) -> Before {
+    fn moved_to(self, place: usize, list: &[Placed]) -> LandBefore {
         let mut before = self;
         let mut role = list.get(self.group).map(|placed| placed.role);
         for index in self.count..list.len() {
@@ -43,14 +43,14 @@ impl Before {
     }
 }
 
-impl<'p, 'a> Writer<'p, 'a> {
+impl<'p, 'a> ChangeWriter<'p, 'a> {
     /// Whether each part that is called fractional includes lots.
     pub(crate) fn fractional_fit(
         &self,
         alloc: Global,
         list: &[Placed],
     ) -> Result<bool, AllocError> {
-        let mut before = Before {
+        let mut before = LandBefore {
             count: 0,
             group: 0,
             last: None,
@@ -113,7 +113,7 @@ impl<'p, 'a> Writer<'p, 'a> {
         text: &mut Vec<u8>,
     ) -> Result<(), AllocError> {
         text.extend_from_slice(mark)?;
-        let pieces = Span {
+        let pieces = IndexRange {
             first: phrase.first,
             end: phrase.end,
         };
@@ -123,8 +123,8 @@ impl<'p, 'a> Writer<'p, 'a> {
     /// Appends the text of some pieces with changes.
     fn write_land(
         &self,
-        pieces: Span,
-        changes: Span,
+        pieces: IndexRange,
+        changes: IndexRange,
         text: &mut Vec<u8>,
     ) -> Result<(), AllocError> {
         let draft = &self.plan.draft;

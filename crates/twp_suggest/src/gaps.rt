@@ -3,13 +3,13 @@
 use crate::arranged::{Between, Gap, Joining, is_joint, is_written, mark_between};
 use crate::joints::Shared;
 use crate::outline::{Outline, Parts};
-use crate::writer::Writer;
+use crate::writer::ChangeWriter;
 use twp_asides::plus;
 use twp_draft::{Form, Names, Placed};
 use twp_grammar::Kind;
 use twp_rules::{Change, Rule};
 
-impl<'p, 'a> Writer<'p, 'a> {
+impl<'p, 'a> ChangeWriter<'p, 'a> {
     /// Writes what has to be between two phrases, and leaves out what is between them.
     pub(crate) fn write_gap<'b>(
         &mut self,

@@ -3,7 +3,7 @@
 use crate::arranged::{Gap, Joining};
 use crate::candidates::CANDIDATES_MOST;
 use crate::outline::{JointWay, Outline, Parts, change};
-use crate::writer::Writer;
+use crate::writer::ChangeWriter;
 use twp_asides::plus;
 use twp_draft::{Form, Phrase, Placed, PlacedStep};
 use twp_grammar::Kind;
@@ -19,7 +19,7 @@ pub(crate) enum Shared {
     Head,
 }
 
-impl<'p, 'a> Writer<'p, 'a> {
+impl<'p, 'a> ChangeWriter<'p, 'a> {
     /// Notes a joint between two parts: a comma is written, or all that is between them is left out. A half
     /// beside itself is not sure.
     pub(crate) fn write_joint(

@@ -6,7 +6,7 @@ ghost use Rattle.twp_suggest.specs.Repeats.{is_without, name_end, of_section, se
 use crate::bytes::{after, between, front};
 use crate::meaning::find_named_land;
 use std::alloc::{AllocError, Global};
-use twp_land::{Land, Lanes};
+use twp_land::{Land, Lanes, PlaceSet};
 use twp_rules::{begins_with, digits_of, ends_with};
 
 /// The most places from the right at which the last land is looked for: a list of all lots of a section has no more.
@@ -55,7 +55,7 @@ fn is_last_land(
 ) -> Result<bool, AllocError>
     requires end { end ≤ length text.now }
     requires last { is_last_section text.now section ≡ true }
-    ensures { IfOk result (λ it. it ≡ true → IsLastLand text.now section (⟦<Lanes as Land>⟧.places land.now)) }
+    ensures { IfOk result (λ it. it ≡ true → IsLastLand text.now section (⟦<Lanes as PlaceSet>⟧.places land.now)) }
 {
     let first = first_of_parts(text, section);
     let mut tried = 0;
@@ -85,7 +85,7 @@ fn are_all_parts(
 ) -> Result<bool, AllocError>
     requires end { end ≤ length text.now }
     requires last { is_last_section text.now section ≡ true }
-    ensures { IfOk result (λ it. it ≡ true → IsLastLand text.now section (⟦<Lanes as Land>⟧.places land.now)) }
+    ensures { IfOk result (λ it. it ≡ true → IsLastLand text.now section (⟦<Lanes as PlaceSet>⟧.places land.now)) }
 {
     let first = first_of_parts(text, section);
     let mut tried = 0;
@@ -117,7 +117,7 @@ fn is_land_at(
 ) -> Result<bool, AllocError>
     requires order { at ≤ end }
     requires end { end ≤ length text.now }
-    ensures { IfOk result (λ it. it ≡ true → IsLastLand text.now section (⟦<Lanes as Land>⟧.places land.now)) }
+    ensures { IfOk result (λ it. it ≡ true → IsLastLand text.now section (⟦<Lanes as PlaceSet>⟧.places land.now)) }
 {
     if !is_last_land_at(text, section, at, end) {
         return Ok(false);

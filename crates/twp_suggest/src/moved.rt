@@ -1,10 +1,10 @@
 //! What is written before land: the township and range, and the section, where they are after it.
 
 use crate::outline::Outline;
-use crate::writer::Writer;
+use crate::writer::ChangeWriter;
 use std::alloc::{AllocError, Global};
 use twp_asides::plus;
-use twp_draft::{Names, Phrase, Placed, Role, Span};
+use twp_draft::{IndexRange, Names, Phrase, Placed, Role};
 use twp_read::TEXT_LIMIT;
 use twp_rules::Rule;
 
@@ -14,7 +14,7 @@ const EXCEPTING_MOST: usize = 2 * TEXT_LIMIT + 8;
 /// The fewest bytes that are written for a section besides its parts, as in `sec. 1, ; `.
 const SECTION_LEAST: usize = 10;
 
-impl<'p, 'a> Writer<'p, 'a> {
+impl<'p, 'a> ChangeWriter<'p, 'a> {
     /// The township and range that have to be written first, if they aren't.
     pub(crate) fn moved_heading(&self, list: &[Placed]) -> Option<Phrase> {
         for placed in list {
@@ -91,7 +91,13 @@ impl<'p, 'a> Writer<'p, 'a> {
     }
 
     /// Writes the numbers of sections at a place; each but the last with these parts, if it has them.
-    fn copy_sections(&mut self, numbers: Span, place: usize, is_each: bool, parts: &[Phrase]) {
+    fn copy_sections(
+        &mut self,
+        numbers: IndexRange,
+        place: usize,
+        is_each: bool,
+        parts: &[Phrase],
+    ) {
         let last = numbers.end.saturating_sub(1);
         for index in numbers.first..numbers.end {
             if let Some(number) = self.plan.draft.numbers.get(index).copied() {

@@ -1,7 +1,7 @@
 //! The changes of a whole text, and the places where it can be read in two ways.
 
 use crate::arranged::has_except;
-use crate::writer::Writer;
+use crate::writer::ChangeWriter;
 use std::alloc::{AllocError, Global};
 use twp_asides::plus;
 use twp_draft::{Again, Names, Phrase, Placed, Role};
@@ -118,7 +118,7 @@ impl<'a> Outline<'a> {
     }
 }
 
-impl<'p, 'a> Writer<'p, 'a> {
+impl<'p, 'a> ChangeWriter<'p, 'a> {
     /// The changes of the whole text, from left to right.
     pub(crate) fn outline(
         &mut self,

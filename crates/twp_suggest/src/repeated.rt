@@ -160,9 +160,11 @@ fn is_said_from(alloc: Global, text: &[u8], at: usize, bytes: &[u8]) -> Result<b
     let before = byte_before(text, at);
     let is_one = (is_number_said(bytes) && may_begin_number(before))
         || (is_township_said(bytes) && may_begin_township(before));
+    if !is_one {
+        return Ok(false);
+    }
     let last = solid(alloc, after(text, at))?;
-    let is_said = is_one && are_same(last.as_slice(), bytes);
-    Ok(is_said)
+    Ok(are_same(last.as_slice(), bytes))
 }
 
 /// Whether a phrase says land again, by the bytes from one place up to another, with changes.

@@ -24,7 +24,7 @@ const BYTES_TO_TOKEN: usize = 2;
 
 /// Changes that are looked for.
 #[derive(Clone, Copy, PartialEq, Eq)]
-pub(crate) enum Sought {
+pub(crate) enum SoughtChanges {
     /// Steps that are written again.
     Copies,
     /// Phrases that are left out.
@@ -163,7 +163,7 @@ pub(crate) fn apart_after(
     }
     let end = first.at.checked_add(first.text.len())?;
     let is_copied = is_within(
-        Sought::Copies,
+        SoughtChanges::Copies,
         first.at.saturating_sub(2),
         first.at,
         changes,
@@ -261,13 +261,13 @@ fn are_as_written(
 ) -> Option<bool>
     ensures { IfSome result (λ it. it ≡ are_as_written (map seen changes.now) from to first end) }
 {
-    let has_phrase = is_within(Sought::Phrases, from, to, changes)?;
-    let has_copy = is_within(Sought::Copies, first, end, changes)?;
+    let has_phrase = is_within(SoughtChanges::Phrases, from, to, changes)?;
+    let has_copy = is_within(SoughtChanges::Copies, first, end, changes)?;
     Some(!has_phrase && !has_copy)
 }
 
 /// Whether such a change is between two places of the text that changes make.
-fn is_within(sought: Sought, from: usize, to: usize, changes: &[Change<'_>]) -> Option<bool>
+fn is_within(sought: SoughtChanges, from: usize, to: usize, changes: &[Change<'_>]) -> Option<bool>
     ensures { IfSome result (λ it. it ≡ is_within sought from to 0 0 (map seen changes.now)) }
 {
     let mut at = 0;
@@ -286,17 +286,17 @@ fn is_within(sought: Sought, from: usize, to: usize, changes: &[Change<'_>]) -> 
 }
 
 /// Whether a rule writes steps again, or leaves out a phrase.
-fn is_sought(sought: Sought, rule: Rule) -> bool
+fn is_sought(sought: SoughtChanges, rule: Rule) -> bool
     ensures { result ≡ is_sought sought rule }
 {
     match (sought, rule) {
-        (Sought::Copies, Rule::CopiedStep(_, _)) => true,
-        (Sought::Phrases, Rule::Repeated)
-        | (Sought::Phrases, Rule::MovedSection)
-        | (Sought::Phrases, Rule::MovedHeading)
-        | (Sought::Phrases, Rule::Meridian)
-        | (Sought::Phrases, Rule::Acreage)
-        | (Sought::Phrases, Rule::Label) => true,
+        (SoughtChanges::Copies, Rule::CopiedStep(_, _)) => true,
+        (SoughtChanges::Phrases, Rule::Repeated)
+        | (SoughtChanges::Phrases, Rule::MovedSection)
+        | (SoughtChanges::Phrases, Rule::MovedHeading)
+        | (SoughtChanges::Phrases, Rule::Meridian)
+        | (SoughtChanges::Phrases, Rule::Acreage)
+        | (SoughtChanges::Phrases, Rule::Label) => true,
         _ => false,
     }
 }

@@ -13,7 +13,7 @@ use twp_rules::{Change, Rule, is_side};
 
 /// What was before a change.
 #[derive(Clone, Copy)]
-pub(crate) struct Before {
+pub(crate) struct ChangeBefore {
     /// The rule of the change before it.
     pub(crate) rule: Rule,
     /// Where that one ends in the text.
@@ -23,7 +23,7 @@ pub(crate) struct Before {
 /// The other way at a change that is at a place of the text that the changes make, before others. None if it can't be
 /// told.
 pub(crate) fn way_after(
-    before: Before,
+    before: ChangeBefore,
     text: &[u8],
     made: &[u8],
     place: usize,

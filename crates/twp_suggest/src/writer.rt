@@ -4,6 +4,6 @@ use crate::arranged::Plan;
 
 /// The phrases of a text, whose changes are written.
 #[derive(Drop)]
-pub(crate) struct Writer<'p, 'a> {
+pub(crate) struct ChangeWriter<'p, 'a> {
     pub(crate) plan: &'p mut Plan<'a>,
 }

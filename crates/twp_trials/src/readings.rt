@@ -1,6 +1,6 @@
-//! The readings of descriptions. Each description is on a line, with `\n` for a line feed and `\t` for a tab. For each, a
-//! line with the number of its readings is printed, and each reading: its text on a line, and a line for each of its
-//! assumptions.
+//! The readings of descriptions. Each description is on a line, with `\n` for a line feed and `\t` for a
+//! tab. For each, a line with the number of its readings is printed, and each reading: its text on a
+//! line, and a line for each of its assumptions.
 
 use bstr::ByteSlice;
 use std::alloc::{AllocError, Global};

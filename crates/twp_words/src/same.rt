@@ -1,8 +1,10 @@
 //! Whether two texts are the same, whether a word is in a list, and whether letters are those of corners.
 
 /// Whether two texts are the same. A pattern of bytes would be proved byte by byte, which takes several times as long.
+/// The lengths are compared first: most of them differ, and that takes no call.
+#[inline(always)]
 pub fn is_same(word: &[u8], text: &[u8]) -> bool {
-    word == text
+    word.len() == text.len() && word == text
 }
 
 /// Whether a word is one of these words, which all have as many bytes as it has, and a space between them. A list
@@ -12,7 +14,7 @@ pub fn is_same(word: &[u8], text: &[u8]) -> bool {
 /// them, and one for the last byte, which rules out most words before any is compared.
 #[inline(always)]
 pub(crate) fn is_among(word: &[u8], edges: u64, words: &str) -> bool {
-    has_edges(word, edges) && index_among(word, words).is_some()
+    has_edges(word, edges) && has_row(word, words)
 }
 
 /// Whether a number has the bit of a word's first byte: that of the byte's low five bits; and 32 bits higher, that
@@ -26,6 +28,17 @@ fn has_edges(word: &[u8], edges: u64) -> bool {
         }
         _ => false,
     }
+}
+
+/// Whether a word is one of these words.
+#[inline(never)]
+fn has_row(word: &[u8], words: &str) -> bool {
+    for row in words.as_bytes().chunks(word.len().saturating_add(1)) {
+        if is_row(row, word) {
+            return true;
+        }
+    }
+    false
 }
 
 /// Which of these words a word is, counted from 0.

@@ -1,12 +1,12 @@
 -- What an acreage run writes for known bytes: there is only one answer.
 use Rattle.std.proofs.Common.{◌≡◌, ℕ, List, Some, Result, refl}
 use Rattle.twp_grid.specs.declared.refusal.Refusal.{Refusal}
-use Rattle.twp_plat.specs.declared.account.Account.{Account}
+use Rattle.twp_plat.specs.declared.land_area.Account.{Account}
 use Rattle.twp_answers.specs.Answers.{IsRefusal, acres_line, refusal_line}
 use Rattle.twp_answers.specs.Uses.{Use}
-use Rattle.twp_answers.specs.declared.verdict.RunFault.{RunFault}
-use Rattle.twp_answers.specs.declared.verdict.Verdict.{Verdict}
-use Rattle.twp_answers.specs.declared.verdict.Verdict.TheVariants.{Accepted, Refused}
+use Rattle.twp_answers.specs.declared.stop.RunFault.{RunFault}
+use Rattle.twp_answers.specs.declared.stop.Verdict.{Verdict}
+use Rattle.twp_answers.specs.declared.stop.Verdict.TheVariants.{Accepted, Refused}
 use Rattle.twp_answers.specs.AccountAnswers.{HasAcresBy, IsAcresAnswerBy}
 use Rattle.twp_answers.specs.Runs.{IsAnswered, RunsOnPlat}
 use Rattle.twp_answers.proofs.runs.OneAccountAnswer.{one_answer_by}

@@ -6,7 +6,7 @@ use Rattle.twp_read.specs.Doubts.{HasNoDoubtfulPlace}
 use Rattle.twp_read.specs.declared.doubt.Clarity.{Clarity}
 use Rattle.twp_read.specs.declared.doubt.Clarity.TheVariants.{Clear, Unclear}
 use Rattle.twp_answers.specs.Answers.{ArePlatted}
-use Rattle.twp_answers.specs.declared.verdict.RunFault.{RunFault}
+use Rattle.twp_answers.specs.declared.stop.RunFault.{RunFault}
 use Rattle.twp_answers.specs.Runs.{ReadsTwo}
 use Rattle.twp_answers.specs.declared.runs.answer.Answer.{Answer}
 use Rattle.twp_answers.proofs.RunFacts.{told_are}

@@ -8,8 +8,8 @@ use Rattle.twp_grid.specs.Townships.{Designation}
 use Rattle.twp_grid.specs.declared.refusal.Refusal.{Refusal}
 use Rattle.twp_plat.specs.Plats.{TownshipPlat}
 use Rattle.twp_plat.specs.PlatAccounts.{IsAreaBy}
-use Rattle.twp_plat.specs.declared.account.Account.{Account}
-use Rattle.twp_plat.specs.declared.account.Account.TheVariants.{Exact, Plat}
+use Rattle.twp_plat.specs.declared.land_area.Account.{Account}
+use Rattle.twp_plat.specs.declared.land_area.Account.TheVariants.{Exact, Plat}
 use Rattle.twp_plat.proofs.AreaLaws.{one_land_area}
 use Rattle.twp_plat.proofs.PlatLaws.{one_plat_area}
 use Rattle.twp_answers.specs.Answers.{ArePlatted, Describe, IsNoDescription, IsLandOnPlat, IsRefusal}
@@ -26,10 +26,10 @@ use Rattle.twp_answers.specs.steps.RunStops.{AnswersStop}
 use Rattle.twp_answers.specs.declared.runs.answer.Answer.{Answer}
 use Rattle.twp_answers.specs.declared.stop.Stop.{Stop}
 use Rattle.twp_answers.specs.declared.stop.Stop.TheVariants as stop
-use Rattle.twp_answers.specs.declared.verdict.RunFault.{RunFault}
-use Rattle.twp_answers.specs.declared.verdict.RunFault.TheVariants.{Memory}
-use Rattle.twp_answers.specs.declared.verdict.Verdict.{Verdict}
-use Rattle.twp_answers.specs.declared.verdict.Verdict.TheVariants as verdict
+use Rattle.twp_answers.specs.declared.stop.RunFault.{RunFault}
+use Rattle.twp_answers.specs.declared.stop.RunFault.TheVariants.{Memory}
+use Rattle.twp_answers.specs.declared.stop.Verdict.{Verdict}
+use Rattle.twp_answers.specs.declared.stop.Verdict.TheVariants as verdict
 use Rattle.twp_answers.proofs.OneAnswer.{one_plat, one_land, not_described, not_platted}
 
 -- with a stop on the plat, the answer can only fail because memory runs out

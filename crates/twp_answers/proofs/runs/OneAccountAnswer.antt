@@ -8,10 +8,10 @@ use Rattle.twp_answers.specs.AccountAnswers.{ArePlatHundredthsOf, HasAcresBy, Ha
 use Rattle.twp_answers.specs.AccountAnswers.{IsAcresAnswerBy}
 use Rattle.twp_answers.specs.Answers.{Describe, IsRefusal}
 use Rattle.twp_answers.specs.Laws.{OneAnswerBy}
-use Rattle.twp_plat.specs.declared.account.Account.{Account}
-use Rattle.twp_plat.specs.declared.account.Account.TheVariants.{Exact, Plat}
-use Rattle.twp_answers.specs.declared.verdict.Verdict.{Verdict}
-use Rattle.twp_answers.specs.declared.verdict.Verdict.TheVariants.{Accepted, Refused, TractRefused}
+use Rattle.twp_plat.specs.declared.land_area.Account.{Account}
+use Rattle.twp_plat.specs.declared.land_area.Account.TheVariants.{Exact, Plat}
+use Rattle.twp_answers.specs.declared.stop.Verdict.{Verdict}
+use Rattle.twp_answers.specs.declared.stop.Verdict.TheVariants.{Accepted, Refused, TractRefused}
 use Rattle.twp_answers.proofs.OneAnswer.{one_land, one_plat, one_refusal}
 use Rattle.twp_answers.proofs.runs.OneAnswer.{not_land, one_acres}
 use Rattle.twp_plat.proofs.PlatLaws.{one_plat_area}

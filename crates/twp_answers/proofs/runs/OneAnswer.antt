@@ -7,8 +7,8 @@ use Rattle.twp_plat.specs.Plats.{TownshipPlat}
 use Rattle.twp_plat.proofs.AreaLaws.{one_land_area}
 use Rattle.twp_answers.specs.Answers.{Describe, IsLandOnPlat, IsNoDescription, IsRefusal}
 use Rattle.twp_answers.specs.Answers.{AreHundredthsOf, HasAcres, IsAcresAnswer}
-use Rattle.twp_answers.specs.declared.verdict.Verdict.{Verdict}
-use Rattle.twp_answers.specs.declared.verdict.Verdict.TheVariants.{Accepted, Refused, TractRefused}
+use Rattle.twp_answers.specs.declared.stop.Verdict.{Verdict}
+use Rattle.twp_answers.specs.declared.stop.Verdict.TheVariants.{Accepted, Refused, TractRefused}
 use Rattle.twp_answers.proofs.OneAnswer.{one_plat, one_land, not_platted, not_described, one_refusal}
 use Rattle.twp_answers.specs.Laws.{OneAnswerOfLand}
 

@@ -8,8 +8,8 @@ use Rattle.twp_spell.specs.CanonicalText.{IsCanonicalText}
 use Rattle.twp_spell.proofs.CanonicalFacts.{one_text}
 use Rattle.twp_answers.specs.Answers.{Describe, IsRefusal}
 use Rattle.twp_answers.specs.NormalAnswers.{IsNormalForm, IsNormalAnswer}
-use Rattle.twp_answers.specs.declared.verdict.Verdict.{Verdict}
-use Rattle.twp_answers.specs.declared.verdict.Verdict.TheVariants.{Accepted, Refused, TractRefused}
+use Rattle.twp_answers.specs.declared.stop.Verdict.{Verdict}
+use Rattle.twp_answers.specs.declared.stop.Verdict.TheVariants.{Accepted, Refused, TractRefused}
 use Rattle.twp_answers.proofs.OneAnswer.{one_plat, one_land, one_refusal}
 use Rattle.twp_answers.proofs.runs.OneAnswer.{not_land}
 

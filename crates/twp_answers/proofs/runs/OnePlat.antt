@@ -13,8 +13,8 @@ use Rattle.twp_plat.specs.PlatFigures.{PlatFigures, AreFigures}
 use Rattle.twp_answers.specs.PlatAnswers.{texts_to, lot_text, lots_text}
 use Rattle.twp_answers.specs.PlatAnswers.{section_line, section_name, total_text, plat_text}
 use Rattle.twp_answers.specs.PlatAnswers.{IsPrintedPlat, IsPlatAnswer}
-use Rattle.twp_answers.specs.declared.verdict.Verdict.{Verdict}
-use Rattle.twp_answers.specs.declared.verdict.Verdict.TheVariants.{Accepted, Refused, TractRefused}
+use Rattle.twp_answers.specs.declared.stop.Verdict.{Verdict}
+use Rattle.twp_answers.specs.declared.stop.Verdict.TheVariants.{Accepted, Refused, TractRefused}
 use Rattle.twp_plat.proofs.PlatFigureFacts.{same_lot, same_section, same_township}
 use Rattle.twp_answers.proofs.OneAnswer.{one_plat, not_platted, one_plat_refusal}
 

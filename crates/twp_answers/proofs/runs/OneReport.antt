@@ -14,8 +14,8 @@ use Rattle.twp_answers.specs.ReportAnswers.{tract_line, IsTractLine, AreTractLin
 use Rattle.twp_answers.specs.ReportAnswers.{IsAccount, IsAccountOf, IsListRefused, AnswersList}
 use Rattle.twp_answers.specs.ReportAnswers.{IsAnswerOnPlat, IsPlatRefused, refusal_lines}
 use Rattle.twp_answers.specs.TractLaws.{OneReportAnswer}
-use Rattle.twp_answers.specs.declared.verdict.Verdict.{Verdict}
-use Rattle.twp_answers.specs.declared.verdict.Verdict.TheVariants.{Accepted, Refused, TractRefused}
+use Rattle.twp_answers.specs.declared.stop.Verdict.{Verdict}
+use Rattle.twp_answers.specs.declared.stop.Verdict.TheVariants.{Accepted, Refused, TractRefused}
 use Rattle.twp_answers.specs.declared.tract_fault.TractFault.{TractFault}
 use Rattle.twp_answers.specs.declared.tract_fault.TractFault.TheVariants as fault
 use Rattle.twp_answers.proofs.OneAnswer.{one_plat, one_land, one_plat_refusal}

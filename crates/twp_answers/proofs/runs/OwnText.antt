@@ -13,7 +13,7 @@ use Rattle.twp_read.proofs.FirstTextFaults.{too_large_first}
 use Rattle.twp_answers.specs.Answers.{ArePlatted, refusal_line}
 use Rattle.twp_answers.specs.NormalAnswers.{IsNormalForm, IsNormalAnswer}
 use Rattle.twp_answers.specs.NormalLaws.{too_large}
-use Rattle.twp_answers.specs.declared.verdict.Verdict.TheVariants.{Accepted, Refused}
+use Rattle.twp_answers.specs.declared.stop.Verdict.TheVariants.{Accepted, Refused}
 
 -- the numbers of the township in field notes are valid
 township_numbers : (notes : List ℕ) (plat : TownshipPlat) → ArePlatted notes plat

@@ -15,9 +15,9 @@ use Rattle.twp_answers.specs.steps.RunStops.{AnswersStop}
 use Rattle.twp_answers.specs.declared.runs.answer.Answer.{Answer}
 use Rattle.twp_answers.specs.declared.stop.Stop.{Stop}
 use Rattle.twp_answers.specs.declared.stop.Stop.TheVariants as stop
-use Rattle.twp_answers.specs.declared.verdict.RunFault.{RunFault}
-use Rattle.twp_answers.specs.declared.verdict.RunFault.TheVariants.{Memory, Read, Write}
-use Rattle.twp_answers.specs.declared.verdict.Verdict.TheVariants as verdict
+use Rattle.twp_answers.specs.declared.stop.RunFault.{RunFault}
+use Rattle.twp_answers.specs.declared.stop.RunFault.TheVariants.{Memory, Read, Write}
+use Rattle.twp_answers.specs.declared.stop.Verdict.TheVariants as verdict
 use Rattle.twp_answers.proofs.RunFacts.{plat_stops_by_fault, some_bytes}
 
 -- a stage that has a value, and a stage that stopped

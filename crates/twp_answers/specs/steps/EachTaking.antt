@@ -2,7 +2,7 @@
 use Rattle.std.specs.Prelude.{◌≡◌, ◌≢◌, ℕ, ◌+◌, ◌<◌, List, length, true, Bool, MatchBool, ⊤, Result, Ok, Err}
 use Rattle.twp_notes.specs.Records.{Fields, record_at}
 use Rattle.twp_plat.specs.Plats.{TownshipPlat}
-use Rattle.twp_plat.specs.declared.account.Account.TheVariants.{Exact}
+use Rattle.twp_plat.specs.declared.land_area.Account.TheVariants.{Exact}
 use Rattle.twp_answers.specs.Answers.{IsNoDescription}
 use Rattle.twp_answers.specs.EachTract.{IsAnswerAt}
 use Rattle.twp_answers.specs.OnPlats.{HasAcresOn}
@@ -10,19 +10,19 @@ use Rattle.twp_answers.specs.Names.{has_name}
 use Rattle.twp_answers.specs.Tracts.{TRACTS_MOST, tracts_heading, name_in, IsTractName}
 use Rattle.twp_answers.specs.TractFaults.{IsNameRepeated}
 use Rattle.twp_answers.specs.declared.each_tract.TractAnswer.{TractAnswer}
-use Rattle.twp_answers.specs.declared.names.Names.{Names}
+use Rattle.twp_answers.specs.declared.names.NamesSoFar.{NamesSoFar}
 use Rattle.twp_answers.specs.declared.tract_fault.TractFault.{TractFault}
 use Rattle.twp_answers.specs.declared.tract_fault.TractFault.TheVariants as fault
 
 -- the set contains the names of the first records, up to this number, as far as tracts can have them
-pub record AreNamesOf (rows : List Fields) (count : ℕ) (names : Names) : Type 0 where
+pub record AreNamesOf (rows : List Fields) (count : ℕ) (names : NamesSoFar) : Type 0 where
   pub named : (index : ℕ) → index < count → IsTractName (name_in (record_at rows index))
       → has_name names (name_in (record_at rows index)) ≡ true
   pub only : (name : List ℕ) → has_name names name ≡ true
       → (index : ℕ) × (index < count) × (name_in (record_at rows index) ≡ name)
 
 -- the name of the record was added, and this says whether no earlier record has it
-pub record TakesName (fields : Fields) (old new : Names) (said : Bool) : Type 0 where
+pub record TakesName (fields : Fields) (old new : NamesSoFar) (said : Bool) : Type 0 where
   pub names : (rows : List Fields) (index : ℕ) → record_at rows index ≡ fields → AreNamesOf rows index old
       → AreNamesOf rows (index + 1) new
   pub is_new : (rows : List Fields) (index : ℕ) → record_at rows index ≡ fields → AreNamesOf rows index old
@@ -30,7 +30,7 @@ pub record TakesName (fields : Fields) (old new : Names) (said : Bool) : Type 0 
       → MatchBool said (¬ IsNameRepeated rows index) (IsNameRepeated rows index)
 
 -- the record with this number was answered
-pub record TakesRecord (plat : TownshipPlat) (fields : Fields) (number : ℕ) (old new : Names)
+pub record TakesRecord (plat : TownshipPlat) (fields : Fields) (number : ℕ) (old new : NamesSoFar)
     (given : TractAnswer)
     : Type 0 where
   pub names : (rows : List Fields) (index : ℕ) → record_at rows index ≡ fields → AreNamesOf rows index old

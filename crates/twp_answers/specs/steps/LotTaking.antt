@@ -8,7 +8,7 @@ use Rattle.twp_plat.specs.LotAreas.{HasFigures}
 use Rattle.twp_plat.specs.LotTables.{ReturnedLots}
 use Rattle.twp_notes.specs.Records.{Fields}
 use Rattle.twp_answers.specs.Answers.{Describe}
-use Rattle.twp_answers.specs.EarlierTracts.{Earlier, IsNamedAnew, IsUnread, TakesLand}
+use Rattle.twp_answers.specs.EarlierTracts.{TractsSoFar, IsNamedAnew, IsUnread, TakesLand}
 use Rattle.twp_answers.specs.TractFaults.{HasAt, turn_of}
 use Rattle.twp_answers.specs.Tracts.{TRACTS_MOST, AreTracts, description_in}
 use Rattle.twp_answers.specs.declared.tract_fault.TractFault.{TractFault}
@@ -17,21 +17,21 @@ use Rattle.twp_answers.specs.LotLands.{HasLotArea, HasNoLotAreaOf}
 use Rattle.twp_answers.specs.LotTractFaults.{LacksLotAt}
 
 -- the tracts so far grew by the tract of the record, which has this area by the table
-pub record TakesByLots (table : ReturnedLots) (fields : Fields) (old new : Earlier) (area : Fraction)
+pub record TakesByLots (table : ReturnedLots) (fields : Fields) (old new : TractsSoFar) (area : Fraction)
     : Type 0 where
   pub more : ℕ → ℕ → ℕ → Bool
   pub takes : TakesLand table.township fields old new more
   pub area_is : HasLotArea table more area
 
 -- the record's land, for whose lots the table has figures, contains a place of the tracts so far
-pub record OverlapsByLots (table : ReturnedLots) (fields : Fields) (earlier : Earlier) : Type 0 where
+pub record OverlapsByLots (table : ReturnedLots) (fields : Fields) (earlier : TractsSoFar) : Type 0 where
   pub more : ℕ → ℕ → ℕ → Bool
   pub land : Describe table.township (description_in fields) more
   pub figures : HasFigures PLACE_DIGITS table more
   pub shared : SharePlace earlier.places more
 
 -- the numbered record is refused by the table: this is why, and no earlier reason applies
-abbrev pub IsRefusedByLots : ReturnedLots → Fields → Earlier → ℕ → TractFault → Type 0
+abbrev pub IsRefusedByLots : ReturnedLots → Fields → TractsSoFar → ℕ → TractFault → Type 0
 IsRefusedByLots table fields earlier number (fault.TractRefused at_ inner) =
     (at_ ≡ number) × IsNamedAnew fields earlier × HasNoLotAreaOf table (description_in fields) inner
 IsRefusedByLots table fields earlier number (fault.TractsOverlap at_) =

@@ -2,16 +2,16 @@
 -- contract cites this module.
 use Rattle.std.specs.Prelude.{◌≡◌, ℕ, List, Result, Ok, Err}
 use Rattle.twp_plat.specs.Plats.{TownshipPlat}
-use Rattle.twp_plat.specs.declared.account.Account.{Account}
+use Rattle.twp_plat.specs.declared.land_area.Account.{Account}
 use Rattle.twp_answers.specs.Answers.{AnswersRefusal, ArePlatted, IsNoDescription, IsNoText}
 use Rattle.twp_answers.specs.Answers.{IsRefusal}
 use Rattle.twp_answers.specs.Answers.{acres_line}
 use Rattle.twp_answers.specs.OnPlats.{HasAcresOn, HasNormalOn}
 use Rattle.twp_answers.specs.Runs.{AnswerRelation}
 use Rattle.twp_answers.specs.PlatReading.{IfRefused}
-use Rattle.twp_answers.specs.declared.runs.texts.Texts.{Texts}
+use Rattle.twp_answers.specs.declared.runs.answer.Texts.{Texts}
 use Rattle.twp_answers.specs.declared.stop.Stop.{Stop}
-use Rattle.twp_answers.specs.declared.verdict.Verdict.TheVariants.{Accepted, Refused, TractRefused}
+use Rattle.twp_answers.specs.declared.stop.Verdict.TheVariants.{Accepted, Refused, TractRefused}
 
 -- the bytes that were read, or their refusal
 abbrev pub IsTextRead : {V : Type 0} → (V → List ℕ) → List ℕ → Result V Stop → Type 0

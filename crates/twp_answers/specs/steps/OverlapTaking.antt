@@ -8,7 +8,7 @@ use Rattle.twp_grid.specs.Lands.{HasWholeLots, SharePlace, intersection}
 use Rattle.twp_notes.specs.Records.{Fields, record_at}
 use Rattle.twp_plat.specs.Plats.{TownshipPlat}
 use Rattle.twp_answers.specs.Answers.{AreHundredthsOf, Describe}
-use Rattle.twp_answers.specs.Overlaps.{AreOverlapping, ComesBefore, IsBetween, IsListed, IsSharedAcres}
+use Rattle.twp_answers.specs.Overlaps.{AreOverlapping, IsOverlapBefore, IsBetween, IsListed, IsSharedAcres}
 use Rattle.twp_answers.specs.Tracts.{IsTract, IsTractRecord, description_in}
 use Rattle.twp_answers.specs.declared.overlaps.TractOverlap.{TractOverlap}
 
@@ -19,9 +19,9 @@ pub record IsTractLand (township : Designation) (fields : Fields) (places : ℕ 
   pub whole : HasWholeLots PLACE_DIGITS places
 
 -- the record is a tract with this land, or no tract
-abbrev pub IsLandOf : {L : Type 0} → (L → ℕ → ℕ → ℕ → Bool) → Designation → Fields → Option L → Type 0
-IsLandOf places township fields (Some land) = IsTractLand township fields (places land)
-IsLandOf places township fields None = ¬ IsTract township fields
+abbrev pub IsLandOfRecord : {L : Type 0} → (L → ℕ → ℕ → ℕ → Bool) → Designation → Fields → Option L → Type 0
+IsLandOfRecord places township fields (Some land) = IsTractLand township fields (places land)
+IsLandOfRecord places township fields None = ¬ IsTract township fields
 
 -- these are the lands of the first records, up to this number
 pub record AreLandsTo {L : Type 0} (places : L → ℕ → ℕ → ℕ → Bool) (township : Designation)
@@ -29,7 +29,7 @@ pub record AreLandsTo {L : Type 0} (places : L → ℕ → ℕ → ℕ → Bool)
     (count : ℕ) (lands : List (Option L)) : Type 0 where
   pub count_is : length lands ≡ count
   pub each : (index : ℕ) (default : Option L) → index < count
-      → IsLandOf places township (record_at rows index) (slice_index_or lands index default)
+      → IsLandOfRecord places township (record_at rows index) (slice_index_or lands index default)
 
 -- the land, if there is one, has whole lots
 abbrev pub HasWholeLand : {L : Type 0} → (L → ℕ → ℕ → ℕ → Bool) → Option L → Type 0
@@ -75,4 +75,4 @@ pub record AreFoundTo (plat : TownshipPlat) (rows : List Fields) (until_first un
       → AreOverlapping plat.township (record_at rows first) (record_at rows second)
       → IsListed first second overlaps
   pub order : (index later : ℕ) (default : TractOverlap) → index < later → later < length overlaps
-      → ComesBefore (slice_index_or overlaps index default) (slice_index_or overlaps later default)
+      → IsOverlapBefore (slice_index_or overlaps index default) (slice_index_or overlaps later default)

@@ -3,9 +3,9 @@ use Rattle.std.specs.Prelude.{◌≡◌, Result, Ok, Err}
 use Rattle.twp_answers.specs.Answers.{refusal_line}
 use Rattle.twp_answers.specs.declared.stop.Stop.{Stop}
 use Rattle.twp_answers.specs.declared.stop.Stop.TheVariants as stop
-use Rattle.twp_answers.specs.declared.verdict.RunFault.{RunFault}
-use Rattle.twp_answers.specs.declared.verdict.RunFault.TheVariants as run
-use Rattle.twp_answers.specs.declared.verdict.Verdict.TheVariants as verdict
+use Rattle.twp_answers.specs.declared.stop.RunFault.{RunFault}
+use Rattle.twp_answers.specs.declared.stop.RunFault.TheVariants as run
+use Rattle.twp_answers.specs.declared.stop.Verdict.TheVariants as verdict
 use Rattle.twp_answers.specs.declared.runs.answer.Answer.{Answer}
 
 -- the answer for a stop is its refusal, unless memory runs out, or its fault

@@ -7,8 +7,8 @@ use Rattle.twp_grid.specs.Devices.{TakesFirst}
 use Rattle.twp_answers.specs.Answers.{MakePlat}
 use Rattle.twp_answers.specs.Uses.{Use}
 use Rattle.twp_answers.specs.Runs.{AnyFailed}
-use Rattle.twp_answers.specs.declared.verdict.RunFault.{RunFault}
-use Rattle.twp_answers.specs.declared.verdict.RunFault.TheVariants.{Read, Write, Memory}
+use Rattle.twp_answers.specs.declared.stop.RunFault.{RunFault}
+use Rattle.twp_answers.specs.declared.stop.RunFault.TheVariants.{Read, Write, Memory}
 
 -- a fault of a run that stays the same
 abbrev pub same_fault : RunFault → RunFault

@@ -9,7 +9,7 @@ use Rattle.twp_notes.specs.Records.{Fields}
 use Rattle.twp_plat.specs.Plats.{TownshipPlat}
 use Rattle.twp_answers.specs.Answers.{AreHundredthsOf}
 use Rattle.twp_plat.specs.LandAreas.{IsLandArea}
-use Rattle.twp_answers.specs.EarlierTracts.{AreEarlier, Earlier, earlier_of, TakesLand}
+use Rattle.twp_answers.specs.EarlierTracts.{AreEarlier, TractsSoFar, earlier_of, TakesLand}
 use Rattle.twp_answers.specs.Tracts.{TRACTS_MOST, name_in, AreTracts}
 use Rattle.twp_answers.specs.TractFaults.{HasAt, turn_of}
 use Rattle.twp_answers.specs.ReportAnswers.{tract_line, AreTractLines, text_of}
@@ -21,7 +21,7 @@ use Rattle.twp_answers.specs.declared.tract_fault.TractFault.TheVariants as faul
 
 -- the parts of an account of tracts: their names and all their places, their figures, and their lines
 pub record Tally : Type 0 where
-  pub earlier : Earlier
+  pub earlier : TractsSoFar
   pub totals : Totals
   pub text : List ℕ
 

@@ -10,11 +10,9 @@ ghost use Rattle.twp_answers.specs.Runs.{ReadsTwo};
 ghost use Rattle.twp_answers.specs.steps.Stages.{ReadsOnPlat, same_fault};
 ghost use Rattle.twp_answers.specs.steps.OnPlatSteps.{IsAcresAnswerOn};
 
-use crate::acres_line::write_acres_line;
-use crate::on_plat::{area_described, read_noting};
-use crate::runs::answer::{Answer, answer_stop};
-use crate::runs::texts::read_texts;
-use crate::verdict::{RunFault, Verdict};
+use crate::on_plat::{area_described, read_noting, write_acres_line};
+use crate::runs::answer::{Answer, answer_stop, read_texts};
+use crate::stop::{RunFault, Verdict};
 use std::alloc::Global;
 use twp_grid::Source;
 use twp_plat::{Account, Plat};

@@ -1,13 +1,25 @@
-ghost use Rattle.std.specs.Prelude.{◌≡◌, ◌++◌, OnOk, IfOk, IfErr};
-ghost use Rattle.twp_answers.specs.Answers.{refusal_line};
+//! The answer of a run, with its verdict; the texts that the runs on a description read: the field notes,
+//! as their plat, and the bytes of the description; and the writing of the answer.
+ghost use Rattle.std.specs.Prelude.{◌≡◌, ◌++◌, OnOk, IfOk, IfErr, false, OnErr, is_err};
+ghost use Rattle.twp_answers.specs.Answers.{refusal_line, MakePlat};
 ghost use Rattle.twp_answers.specs.steps.RunStops.{AnswersStop};
+ghost use Rattle.twp_read.specs.TextFaults.{TEXT_LIMIT};
+ghost use Rattle.twp_answers.specs.PlatReading.{ReadsUpTo};
+ghost use Rattle.twp_answers.specs.Uses.{Reads, used};
+ghost use Rattle.twp_answers.specs.declared.stop.Stop.TheVariants.{Failed};
+ghost use Rattle.twp_answers.specs.Runs.{ReadsTwo, AppendsFront};
+ghost use Rattle.twp_answers.specs.steps.OnPlatSteps.{AreRead, IsTextRead};
+ghost use Rattle.twp_answers.specs.steps.Stages.{ReadsOnPlat};
+ghost use Rattle.std.specs.Io.KnownBytes.{Appends};
 
-use crate::stop::Stop;
-use crate::verdict::{RunFault, Verdict};
+use crate::on_plat::read_plat;
+use crate::stop::{RunFault, Stop, Verdict};
 use itoa::Buffer;
 use std::alloc::{AllocError, Global};
-use twp_grid::Refusal;
-use twp_read::Clarity;
+use twp_grid::{DeviceFault, Refusal, Sink, Source};
+use twp_notes::read_whole;
+use twp_plat::Plat;
+use twp_read::{Clarity, TEXT_LIMIT, TextFault};
 
 /// The answer of a run.
 #[derive(Drop)]
@@ -56,4 +68,64 @@ pub fn write_refusal(refusal: Refusal, text: &mut Vec<u8>) -> Result<(), AllocEr
     text.extend_from_slice(b" at ")?;
     text.extend_from_slice(buffer.format(refusal.at).as_bytes())?;
     text.extend_from_slice(b"\n")
+}
+
+/// The texts that the runs on a description read: the plat of the notes, and the description's
+/// bytes.
+#[derive(Drop)]
+pub(crate) struct Texts {
+    pub(crate) plat: Plat,
+    pub(crate) description: Vec<u8>,
+}
+
+/// The bytes of the description from a source, or the refusal if there are too many.
+fn read_description<D: Source>(alloc: Global, description: &mut D) -> Result<Vec<u8>, Stop>
+    requires { D.has_failed description.old ≡ false }
+    ensures reads { ReadsUpTo Failed TEXT_LIMIT
+        (used (D.remaining description.old) (D.remaining description.new)
+        (D.has_failed description.new)) result }
+    ensures text { Reads (D.remaining description.old) (λ d.
+        IsTextRead (λ text. text.items) d result) }
+{
+    let Some(text) = read_whole(alloc, description, TEXT_LIMIT)? else {
+        return Err(Stop::from(TextFault::TooLarge));
+    };
+    Ok(text)
+}
+
+/// The plat of the notes from one source, and the bytes of the description from another, which is
+/// read only if the notes make a plat.
+pub(crate) fn read_texts<N: Source, D: Source>(
+    alloc: Global,
+    notes: &mut N,
+    description: &mut D,
+) -> Result<Texts, Stop>
+    requires notes { N.has_failed notes.old ≡ false }
+    requires description { D.has_failed description.old ≡ false }
+    ensures reads { ReadsOnPlat Failed TEXT_LIMIT
+        (used (N.remaining notes.old) (N.remaining notes.new) (N.has_failed notes.new))
+        (used (D.remaining description.old) (D.remaining description.new)
+        (D.has_failed description.new))
+        (description.new ≡ description.old) result }
+    ensures texts { ReadsTwo (N.remaining notes.old) (D.remaining description.old)
+        MakePlat (description.new ≡ description.old) (λ n d. AreRead n d result) }
+{
+    let plat = read_plat(alloc, notes)?;
+    let description = read_description(alloc, description)?;
+    Ok(Texts { plat, description })
+}
+
+/// Writes all the bytes, and then flushes once.
+pub fn write_whole<W: Sink>(out: &mut W, bytes: &[u8]) -> Result<(), DeviceFault>
+    requires { W.has_failed out.old ≡ false }
+    ensures whole { OnOk result (Appends (W.contents out.old) (W.contents out.new) bytes.now) }
+    ensures front { OnErr result
+        (AppendsFront (W.contents out.old) (W.contents out.new) bytes.now) }
+    ensures failed { W.has_failed out.new ≡ is_err result }
+{
+    let mut at = 0;
+    'pieces: while at < bytes.len() {
+        at += out.put(&bytes[at..])?;
+    }
+    out.flush()
 }

@@ -10,9 +10,8 @@ ghost use Rattle.twp_answers.specs.steps.Stages.{ReadsOnPlat, same_fault};
 ghost use Rattle.twp_answers.specs.steps.OnPlatSteps.{IsNormalAnswerOn};
 
 use crate::on_plat::{normal_described, read_noting};
-use crate::runs::answer::{Answer, answer_stop};
-use crate::runs::texts::read_texts;
-use crate::verdict::{RunFault, Verdict};
+use crate::runs::answer::{Answer, answer_stop, read_texts};
+use crate::stop::{RunFault, Verdict};
 use std::alloc::Global;
 use twp_grid::Source;
 use twp_plat::Plat;

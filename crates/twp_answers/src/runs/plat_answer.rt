@@ -7,10 +7,10 @@ ghost use Rattle.twp_answers.specs.PlatReading.{ReadsUpTo};
 ghost use Rattle.twp_answers.specs.Uses.{Reads, used};
 ghost use Rattle.twp_answers.specs.steps.Stages.{same_fault};
 
+use crate::on_plat::read_plat;
 use crate::plat_text::print_plat;
 use crate::runs::answer::{Answer, answer_stop};
-use crate::stages::read_plat;
-use crate::verdict::{RunFault, Verdict};
+use crate::stop::{RunFault, Verdict};
 use std::alloc::Global;
 use twp_grid::Source;
 use twp_plat::Plat;

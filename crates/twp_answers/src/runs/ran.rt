@@ -1,6 +1,6 @@
 ghost use Rattle.std.specs.Prelude.{◌≡◌, Err};
 
-use crate::verdict::{RunFault, Verdict};
+use crate::stop::{RunFault, Verdict};
 use twp_read::Clarity;
 
 /// How a run on descriptions ended, and what it noticed in them.

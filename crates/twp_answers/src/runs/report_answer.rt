@@ -10,11 +10,11 @@ ghost use Rattle.twp_answers.specs.Runs.{ReadsTwo};
 ghost use Rattle.twp_answers.specs.PlatReading.{ReadsUpTo};
 ghost use Rattle.twp_answers.specs.steps.Stages.{ReadsOnPlat, same_fault};
 
+use crate::on_plat::read_plat;
 use crate::runs::answer::{Answer, answer_stop, write_refusal};
-use crate::stages::read_plat;
+use crate::stop::{RunFault, Verdict};
 use crate::tract_fault::{TRACTS_LIMIT, TractFault};
 use crate::tracts::account_of as account_of_tracts;
-use crate::verdict::{RunFault, Verdict};
 use std::alloc::Global;
 use twp_grid::Source;
 use twp_notes::read_whole;

@@ -19,11 +19,10 @@ ghost use Rattle.twp_answers.specs.Tracts.{TRACTS_LIMIT};
 ghost use Rattle.twp_answers.specs.Uses.{Reads, used};
 ghost use Rattle.twp_answers.specs.Runs.{AppendsFront, IsAnswered, IsRun, RunsOnPlat};
 
-use crate::runs::answer::Answer;
+use crate::runs::answer::{Answer, write_whole};
 use crate::runs::ran::Ran;
-use crate::runs::writing::write_whole;
 use crate::runs::{acres_answer, normal_answer, plat_answer, report_answer};
-use crate::verdict::{RunFault, Verdict};
+use crate::stop::{RunFault, Verdict};
 use std::alloc::Global;
 use twp_grid::{Sink, Source};
 use twp_plat::Account;
@@ -98,9 +97,9 @@ pub fn run_acres_as<N: Source, D: Source, W: Sink>(
     run_acres_noting(alloc, notes, description, out, account).outcome
 }
 
-/// Writes the acres of the land described, by an account, and notes whether the description may have a place
-/// that can be read in two ways. By the exact account, its clauses are those of `run_acres`. The program calls
-/// this function; `run_acres` and `run_acres_as` return its outcome.
+/// Writes the acres of the land described, by an account, and notes whether the description may have a
+/// place that can be read in two ways. By the exact account, its clauses are those of `run_acres`. The
+/// program calls this function; `run_acres` and `run_acres_as` return its outcome.
 pub fn run_acres_noting<N: Source, D: Source, W: Sink>(
     alloc: Global,
     notes: &mut N,

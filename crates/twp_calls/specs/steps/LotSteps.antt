@@ -4,7 +4,7 @@ use Rattle.twp_measure.specs.Areas.{Fraction}
 use Rattle.twp_plat.specs.LotTables.{ReturnedLots}
 use Rattle.twp_answers.specs.declared.stop.Stop.{Stop}
 use Rattle.twp_answers.specs.declared.stop.Stop.TheVariants as stop
-use Rattle.twp_answers.specs.declared.verdict.RunFault.TheVariants as run
+use Rattle.twp_answers.specs.declared.stop.RunFault.TheVariants as run
 use Rattle.twp_answers.specs.LotLands.{HasLotAreaOf, HasNoLotAreaOf}
 
 -- why a description has no area by a lot table: it is refused, or memory ran out

@@ -8,7 +8,7 @@ use Rattle.twp_calls.specs.declared.account_call.TownshipTract.{TownshipTract}
 use Rattle.twp_calls.specs.declared.each_call.TownshipTractAnswer.{TownshipTractAnswer}
 
 -- the answer and the name are these, as plain data
-pub record IsPlain (given : TractAnswer) (plain : TownshipTractAnswer) : Type 0 where
+pub record IsPlainAnswer (given : TractAnswer) (plain : TownshipTractAnswer) : Type 0 where
   pub answer_is : plain.answer ≡ answer_of_tract given.answer
   pub length_is : plain.name_length ≡ length given.name.bytes
   pub name_is : take plain.name_length plain.name ≡ given.name.bytes
@@ -17,7 +17,7 @@ pub record IsPlain (given : TractAnswer) (plain : TownshipTractAnswer) : Type 0 
 -- the first answers, up to this number, are these as plain data
 abbrev pub ArePlainTo : ℕ → List TractAnswer → List TownshipTractAnswer → Type 0
 ArePlainTo count given answers = (index : ℕ) (default : TractAnswer) (other : TownshipTractAnswer)
-    → index < count → IsPlain (slice_index_or given index default) (slice_index_or answers index other)
+    → index < count → IsPlainAnswer (slice_index_or given index default) (slice_index_or answers index other)
 
 -- the figure and the name are these, as plain data
 pub record IsPlainTract (figure : TractFigure) (plain : TownshipTract) : Type 0 where

@@ -6,13 +6,13 @@ use Rattle.twp_suggest.specs.declared.reading.Reading.{Reading}
 use Rattle.twp_calls.specs.Suggestions.{AreSuggested, IsChangeData, IsReadingData, IsReason, Rooms, rooms}
 use Rattle.twp_calls.specs.Suggestions.{assumes_of, copied_from, copied_to, number_of}
 use Rattle.twp_calls.specs.declared.suggesting.Reason.{Reason}
-use Rattle.twp_calls.specs.declared.suggesting.Found.{Found}
+use Rattle.twp_calls.specs.declared.suggesting.FoundReadings.{FoundReadings}
 use Rattle.twp_calls.specs.declared.suggestion.TownshipChange.{TownshipChange}
 use Rattle.twp_calls.specs.declared.suggestion.TownshipReading.{TownshipReading}
 use Rattle.twp_calls.specs.declared.suggestion.TownshipSuggestion.{TownshipSuggestion}
 
 -- what is to be written, as lists
-abbrev pub shown : Found → Rooms
+abbrev pub shown : FoundReadings → Rooms
 shown found = rooms found.readings.items found.changes.items found.bytes.items
 
 -- no reason
@@ -20,7 +20,7 @@ abbrev pub no_reason : Reason
 no_reason = record { at = 0; length = 0; start = 0; end = 0 }
 
 -- how much there is, and why there is nothing
-abbrev pub suggestion_of : Found → TownshipSuggestion
+abbrev pub suggestion_of : FoundReadings → TownshipSuggestion
 suggestion_of found =
     record {
       readings = length found.readings.items;
@@ -70,16 +70,16 @@ abbrev pub AreDataOf : List ℕ → List Reading → Rooms → Type 0
 AreDataOf text readings made = AllZip (IsReadingData text made.changes made.bytes) readings made.readings
 
 -- the same, and there is no reason
-pub record AreFoundFor (text : List ℕ) (readings : List Reading) (found : Found) : Type 0 where
+pub record AreFoundFor (text : List ℕ) (readings : List Reading) (found : FoundReadings) : Type 0 where
   pub made : AreDataOf text readings (shown found)
   pub none : found.reason ≡ no_reason
 
 -- there are no readings, perhaps for a reason
-pub record HasNoReadings (found : Found) : Type 0 where
+pub record HasNoReadings (found : FoundReadings) : Type 0 where
   pub empty : found.readings.items ≡ []
   pub reason : IsReason (shown found) (suggestion_of found)
 
 -- the readings of a text were found, or why there are none
-pub record IsFound (text : List ℕ) (found : Found) : Type 0 where
+pub record AreFoundReadings (text : List ℕ) (found : FoundReadings) : Type 0 where
   pub readings : AreSuggested text (shown found)
   pub reason : IsReason (shown found) (suggestion_of found)

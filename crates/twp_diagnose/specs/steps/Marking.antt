@@ -2,10 +2,10 @@
 use Rattle.std.specs.Prelude.{◌≡◌, ℕ, Bool, true, false, ◌+◌, List, [], ◌∷◌, ◌++◌, Option, Some, None}
 use Rattle.std.specs.Prelude.{length, if◌then◌else◌}
 use Rattle.std.specs.List.{flat_map}
-use Rattle.twp_grammar.specs.declared.kind.Kind.{Kind}
-use Rattle.twp_grammar.specs.declared.kind.Kind.TheVariants.{NorthSouth, EastWest, Corner, Half}
-use Rattle.twp_grammar.specs.declared.kind.Kind.TheVariants.{Quarter, Of, The}
-use Rattle.twp_grammar.specs.declared.token.Token.{Token as Piece}
+use Rattle.twp_grammar.specs.declared.tokens.Kind.{Kind}
+use Rattle.twp_grammar.specs.declared.tokens.Kind.TheVariants.{NorthSouth, EastWest, Corner, Half}
+use Rattle.twp_grammar.specs.declared.tokens.Kind.TheVariants.{Quarter, Of, The}
+use Rattle.twp_grammar.specs.declared.tokens.Token.{Token as Piece}
 use Rattle.twp_grammar.specs.Tokens.{Token, Left, HasTokens, seen}
 use Rattle.twp_grammar.specs.Grammar.{Ebnf, step, of, the, maybe, one, ◌⨾◌}
 use Rattle.twp_grammar.specs.Items.{Tree, tokens}

@@ -1,12 +1,12 @@
 -- Pieces of lines and views, as the code stores them. No public contract cites this module.
 use Rattle.std.specs.Prelude.{◌≡◌, ℕ, ◌++◌, List, take, drop}
-use Rattle.twp_excerpt.specs.declared.excerpt.Part.{Part}
+use Rattle.twp_excerpt.specs.declared.excerpt.KeptPart.{KeptPart}
 use Rattle.twp_excerpt.specs.declared.excerpt.View.{View as Kept}
 use Rattle.twp_excerpt.specs.Signs.{signs}
-use Rattle.twp_excerpt.specs.Excerpts.{Piece, View, piece_width}
+use Rattle.twp_excerpt.specs.Excerpts.{ShownPart, View, piece_width}
 
 -- the piece is stored like this
-pub record IsPart (piece : Piece) (part : Part) : Type 0 where
+pub record IsPart (piece : ShownPart) (part : KeptPart) : Type 0 where
   pub kept_is : signs part.bytes.now ≡ piece.kept
   pub cut_is : part.cut ≡ piece.is_cut
   pub columns_is : part.columns ≡ piece_width piece

@@ -10,7 +10,7 @@ use Rattle.twp_explain.specs.BlamedTracts.{FIRST_TRACT}
 
 -- The earlier tract is the first that has a place in common with the one at the index, and these
 -- are all the places that the two have in common.
-pub record IsFirstSharing (township : Designation) (rows : List Fields) (index earlier : ℕ)
+pub record IsFirstOverlapping (township : Designation) (rows : List Fields) (index earlier : ℕ)
     (common : ℕ → ℕ → ℕ → Bool) : Type 0 where
   pub is_earlier : earlier < index
   pub overlap : Overlap township (record_at rows earlier) (record_at rows index)
@@ -24,5 +24,5 @@ pub record IsFirstSharingRecord (township : Designation) (listed earlier : Liste
     (common : ℕ → ℕ → ℕ → Bool) : Type 0 where
   pub listed_is : IsListedAt listed.file (number_listed earlier) earlier
   pub after_heading : FIRST_TRACT ≤ number_listed earlier
-  pub first : IsFirstSharing township (tract_records listed.file.bytes.now)
+  pub first : IsFirstOverlapping township (tract_records listed.file.bytes.now)
       (number_listed listed - FIRST_TRACT) (number_listed earlier - FIRST_TRACT) common

@@ -11,7 +11,7 @@ const DIGITS: usize = 4;
 
 /// A number of a heading, and the letter after it.
 #[derive(Clone, Copy)]
-struct Part<'a> {
+struct HeadingNumber<'a> {
     digits: &'a [u8],
     value: u16,
     /// The same without the digit of a fraction, if it has one, which is 0.
@@ -58,8 +58,8 @@ fn write_parts(
 }
 
 /// The number after the letter of a heading at a place, and the letter after the number.
-fn part_at(bytes: &[u8], at: usize) -> Part<'_> {
-    let mut part = Part {
+fn part_at(bytes: &[u8], at: usize) -> HeadingNumber<'_> {
+    let mut part = HeadingNumber {
         digits: b"",
         value: 0,
         whole: None,
@@ -73,19 +73,19 @@ fn part_at(bytes: &[u8], at: usize) -> Part<'_> {
                 part.value = value;
                 part.whole = whole_of(value, token.text);
             }
-            Kind::NorthSouth(NorthSouth::N) => return Part {
+            Kind::NorthSouth(NorthSouth::N) => return HeadingNumber {
                 letter: "N",
                 ..part
             },
-            Kind::NorthSouth(NorthSouth::S) => return Part {
+            Kind::NorthSouth(NorthSouth::S) => return HeadingNumber {
                 letter: "S",
                 ..part
             },
-            Kind::EastWest(EastWest::E) => return Part {
+            Kind::EastWest(EastWest::E) => return HeadingNumber {
                 letter: "E",
                 ..part
             },
-            Kind::EastWest(EastWest::W) => return Part {
+            Kind::EastWest(EastWest::W) => return HeadingNumber {
                 letter: "W",
                 ..part
             },

@@ -1,5 +1,5 @@
 //! What a note says of several numbers after a word in the singular.
-use crate::note::said::Said::{Number, Numbers, Words};
+use crate::note::said::NotePiece::{Number, Numbers, Words};
 use crate::note::said::{say, text_of};
 use crate::note::sentence::Doubtful;
 use crate::note::span::{after_word, end_of_list, number_from, second_number, section_at};

@@ -1,9 +1,10 @@
-//! What a note says of parts: two that are read as one, and two of which one has an `of`, which is perhaps for both.
-use crate::note::said::Said::{Number, Part, Row, Steps, Words};
-use crate::note::said::{Said, say, text_of};
+//! What a note says of parts: two that are read as one, and two of which one has an `of`, which is
+//! perhaps for both.
+use crate::note::said::NotePiece::{Number, Part, Row, Steps, Words};
+use crate::note::said::{NotePiece, say, text_of};
 use crate::note::sentence::Doubtful;
 use crate::note::span::{
-    Row as RowOf, after_and, end_of_row, last_place_of, place_of, section_at, start_of_part,
+    NotedTokens as RowOf, after_and, end_of_row, last_place_of, place_of, section_at, start_of_part,
 };
 use crate::note::spelled::between;
 use std::alloc::{AllocError, Global};
@@ -66,8 +67,8 @@ pub(crate) fn write_shared(
     write_both(alloc, doubtful, &[first, shared], &[own, shared], out)
 }
 
-/// Appends what is said of a part with `of`, `and`, and a part without `of`: the steps before the last `of` may
-/// be for both.
+/// Appends what is said of a part with `of`, `and`, and a part without `of`: the steps before the last
+/// `of` may be for both.
 pub(crate) fn write_spread(
     alloc: Global,
     doubtful: &Doubtful<'_>,
@@ -138,7 +139,7 @@ fn write_land(
 fn land_of(
     alloc: Global,
     doubtful: &Doubtful<'_>,
-    land: &[Said<'_>],
+    land: &[NotePiece<'_>],
 ) -> Result<String, AllocError> {
     let section = section_at(doubtful.bytes, doubtful.at).unwrap_or(0);
     let mut text = text_of(alloc, &[Words("sec. "), Number(section), Words(", ")])?;

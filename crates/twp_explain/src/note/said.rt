@@ -4,7 +4,7 @@ use std::alloc::{AllocError, Global};
 
 /// A piece of a note.
 #[derive(Clone, Copy)]
-pub(crate) enum Said<'a> {
+pub(crate) enum NotePiece<'a> {
     /// These words.
     Words(&'a str),
     /// A number.
@@ -20,22 +20,22 @@ pub(crate) enum Said<'a> {
 }
 
 /// Appends pieces of a note.
-pub(crate) fn say(pieces: &[Said<'_>], out: &mut String) -> Result<(), AllocError> {
+pub(crate) fn say(pieces: &[NotePiece<'_>], out: &mut String) -> Result<(), AllocError> {
     for piece in pieces {
         match *piece {
-            Said::Words(words) => out.push_str(words)?,
-            Said::Number(number) => write!(out, "{number}")?,
-            Said::Numbers(list) => write_numbers(list, out)?,
-            Said::Steps(part) => write_steps(part, out)?,
-            Said::Part(part) => write_part(part, out)?,
-            Said::Row(parts) => write_row(parts, out)?,
+            NotePiece::Words(words) => out.push_str(words)?,
+            NotePiece::Number(number) => write!(out, "{number}")?,
+            NotePiece::Numbers(list) => write_numbers(list, out)?,
+            NotePiece::Steps(part) => write_steps(part, out)?,
+            NotePiece::Part(part) => write_part(part, out)?,
+            NotePiece::Row(parts) => write_row(parts, out)?,
         }
     }
     Ok(())
 }
 
 /// Pieces of a note as a text.
-pub(crate) fn text_of(alloc: Global, pieces: &[Said<'_>]) -> Result<String, AllocError> {
+pub(crate) fn text_of(alloc: Global, pieces: &[NotePiece<'_>]) -> Result<String, AllocError> {
     let mut text = String::new(alloc);
     say(pieces, &mut text)?;
     Ok(text)

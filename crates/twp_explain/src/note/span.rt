@@ -7,7 +7,7 @@ const AND: usize = 3;
 
 /// Tokens in a row of which a note speaks.
 #[derive(Clone, Copy)]
-pub enum Row {
+pub enum NotedTokens {
     /// The steps of a part, `of`, and `the`.
     Part,
     /// Letters and fractions of steps.
@@ -20,15 +20,17 @@ pub enum Row {
     Number,
 }
 
-impl Row {
+impl NotedTokens {
     /// Whether a token is of such a row.
     fn contains(self, kind: Kind) -> bool {
         match self {
-            Row::Part => is_of_step(kind) || matches!(kind, Kind::Of | Kind::The),
-            Row::Steps => is_of_step(kind),
-            Row::Parts => { is_of_step(kind) || matches!(kind, Kind::Of | Kind::The | Kind::And) }
-            Row::Numbers => is_of_list(kind),
-            Row::Number => matches!(kind, Kind::Number(_)),
+            NotedTokens::Part => is_of_step(kind) || matches!(kind, Kind::Of | Kind::The),
+            NotedTokens::Steps => is_of_step(kind),
+            NotedTokens::Parts => {
+                is_of_step(kind) || matches!(kind, Kind::Of | Kind::The | Kind::And)
+            }
+            NotedTokens::Numbers => is_of_list(kind),
+            NotedTokens::Number => matches!(kind, Kind::Number(_)),
         }
     }
 }
@@ -52,16 +54,16 @@ fn is_of_list(kind: Kind) -> bool {
 /// Where what is underlined ends: the part, both parts, the list of numbers, or the number.
 pub(crate) fn end_of_place(bytes: &[u8], place: DoubtfulPlace) -> usize {
     match place.doubt {
-        Doubt::Joined => end_of_row(bytes, place.at, Row::Part),
-        Doubt::Shared => end_of_row(bytes, place.at, Row::Parts),
-        Doubt::Spread => end_of_row(bytes, after_and(bytes, place.at), Row::Steps),
+        Doubt::Joined => end_of_row(bytes, place.at, NotedTokens::Part),
+        Doubt::Shared => end_of_row(bytes, place.at, NotedTokens::Parts),
+        Doubt::Spread => end_of_row(bytes, after_and(bytes, place.at), NotedTokens::Steps),
         Doubt::Several => end_of_list(bytes, after_word(bytes, place.at)),
-        Doubt::Padded => end_of_row(bytes, place.at, Row::Number),
+        Doubt::Padded => end_of_row(bytes, place.at, NotedTokens::Number),
     }
 }
 
 /// Where a row of tokens ends that begins at a place.
-pub(crate) fn end_of_row(bytes: &[u8], at: usize, row: Row) -> usize {
+pub(crate) fn end_of_row(bytes: &[u8], at: usize, row: NotedTokens) -> usize {
     let at = at.min(bytes.len());
     let mut end = at;
     let mut tokens = Tokens::after(bytes, at);
@@ -97,7 +99,7 @@ pub(crate) fn start_of_part(bytes: &[u8], at: usize) -> usize {
     let mut is_within = false;
     let mut tokens = Tokens::new(bytes.get(..at).unwrap_or(b""));
     while let Some(token) = tokens.next() {
-        if !Row::Part.contains(token.kind) {
+        if !NotedTokens::Part.contains(token.kind) {
             is_within = false;
         } else if !is_within {
             start = token.at.min(at);

@@ -2,7 +2,7 @@
 use Rattle.std.specs.Prelude.{◌≡◌, ℕ, ◌+◌, ◌<◌, ◌&&◌, ◌||◌, not, Bool, true, false}
 use Rattle.std.specs.Prelude.{List, [], length, slice_index_or}
 use Rattle.twp_grid.specs.Places.{PLACE_DIGITS, places_across}
-use Rattle.twp_grid.specs.Spans.{Span, in_span, Rectangle}
+use Rattle.twp_grid.specs.Spans.{Interval, in_span, Rectangle}
 use Rattle.twp_grid.specs.Spans.{total, one_where}
 
 -- some of a row's tests in a span is true
@@ -20,7 +20,7 @@ abbrev pub count_in_row : List Bool → ℕ → ℕ → ℕ
 count_in_row row start len = total len (λ along. one_where (slice_index_or row (start + along) false))
 
 -- the row's tests, and true in the span
-abbrev pub IsFilled : List Bool → Span → List Bool → Type 0
+abbrev pub IsFilled : List Bool → Interval → List Bool → Type 0
 IsFilled row span filled = (column : ℕ) → column < places_across PLACE_DIGITS
     → slice_index_or filled column false ≡ (slice_index_or row column false || in_span span column)
 
@@ -34,7 +34,7 @@ pub record AreFilled (rows : List (List Bool)) (block : Rectangle) (filled : Lis
       → slice_index_or filled row [] ≡ slice_index_or rows row []
 
 -- the row's tests, and false in the span
-abbrev pub IsCleared : List Bool → Span → List Bool → Type 0
+abbrev pub IsCleared : List Bool → Interval → List Bool → Type 0
 IsCleared row span cleared = (column : ℕ) → column < places_across PLACE_DIGITS
     → slice_index_or cleared column false
     ≡ (slice_index_or row column false && not (in_span span column))

@@ -7,7 +7,7 @@ use Rattle.twp_notes.specs.NotesFaults.{HasNoRun, HasNoSection, NamesNoLine, Has
 use Rattle.twp_notes.specs.steps.Tables.{entry_of, AreTaken}
 use Rattle.twp_notes.specs.declared.fault.NotesFault.{NotesFault}
 use Rattle.twp_notes.specs.declared.fault.NotesFault.TheVariants as fault
-use Rattle.twp_notes.specs.declared.returned.Returned.{Returned}
+use Rattle.twp_notes.specs.declared.parsing.Returned.{Returned}
 
 -- the numbered record names no line: this is why, and no earlier reason applies
 abbrev pub IsUnnamed : Fields → ℕ → NotesFault → Type 0
@@ -39,7 +39,7 @@ IsNotTaken fields table number (fault.Repeated at) = (at ≡ number)
 IsNotTaken fields table number other = ⊥
 
 -- this many of the records were entered, and the next one is refused
-pub record IsRefusedNext (records : List Fields) (fault : NotesFault) : Type 0 where
+pub record IsLineRefusedNext (records : List Fields) (fault : NotesFault) : Type 0 where
   pub count : ℕ
   pub table : List (Option Returned)
   pub within : count < length records
@@ -47,6 +47,6 @@ pub record IsRefusedNext (records : List Fields) (fault : NotesFault) : Type 0 w
   pub not_taken : IsNotTaken (record_at records count) table (count + 3) fault
 
 -- the same, unless memory ran out
-abbrev pub IsRefusedAfter : List Fields → NotesFault → Type 0
-IsRefusedAfter records fault.Memory = ⊤
-IsRefusedAfter records other = IsRefusedNext records other
+abbrev pub IsLineRefusedAfter : List Fields → NotesFault → Type 0
+IsLineRefusedAfter records fault.Memory = ⊤
+IsLineRefusedAfter records other = IsLineRefusedNext records other

@@ -5,7 +5,7 @@ use Rattle.std.specs.Prelude.{slice_index_or}
 use Rattle.twp_grid.specs.Lines.{LINE_COUNT, IsLine}
 use Rattle.twp_notes.specs.Records.{Fields, record_at}
 use Rattle.twp_notes.specs.FieldNotes.{nothing_returned, NamesLine, IsLineRecord}
-use Rattle.twp_notes.specs.declared.returned.Returned.{Returned}
+use Rattle.twp_notes.specs.declared.parsing.Returned.{Returned}
 
 -- the entry of a line, if it has one
 abbrev pub entry_of : List (Option Returned) → ℕ → Option Returned
@@ -33,14 +33,14 @@ pub record TakesDown (fields : Fields) (old new : List (Option Returned)) : Type
   pub is_line : IsLine line
 
 -- the record is that of a line, and the table has its distances as the line's entry
-pub record IsTaken (fields : Fields) (table : List (Option Returned)) : Type 0 where
+pub record IsLineTaken (fields : Fields) (table : List (Option Returned)) : Type 0 where
   pub line : ℕ
   pub returned : Returned
   pub is : IsLineRecord fields line returned
   pub taken : entry_of table line ≡ Some returned
 
 -- one of the first records, up to this number, names the line
-pub record IsNamedBy (records : List Fields) (count line : ℕ) : Type 0 where
+pub record IsLineNamedBy (records : List Fields) (count line : ℕ) : Type 0 where
   pub place : ℕ
   pub within : place < count
   pub names : NamesLine (record_at records place) line
@@ -48,9 +48,9 @@ pub record IsNamedBy (records : List Fields) (count line : ℕ) : Type 0 where
 -- the table has exactly the entries of the first records up to this number, each for another line
 pub record AreTaken (records : List Fields) (count : ℕ) (table : List (Option Returned))
     : Type 0 where
-  pub each : (place : ℕ) → place < count → IsTaken (record_at records place) table
+  pub each : (place : ℕ) → place < count → IsLineTaken (record_at records place) table
   pub once : (place other line : ℕ) → place < count → other < count
       → NamesLine (record_at records place) line → NamesLine (record_at records other) line
       → place ≡ other
-  pub named : (line : ℕ) → IsSome (entry_of table line) → IsNamedBy records count line
+  pub named : (line : ℕ) → IsSome (entry_of table line) → IsLineNamedBy records count line
   pub size : length table ≡ LINE_COUNT

@@ -1,12 +1,8 @@
 -- The text of acres, by its parts before and after its point.
 use Rattle.std.proofs.Common.{◌≡◌, ℕ, ◌^◌, ◌<◌, ◌≤◌, List, length}
-use Rattle.std.proofs.Common.{ap, arith, zero, suc, true}
+use Rattle.std.proofs.Common.{ap, arith, zero, suc}
 use Rattle.std.specs.Str.Parse.{digits_value}
 use Rattle.std.proofs.lemmas.Int.Digits.{digits_value-lt}
-use Rattle.std.specs.Char.{is_ascii_digit}
-use Rattle.std.specs.List.{list_all}
-use Rattle.std.specs.Str.Parse.{AllDigits}
-use Rattle.twp_measure.proofs.Numerals as numerals
 use Rattle.twp_plat.specs.LotTables.{FIGURE_MOST}
 use Rattle.twp_plat.specs.LotRecords.{IsAcresText}
 
@@ -26,10 +22,3 @@ acres_within text hundredths is =
     small (suc (suc zero)) few = omega arith
     small (suc (suc (suc zero))) few = omega arith
     small (suc (suc (suc (suc n)))) few = absurd (omega arith)
-
--- a test of each byte says whether all are digits
-pub digits_tested : (text : List ℕ) → list_all is_ascii_digit text ≡ true → AllDigits 10 text
-digits_tested text h = numerals.digits_tested text h
-
-pub digits_test : (text : List ℕ) → AllDigits 10 text → list_all is_ascii_digit text ≡ true
-digits_test text h = numerals.digits_test text h

@@ -6,8 +6,8 @@ use Rattle.std.proofs.lemmas.List.{get_or-set_same, get_or-set_other, length-set
 use Rattle.twp_notes.specs.Records.{Fields, record_at}
 use Rattle.twp_plat.specs.LotTables.{LOT_COUNT, lot_index}
 use Rattle.twp_plat.specs.LotRecords.{NamesLot}
-use Rattle.twp_plat.specs.steps.LotEntries.{entry_of, Enters, IsEntered, IsNamedBy, AreEntered}
-use Rattle.twp_plat.specs.steps.LotEntries.{IsNotEntered, IsRefusedAfter}
+use Rattle.twp_plat.specs.steps.LotEntries.{entry_of, Enters, IsEntered, IsLotNamedBy, AreEntered}
+use Rattle.twp_plat.specs.steps.LotEntries.{IsNotEntered, IsLotRefusedAfter}
 use Rattle.twp_plat.specs.declared.lots.fault.LotsFault.{LotsFault}
 use Rattle.twp_plat.specs.declared.lots.fault.LotsFault.TheVariants as fault
 use Rattle.twp_plat.proofs.lots.NameFacts.{names_one}
@@ -101,7 +101,7 @@ entered_more rows count old new entered enters =
           index_is = sym same;
         }
         | inr apart ↦
-            let before : IsNamedBy rows count other = entered.named other (rw (
+            let before : IsLotNamedBy rows count other = entered.named other (rw (
               enters.new_is,
               get_or-set_other old index other enters.hundredths 0 apart,
             ) at some) in
@@ -131,7 +131,7 @@ entered_more rows count old new entered enters =
 -- the next record is refused
 pub refused_next : (rows : List Fields) (count : ℕ) (figures : List ℕ) (is : LotsFault)
     → count < length rows → AreEntered rows count figures
-    → IsNotEntered (record_at rows count) figures (count + 3) is → IsRefusedAfter rows is
+    → IsNotEntered (record_at rows count) figures (count + 3) is → IsLotRefusedAfter rows is
 refused_next rows count figures fault.Memory within entered not = tt
 refused_next rows count figures _ within entered not =
     record { count = count; figures = figures; within = within; entered = entered; not_entered = not }

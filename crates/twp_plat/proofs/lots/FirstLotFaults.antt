@@ -10,11 +10,11 @@ use Rattle.twp_notes.specs.Records.{Fields, records_of, record_at}
 use Rattle.twp_notes.specs.declared.reading.ReadFault.{ReadFault}
 use Rattle.twp_notes.specs.declared.reading.ReadFault.TheVariants as reading
 use Rattle.twp_plat.specs.LotTables.{ReturnedLots, returned_lots, IsLotTable, IsLotNumber, lot_index}
-use Rattle.twp_plat.specs.LotRecords.{LOTS_TEXT_MOST, LOT_FIELDS, NamesLot, IsRowNumber, IsNamed, AreLots}
-use Rattle.twp_plat.specs.LotsFaults.{NamesNoLot, HasNoAcres, HasOnRow, IsRepeated, HasFault, IsFrom}
+use Rattle.twp_plat.specs.LotRecords.{LOTS_TEXT_MOST, LOT_FIELDS, NamesLot, IsRowNumber, IsLotNamed, AreLots}
+use Rattle.twp_plat.specs.LotsFaults.{NamesNoLot, HasNoAcres, HasOnRow, IsLotRepeated, HasFault, IsFrom}
 use Rattle.twp_plat.specs.LotsFaults.{IsFirstFault, AnswersLots, refusal_of}
-use Rattle.twp_plat.specs.steps.LotEntries.{entry_of, IsEntered, IsNamedBy, AreEntered}
-use Rattle.twp_plat.specs.steps.LotEntries.{IsRefusedNext, IsRefusedAfter}
+use Rattle.twp_plat.specs.steps.LotEntries.{entry_of, IsEntered, IsLotNamedBy, AreEntered}
+use Rattle.twp_plat.specs.steps.LotEntries.{IsLotRefusedNext, IsLotRefusedAfter}
 use Rattle.twp_plat.specs.steps.PassedLotFaults.{lots_fault_of}
 use Rattle.twp_plat.specs.declared.lots.fault.LotsFault.{LotsFault}
 use Rattle.twp_plat.specs.declared.lots.fault.LotsFault.TheVariants as fault
@@ -57,7 +57,7 @@ pub record IsGoodBefore (fields : Fields) (number : ℕ) : Type 0 where
 -- of the records that were entered, none is for the lot of an earlier one
 not_repeated : (bytes : List ℕ) (rows : List Fields) (count number at : ℕ) (figures : List ℕ)
     → AreAfter bytes rows → AreEntered rows count figures → number ≤ 93
-    → IsRowNumber (records_of bytes) at → IsRepeated (records_of bytes) at
+    → IsRowNumber (records_of bytes) at → IsLotRepeated (records_of bytes) at
     → IsAfter (count + 3) number at 93
 not_repeated bytes rows count number at figures after entered most is again =
     let at_is : IsPlaced bytes rows at = placed bytes rows at after is in
@@ -111,8 +111,8 @@ none_before bytes rows count number figures after entered good most fault.Memory
 
 -- the record that names the lot of a figure is before the next one
 repeated_is : (bytes : List ℕ) (rows : List Fields) (count section lot : ℕ) → AreAfter bytes rows
-    → count < length rows → IsNamedBy rows count (lot_index section lot)
-    → NamesLot (record_at rows count) section lot → IsRepeated (records_of bytes) (count + 3)
+    → count < length rows → IsLotNamedBy rows count (lot_index section lot)
+    → NamesLot (record_at rows count) section lot → IsLotRepeated (records_of bytes) (count + 3)
 repeated_is bytes rows count section lot after within earlier names =
     let same =
     same_lot earlier.section earlier.lot section lot earlier.names.section_is.1 earlier.names.has
@@ -135,7 +135,7 @@ repeated_is bytes rows count section lot after within earlier names =
 
 -- the record that is not entered has the first fault
 pub first_of_next : (bytes : List ℕ) (rows : List Fields) (is : LotsFault) → AreAfter bytes rows
-    → IsRefusedNext rows is → IsFirstFault bytes is
+    → IsLotRefusedNext rows is → IsFirstFault bytes is
 first_of_next bytes rows (fault.Columns at) after next =
     let (at_is, wrong) = next.not_entered in
     let good : IsGoodBefore (record_at rows next.count) 89 = record {
@@ -192,7 +192,7 @@ first_of_next bytes rows _ after next = absurd next.not_entered
 
 -- the result if the records of lots were refused
 pub answer_refused : (bytes : List ℕ) (rows : List Fields) (is : LotsFault) → AreAfter bytes rows
-    → IsRefusedAfter rows is → IfSome (refusal_of is) (λ _. IsFirstFault bytes is)
+    → IsLotRefusedAfter rows is → IfSome (refusal_of is) (λ _. IsFirstFault bytes is)
 answer_refused bytes rows fault.Memory after refused = tt
 answer_refused bytes rows fault.Read after refused = tt
 answer_refused bytes rows (fault.Columns at) after refused =
@@ -208,7 +208,7 @@ answer_refused bytes rows _ after refused = absurd refused.not_entered
 -- a lot with a figure is named
 named_of : (bytes : List ℕ) (rows : List Fields) (figures : List ℕ) (section lot : ℕ) → AreAfter bytes rows
     → AreEntered rows (length rows) figures → IsSection section → IsLotNumber section lot
-    → 0 < entry_of figures (lot_index section lot) → IsNamed (records_of bytes) section lot
+    → 0 < entry_of figures (lot_index section lot) → IsLotNamed (records_of bytes) section lot
 named_of bytes rows figures section lot after entered range number some =
     let by = entered.named (lot_index section lot) some in
     let same =

@@ -8,8 +8,8 @@ use Rattle.twp_plat.specs.Plats.{TownshipPlat}
 use Rattle.twp_plat.specs.Pieces.{over_of}
 use Rattle.twp_plat.specs.Pieces.{ArePieces}
 use Rattle.twp_plat.specs.PlatFigures.{PlatFigures, AreFigures}
-use Rattle.twp_plat.specs.declared.account.Account.{Account}
-use Rattle.twp_plat.specs.declared.account.Account.TheVariants.{Exact, Plat}
+use Rattle.twp_plat.specs.declared.land_area.Account.{Account}
+use Rattle.twp_plat.specs.declared.land_area.Account.TheVariants.{Exact, Plat}
 
 -- the denominator of an account
 abbrev pub over_by : Account → TownshipPlat → ℕ

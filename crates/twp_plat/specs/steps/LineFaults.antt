@@ -1,7 +1,7 @@
 -- The answer for one line: its closing quarter, or its first fault. No public contract cites this
 -- module; proofs/FaultFacts shows that the first such fault is the first fault of the notes.
 use Rattle.std.specs.Prelude.{◌≡◌, ℕ, ◌≤◌, Result, Ok, Err}
-use Rattle.twp_notes.specs.declared.returned.Returned.{Returned}
+use Rattle.twp_notes.specs.declared.parsing.Returned.{Returned}
 use Rattle.twp_plat.specs.Closing.{IsInLimits, IsClosingQuarter}
 use Rattle.twp_plat.specs.PlatFaults.{place_of, half_of, HasLineFault}
 use Rattle.twp_plat.specs.declared.fault.PlatFault.{PlatFault}

@@ -50,7 +50,7 @@ pub record IsEntered (fields : Fields) (figures : List ℕ) : Type 0 where
   pub entered : entry_of figures (lot_index section lot) ≡ hundredths
 
 -- one of the first records, up to this number, names the lot of an index
-pub record IsNamedBy (records : List Fields) (count index : ℕ) : Type 0 where
+pub record IsLotNamedBy (records : List Fields) (count index : ℕ) : Type 0 where
   pub place : ℕ
   pub section : ℕ
   pub lot : ℕ
@@ -64,12 +64,12 @@ pub record AreEntered (records : List Fields) (count : ℕ) (figures : List ℕ)
   pub once : (place other section lot : ℕ) → place < count → other < count
       → NamesLot (record_at records place) section lot
       → NamesLot (record_at records other) section lot → place ≡ other
-  pub named : (index : ℕ) → 0 < entry_of figures index → IsNamedBy records count index
+  pub named : (index : ℕ) → 0 < entry_of figures index → IsLotNamedBy records count index
   pub most : (index : ℕ) → entry_of figures index ≤ FIGURE_MOST
   pub size : length figures ≡ LOT_COUNT
 
 -- this many of the records were entered, and the next one is refused
-pub record IsRefusedNext (records : List Fields) (fault : LotsFault) : Type 0 where
+pub record IsLotRefusedNext (records : List Fields) (fault : LotsFault) : Type 0 where
   pub count : ℕ
   pub figures : List ℕ
   pub within : count < length records
@@ -77,6 +77,6 @@ pub record IsRefusedNext (records : List Fields) (fault : LotsFault) : Type 0 wh
   pub not_entered : IsNotEntered (record_at records count) figures (count + 3) fault
 
 -- the same, unless memory ran out
-abbrev pub IsRefusedAfter : List Fields → LotsFault → Type 0
-IsRefusedAfter records fault.Memory = ⊤
-IsRefusedAfter records other = IsRefusedNext records other
+abbrev pub IsLotRefusedAfter : List Fields → LotsFault → Type 0
+IsLotRefusedAfter records fault.Memory = ⊤
+IsLotRefusedAfter records other = IsLotRefusedNext records other

@@ -8,9 +8,9 @@ ghost use Rattle.twp_plat.specs.LotAreas.{IsLotArea, HasFigures, IsFirstLacking}
 ghost use Rattle.twp_plat.specs.steps.SectionUnits.{lot_units, LOT_UNITS_MOST};
 ghost use Rattle.twp_plat.specs.steps.SectionUnits.{position_units_by, SECTION_MOST};
 
-use crate::closing::QUARTER_MILE;
 use crate::lots::lacking::{LackingLot, lacking_lot};
 use crate::lots::table::LotTable;
+use crate::plat::QUARTER_MILE;
 use twp_grid::{Block, PLACES_TO_POSITION, Section, lot_count, lot_place};
 use twp_land::Land;
 use twp_measure::{Area, HUNDREDTH_OF_AN_ACRE};

@@ -2,7 +2,7 @@ ghost use Rattle.std.specs.Prelude.{ℕ, ◌≤◌, ◌↔◌, MatchOption, IsTr
 ghost use Rattle.twp_grid.specs.Lots.{number_of_lots};
 ghost use Rattle.twp_grid.specs.Places.{PLACE_DIGITS};
 ghost use Rattle.twp_plat.specs.LotAreas.{Lacks, HasFigures, IsFirstLacking};
-ghost use Rattle.twp_plat.specs.steps.LackingSteps.{IsFirstIn};
+ghost use Rattle.twp_plat.specs.steps.LackingSteps.{IsFirstLackingIn};
 
 use crate::lots::table::LotTable;
 use twp_grid::{Block, PLACES_TO_POSITION, Refusal, SECTIONS, Section, lot_count};
@@ -53,7 +53,7 @@ pub fn lacking_lot<L: Land>(table: &LotTable, land: &L) -> Option<LackingLot>
 fn lacking_in<L: Land>(table: &LotTable, land: &L, section: Section) -> Option<u8>
     ensures { MatchOption result
         ((number : ℕ) → ¬ Lacks PLACE_DIGITS table.now (L.places land.now) section number)
-        (IsFirstIn table.now (L.places land.now) section) }
+        (IsFirstLackingIn table.now (L.places land.now) section) }
 {
     for number in 1..lot_count(section) + 1 {
         if lacks(table, land, section, number) {

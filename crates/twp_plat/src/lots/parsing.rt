@@ -1,10 +1,10 @@
 ghost use Rattle.std.specs.Prelude.{◌≡◌, ◌≢◌, ◌+◌, ◌^◌, ◌≤◌, ◌<◌, ℕ, length, IfOk, IfErr, OnOk};
 ghost use Rattle.csv.specs.Records.{fields_of};
-ghost use Rattle.twp_notes.specs.Records.{records_left, IsReading};
+ghost use Rattle.twp_notes.specs.Records.{records_left, IsBetweenRecords};
 ghost use Rattle.twp_plat.specs.LotRecords.{LOTS_TEXT_MOST};
 ghost use Rattle.twp_plat.specs.LotsFaults.{AnswersLots};
 ghost use Rattle.twp_plat.specs.steps.LotEntries.{Enters, IsNotEntered, AreEntered};
-ghost use Rattle.twp_plat.specs.steps.LotEntries.{IsRefusedAfter};
+ghost use Rattle.twp_plat.specs.steps.LotEntries.{IsLotRefusedAfter};
 
 use crate::lots::fault::LotsFault;
 use crate::lots::record::{LOT_FIELDS, hundredths_of, is_heading, lot_of};
@@ -47,11 +47,11 @@ pub fn parse(alloc: Global, bytes: &[u8]) -> Result<LotTable, LotsFault>
 
 /// Enters the remaining records, each of a lot.
 fn enter_lots(records: &mut Records<'_>, row: &mut ByteRecord) -> Result<[u32; LOTS], LotsFault>
-    requires reading { IsReading records.old }
+    requires reading { IsBetweenRecords records.old }
     requires few { length (records_left records.old) < 2 ^ 17 }
     ensures entered { IfOk result
         (AreEntered (records_left records.old) (length (records_left records.old))) }
-    ensures fault { IfErr result (IsRefusedAfter (records_left records.old)) }
+    ensures fault { IfErr result (IsLotRefusedAfter (records_left records.old)) }
 {
     let mut figures = [0; LOTS];
     let mut entered = 0;

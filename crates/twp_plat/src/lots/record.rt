@@ -1,9 +1,5 @@
 //! The fields of a lot table's records.
-ghost use Rattle.std.specs.Prelude.{◌≡◌, ◌≢◌, ℕ, ◌+◌, ◌*◌, ◌^◌, ◌≤◌, ◌<◌, ◌↔◌, length, IsTrue};
-ghost use Rattle.std.specs.Prelude.{MatchOption};
-ghost use Rattle.std.specs.Char.{is_ascii_digit};
-ghost use Rattle.std.specs.List.{list_all};
-ghost use Rattle.std.specs.Str.Parse.{IsNumeral, digits_value};
+ghost use Rattle.std.specs.Prelude.{◌≡◌, ◌↔◌, length, IsTrue, MatchOption};
 ghost use Rattle.csv.specs.Records.{fields_of};
 ghost use Rattle.twp_grid.specs.Finding.{Finds};
 ghost use Rattle.twp_plat.specs.LotRecords.{LOT_FIELDS, lots_heading, IsAcresText, NamesLot};
@@ -11,7 +7,8 @@ ghost use Rattle.twp_plat.specs.LotsFaults.{NamesNoLot};
 
 use csv::ByteRecord;
 use twp_grid::{Section, lot_count};
-use twp_notes::{field, section_of, short_number};
+use twp_measure::{is_numeral, numeral_value};
+use twp_notes::{field, is_text, section_of, short_number};
 
 /// The number of fields in the record of a lot.
 pub const LOT_FIELDS: usize = 3;
@@ -64,45 +61,9 @@ pub(crate) fn hundredths_of(text: &[u8]) -> Option<u32>
     if text[at] != POINT || !is_numeral(whole) || !is_numeral(decimals) {
         return None;
     }
-    let hundredths = 100 * number(whole) + number(decimals);
+    let hundredths = 100 * numeral_value(whole) + numeral_value(decimals);
     if hundredths == 0 {
         return None;
     }
     Some(hundredths)
-}
-
-/// Whether the text consists of one or more digits.
-#[tactic(auto, using(crate::proofs::lots::AcresFacts::digits_tested, crate::proofs::lots::AcresFacts::digits_test))]
-fn is_numeral(text: &[u8]) -> bool
-    ensures { IsTrue result ↔ IsNumeral 10 text.now }
-{
-    !text.is_empty() && has_only_digits(text)
-}
-
-/// Whether every byte is a digit.
-fn has_only_digits(text: &[u8]) -> bool
-    ensures { result ≡ list_all is_ascii_digit text.now }
-{
-    text.iter().all(|byte| byte.is_ascii_digit())
-}
-
-/// The number that up to three digits spell.
-fn number(digits: &[u8]) -> u32
-    requires digits { IsNumeral 10 digits.now }
-    requires few { length digits.now ≤ 3 }
-    ensures value { result ≡ digits_value 10 digits.now }
-    ensures range { result < 10 ^ length digits.now }
-{
-    let mut value = 0;
-    for byte in digits {
-        value = 10 * value + u32::from(*byte - b'0');
-    }
-    value
-}
-
-/// Whether the bytes are exactly this text.
-fn is_text(bytes: &[u8], text: &str) -> bool
-    ensures { IsTrue result ↔ (bytes.now ≡ text.now) }
-{
-    bytes == text.as_bytes()
 }

@@ -3,7 +3,7 @@ use Rattle.std.specs.Prelude.{◌≡◌, ◌≢◌, ◌⊎◌, List, Option, Som
 use Rattle.clap.specs.Words.{Row, Text, first_of}
 use Rattle.clap.specs.declared.error.kind.ErrorKind.{ErrorKind}
 use Rattle.clap.specs.declared.error.kind.ErrorKind.TheVariants.{DisplayHelp, OutOfMemory}
-use Rattle.twp_plat.specs.declared.account.Account.{Account}
+use Rattle.twp_plat.specs.declared.land_area.Account.{Account}
 use Rattle.twp_program.specs.Commands.{account_name}
 use Rattle.twp_program.specs.declared.task.TaskFault.{TaskFault}
 use Rattle.twp_program.specs.declared.task.TaskFault.TheVariants.{Usage, Help, Memory}
@@ -13,8 +13,8 @@ abbrev pub HasValue : Text → List Row → Type 0
 HasValue word rows = (value : Text) × (first_of word rows ≡ Some value)
 
 -- the value of the option is an account's name
-abbrev pub HasAccount : List Row → Type 0
-HasAccount rows =
+abbrev pub HasAccountName : List Row → Type 0
+HasAccountName rows =
     (account : Account) × (first_of (codes "ACCOUNT") rows ≡ Some (account_name account))
 
 -- the subcommand that a parse entered is one of the command's, and its words and its option have
@@ -26,7 +26,7 @@ IsWhole (Some entered) = HasValue (codes "NOTES") entered.1
     ⊎ ((entered.0 ≡ codes "report") × HasValue (codes "TRACTS") entered.1)
     ⊎ ((entered.0 ≡ codes "normal") × HasValue (codes "DESCRIPTION") entered.1)
     ⊎ ((entered.0 ≡ codes "acres") × HasValue (codes "DESCRIPTION") entered.1
-    × HasAccount entered.1))
+    × HasAccountName entered.1))
 
 -- an error of this kind can appear as this fault: as help if it asks for help, as misuse if it is
 -- neither that nor a lack of memory, and in any case as a lack of memory

@@ -3,12 +3,12 @@
 use Rattle.std.specs.Prelude.{ℕ, if◌then◌else◌, true, false, List, [], ◌∷◌, ◌++◌, Option, Some, None}
 use Rattle.twp_grid.specs.declared.township.NorthSouth.{NorthSouth as NorthOrSouth}
 use Rattle.twp_grid.specs.declared.township.EastWest.{EastWest as EastOrWest}
-use Rattle.twp_grammar.specs.declared.kind.Kind.{Kind}
+use Rattle.twp_grammar.specs.declared.tokens.Kind.{Kind}
 use Rattle.twp_grammar.specs.declared.item.Numeral.{Numeral}
 use Rattle.twp_grammar.specs.declared.item.Step.{Step}
 use Rattle.twp_grammar.specs.declared.item.Step.TheVariants.{Half, Quarter}
 use Rattle.twp_grammar.specs.declared.item.Item.{Item}
-use Rattle.twp_read.specs.declared.item_change.Change.{Change}
+use Rattle.twp_read.specs.declared.watch.ItemChange.{ItemChange}
 use Rattle.twp_grammar.specs.Items.{north_or_south, east_or_west}
 use Rattle.twp_grammar.specs.declared.state.State.{State}
 use Rattle.twp_grammar.specs.Tokens.{Token}
@@ -16,13 +16,13 @@ use Rattle.twp_grammar.specs.Grammar.{class_of}
 use Rattle.twp_grammar.specs.Machine.{next, is_in_chain}
 use Rattle.twp_grid.specs.declared.township.NorthSouth.TheVariants as ns
 use Rattle.twp_grid.specs.declared.township.EastWest.TheVariants as ew
-use Rattle.twp_grammar.specs.declared.kind.Kind.TheVariants as kind
+use Rattle.twp_grammar.specs.declared.tokens.Kind.TheVariants as kind
 use Rattle.twp_grammar.specs.declared.item.Item.TheVariants as item
-use Rattle.twp_read.specs.declared.item_change.Change.TheVariants as change
+use Rattle.twp_read.specs.declared.watch.ItemChange.TheVariants as change
 use Rattle.twp_grammar.specs.declared.state.State.TheVariants as past
 
 -- an item with what a token says of it
-abbrev pub changed : Change → Item → Item
+abbrev pub changed : ItemChange → Item → Item
 changed (change.TownshipNumber n) (item.Heading _ side range way at) =
     item.Heading n side range way at
 changed (change.TownshipSide side) (item.Heading n _ range way at) =
@@ -38,7 +38,7 @@ changed (change.Grown step) (item.Chain steps at) = item.Chain (steps ++ step �
 changed _ it = it
 
 -- items are listed here with the newest first
-abbrev pub with_newest : Change → List Item → List Item
+abbrev pub with_newest : ItemChange → List Item → List Item
 with_newest change [] = []
 with_newest change (it ∷ items) = changed change it ∷ items
 

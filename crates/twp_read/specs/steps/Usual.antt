@@ -11,11 +11,11 @@ use Rattle.twp_grammar.specs.declared.item.Item.{Item}
 use Rattle.twp_grammar.specs.declared.item.Item.TheVariants.{Lots, Sections}
 use Rattle.twp_grammar.specs.declared.item.Step.{Step}
 use Rattle.twp_grammar.specs.declared.item.Step.TheVariants as step
-use Rattle.twp_grammar.specs.declared.kind.Kind.{Kind}
-use Rattle.twp_grammar.specs.declared.kind.Kind.TheVariants.{NorthSouth, EastWest, Corner, Half}
-use Rattle.twp_grammar.specs.declared.kind.Kind.TheVariants.{Quarter, Number}
-use Rattle.twp_read.specs.declared.usual.list.Listed.{Listed}
-use Rattle.twp_read.specs.declared.usual.list.Listed.TheVariants as listed
+use Rattle.twp_grammar.specs.declared.tokens.Kind.{Kind}
+use Rattle.twp_grammar.specs.declared.tokens.Kind.TheVariants.{NorthSouth, EastWest, Corner, Half}
+use Rattle.twp_grammar.specs.declared.tokens.Kind.TheVariants.{Quarter, Number}
+use Rattle.twp_read.specs.declared.usual.list.ListKind.{ListKind}
+use Rattle.twp_read.specs.declared.usual.list.ListKind.TheVariants as listed
 use Rattle.twp_grammar.specs.declared.state.State.{State}
 use Rattle.twp_grammar.specs.declared.state.State.TheVariants as past
 use Rattle.twp_grammar.specs.Tokens.{Token, StartsWith, HasTokens, is_white, begins_with, kind_among, words}
@@ -25,7 +25,7 @@ use Rattle.twp_grammar.specs.Grammar.{number}
 use Rattle.twp_grammar.specs.Machine.{next}
 use Rattle.twp_read.specs.steps.TokenSteps.{run, take_number}
 use Rattle.twp_read.specs.steps.BadTokens.{NoneBad}
-use Rattle.twp_read.specs.declared.reached.Reached.{Reached}
+use Rattle.twp_read.specs.declared.description.Reached.{Reached}
 use Rattle.twp_read.specs.declared.watch.ListWord.{ListWord}
 use Rattle.twp_read.specs.declared.watch.ListWord.TheVariants as word
 use Rattle.twp_read.specs.steps.Watching.{Unclouded, word_from, is_step, is_section, is_heading, end_from}
@@ -144,22 +144,22 @@ abbrev pub IsAfterWhite : List ℕ → ℕ → ℕ → Type 0
 IsAfterWhite text from at = (at ≡ from + prefix_len is_white (drop from text)) × (at ≤ length text)
 
 -- the item of a number in a list
-abbrev pub entry_of : Listed → Numeral → Item
+abbrev pub entry_of : ListKind → Numeral → Item
 entry_of listed.Lots it = Lots it it
 entry_of listed.Sections it = Sections it it true
 
 -- the state after a number in a list
-abbrev pub state_after : Listed → State
+abbrev pub state_after : ListKind → State
 state_after listed.Lots = past.LotNumber
 state_after listed.Sections = past.ListNumber
 
 -- the state after the last number of a range in a list
-abbrev pub last_state_after : Listed → State
+abbrev pub last_state_after : ListKind → State
 last_state_after listed.Lots = past.LotLast
 last_state_after listed.Sections = past.ListLast
 
 -- what a list is of that continues in a state with a comma and a number
-abbrev pub listed_in : State → Option Listed
+abbrev pub listed_in : State → Option ListKind
 listed_in past.LotNumber = Some listed.Lots
 listed_in past.LotLast = Some listed.Lots
 listed_in past.LotInclusive = Some listed.Lots
@@ -169,13 +169,13 @@ listed_in past.ListInclusive = Some listed.Sections
 listed_in _ = None
 
 -- what a list is of whose next number comes after `and`
-abbrev pub listed_after_and : State → Option Listed
+abbrev pub listed_after_and : State → Option ListKind
 listed_after_and past.LotAnd = Some listed.Lots
 listed_after_and past.ListAnd = Some listed.Sections
 listed_after_and _ = None
 
 -- what a list is of that has a range whose last number comes after `to`
-abbrev pub listed_after_to : State → Option Listed
+abbrev pub listed_after_to : State → Option ListKind
 listed_after_to past.LotTo = Some listed.Lots
 listed_after_to past.ListTo = Some listed.Sections
 listed_after_to _ = None

@@ -2,9 +2,10 @@
 -- speaks of it.
 use Rattle.std.specs.Prelude.{◌≡◌, ◌||◌, ◌&&◌, not, ℕ, nat_lt, Bool, true, false, List, [], ◌∷◌, Option}
 use Rattle.std.specs.Prelude.{Some, None, if◌then◌else◌, ⊤}
-use Rattle.twp_grammar.specs.declared.kind.Kind.{Kind}
-use Rattle.twp_grammar.specs.declared.kind.Kind.TheVariants.{Sec, Lot, And, To, NorthSouth, EastWest, Corner}
-use Rattle.twp_grammar.specs.declared.kind.Kind.TheVariants.{Number}
+use Rattle.twp_grammar.specs.declared.tokens.Kind.{Kind}
+use Rattle.twp_grammar.specs.declared.tokens.Kind.TheVariants.{Sec, Lot, And, To, NorthSouth, EastWest}
+use Rattle.twp_grammar.specs.declared.tokens.Kind.TheVariants.{Corner}
+use Rattle.twp_grammar.specs.declared.tokens.Kind.TheVariants.{Number}
 use Rattle.twp_grammar.specs.declared.state.State.{State}
 use Rattle.twp_grammar.specs.declared.state.State.TheVariants as past
 use Rattle.twp_grammar.specs.Tokens.{Token}

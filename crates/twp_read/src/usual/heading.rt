@@ -1,14 +1,14 @@
 //! A heading in its usual spelling, as `T. 2 N., R. 3 W.,`.
 ghost use Rattle.std.specs.Prelude.{◌≡◌, ◌≤◌, ◌∷◌, ◌+◌, List, length, drop, false, IfOk, IfSome};
 ghost use Rattle.twp_grammar.specs.declared.item.Item.{Item as TakenItem};
-ghost use Rattle.twp_read.specs.declared.item_change.Change.TheVariants.{TownshipSide, RangeSide};
+ghost use Rattle.twp_read.specs.declared.watch.ItemChange.TheVariants.{TownshipSide, RangeSide};
 ghost use Rattle.twp_read.specs.steps.TokenSteps.{with_newest};
 ghost use Rattle.twp_read.specs.steps.Usual.{Leads, IsNumberAfter, begins_with_zero};
 ghost use Rattle.twp_grammar.specs.Sentences.{TEXT_LIMIT};
 
+use crate::description::Reached;
 use crate::items::Items;
-use crate::reached::Reached;
-use crate::usual::bytes::goes_on;
+use crate::usual::chain::goes_on;
 use crate::usual::list::{UsualNumber, number_at};
 use std::alloc::AllocError;
 use twp_grammar::{Item, State, byte_at};

@@ -10,10 +10,10 @@ ghost use Rattle.twp_read.specs.steps.Usual.{joins_doubtfully};
 ghost use Rattle.twp_read.specs.steps.Watching.{is_step};
 ghost use Rattle.twp_grammar.specs.Sentences.{TEXT_LIMIT};
 
-use crate::item_change::Change;
+use crate::description::Reached;
 use crate::items::Items;
-use crate::reached::Reached;
-use crate::usual::bytes::goes_on;
+use crate::usual::chain::goes_on;
+use crate::watch::ItemChange;
 use std::alloc::AllocError;
 use twp_grammar::{Item, Kind, Numeral, State, after_white, byte_at, digits, lexeme_at};
 
@@ -29,44 +29,44 @@ pub struct UsualNumber {
 
 /// What a list is of.
 #[derive(Clone, Copy)]
-pub enum Listed {
+pub enum ListKind {
     Lots,
     Sections,
 }
 
-impl Listed {
+impl ListKind {
     /// What a list is of that continues in a state with a comma and a number.
     #[inline(always)]
-    pub fn in_state(state: State) -> Option<Listed>
+    pub fn in_state(state: State) -> Option<ListKind>
         ensures { result ≡ listed_in state }
     {
         match state {
-            State::LotNumber | State::LotLast | State::LotInclusive => Some(Listed::Lots),
-            State::ListNumber | State::ListLast | State::ListInclusive => Some(Listed::Sections),
+            State::LotNumber | State::LotLast | State::LotInclusive => Some(ListKind::Lots),
+            State::ListNumber | State::ListLast | State::ListInclusive => Some(ListKind::Sections),
             _ => None,
         }
     }
 
     /// What a list is of whose next number comes after `and`.
     #[inline(always)]
-    pub fn after_and(state: State) -> Option<Listed>
+    pub fn after_and(state: State) -> Option<ListKind>
         ensures { result ≡ listed_after_and state }
     {
         match state {
-            State::LotAnd => Some(Listed::Lots),
-            State::ListAnd => Some(Listed::Sections),
+            State::LotAnd => Some(ListKind::Lots),
+            State::ListAnd => Some(ListKind::Sections),
             _ => None,
         }
     }
 
     /// What a list is of that has a range whose last number comes after `to`.
     #[inline(always)]
-    pub fn after_to(state: State) -> Option<Listed>
+    pub fn after_to(state: State) -> Option<ListKind>
         ensures { result ≡ listed_after_to state }
     {
         match state {
-            State::LotTo => Some(Listed::Lots),
-            State::ListTo => Some(Listed::Sections),
+            State::LotTo => Some(ListKind::Lots),
+            State::ListTo => Some(ListKind::Sections),
             _ => None,
         }
     }
@@ -77,8 +77,8 @@ impl Listed {
         ensures { result ≡ last_state_after self }
     {
         match self {
-            Listed::Lots => State::LotLast,
-            Listed::Sections => State::ListLast,
+            ListKind::Lots => State::LotLast,
+            ListKind::Sections => State::ListLast,
         }
     }
 
@@ -88,11 +88,11 @@ impl Listed {
         ensures { result ≡ entry_of self number }
     {
         match self {
-            Listed::Lots => Item::Lots {
+            ListKind::Lots => Item::Lots {
                 first: number,
                 last: number,
             },
-            Listed::Sections => Item::Sections {
+            ListKind::Sections => Item::Sections {
                 first: number,
                 last: number,
                 whole: true,
@@ -106,8 +106,8 @@ impl Listed {
         ensures { result ≡ state_after self }
     {
         match self {
-            Listed::Lots => State::LotNumber,
-            Listed::Sections => State::ListNumber,
+            ListKind::Lots => State::LotNumber,
+            ListKind::Sections => State::ListNumber,
         }
     }
 }
@@ -256,7 +256,7 @@ impl Items {
         ensures { IfOk result
             (λ to. Leads text.now from.at from.state self.old to.at to.state self.new) }
     {
-        if Listed::in_state(from.state).is_none() {
+        if ListKind::in_state(from.state).is_none() {
             return Ok(after_section_comma(text, from));
         }
         let mut reached = self.take_numbers(text, from)?;
@@ -276,7 +276,7 @@ impl Items {
         ensures { IfOk result
             (λ to. Leads text.now from.at from.state self.old to.at to.state self.new) }
     {
-        let Some(list) = Listed::in_state(from.state) else {
+        let Some(list) = ListKind::in_state(from.state) else {
             return Ok(from);
         };
         let mut reached = ahead(text, from);
@@ -306,17 +306,17 @@ impl Items {
         let Some(number) = number_after(text, word.at) else {
             return Ok(word);
         };
-        if let Some(list) = Listed::after_and(word.state) {
+        if let Some(list) = ListKind::after_and(word.state) {
             self.push(list.entry(number.numeral))?;
             return Ok(Reached {
                 at: number.end,
                 state: list.state(),
             });
         }
-        let Some(list) = Listed::after_to(word.state) else {
+        let Some(list) = ListKind::after_to(word.state) else {
             return Ok(word);
         };
-        self.change(Change::Last(number.numeral))?;
+        self.change(ItemChange::Last(number.numeral))?;
         Ok(Reached {
             at: number.end,
             state: list.last_state(),

@@ -5,11 +5,9 @@ ghost use Rattle.twp_grammar.specs.Machine.{is_in_chain};
 ghost use Rattle.twp_grammar.specs.Sentences.{TEXT_LIMIT};
 ghost use Rattle.twp_read.specs.steps.Usual.{Leads, IsStepAt};
 
+use crate::description::Reached;
 use crate::items::Items;
-use crate::reached::Reached;
-use crate::usual::bytes::goes_on;
-use crate::usual::chain::take_more_steps;
-use crate::usual::step::{UsualStep, step_at};
+use crate::usual::chain::{UsualStep, goes_on, step_at, take_more_steps};
 use std::alloc::{AllocError, Global};
 use twp_grammar::{Kind, State, after_white};
 

@@ -8,10 +8,10 @@ ghost use Rattle.twp_grammar.specs.Sentences.{TEXT_LIMIT};
 ghost use Rattle.twp_read.specs.steps.TokenSteps.{before_parts};
 ghost use Rattle.twp_read.specs.steps.Usual.{Leads};
 
+use crate::description::Reached;
 use crate::items::Items;
-use crate::reached::Reached;
-use crate::usual::bytes::goes_on;
-use crate::usual::list::{COMMA, Listed, number_after};
+use crate::usual::chain::goes_on;
+use crate::usual::list::{COMMA, ListKind, number_after};
 use std::alloc::AllocError;
 use twp_grammar::{Item, State, after_white};
 
@@ -66,8 +66,8 @@ impl Items {
         })
     }
 
-    /// Takes the first two of several sections as `secs. 5, 6`. With one number alone, it isn't known yet whether the
-    /// word is doubtful, and the reader's loop watches each token.
+    /// Takes the first two of several sections as `secs. 5, 6`. With one number alone, it isn't known yet
+    /// whether the word is doubtful, and the reader's loop watches each token.
     #[inline(always)]
     fn take_several(&mut self, text: &[u8], from: Reached) -> Result<Reached, AllocError>
         requires place { from.at ≤ length text.now }
@@ -92,8 +92,8 @@ impl Items {
         let Some(second) = number_after(text, first.end + COMMA) else {
             return Ok(from);
         };
-        self.push(Listed::Sections.entry(first.numeral))?;
-        self.push(Listed::Sections.entry(second.numeral))?;
+        self.push(ListKind::Sections.entry(first.numeral))?;
+        self.push(ListKind::Sections.entry(second.numeral))?;
         Ok(Reached {
             at: second.end,
             state: State::ListNumber,
@@ -115,7 +115,7 @@ impl Items {
             return Ok(from);
         };
         self.before_parts(from.state)?;
-        self.push(Listed::Lots.entry(number.numeral))?;
+        self.push(ListKind::Lots.entry(number.numeral))?;
         Ok(Reached {
             at: number.end,
             state: State::LotNumber,

@@ -44,7 +44,7 @@ pub record AreAdded (places old new : ℕ → ℕ → ℕ → Bool) : Type 0 whe
   pub added : new ≡ union old places
 
 -- the item lies on the plat; the land contained none of its places, and now it contains them all
-pub record IsTaken (g : ℕ) (township : Designation) (section : ℕ) (some : Item)
+pub record IsItemTaken (g : ℕ) (township : Designation) (section : ℕ) (some : Item)
     (old new : ℕ → ℕ → ℕ → Bool) : Type 0 where
   pub lies : LiesOnPlat g township section some
   pub apart : ¬ SharePlace old (item_places g (item_of section some))

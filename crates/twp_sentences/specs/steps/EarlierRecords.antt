@@ -5,21 +5,21 @@ use Rattle.twp_notes.specs.declared.fault.NotesFault.{NotesFault}
 use Rattle.twp_notes.specs.declared.fault.NotesFault.TheVariants as fault
 use Rattle.twp_diagnose.specs.Spots.{MOST_BYTES, IsLineIn}
 use Rattle.twp_diagnose.specs.declared.explanation.OtherPlace.{OtherPlace}
-use Rattle.twp_diagnose.specs.declared.given.Given.{Given}
+use Rattle.twp_diagnose.specs.declared.location.Given.{Given}
 use Rattle.twp_sentences.specs.OtherRecords.{IsFirstRecordOf}
-use Rattle.twp_sentences.specs.declared.field_notes.notes.Earlier.{Earlier}
+use Rattle.twp_sentences.specs.declared.field_notes.notes.EarlierRecord.{EarlierRecord}
 
 -- the place of an earlier record
-abbrev pub place_of_record : Earlier → OtherPlace
+abbrev pub place_of_record : EarlierRecord → OtherPlace
 place_of_record earlier = record { number = earlier.number; span = earlier.span }
 
 -- the record is the first that names the line that these fields name, and this is the line of the file on
 -- which it begins
-pub record IsEarlierRecord (notes : Given) (fields : Fields) (earlier : Earlier) : Type 0 where
+pub record IsEarlierRecord (notes : Given) (fields : Fields) (earlier : EarlierRecord) : Type 0 where
   pub is_first : IsFirstRecordOf notes.bytes.now fields (place_of_record earlier)
   pub line_is : length notes.bytes.now ≤ MOST_BYTES → IsLineIn notes is_first.found.start earlier.line
 
 -- it is looked for if the fault is that the record returns its line again
-abbrev pub IsEarlierOf : Given → NotesFault → Fields → Option Earlier → Type 0
+abbrev pub IsEarlierOf : Given → NotesFault → Fields → Option EarlierRecord → Type 0
 IsEarlierOf notes (fault.Repeated number) fields earlier = IfSome earlier (IsEarlierRecord notes fields)
 IsEarlierOf notes is fields earlier = earlier ≡ None

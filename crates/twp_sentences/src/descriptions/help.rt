@@ -1,5 +1,5 @@
-//! What helps with a refused text: a hint on the refused sign, and the only reading of the text; or why lots and aliquot
-//! parts can't describe its land.
+//! What helps with a refused text: a hint on the refused sign, and the only reading of the text; or why
+//! lots and aliquot parts can't describe its land.
 ghost use Rattle.std.specs.Prelude.{◌≡◌, None, IfOk, IfSome};
 ghost use Rattle.twp_diagnose.specs.Suggestions.{NamesLandOf};
 
@@ -87,8 +87,8 @@ fn several(alloc: Global, sight: &Surroundings<'_>) -> Result<Help, AllocError>
     })
 }
 
-/// The hint, and the reading on a line of its own, with what it assumes before it. If the reading doesn't fit there, it is
-/// said that there is one.
+/// The hint, and the reading on a line of its own, with what it assumes before it. If the reading doesn't
+/// fit there, it is said that there is one.
 fn with_reading(
     alloc: Global,
     sight: &Surroundings<'_>,

@@ -1,5 +1,5 @@
-//! Hints on a refused sign: what is not allowed there, and what is. They are rows of a table, chosen by the sign, what is
-//! expected at its place, and the signs beside it.
+//! Hints on a refused sign: what is not allowed there, and what is. They are rows of a table, chosen by
+//! the sign, what is expected at its place, and the signs beside it.
 
 mod signs;
 mod table;
@@ -47,8 +47,9 @@ fn template_of(row: &'static str, sight: &Surroundings<'_>) -> Option<&'static s
     }
 }
 
-/// Appends what a row says. `{at}` is the refused sign, `{before}` the one before it, and `{next}` the one after it;
-/// `{quarters}` is the refused sign, whose letters are those of several quarters, with a fraction after each of them.
+/// Appends what a row says. `{at}` is the refused sign, `{before}` the one before it, and `{next}` the
+/// one after it; `{quarters}` is the refused sign, whose letters are those of several quarters, with a
+/// fraction after each of them.
 fn write_template(
     template: &str,
     sight: &Surroundings<'_>,
@@ -88,8 +89,8 @@ fn write_quarters(letters: &[u8], out: &mut String) -> Result<(), AllocError> {
     Ok(())
 }
 
-/// Whether a reading does what a hint says, up to the refused sign and there. A hint that says neither to write nor to
-/// delete something is about every reading.
+/// Whether a reading does what a hint says, up to the refused sign and there. A hint that says neither to
+/// write nor to delete something is about every reading.
 pub(crate) fn does_as_hinted(hint: &str, sight: &Surroundings<'_>, reading: &[u8]) -> bool {
     if let Some(written) = hint.strip_prefix(WRITE) {
         return writes(written.as_bytes(), sight.ahead, reading);
@@ -121,7 +122,8 @@ fn begins_with(reading: &[u8], first: &[u8], second: &[u8]) -> bool {
     }
 }
 
-/// What follows a text at the beginning of another, apart from white space and case; none if the other begins otherwise.
+/// What follows a text at the beginning of another, apart from white space and case; none if the other
+/// begins otherwise.
 fn after_text<'a>(whole: &'a [u8], text: &[u8]) -> Option<&'a [u8]> {
     let mut rest = whole.trim_ascii_start();
     for byte in text {

@@ -3,14 +3,14 @@ ghost use Rattle.std.specs.Prelude.{◌≡◌, None, IfOk, MatchOption};
 ghost use Rattle.twp_diagnose.specs.Marks.{IsTokenSpan, IsChainSpan, IsHeadingSpan};
 ghost use Rattle.twp_sentences.specs.OtherPlaces.{IsEarlierPlace, IsOtherPlace};
 ghost use Rattle.twp_sentences.specs.ShownPlaces.{BeginsAt};
-ghost use Rattle.twp_sentences.specs.Underlined.{EndsAs, EndsWithFault, IsFaultSpan, IsItemAt};
+ghost use Rattle.twp_sentences.specs.Underlined.{EndsLike, EndsWithFault, IsFaultSpan, IsItemAt};
 ghost use Rattle.twp_sentences.specs.Underlined.{IsSpanAt, NoneAt};
 
 mod earlier;
 mod items;
 mod words;
 
-use crate::descriptions::places::earlier::Earlier;
+use crate::descriptions::places::earlier::EarlierItem;
 use crate::descriptions::places::items::{
     begins_at, item_span, number_at, range_to, section_after, section_of_number,
 };
@@ -94,7 +94,7 @@ impl<'a> Described<'a> {
     /// The explanation of a fault.
     fn explain(&self, alloc: Global, fault: PlaceFault) -> Result<Explained, AllocError>
         ensures span { IfOk result (λ explained.
-            EndsAs (IsFaultSpan self.now.text.now self.now.description.now fault) explained.end) }
+            EndsLike (IsFaultSpan self.now.text.now self.now.description.now fault) explained.end) }
         ensures other { IfOk result (λ explained. IsOtherPlace self.now.origin.now self.now.text.now
             self.now.township self.now.description.now fault explained.other) }
     {
@@ -136,7 +136,7 @@ impl<'a> Described<'a> {
 
     /// A heading of another township.
     fn explain_heading(&self, alloc: Global, at: u32) -> Result<Explained, AllocError>
-        ensures span { IfOk result (λ explained. EndsAs (IsHeadingSpan self.now.text.now at) explained.end) }
+        ensures span { IfOk result (λ explained. EndsLike (IsHeadingSpan self.now.text.now at) explained.end) }
         ensures other { IfOk result (λ explained. explained.other ≡ None) }
     {
         let mut sentence = String::new(alloc);
@@ -156,7 +156,7 @@ impl<'a> Described<'a> {
 
     /// A number that is no section's.
     fn explain_section(&self, alloc: Global, at: u32) -> Result<Explained, AllocError>
-        ensures span { IfOk result (λ explained. EndsAs (IsTokenSpan self.now.text.now at) explained.end) }
+        ensures span { IfOk result (λ explained. EndsLike (IsTokenSpan self.now.text.now at) explained.end) }
         ensures other { IfOk result (λ explained. explained.other ≡ None) }
     {
         let mut sentence = String::new(alloc);
@@ -176,7 +176,7 @@ impl<'a> Described<'a> {
 
     /// A range whose last number is less than its first.
     fn explain_range(&self, alloc: Global, at: u32) -> Result<Explained, AllocError>
-        ensures span { IfOk result (λ explained. EndsAs (IsTokenSpan self.now.text.now at) explained.end) }
+        ensures span { IfOk result (λ explained. EndsLike (IsTokenSpan self.now.text.now at) explained.end) }
         ensures other { IfOk result (λ explained. explained.other ≡ None) }
     {
         let (first, last) = range_to(self.description.items(), at);
@@ -196,7 +196,7 @@ impl<'a> Described<'a> {
 
     /// A number that is no lot's.
     fn explain_lot(&self, alloc: Global, at: u32) -> Result<Explained, AllocError>
-        ensures span { IfOk result (λ explained. EndsAs (IsTokenSpan self.now.text.now at) explained.end) }
+        ensures span { IfOk result (λ explained. EndsLike (IsTokenSpan self.now.text.now at) explained.end) }
         ensures other { IfOk result (λ explained. explained.other ≡ None) }
     {
         let mut sentence = String::new(alloc);
@@ -213,7 +213,7 @@ impl<'a> Described<'a> {
 
     /// An aliquot part that is finer than places are.
     fn explain_fine_part(&self, alloc: Global, at: u32) -> Result<Explained, AllocError>
-        ensures span { IfOk result (λ explained. EndsAs (IsChainSpan self.now.text.now at) explained.end) }
+        ensures span { IfOk result (λ explained. EndsLike (IsChainSpan self.now.text.now at) explained.end) }
         ensures other { IfOk result (λ explained. explained.other ≡ None) }
     {
         let mut sentence = String::new(alloc);
@@ -233,7 +233,7 @@ impl<'a> Described<'a> {
 
     /// An aliquot part that includes land of lots.
     fn explain_part_of_lots(&self, alloc: Global, at: u32) -> Result<Explained, AllocError>
-        ensures span { IfOk result (λ explained. EndsAs (IsChainSpan self.now.text.now at) explained.end) }
+        ensures span { IfOk result (λ explained. EndsLike (IsChainSpan self.now.text.now at) explained.end) }
         ensures other { IfOk result (λ explained. explained.other ≡ None) }
     {
         let mut sentence = String::new(alloc);
@@ -290,13 +290,13 @@ impl<'a> Described<'a> {
     /// Land that was named before.
     fn explain_overlap(&self, alloc: Global, at: u32) -> Result<Explained, AllocError>
         ensures span { IfOk result (λ explained.
-            EndsAs (IsSpanAt self.now.text.now self.now.description.now at) explained.end) }
+            EndsLike (IsSpanAt self.now.text.now self.now.description.now at) explained.end) }
         ensures other { IfOk result (λ explained. IsEarlierPlace self.now.origin.now self.now.text.now
             self.now.township self.now.description.now explained.other) }
     {
         let mut sentence = String::new(alloc);
         sentence.push_str("this land was named before")?;
-        let Earlier { help, other } = self.earlier(alloc)?;
+        let EarlierItem { help, other } = self.earlier(alloc)?;
         Ok(Explained {
             end: self.span_at(at).end,
             sentence,

@@ -11,13 +11,13 @@ ghost use Rattle.twp_sentences.specs.Underlined.{EndsWithFault, EndsWithSign};
 
 use crate::descriptions::{places, text};
 use std::alloc::Global;
-use twp_diagnose::{Failure, Origin, Suggests};
+use twp_diagnose::{Origin, SearchStop, Suggests};
 use twp_grid::Township;
 use twp_read::{Description, TextFault};
 use twp_resolve::PlaceFault;
 
-/// What is wrong with a text that isn't read. A reading that the explanation ends with names land on the plat of the
-/// township.
+/// What is wrong with a text that isn't read. A reading that the explanation ends with names land on the
+/// plat of the township.
 #[tactic(auto, using(twp_diagnose::proofs::FindingFacts::of_fault, twp_diagnose::proofs::FindingFacts::of_found, crate::proofs::ShownFacts::text_shown))]
 #[inline(never)]
 pub fn stop_of_text<S: Suggests>(
@@ -26,7 +26,7 @@ pub fn stop_of_text<S: Suggests>(
     bytes: &[u8],
     township: Township,
     fault: TextFault,
-) -> Failure
+) -> SearchStop
     ensures refusal { IfFound result (λ refusal. refusal_of_text fault ≡ Some refusal) }
     ensures shown { IfShown origin.now bytes.now result }
     ensures ends { fault ≢ TooLarge → IfFinds result (λ finding.
@@ -36,9 +36,9 @@ pub fn stop_of_text<S: Suggests>(
         IfSome finding.reading (λ text. NamesLandOf township text.items)) }
 {
     let Some(refusal) = fault.refusal() else {
-        return Failure::Memory;
+        return SearchStop::Memory;
     };
-    Failure::of(
+    SearchStop::of(
         refusal,
         text::find::<S>(alloc, origin, bytes, township, fault, refusal),
     )
@@ -54,7 +54,7 @@ pub fn stop_of_places(
     description: &Description,
     township: Township,
     fault: PlaceFault,
-) -> Failure
+) -> SearchStop
     ensures refusal { IfFound result (λ refusal. refusal_of_places fault ≡ Some refusal) }
     ensures shown { IfShown origin.now bytes.now result }
     ensures ends { IfFinds result (λ finding.
@@ -63,9 +63,9 @@ pub fn stop_of_places(
         IsOtherPlace origin.now bytes.now township description.now fault finding.other) }
 {
     let Some(refusal) = fault.refusal() else {
-        return Failure::Memory;
+        return SearchStop::Memory;
     };
-    Failure::of(
+    SearchStop::of(
         refusal,
         places::find(alloc, origin, bytes, description, township, fault, refusal),
     )

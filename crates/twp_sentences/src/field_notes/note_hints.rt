@@ -7,11 +7,11 @@ use twp_measure::Length;
 use twp_notes::FIELDS;
 
 /// A row: the number of a refusal, what is seen of the record, and what mends it.
-struct Hint(u8, Sign, &'static str);
+struct NoteHint(u8, NotePattern, &'static str);
 
 /// What may be seen of a record, and of the field of it that is to blame.
 #[derive(Clone, Copy)]
-enum Sign {
+enum NotePattern {
     /// The field to blame is this one, from 0, and this text, in small letters or capitals.
     Says(usize, &'static str),
     /// The record begins with this text, in small letters or capitals.
@@ -45,146 +45,146 @@ enum Sign {
     Mile(u64),
 }
 
-use Sign::{
+use NotePattern::{
     Begins, CasedHeading, CutDistances, DecimalComma, Empty, LongHeading, LongRecord, Mile,
     NoNeighbor, OneField, Says, Spaced, SpacedHeading, WithChains, Zeros,
 };
 
 /// The rows, by the numbers of refusals.
-const HINTS: [Hint; 45] = [
-    Hint(3, Zeros, "the file looks like UTF-16: save it as UTF-8"),
-    Hint(
+const HINTS: [NoteHint; 45] = [
+    NoteHint(3, Zeros, "the file looks like UTF-16: save it as UTF-8"),
+    NoteHint(
         3,
         OneField(b';'),
         "the fields are separated by semicolons: save the file with commas",
     ),
-    Hint(
+    NoteHint(
         3,
         OneField(b'\t'),
         "the fields are separated by tabs: save the file with commas",
     ),
-    Hint(
+    NoteHint(
         3,
         LongHeading,
         "delete the columns after the fifth, in every record",
     ),
-    Hint(
+    NoteHint(
         3,
         SpacedHeading,
         "spaces are significant: delete those around the fields, in every record",
     ),
-    Hint(3, CasedHeading, "write the heading in lowercase"),
-    Hint(
+    NoteHint(3, CasedHeading, "write the heading in lowercase"),
+    NoteHint(
         3,
         Begins("sec."),
         "this is a description: name the file of the field notes first",
     ),
-    Hint(
+    NoteHint(
         3,
         Begins("secs."),
         "this is a description: name the file of the field notes first",
     ),
-    Hint(
+    NoteHint(
         3,
         Begins("T."),
         "this is a description: name the file of the field notes first",
     ),
-    Hint(
+    NoteHint(
         3,
         Says(0, "T"),
         "the heading is missing: add it before this record",
     ),
-    Hint(
+    NoteHint(
         3,
         Says(0, "N"),
         "the heading is missing: add it as the first record, and the township as the second",
     ),
-    Hint(
+    NoteHint(
         3,
         Says(0, "W"),
         "the heading is missing: add it as the first record, and the township as the second",
     ),
-    Hint(
+    NoteHint(
         4,
         OneField(b';'),
         "the fields are separated by semicolons: write commas",
     ),
-    Hint(
+    NoteHint(
         4,
         OneField(b'\t'),
         "the fields are separated by tabs: write commas",
     ),
-    Hint(
+    NoteHint(
         4,
         Begins("T."),
         "this is the form for descriptions; in field notes, write `T,2,N,3,W`",
     ),
-    Hint(
+    NoteHint(
         4,
         NoNeighbor,
         "on the township boundary the third field is empty, but its comma is still required",
     ),
-    Hint(
+    NoteHint(
         4,
         CutDistances,
         "write decimal points instead of commas, as in `40.00`",
     ),
-    Hint(4, LongRecord, "delete everything after the fifth field"),
-    Hint(5, Spaced, "spaces are significant here: delete the space"),
-    Hint(5, Says(0, "t"), "write `T`"),
-    Hint(5, Says(2, "n"), "write `N`"),
-    Hint(5, Says(2, "s"), "write `S`"),
-    Hint(5, Says(2, "north"), "write `N`"),
-    Hint(5, Says(2, "south"), "write `S`"),
-    Hint(5, Says(4, "e"), "write `E`"),
-    Hint(5, Says(4, "w"), "write `W`"),
-    Hint(5, Says(4, "east"), "write `E`"),
-    Hint(5, Says(4, "west"), "write `W`"),
-    Hint(6, Empty, "delete the empty row"),
-    Hint(6, Spaced, "spaces are significant here: delete the space"),
-    Hint(6, Says(0, "n"), "write `N`"),
-    Hint(6, Says(0, "w"), "write `W`"),
-    Hint(6, Says(0, "north"), "write `N`"),
-    Hint(6, Says(0, "west"), "write `W`"),
-    Hint(7, Spaced, "spaces are significant here: delete the space"),
-    Hint(9, Spaced, "spaces are significant here: delete the space"),
-    Hint(
+    NoteHint(4, LongRecord, "delete everything after the fifth field"),
+    NoteHint(5, Spaced, "spaces are significant here: delete the space"),
+    NoteHint(5, Says(0, "t"), "write `T`"),
+    NoteHint(5, Says(2, "n"), "write `N`"),
+    NoteHint(5, Says(2, "s"), "write `S`"),
+    NoteHint(5, Says(2, "north"), "write `N`"),
+    NoteHint(5, Says(2, "south"), "write `S`"),
+    NoteHint(5, Says(4, "e"), "write `E`"),
+    NoteHint(5, Says(4, "w"), "write `W`"),
+    NoteHint(5, Says(4, "east"), "write `E`"),
+    NoteHint(5, Says(4, "west"), "write `W`"),
+    NoteHint(6, Empty, "delete the empty row"),
+    NoteHint(6, Spaced, "spaces are significant here: delete the space"),
+    NoteHint(6, Says(0, "n"), "write `N`"),
+    NoteHint(6, Says(0, "w"), "write `W`"),
+    NoteHint(6, Says(0, "north"), "write `N`"),
+    NoteHint(6, Says(0, "west"), "write `W`"),
+    NoteHint(7, Spaced, "spaces are significant here: delete the space"),
+    NoteHint(9, Spaced, "spaces are significant here: delete the space"),
+    NoteHint(
         9,
         Mile(5_280_000),
         "the distances are in feet: divide them by 66",
     ),
-    Hint(
+    NoteHint(
         9,
         Mile(8_000_000),
         "the distances are in links: divide them by 100",
     ),
-    Hint(
+    NoteHint(
         9,
         Mile(1_609_344),
         "the distances are in meters: divide them by 20.1168",
     ),
-    Hint(
+    NoteHint(
         9,
         Mile(1_760_000),
         "the distances are in yards: divide them by 22",
     ),
-    Hint(
+    NoteHint(
         9,
         Mile(320_000),
         "the distances are in rods: divide them by 4",
     ),
-    Hint(
+    NoteHint(
         9,
         DecimalComma,
         "write a decimal point instead of the comma",
     ),
-    Hint(9, WithChains, "write only the number"),
-    Hint(
+    NoteHint(9, WithChains, "write only the number"),
+    NoteHint(
         21,
         Mile(1_000),
         "the distances are in miles: multiply them by 80",
     ),
-    Hint(
+    NoteHint(
         21,
         Mile(1_609),
         "the distances are in kilometers: multiply them by 49.71",
@@ -196,7 +196,7 @@ const HEADING: [&str; FIELDS] = ["line", "between", "and", "quarter", "corner"];
 
 /// What mends a record that was refused with a number for one of its fields, from 0.
 pub(crate) fn advice_on(number: u8, record: &Record<'_>, field: usize) -> Option<&'static str> {
-    for Hint(refusal, sign, advice) in &HINTS {
+    for NoteHint(refusal, sign, advice) in &HINTS {
         if *refusal == number && sign.fits(record, field) {
             return Some(*advice);
         }
@@ -204,25 +204,25 @@ pub(crate) fn advice_on(number: u8, record: &Record<'_>, field: usize) -> Option
     None
 }
 
-impl Sign {
+impl NotePattern {
     /// Whether it is seen of a record and its field to blame.
     fn fits(self, record: &Record<'_>, field: usize) -> bool {
         match self {
-            Sign::Says(place, word) => place == field && is_word(record.text(field), word),
-            Sign::Begins(word) => begins(record.text(0), word),
-            Sign::Spaced => is_spaced(record.text(field)),
-            Sign::OneField(byte) => record.len() == 1 && record.text(0).contains(&byte),
-            Sign::Zeros => record.text(0).contains(&0),
-            Sign::Empty => (0..record.len()).all(|place| record.text(place).is_empty()),
-            Sign::LongHeading => record.len() > FIELDS && is_like_heading(record),
-            Sign::SpacedHeading => is_like_heading(record) && has_spaces(record),
-            Sign::CasedHeading => record.len() == FIELDS && is_like_heading(record),
-            Sign::NoNeighbor => lacks_neighbor(record),
-            Sign::LongRecord => goes_on(record),
-            Sign::CutDistances => has_cut_distances(record),
-            Sign::DecimalComma => is_decimal_comma(record.text(field)),
-            Sign::WithChains => is_with_chains(record.text(field)),
-            Sign::Mile(mile) => is_mile(record, mile),
+            NotePattern::Says(place, word) => place == field && is_word(record.text(field), word),
+            NotePattern::Begins(word) => begins(record.text(0), word),
+            NotePattern::Spaced => is_spaced(record.text(field)),
+            NotePattern::OneField(byte) => record.len() == 1 && record.text(0).contains(&byte),
+            NotePattern::Zeros => record.text(0).contains(&0),
+            NotePattern::Empty => (0..record.len()).all(|place| record.text(place).is_empty()),
+            NotePattern::LongHeading => record.len() > FIELDS && is_like_heading(record),
+            NotePattern::SpacedHeading => is_like_heading(record) && has_spaces(record),
+            NotePattern::CasedHeading => record.len() == FIELDS && is_like_heading(record),
+            NotePattern::NoNeighbor => lacks_neighbor(record),
+            NotePattern::LongRecord => goes_on(record),
+            NotePattern::CutDistances => has_cut_distances(record),
+            NotePattern::DecimalComma => is_decimal_comma(record.text(field)),
+            NotePattern::WithChains => is_with_chains(record.text(field)),
+            NotePattern::Mile(mile) => is_mile(record, mile),
         }
     }
 }

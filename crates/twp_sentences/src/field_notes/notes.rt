@@ -113,14 +113,14 @@ fn missing(alloc: Global, fault: NotesFault, index: u8) -> Result<String, AllocE
 fn write_help(
     fault: NotesFault,
     record: &Record<'_>,
-    earlier: Option<&Earlier>,
+    earlier: Option<&EarlierRecord>,
     out: &mut String,
 ) -> Result<(), AllocError> {
     if let NotesFault::NoLine(_) = fault {
         return write_other_run(record, out);
     }
     match earlier {
-        Some(Earlier { number, line, .. }) => {
+        Some(EarlierRecord { number, line, .. }) => {
             write!(out, "record {number} at line {line} also returns this line")
         }
         None => Ok(()),
@@ -129,17 +129,17 @@ fn write_help(
 
 /// The first record of a line, its bytes, and the line of the file on which it begins.
 #[derive(Clone, Copy)]
-struct Earlier {
+struct EarlierRecord {
     number: u32,
     line: u32,
     span: Span,
 }
 
 /// The place of an earlier record.
-fn other_of(earlier: Option<Earlier>) -> Option<OtherPlace>
+fn other_of(earlier: Option<EarlierRecord>) -> Option<OtherPlace>
     ensures { MatchOption earlier (result ≡ None) (λ is. result ≡ Some (place_of_record is)) }
 {
-    let Earlier { number, span, .. } = earlier?;
+    let EarlierRecord { number, span, .. } = earlier?;
     Some(OtherPlace { number, span })
 }
 
@@ -149,7 +149,7 @@ fn earlier_of(
     notes: &Given<'_>,
     fault: NotesFault,
     record: &Record<'_>,
-) -> Result<Option<Earlier>, AllocError>
+) -> Result<Option<EarlierRecord>, AllocError>
     ensures { IfOk result (IsEarlierOf notes.now fault (fields_in «record».now)) }
 {
     match fault {
@@ -163,7 +163,7 @@ fn first_of_line(
     alloc: Global,
     notes: &Given<'_>,
     record: &Record<'_>,
-) -> Result<Option<Earlier>, AllocError>
+) -> Result<Option<EarlierRecord>, AllocError>
     ensures { IfOk result (λ found. IfSome found
         (IsEarlierRecord notes.now (fields_in «record».now))) }
 {
@@ -173,7 +173,7 @@ fn first_of_line(
     let Some(earlier) = Record::of_line(alloc, notes.bytes, line)? else {
         return Ok(None);
     };
-    Ok(Some(Earlier {
+    Ok(Some(EarlierRecord {
         number: earlier.number,
         line: line_in(notes, earlier.start()),
         span: earlier.span(0, earlier.len().saturating_sub(1)),

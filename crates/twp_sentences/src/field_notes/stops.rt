@@ -6,30 +6,30 @@ ghost use Rattle.twp_diagnose.specs.Findings.{IfFound};
 
 use crate::field_notes::{notes, plat};
 use std::alloc::Global;
-use twp_diagnose::{Failure, Given};
+use twp_diagnose::{Given, SearchStop};
 use twp_notes::{Notes, NotesFault};
 use twp_plat::PlatFault;
 
 /// What is wrong with notes that have a fault.
 #[tactic(auto, using(twp_diagnose::proofs::FindingFacts::of_fault))]
 #[inline(never)]
-pub fn stop_of_notes(alloc: Global, file: &Given<'_>, fault: NotesFault) -> Failure
+pub fn stop_of_notes(alloc: Global, file: &Given<'_>, fault: NotesFault) -> SearchStop
     ensures { IfFound result (λ refusal. refusal_of_notes fault ≡ Some refusal) }
 {
     let Some(refusal) = fault.refusal() else {
-        return Failure::Memory;
+        return SearchStop::Memory;
     };
-    Failure::of(refusal, notes::find(alloc, file, fault, refusal))
+    SearchStop::of(refusal, notes::find(alloc, file, fault, refusal))
 }
 
 /// What is wrong with notes that make no plat.
 #[tactic(auto, using(twp_diagnose::proofs::FindingFacts::of_fault))]
 #[inline(never)]
-pub fn stop_of_plat(alloc: Global, file: &Given<'_>, notes: &Notes, fault: PlatFault) -> Failure
+pub fn stop_of_plat(alloc: Global, file: &Given<'_>, notes: &Notes, fault: PlatFault) -> SearchStop
     ensures { IfFound result (λ refusal. refusal_of_plat fault ≡ Some refusal) }
 {
     let Some(refusal) = fault.refusal() else {
-        return Failure::Memory;
+        return SearchStop::Memory;
     };
-    Failure::of(refusal, plat::find(alloc, file, notes, fault, refusal))
+    SearchStop::of(refusal, plat::find(alloc, file, notes, fault, refusal))
 }

@@ -23,11 +23,11 @@ open_at halves SW = halves.south && halves.west
 open_at halves SE = halves.south && halves.east
 
 -- the half of the square toward this side has no land
-abbrev pub IsClosed : ℕ → (ℕ → ℕ → Bool) → List Corner → Side → Type 0
-IsClosed g held quarters side = (column row : ℕ) → IsInPart g (half_of_square side quarters) column row
+abbrev pub IsHalfEmpty : ℕ → (ℕ → ℕ → Bool) → List Corner → Side → Type 0
+IsHalfEmpty g held quarters side = (column row : ℕ) → IsInPart g (half_of_square side quarters) column row
     → ¬ (held column row ≡ true)
 
 -- each half that is not marked as open has no land
 abbrev pub AreOpen : ℕ → (ℕ → ℕ → Bool) → List Corner → OpenHalves → Type 0
 AreOpen g held quarters halves =
-    (side : Side) → open_toward halves side ≡ false → IsClosed g held quarters side
+    (side : Side) → open_toward halves side ≡ false → IsHalfEmpty g held quarters side

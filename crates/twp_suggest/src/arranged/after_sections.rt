@@ -19,7 +19,7 @@ struct Group {
 
 /// What was found before a phrase.
 #[derive(Drop)]
-struct Found {
+struct GroupsSoFar {
     /// The last group.
     group: Option<Group>,
     /// How many groups there are, and how many of them but the last have no land.
@@ -33,10 +33,10 @@ struct Found {
     is_unsure: bool,
 }
 
-impl Found {
+impl GroupsSoFar {
     /// Nothing.
-    fn new() -> Found {
-        Found {
+    fn new() -> GroupsSoFar {
+        GroupsSoFar {
             group: None,
             count: 0,
             landless: 0,
@@ -70,7 +70,7 @@ impl Found {
 impl<'a> Plan<'a> {
     /// Places land after its sections.
     pub(crate) fn place_land_after(&mut self, list: &mut Vec<Placed>) {
-        let mut found = Found::new();
+        let mut found = GroupsSoFar::new();
         for placed in list.iter_mut() {
             self.place_after(placed, &mut found);
         }
@@ -80,7 +80,7 @@ impl<'a> Plan<'a> {
     }
 
     /// Whether what was found isn't sure when nothing follows.
-    fn is_unsure_at_end(&self, list: &[Placed], found: &mut Found) -> bool {
+    fn is_unsure_at_end(&self, list: &[Placed], found: &mut GroupsSoFar) -> bool {
         if let Some(last) = found.group {
             found.is_unsure = found.is_unsure || !self.is_sure_group(&last);
             found.end_group(&last);
@@ -95,7 +95,7 @@ impl<'a> Plan<'a> {
     }
 
     /// Places a phrase.
-    fn place_after(&self, placed: &mut Placed, found: &mut Found) {
+    fn place_after(&self, placed: &mut Placed, found: &mut GroupsSoFar) {
         let phrase = placed.phrase;
         match (phrase.names, found.group) {
             (names, Some(group)) if is_of_exception(&group, names) => {
@@ -115,7 +115,7 @@ impl<'a> Plan<'a> {
     }
 
     /// Takes what begins an exception, or continues it.
-    fn take_exception(&self, placed: &mut Placed, group: Group, found: &mut Found) {
+    fn take_exception(&self, placed: &mut Placed, group: Group, found: &mut GroupsSoFar) {
         placed.role = Role::Kept(found.count);
         let is_word = placed.phrase.names == Names::Except;
         if is_word {
@@ -138,7 +138,7 @@ impl<'a> Plan<'a> {
         &self,
         placed: &mut Placed,
         before: Option<Group>,
-        found: &mut Found,
+        found: &mut GroupsSoFar,
     ) {
         if let Some(group) = before {
             found.is_unsure = found.is_unsure || !self.is_sure_group(&group) || group.is_excepting;

@@ -4,7 +4,7 @@ use crate::arranged::plan::Plan;
 use std::alloc::{AllocError, Global};
 use std::mem;
 use twp_asides::plus;
-use twp_draft::{Names, Phrase, Placed, Role, Span};
+use twp_draft::{IndexRange, Names, Phrase, Placed, Role};
 use twp_grammar::Kind;
 
 impl<'a> Plan<'a> {
@@ -87,7 +87,7 @@ impl<'a> Plan<'a> {
     }
 
     /// The number of a phrase, if it has only one.
-    pub fn only_number(&self, numbers: Span) -> Option<u16> {
+    pub fn only_number(&self, numbers: IndexRange) -> Option<u16> {
         match self.draft.numbers.get(numbers.first..numbers.end) {
             Some([number]) => Some(number.value),
             _ => None,

@@ -1,12 +1,12 @@
 //! Land before its sections, as in `NE of Sec. 14`.
 
 use crate::arranged::plan::Plan;
-use twp_draft::{Form, Names, Phrase, Placed, Role, Span};
+use twp_draft::{Form, IndexRange, Names, Phrase, Placed, Role};
 use twp_grammar::Kind;
 
 /// What was found before a phrase.
 #[derive(Drop)]
-struct Found {
+struct LandSoFar {
     /// The land since the last section: the index of the first, where the last ends, and how many there are.
     first: Option<usize>,
     last: usize,
@@ -32,10 +32,10 @@ struct Found {
     is_unsure: bool,
 }
 
-impl Found {
+impl LandSoFar {
     /// Nothing.
-    fn new() -> Found {
-        Found {
+    fn new() -> LandSoFar {
+        LandSoFar {
             first: None,
             last: 0,
             lands: 0,
@@ -88,7 +88,7 @@ impl Found {
 impl<'a> Plan<'a> {
     /// Places land before which its section is written.
     pub(crate) fn place_land_before(&mut self, list: &mut Vec<Placed>) {
-        let mut found = Found::new();
+        let mut found = LandSoFar::new();
         for index in 0..list.len() {
             self.place_before(list, index, &mut found);
         }
@@ -98,7 +98,7 @@ impl<'a> Plan<'a> {
     }
 
     /// Places the phrase at an index.
-    fn place_before(&self, list: &mut Vec<Placed>, index: usize, found: &mut Found) {
+    fn place_before(&self, list: &mut Vec<Placed>, index: usize, found: &mut LandSoFar) {
         let Some(placed) = list.get_mut(index) else {
             return;
         };
@@ -119,7 +119,12 @@ impl<'a> Plan<'a> {
     }
 
     /// Takes a section: that of the land since the last one, and of what is excepted.
-    fn take_section_after_land(&self, list: &mut Vec<Placed>, phrase: Phrase, found: &mut Found) {
+    fn take_section_after_land(
+        &self,
+        list: &mut Vec<Placed>,
+        phrase: Phrase,
+        found: &mut LandSoFar,
+    ) {
         let is_again = found.is_excepting
             && found.lands == 0
             && self.is_again(found.section, phrase);
@@ -146,7 +151,7 @@ impl<'a> Plan<'a> {
 
     /// Whether a section may not be that of all land before it: a semicolon divides this, or a line ends
     /// before the section.
-    fn is_far_section(&self, phrase: Phrase, found: &Found) -> bool {
+    fn is_far_section(&self, phrase: Phrase, found: &LandSoFar) -> bool {
         let has_section = found.section.is_some();
         let is_apart = found.lands > 1
             && found.is_divided
@@ -158,7 +163,7 @@ impl<'a> Plan<'a> {
 
     /// Whether it isn't sure that land is of each of several sections: one word for all of them, or one part
     /// before sections that are listed, is.
-    fn is_unsure_several(&self, list: &[Placed], phrase: Phrase, found: &Found) -> bool {
+    fn is_unsure_several(&self, list: &[Placed], phrase: Phrase, found: &LandSoFar) -> bool {
         if self.count_of(phrase) <= 1 {
             return false;
         }
@@ -173,7 +178,7 @@ impl<'a> Plan<'a> {
     }
 
     /// Takes land, whose section follows.
-    fn take_land(&self, phrase: Phrase, index: usize, found: &mut Found) {
+    fn take_land(&self, phrase: Phrase, index: usize, found: &mut LandSoFar) {
         match (found.first, found.section) {
             (None, Some(before)) => {
                 let is_apart = self.has_kind(before.end, phrase.first, Kind::Semicolon)
@@ -206,7 +211,7 @@ impl<'a> Plan<'a> {
 }
 
 /// Says of which section the land at an index is, if there is any.
-fn put_section(list: &mut Vec<Placed>, index: Option<usize>, section: Span) -> bool {
+fn put_section(list: &mut Vec<Placed>, index: Option<usize>, section: IndexRange) -> bool {
     match index.and_then(|index| list.get_mut(index)) {
         Some(land) => {
             land.section = Some(section);

@@ -46,7 +46,7 @@ impl Distance {
 
 /// What was found before a phrase.
 #[derive(Clone, Copy)]
-struct Found {
+struct NearestSoFar {
     /// Whether land is before the first section.
     is_land_first: bool,
     /// The last section or land, and its index among the phrases.
@@ -69,10 +69,10 @@ struct Found {
     is_unsure: bool,
 }
 
-impl Found {
+impl NearestSoFar {
     /// Nothing.
-    fn new() -> Found {
-        Found {
+    fn new() -> NearestSoFar {
+        NearestSoFar {
             is_land_first: false,
             last: None,
             place: 0,
@@ -142,7 +142,7 @@ impl Found {
 impl<'a> Plan<'a> {
     /// Whether one of several sections may have other land than the one it would get.
     pub(crate) fn has_closer_land(&self) -> bool {
-        let mut found = Found::new();
+        let mut found = NearestSoFar::new();
         for index in 0..self.draft.phrases.len() {
             let Some(phrase) = self.draft.phrases.get(index).map(|placed| placed.phrase) else {
                 break;
@@ -158,7 +158,7 @@ impl<'a> Plan<'a> {
     }
 
     /// Passes land, which is the phrase at an index.
-    fn pass_land(&self, land: Phrase, index: usize, found: &mut Found) {
+    fn pass_land(&self, land: Phrase, index: usize, found: &mut NearestSoFar) {
         match found.last {
             Some(last) => {
                 let distance = self.distance(last, found.place, land, index);
@@ -179,7 +179,7 @@ impl<'a> Plan<'a> {
     /// Passes an exception, which is the phrase at an index. After a section that has its land before it, the
     /// exception is of that land, unless it is set apart by more than a comma, or as far as the land of the
     /// sections is.
-    fn pass_exception(&self, exception: Phrase, index: usize, found: &mut Found) {
+    fn pass_exception(&self, exception: Phrase, index: usize, found: &mut NearestSoFar) {
         if let (true, Some(last)) = (found.is_land_first, found.last) {
             if last.names == Names::Sections {
                 let distance = self.distance(last, found.place, exception, index);
@@ -197,7 +197,7 @@ impl<'a> Plan<'a> {
     }
 
     /// Passes a section, which is the phrase at an index.
-    fn pass_section(&self, section: Phrase, index: usize, found: &mut Found) {
+    fn pass_section(&self, section: Phrase, index: usize, found: &mut NearestSoFar) {
         let is_again = match found.section {
             Some(before) => self.is_same_section(before, section),
             None => false,
@@ -215,7 +215,7 @@ impl<'a> Plan<'a> {
     }
 
     /// Takes the distance between the land before a section and that.
-    fn measure_section(&self, section: Phrase, index: usize, found: &mut Found) {
+    fn measure_section(&self, section: Phrase, index: usize, found: &mut NearestSoFar) {
         let Some(last) = found.last else {
             return;
         };

@@ -2,7 +2,7 @@
 
 use crate::arranged::plan::Plan;
 use twp_asides::{plus, value_of};
-use twp_draft::{LeftOut, Names, Span};
+use twp_draft::{IndexRange, LeftOut, Names};
 use twp_grammar::Kind;
 
 impl<'a> Plan<'a> {
@@ -67,7 +67,7 @@ impl<'a> Plan<'a> {
     }
 
     /// Whether a number is among some.
-    fn has_number(&self, numbers: Span, value: u16) -> bool {
+    fn has_number(&self, numbers: IndexRange, value: u16) -> bool {
         let numbers = self.draft.numbers.get(numbers.first..numbers.end);
         for number in numbers.unwrap_or(&[]) {
             if number.value == value {

@@ -1,7 +1,8 @@
 //! What a text is to become: its phrases, and what was found of how they go together.
 
+use std::alloc::Global;
 use twp_asides::plus;
-use twp_draft::{Draft, LeftOut, Names, Phrase, Placed};
+use twp_draft::{Draft, LeftOut, Names, Phrase};
 
 /// The phrases of a text, which are arranged.
 #[derive(Drop)]
@@ -33,9 +34,9 @@ pub(crate) struct Counts {
 }
 
 impl Counts {
-    /// Those of some phrases.
-    fn of(phrases: &[Placed]) -> Counts {
-        let mut counts = Counts {
+    /// The counts before any phrase was counted.
+    fn none() -> Counts {
+        Counts {
             headings: 0,
             sections: 0,
             lists: 0,
@@ -45,11 +46,7 @@ impl Counts {
             asides: 0,
             labels: 0,
             acreages: 0,
-        };
-        for placed in phrases {
-            counts.add(&placed.phrase);
         }
-        counts
     }
 
     /// Counts a phrase.
@@ -79,16 +76,21 @@ impl Counts {
 }
 
 impl<'a> Plan<'a> {
-    /// A plan for the phrases of a draft, which are doubted if they aren't sure together.
-    pub fn of(draft: Draft<'a>) -> Plan<'a> {
-        let counts = Counts::of(draft.phrases.as_slice());
-        let mut plan = Plan {
-            draft,
-            counts,
+    /// A plan for a text in which nothing was found yet.
+    pub fn new(alloc: Global, text: &'a [u8]) -> Plan<'a> {
+        Plan {
+            draft: Draft::new(alloc, text),
+            counts: Counts::none(),
             has_exact_acreage: false,
             acreage: None,
-        };
-        plan.doubt_together();
-        plan
+        }
+    }
+
+    /// Counts the phrases, which are all found, and doubts them if they aren't sure together.
+    pub fn count_phrases(&mut self) {
+        for placed in &self.draft.phrases {
+            self.counts.add(&placed.phrase);
+        }
+        self.doubt_together();
     }
 }

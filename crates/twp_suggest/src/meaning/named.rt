@@ -14,7 +14,7 @@ use crate::meaning::unread::Unread;
 use std::alloc::{AllocError, Global};
 use twp_grammar::{Item, Numeral, Steps};
 use twp_grid::{Block, Section, lot_count};
-use twp_land::{Land, Lanes};
+use twp_land::{Land, Lanes, PlaceSet};
 use twp_read::Description;
 use twp_resolve::chain_block;
 
@@ -26,7 +26,7 @@ struct Unnamed;
 /// place, as in `find_land`. It names none if it names what no township has, land twice, or a part of a lot.
 pub fn find_named_land(alloc: Global, text: &[u8], land: &mut Lanes) -> Result<bool, AllocError>
     ensures { IfOk result (λ it. it ≡ true →
-        AreNamed text.now (⟦<Lanes as Land>⟧.places land.new)) }
+        AreNamed text.now (⟦<Lanes as PlaceSet>⟧.places land.new)) }
 {
     match read(alloc, text)? {
         Some(description) => Ok(find_with_lots(&description, land)),
@@ -37,8 +37,8 @@ pub fn find_named_land(alloc: Global, text: &[u8], land: &mut Lanes) -> Result<b
 /// Whether a description names land, also by aliquot parts that include whole lots, which `land` is then.
 pub(crate) fn find_with_lots(description: &Description, land: &mut Lanes) -> bool
     ensures named { result ≡ true →
-        ⟦<Lanes as Land>⟧.places land.new ≡ land_of PLACE_DIGITS (parts_of description.now) }
-    ensures whole { result ≡ true → HasWholeLots PLACE_DIGITS (⟦<Lanes as Land>⟧.places land.new) }
+        ⟦<Lanes as PlaceSet>⟧.places land.new ≡ land_of PLACE_DIGITS (parts_of description.now) }
+    ensures whole { result ≡ true → HasWholeLots PLACE_DIGITS (⟦<Lanes as PlaceSet>⟧.places land.new) }
 {
     let is_named = find_items(description, land);
     if !is_named {
@@ -94,7 +94,7 @@ fn find_items<L: Land>(description: &Description, land: &mut L) -> bool
     ensures { result ≡ true → L.places land.new ≡ land_of PLACE_DIGITS (parts_of description.now) }
 {
     let items = description.items();
-    Land::clear(land);
+    land.clear();
     let mut section = None;
     for item in items {
         let Ok(after) = add_item(land, section, item) else {

@@ -7,7 +7,7 @@ ghost use Rattle.twp_suggest.specs.Descriptions.{IsAccepted, IsLandOfText, IsOnl
 use std::alloc::{AllocError, Global};
 use twp_grammar::Item;
 use twp_grid::{EastWest, NorthSouth, Township};
-use twp_land::{Land, Lanes};
+use twp_land::{Land, Lanes, PlaceSet};
 use twp_read::Description;
 use twp_resolve::resolve_into;
 
@@ -37,9 +37,9 @@ pub fn find_land(
     land: &mut Lanes,
 ) -> Result<bool, AllocError>
     ensures land { IfOk result (λ it. it ≡ true →
-        IsLandOfText township text.now (⟦<Lanes as Land>⟧.places land.new)) }
+        IsLandOfText township text.now (⟦<Lanes as PlaceSet>⟧.places land.new)) }
     ensures only { IfOk result (λ it. it ≡ true →
-        IsOnlyLandOfText text.now (⟦<Lanes as Land>⟧.places land.new)) }
+        IsOnlyLandOfText text.now (⟦<Lanes as PlaceSet>⟧.places land.new)) }
     ensures none { IfOk result (λ it. it ≡ false → NamesNoLand township text.now) }
 {
     let Some(description) = read(alloc, text)? else {
@@ -82,9 +82,9 @@ pub fn find_own_land(
     land: &mut Lanes,
 ) -> Result<Option<Township>, AllocError>
     ensures land { IfOk result (λ it. IfSome it (λ township.
-        IsLandOfText township text.now (⟦<Lanes as Land>⟧.places land.new))) }
+        IsLandOfText township text.now (⟦<Lanes as PlaceSet>⟧.places land.new))) }
     ensures only { IfOk result (λ it. IfSome it (λ _.
-        IsOnlyLandOfText text.now (⟦<Lanes as Land>⟧.places land.new))) }
+        IsOnlyLandOfText text.now (⟦<Lanes as PlaceSet>⟧.places land.new))) }
 {
     let Some(description) = read(alloc, text)? else {
         return Ok(None);

@@ -15,7 +15,7 @@ use crate::meaning::unread::Unread;
 use std::alloc::{AllocError, Global};
 use twp_grammar::Item;
 use twp_grid::Township;
-use twp_land::{Land, Lanes, OneLanes};
+use twp_land::{Land, Lanes, OneLanes, PlaceSet};
 use twp_read::Description;
 use twp_resolve::{PlaceFault, names_one_section, resolve_if_room, resolve_into};
 use twp_spell::spell;
@@ -226,8 +226,8 @@ fn remainder(alloc: Global, whole: &[u8], excepted: &[u8]) -> Result<Wording, Un
 
 /// Whether land lies in other land, and isn't all of it.
 fn is_proper_part(part: &Lanes, land: &Lanes) -> bool
-    ensures inside { IsTrue result → ContainsAll (⟦<Lanes as Land>⟧.places land.now) (⟦<Lanes as Land>⟧.places part.now) }
-    ensures some_left { IsTrue result → ¬ SamePlaces (⟦<Lanes as Land>⟧.places land.now) (⟦<Lanes as Land>⟧.places part.now) }
+    ensures inside { IsTrue result → ContainsAll (⟦<Lanes as PlaceSet>⟧.places land.now) (⟦<Lanes as PlaceSet>⟧.places part.now) }
+    ensures some_left { IsTrue result → ¬ SamePlaces (⟦<Lanes as PlaceSet>⟧.places land.now) (⟦<Lanes as PlaceSet>⟧.places part.now) }
 {
     land.holds_land(part) && !land.same(part)
 }

@@ -3,17 +3,17 @@ use twp_land::{Grid, Lanes};
 
 /// A kind of land.
 #[derive(Clone, Copy)]
-enum Kind {
+enum LandKind {
     Grid,
     Lanes,
 }
 
-impl Kind {
+impl LandKind {
     /// The kind of land with a name.
-    fn read(name: &str) -> Option<Kind> {
+    fn read(name: &str) -> Option<LandKind> {
         match name {
-            "grid" => Some(Kind::Grid),
-            "lanes" => Some(Kind::Lanes),
+            "grid" => Some(LandKind::Grid),
+            "lanes" => Some(LandKind::Lanes),
             _ => None,
         }
     }
@@ -22,7 +22,7 @@ impl Kind {
 /// A kind of work on a kind of land, done a number of times.
 #[derive(Clone, Copy)]
 pub struct LandTask {
-    kind: Kind,
+    kind: LandKind,
     work: Work,
     times: u32,
 }
@@ -31,7 +31,7 @@ impl LandTask {
     /// The task that three words ask for.
     pub fn of_words(kind: &str, work: &str, times: &str) -> Option<LandTask> {
         Some(LandTask {
-            kind: Kind::read(kind)?,
+            kind: LandKind::read(kind)?,
             work: Work::read(work)?,
             times: times.parse::<u32>().ok()?,
         })
@@ -40,8 +40,8 @@ impl LandTask {
     /// Does the work, and returns a sum of its results.
     pub fn tally(&self) -> u32 {
         match self.kind {
-            Kind::Grid => measure::<Grid>(self.work, self.times),
-            Kind::Lanes => measure::<Lanes>(self.work, self.times),
+            LandKind::Grid => measure::<Grid>(self.work, self.times),
+            LandKind::Lanes => measure::<Lanes>(self.work, self.times),
         }
     }
 }

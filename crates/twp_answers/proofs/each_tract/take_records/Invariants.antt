@@ -1,5 +1,5 @@
 use Rattle.std.proofs.Common.{◌≡◌, ◌≤◌, length, drop}
-use Rattle.twp_notes.specs.Records.{records_left, IsReading}
+use Rattle.twp_notes.specs.Records.{records_left, IsBetweenRecords}
 use Rattle.twp_answers.specs.EachTract.{AreAnswersTo}
 use Rattle.twp_answers.specs.Tracts.{TRACTS_MOST}
 use Rattle.twp_answers.specs.steps.EachTaking.{AreNamesOf}
@@ -8,7 +8,7 @@ use Rattle.twp_answers.proofs.each_tract.take_records.Given as goal
 -- the records so far were answered, and the others remain
 abbrev pub invariant-records : goal.invariant-records
 invariant-records l = record {
-  reading : IsReading l.records;
+  reading : IsBetweenRecords l.records;
   rest : records_left l.records ≡ drop l.taken (records_left l.fn.records);
   within : l.taken ≤ length (records_left l.fn.records);
   few : l.taken ≤ TRACTS_MOST;

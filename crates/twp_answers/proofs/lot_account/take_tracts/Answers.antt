@@ -20,8 +20,9 @@ use Rattle.twp_answers.proofs.lot_account.take_tracts.Goals as goal
 pub records-init : goal.records-init
 records-init g c =
     let rows = records_left c.args.records.now in
-    let empty : g.L.Land.places c.args.earlier.now.land ≡ no_places =
-    one_land_of_tracts c.args.table.now.township rows 0 (g.L.Land.places c.args.earlier.now.land) no_places
+    let empty : g.L.PlaceSet.places c.args.earlier.now.land ≡ no_places =
+    one_land_of_tracts c.args.table.now.township rows 0 (g.L.PlaceSet.places c.args.earlier.now.land)
+    no_places
     c.requires.empty.land (no_land c.args.table.now.township rows) in
     record {
       reading = c.requires.reading;
@@ -86,7 +87,8 @@ returns-clause-earlier g c =
     let short = no_record_left rows c.records.taken (sym c.records.invariant.rest ∙ none) in
     let all : c.records.taken ≡ length rows = omega arith in
     subst
-    (λ count. AreEarlier c.args.table.now.township rows count (earlier_of g.L.Land.places c.records.earlier))
+    (λ count.
+    AreEarlier c.args.table.now.township rows count (earlier_of g.L.PlaceSet.places c.records.earlier))
     all c.records.invariant.earlier
 
 pub returns-clause-few : goal.returns-clause-few

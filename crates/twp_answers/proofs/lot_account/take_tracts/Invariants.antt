@@ -1,7 +1,7 @@
 use Rattle.std.proofs.Common.{◌≡◌, ◌≤◌, length, drop}
 use Rattle.twp_grid.specs.Places.{PLACE_DIGITS}
 use Rattle.twp_plat.specs.LotAreas.{HasFigures}
-use Rattle.twp_notes.specs.Records.{records_left, IsReading}
+use Rattle.twp_notes.specs.Records.{records_left, IsBetweenRecords}
 use Rattle.twp_answers.specs.EarlierTracts.{earlier_of, AreEarlier}
 use Rattle.twp_answers.specs.Tracts.{TRACTS_MOST}
 use Rattle.twp_answers.specs.LotAccounts.{AreFiguresByLots}
@@ -11,13 +11,13 @@ use Rattle.twp_answers.proofs.lot_account.take_tracts.Given as goal
 -- the tracts so far were added, with their figures, and the other records remain
 abbrev pub invariant-records : goal.invariant-records
 invariant-records g l = record {
-  reading : IsReading l.records;
+  reading : IsBetweenRecords l.records;
   rest : records_left l.records ≡ drop l.taken (records_left l.fn.records);
   within : l.taken ≤ length (records_left l.fn.records);
   few : l.taken ≤ TRACTS_MOST;
   earlier : AreEarlier l.table.township (records_left l.fn.records) l.taken
-      (earlier_of g.L.Land.places l.earlier);
-  returned : HasFigures PLACE_DIGITS l.table (g.L.Land.places l.earlier.land);
+      (earlier_of g.L.PlaceSet.places l.earlier);
+  returned : HasFigures PLACE_DIGITS l.table (g.L.PlaceSet.places l.earlier.land);
   lack : LackNoLots l.table (records_left l.fn.records) l.taken;
   figures : AreFiguresByLots l.table (records_left l.fn.records) l.taken l.figures.items;
 }

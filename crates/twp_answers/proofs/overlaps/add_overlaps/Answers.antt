@@ -1,7 +1,7 @@
 -- One pair more was compared.
 use Rattle.std.proofs.Common.{◌≡◌, sym, subst, arith}
 use Rattle.twp_notes.specs.Records.{record_at}
-use Rattle.twp_answers.specs.steps.OverlapTaking.{AreFoundTo, IsLandOf}
+use Rattle.twp_answers.specs.steps.OverlapTaking.{AreFoundTo, IsLandOfRecord}
 use Rattle.twp_answers.proofs.OverlapFacts.{compared}
 use Rattle.twp_answers.proofs.overlaps.add_overlaps.Goals as goal
 
@@ -10,10 +10,10 @@ loop-first-preserved g c = λ rows are before.
     compared c.args.plat.now rows c.loop-first.first c.args.second _ _ c.shared_hundredths-found.result
     (c.loop-first.invariant rows are before) (omega arith)
     (c.shared_hundredths-found.ensures (record_at rows c.loop-first.first) (record_at rows c.args.second)
-    (subst (IsLandOf g.L.Land.places c.args.plat.now.township (record_at rows c.loop-first.first))
+    (subst (IsLandOfRecord g.L.PlaceSet.places c.args.plat.now.township (record_at rows c.loop-first.first))
     (sym c.index-lands-first.is)
     (are.each c.loop-first.first c.index-lands-first.result (omega (arith, are.count_is))))
-    (subst (IsLandOf g.L.Land.places c.args.plat.now.township (record_at rows c.args.second))
+    (subst (IsLandOfRecord g.L.PlaceSet.places c.args.plat.now.township (record_at rows c.args.second))
     (sym c.index-lands-second.is)
     (are.each c.args.second c.index-lands-second.result (omega (arith, are.count_is)))))
     c.in_ok-note_overlap.ensures

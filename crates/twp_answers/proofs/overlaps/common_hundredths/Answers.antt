@@ -6,6 +6,7 @@ pub area_of-area-requires : goal.area_of-area-requires
 area_of-area-requires g c = record {
   whole =
       rw (c.keep_common.ensures, c.add_land.ensures, c.empty-shared.ensures)
-      (whole_in_both (g.L.Land.places c.args.one.now) (g.L.Land.places c.args.other.now) c.requires.one
+      (whole_in_both (g.L.PlaceSet.places c.args.one.now) (g.L.PlaceSet.places c.args.other.now)
+      c.requires.one
       c.requires.other);
 }

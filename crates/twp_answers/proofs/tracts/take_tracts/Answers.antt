@@ -58,7 +58,7 @@ returns-clause-taken g c =
     let none = rw c.if-branch.false at c.in_ok-read.ensures in
     let short = no_record_left rows c.records.taken (sym c.records.invariant.rest ∙ none) in
     let all : c.records.taken ≡ length rows = omega arith in
-    subst (λ count. IsTallyOf c.args.plat.now rows count (tally_of g.L.Land.places c.records.account)) all
+    subst (λ count. IsTallyOf c.args.plat.now rows count (tally_of g.L.PlaceSet.places c.records.account)) all
     c.records.invariant.tally
 
 pub returns-clause-clear : goal.returns-clause-clear

@@ -1,6 +1,6 @@
 -- There is no such account; or the acres are those of the land described, or the description is refused.
 use Rattle.std.proofs.Common.{sym, ◌∙◌}
-use Rattle.twp_calls.specs.Calls.{HasAcres, accepted, on_plat, by_account, by_none}
+use Rattle.twp_calls.specs.Calls.{AnswersAcres, accepted, on_plat, by_account, by_none}
 use Rattle.twp_calls.proofs.CallFacts.{stops_by}
 use Rattle.twp_calls.proofs.answering.township_acres.Goals as goal
 
@@ -23,5 +23,5 @@ pub returns-in-Err : goal.returns-in-Err
 returns-in-Err c =
     stops_by c.args.plat.now c.in-Some.plat c.in-Some.ensures c.args.account c.in-Some-account_of.account
     (sym c.account_of.ensures ∙ c.in-Some-account_of.is)
-    (λ plat account. HasAcres plat c.args.description.now account) c.args.description.now c.in-Err.stop _
+    (λ plat account. AnswersAcres plat c.args.description.now account) c.args.description.now c.in-Err.stop _
     c.of_stop.ensures c.in-Err.ensures

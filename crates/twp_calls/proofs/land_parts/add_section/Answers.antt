@@ -10,26 +10,26 @@ pub add_lots-requires : goal.add_lots-requires
 add_lots-requires g c = λ lot there.
     let held =
     (c.in_ok-lots.ensures.listed lot).1 (subst (λ lots. Contains lots lot) c.deref.ensures.value there) in (
-      lot_is_least c.args.section lot (g.L.Land.places c.args.land.now c.args.section) c.requires held,
-      lot_is_most c.args.section lot (g.L.Land.places c.args.land.now c.args.section) c.requires held,
+      lot_is_least c.args.section lot (g.L.PlaceSet.places c.args.land.now c.args.section) c.requires held,
+      lot_is_most c.args.section lot (g.L.PlaceSet.places c.args.land.now c.args.section) c.requires held,
     )
 
 pub returns-then-full : goal.returns-then-full
 returns-then-full g c =
-    whole_section c.args.section (g.L.Land.places c.args.land.now c.args.section)
+    whole_section c.args.section (g.L.PlaceSet.places c.args.land.now c.args.section)
     c.whole-whole.result c.of.result c.args.parts.now.items _
-    (each_of_all (g.L.Land.places c.args.land.now c.args.section)
+    (each_of_all (g.L.PlaceSet.places c.args.land.now c.args.section)
     c.whole-whole.result c.whole-whole.ensures (c.full.ensures.0 c.if-full.true))
     c.whole-whole.ensures c.of.ensures c.in_ok-push.ensures.items
 
 pub returns : goal.returns
 returns g c =
-    some_parts c.add_blocks.result c.args.section (g.L.Land.places c.args.land.now c.args.section)
+    some_parts c.add_blocks.result c.args.section (g.L.PlaceSet.places c.args.land.now c.args.section)
     c.deref.result.now _ c.deref-2.result.now _ c.args.parts.now.items c.add_lots.new.parts.items _
     (λ each.
     false≢true
     (sym c.if-full.false
-    ∙ c.full.ensures.1 (all_of_each (g.L.Land.places c.args.land.now c.args.section)
+    ∙ c.full.ensures.1 (all_of_each (g.L.PlaceSet.places c.args.land.now c.args.section)
     c.whole-whole.result c.whole-whole.ensures each)))
     c.deref.ensures.value c.in_ok-lots.ensures c.in_ok-add_lots.ensures c.deref-2.ensures.value
     c.in_ok-blocks.ensures c.add_blocks.ensures

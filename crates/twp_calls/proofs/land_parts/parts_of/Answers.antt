@@ -9,7 +9,7 @@ use Rattle.twp_calls.proofs.land_parts.parts_of.Goals as goal
 pub loop-number-init : goal.loop-number-init
 loop-number-init g c = record {
   first = omega arith;
-  parts = no_parts_yet (g.L.Land.places c.args.land.now) _ c.new-parts.ensures.items;
+  parts = no_parts_yet (g.L.PlaceSet.places c.args.land.now) _ c.new-parts.ensures.items;
 }
 
 pub add_section-requires : goal.add_section-requires
@@ -25,12 +25,12 @@ loop-number-preserved g c =
     record {
       first = omega arith;
       parts =
-          parts_after c.loop-number.number c.unwrap-section.result (g.L.Land.places c.args.land.now) _ _
+          parts_after c.loop-number.number c.unwrap-section.result (g.L.PlaceSet.places c.args.land.now) _ _
           c.loop-number.invariant.first same c.loop-number.invariant.parts c.in_ok-add_section.ensures;
     }
 
 pub returns : goal.returns
 returns g c =
     let last : c.loop-number.number - 1 ≡ SECTION_COUNT = omega arith in
-    subst (λ n. ArePartsTo n (g.L.Land.places c.args.land.now) c.loop-number.parts.items) last
+    subst (λ n. ArePartsTo n (g.L.PlaceSet.places c.args.land.now) c.loop-number.parts.items) last
     c.loop-number.invariant.parts

@@ -6,5 +6,5 @@ use Rattle.twp_calls.proofs.land_parts.parts_of.Given as goal
 abbrev pub invariant-loop-number : goal.invariant-loop-number
 invariant-loop-number g l = record {
   first : 1 ≤ l.number;
-  parts : ArePartsTo (l.number - 1) (g.L.Land.places l.land) l.parts.items;
+  parts : ArePartsTo (l.number - 1) (g.L.PlaceSet.places l.land) l.parts.items;
 }

@@ -3,7 +3,7 @@ use Rattle.std.proofs.Common.{◌≡◌, sym, ◌∙◌, subst, arith}
 use Rattle.std.specs.List.{SameFrom}
 use Rattle.std.proofs.lemmas.Grind.{common_steps}
 use Rattle.twp_calls.specs.Calls.{by_account, by_none, on_plat}
-use Rattle.twp_calls.specs.ManyAnswers.{AreAnswersTo}
+use Rattle.twp_calls.specs.ManyAnswers.{AreManyAnswersTo}
 use Rattle.twp_calls.proofs.ManyFacts.{all_answered, answers_next, kept_next, too_many}
 use Rattle.twp_calls.proofs.many.township_acres_many.Goals as goal
 
@@ -43,7 +43,7 @@ returns-clause-answer c =
     (all_answered c.args.plat.now c.args.descriptions.now c.args.offsets.now c.args.account c.args.answers.now
     c.loop-index.answers c.counted-2.result c.saturating_sub-count.result
     (omega (arith, c.saturating_sub-count.ensures)) (omega arith) c.loop-index.invariant.length_is
-    (subst (λ n. AreAnswersTo c.args.plat.now c.args.descriptions.now c.args.offsets.now c.args.account n
+    (subst (λ n. AreManyAnswersTo c.args.plat.now c.args.descriptions.now c.args.offsets.now c.args.account n
     c.loop-index.answers) all c.loop-index.invariant.answers)
     (subst (SameFrom c.args.answers.now c.loop-index.answers) all c.loop-index.invariant.kept)
     c.counted-2.ensures))

@@ -4,7 +4,7 @@ use Rattle.std.specs.Prelude.{codes, encode_utf8_all, string_bytes}
 use Rattle.twp_excerpt.specs.Messages.{heading_text}
 use Rattle.twp_excerpt.specs.Shown.{is_shown}
 use Rattle.twp_excerpt.specs.Signs.{Adding, escaped}
-use Rattle.twp_excerpt.specs.declared.message.Heading.{Heading}
+use Rattle.twp_excerpt.specs.declared.message.MessagePlace.{MessagePlace}
 use Rattle.twp_excerpt.proofs.AddingFacts.{adding_failed, adding_then}
 use Rattle.twp_excerpt.proofs.ShownFacts.{adds_trans}
 use Rattle.twp_excerpt.proofs.message.write_head.Goals as goal
@@ -15,10 +15,10 @@ word = codes "township: "
 abbrev end : List ℕ
 end = codes ": "
 
-abbrev after_name : Heading → List ℕ
+abbrev after_name : MessagePlace → List ℕ
 after_name heading = heading_text heading ++ end
 
-abbrev after_word : List ℕ → Heading → List ℕ
+abbrev after_word : List ℕ → MessagePlace → List ℕ
 after_word name heading = escaped name ++ after_name heading
 
 pub returns-in_err-push_printable-clause-head : goal.returns-in_err-push_printable-clause-head

@@ -3,7 +3,7 @@ use Rattle.std.proofs.Common.{◌≡◌, ◌≤◌, ◌+◌, ◌∷◌, length, 
 use Rattle.std.proofs.lemmas.Result.{err_from_is_err_and}
 use Rattle.csv.specs.Records.{fields_of}
 use Rattle.twp_notes.specs.Records.{records_of, records_left}
-use Rattle.twp_notes.specs.steps.LineFaults.{IsRefusedAfter}
+use Rattle.twp_notes.specs.steps.LineFaults.{IsLineRefusedAfter}
 use Rattle.twp_notes.proofs.RecordFacts.{few_records}
 use Rattle.twp_notes.proofs.RecordPlaces.{after_of_word}
 use Rattle.twp_notes.proofs.FirstFaults.{answer_refused, missing_is_first, notes_of_table}
@@ -42,7 +42,7 @@ returns-in_err-table-clause-no_read c =
     err_from_is_err_and c.from_residual-in_err-table.result c.from_residual-in_err-table.ensures.1 in
     let refused = c.in_err-table.ensures.fault in
     rw (gone.1, gone.2)
-    (λ read. (subst (IsRefusedAfter (records_left c.read-2.new.self)) read refused).not_taken)
+    (λ read. (subst (IsLineRefusedAfter (records_left c.read-2.new.self)) read refused).not_taken)
 
 pub returns-in-Ok-clause-answer : goal.returns-in-Ok-clause-answer
 returns-in-Ok-clause-answer c =

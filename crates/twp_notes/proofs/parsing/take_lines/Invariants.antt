@@ -1,12 +1,12 @@
 use Rattle.std.proofs.Common.{◌≡◌, ◌≤◌, length, drop}
-use Rattle.twp_notes.specs.Records.{records_left, IsReading}
+use Rattle.twp_notes.specs.Records.{records_left, IsBetweenRecords}
 use Rattle.twp_notes.specs.steps.Tables.{AreTaken}
 use Rattle.twp_notes.proofs.parsing.take_lines.Given as goal
 
 -- the records so far were entered, and the others remain
 abbrev pub invariant-records : goal.invariant-records
 invariant-records l = record {
-  reading : IsReading l.records;
+  reading : IsBetweenRecords l.records;
   rest : records_left l.records ≡ drop l.taken (records_left l.fn.records);
   within : l.taken ≤ length (records_left l.fn.records);
   taken : AreTaken (records_left l.fn.records) l.taken l.table;

@@ -1,6 +1,6 @@
 -- One more token, or all of them.
 use Rattle.std.proofs.Common.{List, map, subst, sym}
-use Rattle.twp_grammar.specs.declared.token.Token.{Token as Piece}
+use Rattle.twp_grammar.specs.declared.tokens.Token.{Token as Piece}
 use Rattle.twp_grammar.specs.Tokens.{Left, seen}
 use Rattle.twp_read.proofs.DoubtFacts.{Cut, cut_begun, cut_more, cut_whole}
 use Rattle.twp_read.proofs.doubts.tokens_of.Goals as goal

@@ -16,7 +16,7 @@ use Rattle.twp_resolve.proofs.resolving.resolve_into.Goals as goal
 pub loop-item-init : goal.loop-item-init
 loop-item-init g c = record {
   taken =
-      taken_none PLACE_DIGITS c.args.township c.items-items.result.now (g.L.Land.places c.clear.new.self)
+      taken_none PLACE_DIGITS c.args.township c.items-items.result.now (g.L.PlaceSet.places c.clear.new.self)
       c.clear.ensures;
   known =
       not_known c.items-items.result.now
@@ -24,7 +24,8 @@ loop-item-init g c = record {
 }
 
 pub resolve_item-requires-clause-room : goal.resolve_item-requires-clause-room
-resolve_item-requires-clause-room g c = room_for_each c.loop-item.section c.item-item.result
+resolve_item-requires-clause-room g c =
+    room_for_each _ c.loop-item.section c.item-item.result (g.met.L.Land.roomy c.loop-item.land)
 
 pub resolve_item-requires-clause-known : goal.resolve_item-requires-clause-known
 resolve_item-requires-clause-known g c =
@@ -36,7 +37,7 @@ returns-in_err-section-clause-refused g c =
     let gone = err_from_is_err_and c.from_residual.result c.from_residual.ensures.1 in
     rw (gone.1, gone.2, ← c.items-items.ensures.items)
     (refused_here PLACE_DIGITS c.args.township c.items-items.result.now c.loop-item.item-index
-    (number_of_section c.loop-item.section) c.item-item.result (g.L.Land.places c.loop-item.land)
+    (number_of_section c.loop-item.section) c.item-item.result (g.L.PlaceSet.places c.loop-item.land)
     c.in_err-section.field-0.0
     c.loop-item-test.true (sym c.item-item.is) c.loop-item.invariant.taken c.in_err-section.ensures.refused)
 
@@ -45,7 +46,7 @@ returns-in_err-section-clause-on_plat g c =
     let gone = err_from_is_err_and c.from_residual.result c.from_residual.ensures.1 in
     let refused =
     refused_here PLACE_DIGITS c.args.township c.items-items.result.now c.loop-item.item-index
-    (number_of_section c.loop-item.section) c.item-item.result (g.L.Land.places c.loop-item.land)
+    (number_of_section c.loop-item.section) c.item-item.result (g.L.PlaceSet.places c.loop-item.land)
     c.in_err-section.field-0.0
     c.loop-item-test.true (sym c.item-item.is) c.loop-item.invariant.taken c.in_err-section.ensures.refused in
     rw (gone.1, ← c.items-items.ensures.items) (
@@ -61,8 +62,8 @@ loop-item-preserved g c =
     let so_far = c.loop-item.invariant in
     let taken =
     taken_next PLACE_DIGITS c.args.township c.items-items.result.now c.loop-item.item-index
-    (number_of_section c.loop-item.section) c.item-item.result (g.L.Land.places c.loop-item.land)
-    (g.L.Land.places c.resolve_item.new.land)
+    (number_of_section c.loop-item.section) c.item-item.result (g.L.PlaceSet.places c.loop-item.land)
+    (g.L.PlaceSet.places c.resolve_item.new.land)
     c.loop-item-test.true (sym c.item-item.is) so_far.taken c.in_ok-section.ensures.taken in
     record {
       taken = rw c.in_ok-section.ensures.after taken;
@@ -77,15 +78,15 @@ pub returns-clause-land : goal.returns-clause-land
 returns-clause-land g c =
     rw (← c.items-items.ensures.items)
     (taken_all PLACE_DIGITS c.args.township c.items-items.result.now c.loop-item.item-index
-    (number_of_section c.loop-item.section) (g.L.Land.places c.loop-item.land) (omega arith)
+    (number_of_section c.loop-item.section) (g.L.PlaceSet.places c.loop-item.land) (omega arith)
     c.loop-item.invariant.taken)
 
 pub returns-clause-whole_lots : goal.returns-clause-whole_lots
 returns-clause-whole_lots g c =
     let whole : IsLandOfItems PLACE_DIGITS c.args.township c.items-items.result.now
-    (g.L.Land.places c.loop-item.land) =
+    (g.L.PlaceSet.places c.loop-item.land) =
     taken_all PLACE_DIGITS c.args.township c.items-items.result.now c.loop-item.item-index
-    (number_of_section c.loop-item.section) (g.L.Land.places c.loop-item.land) (omega arith)
+    (number_of_section c.loop-item.section) (g.L.PlaceSet.places c.loop-item.land) (omega arith)
     c.loop-item.invariant.taken in
     subst (HasWholeLots PLACE_DIGITS) (sym whole.land_is)
     (land_has_whole_lots c.args.township c.items-items.result.now whole.on_plat)
@@ -93,8 +94,8 @@ returns-clause-whole_lots g c =
 pub returns-clause-on_plat : goal.returns-clause-on_plat
 returns-clause-on_plat g c =
     let whole : IsLandOfItems PLACE_DIGITS c.args.township c.items-items.result.now
-    (g.L.Land.places c.loop-item.land) =
+    (g.L.PlaceSet.places c.loop-item.land) =
     taken_all PLACE_DIGITS c.args.township c.items-items.result.now c.loop-item.item-index
-    (number_of_section c.loop-item.section) (g.L.Land.places c.loop-item.land) (omega arith)
+    (number_of_section c.loop-item.section) (g.L.PlaceSet.places c.loop-item.land) (omega arith)
     c.loop-item.invariant.taken in
     (λ _. rw (← c.items-items.ensures.items) whole.on_plat, λ _. refl)

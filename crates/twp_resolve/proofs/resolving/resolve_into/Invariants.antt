@@ -8,6 +8,6 @@ use Rattle.twp_resolve.proofs.resolving.resolve_into.Given as goal
 abbrev pub invariant-loop-item : goal.invariant-loop-item
 invariant-loop-item g l = record {
   taken : AreTaken PLACE_DIGITS l.township l.items l.item-index (number_of_section l.section)
-      (g.L.Land.places l.land);
+      (g.L.PlaceSet.places l.land);
   known : SectionKnown l.section (drop l.item-index l.items);
 }

@@ -23,7 +23,7 @@ returns-in_err-section g c =
     absurd
     (before_not_alone PLACE_DIGITS c.args.township c.args.items.now c.loop-index.index
     (number_of_section c.loop-index.section) c.args.later c.index-items-index.result
-    (g.L.Land.places c.args.named.now)
+    (g.L.PlaceSet.places c.args.named.now)
     (omega (arith, c.requires.within, c.loop-index-test.true)) (sym c.index-items-index.is)
     c.loop-index-test.true c.loop-index.invariant.apart c.requires.refused c.in_err-section.ensures)
 
@@ -31,8 +31,8 @@ pub returns-then-meets_land : goal.returns-then-meets_land
 returns-then-meets_land g c =
     sharing_here PLACE_DIGITS c.args.township c.args.items.now c.loop-index.index
     (number_of_section c.loop-index.section) c.args.later c.index-items-index.result
-    (g.L.Land.places c.place_item.new.land) (g.L.Land.places c.args.named.now)
-    (g.L.Land.places c.keep_common.new.self)
+    (g.L.PlaceSet.places c.place_item.new.land) (g.L.PlaceSet.places c.args.named.now)
+    (g.L.PlaceSet.places c.keep_common.new.self)
     (omega (arith, c.requires.within, c.loop-index-test.true)) (sym c.index-items-index.is)
     c.loop-index-test.true c.loop-index.invariant.apart (c.in_ok-section.ensures).0
     c.requires.refused.places_are (c.meets_land.ensures.0 c.if-meets_land.true) c.keep_common.ensures
@@ -44,7 +44,7 @@ loop-index-preserved g c =
     let apart =
     apart_next PLACE_DIGITS c.args.township c.args.items.now c.loop-index.index
     (number_of_section c.loop-index.section) c.args.later c.index-items-index.result
-    (g.L.Land.places c.place_item.new.land) (g.L.Land.places c.args.named.now)
+    (g.L.PlaceSet.places c.place_item.new.land) (g.L.PlaceSet.places c.args.named.now)
     (omega (arith, c.requires.within, c.loop-index-test.true)) (sym c.index-items-index.is)
     so_far.apart taken c.requires.refused.places_are
     (λ shared. absurd (cc (c.meets_land.ensures.1 shared))) in
@@ -60,5 +60,5 @@ loop-index-preserved g c =
 pub returns : goal.returns
 returns g c =
     some_share PLACE_DIGITS c.args.township c.args.items.now c.loop-index.index
-    (number_of_section c.loop-index.section) c.args.later (g.L.Land.places c.args.named.now)
+    (number_of_section c.loop-index.section) c.args.later (g.L.PlaceSet.places c.args.named.now)
     c.requires.refused c.loop-index-test.false c.loop-index.invariant.apart

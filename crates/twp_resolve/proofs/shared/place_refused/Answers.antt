@@ -22,7 +22,8 @@ returns-clause-refused g c =
     let refused = c.in_ok-refused.refused in
     let is = c.in_ok-refused.ensures in
     refused_land PLACE_DIGITS c.args.township c.args.items.now refused.index
-    (number_of_section refused.section) c.index-items-refused.result (g.L.Land.places c.place_item.new.land)
+    (number_of_section refused.section) c.index-items-refused.result
+    (g.L.PlaceSet.places c.place_item.new.land)
     (slice_get_read c.args.items.now _ refused.index c.index-items-refused.result refl is.within
     c.index-items-refused.is)
     is.refused (c.in_ok-place_item.ensures).0

@@ -12,13 +12,14 @@ use Rattle.twp_resolve.proofs.shared.refused_item.Goals as goal
 pub loop-index-init : goal.loop-index-init
 loop-index-init g c = record {
   taken =
-      taken_none PLACE_DIGITS c.args.township c.args.items.now (g.L.Land.places c.clear.new.self)
+      taken_none PLACE_DIGITS c.args.township c.args.items.now (g.L.PlaceSet.places c.clear.new.self)
       c.clear.ensures;
   known = not_known c.args.items.now c.requires;
 }
 
 pub resolve_item-requires-clause-room : goal.resolve_item-requires-clause-room
-resolve_item-requires-clause-room g c = room_for_each c.loop-index.section c.index-items-index.result
+resolve_item-requires-clause-room g c =
+    room_for_each _ c.loop-index.section c.index-items-index.result (g.met.L.Land.roomy c.loop-index.land)
 
 pub resolve_item-requires-clause-known : goal.resolve_item-requires-clause-known
 resolve_item-requires-clause-known g c =
@@ -33,7 +34,7 @@ returns-in-Err-clause-section g c =
 pub returns-in-Err-clause-refused : goal.returns-in-Err-clause-refused
 returns-in-Err-clause-refused g c =
     found_refused PLACE_DIGITS c.args.township c.args.items.now c.loop-index.index c.loop-index.section
-    c.index-items-index.result (g.L.Land.places c.loop-index.land) c.in-Err.fault c.if_overlap.result
+    c.index-items-index.result (g.L.PlaceSet.places c.loop-index.land) c.in-Err.fault c.if_overlap.result
     c.loop-index-test.true (sym c.index-items-index.is) c.loop-index.invariant.taken
     c.in-Err.ensures.refused c.if_overlap.ensures
 
@@ -42,8 +43,9 @@ loop-index-preserved g c =
     let so_far = c.loop-index.invariant in
     let taken =
     taken_next PLACE_DIGITS c.args.township c.args.items.now c.loop-index.index
-    (number_of_section c.loop-index.section) c.index-items-index.result (g.L.Land.places c.loop-index.land)
-    (g.L.Land.places c.resolve_item.new.land)
+    (number_of_section c.loop-index.section) c.index-items-index.result
+    (g.L.PlaceSet.places c.loop-index.land)
+    (g.L.PlaceSet.places c.resolve_item.new.land)
     c.loop-index-test.true (sym c.index-items-index.is) so_far.taken c.in-Ok.ensures.taken in
     record {
       taken = rw c.in-Ok.ensures.after taken;
@@ -57,8 +59,8 @@ loop-index-preserved g c =
 pub returns-clause-refused : goal.returns-clause-refused
 returns-clause-refused g c =
     let whole : IsLandOfItems PLACE_DIGITS c.args.township c.args.items.now
-    (g.L.Land.places c.loop-index.land) =
+    (g.L.PlaceSet.places c.loop-index.land) =
     taken_all PLACE_DIGITS c.args.township c.args.items.now c.loop-index.index
-    (number_of_section c.loop-index.section) (g.L.Land.places c.loop-index.land) (omega arith)
+    (number_of_section c.loop-index.section) (g.L.PlaceSet.places c.loop-index.land) (omega arith)
     c.loop-index.invariant.taken in
     not_refused PLACE_DIGITS c.args.township c.args.items.now whole.on_plat

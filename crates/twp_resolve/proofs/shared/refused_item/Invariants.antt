@@ -8,6 +8,6 @@ use Rattle.twp_resolve.proofs.shared.refused_item.Given as goal
 abbrev pub invariant-loop-index : goal.invariant-loop-index
 invariant-loop-index g l = record {
   taken : AreTaken PLACE_DIGITS l.township l.items l.index (number_of_section l.section)
-      (g.L.Land.places l.land);
+      (g.L.PlaceSet.places l.land);
   known : SectionKnown l.section (drop l.index l.items);
 }

@@ -1,5 +1,5 @@
 use Rattle.std.proofs.Common.{◌≡◌, drop, map}
-use Rattle.twp_rules.specs.declared.role.Role.TheVariants.{Nothing}
+use Rattle.twp_rules.specs.declared.role.NumberRole.TheVariants.{Nothing}
 use Rattle.twp_rules.specs.Changes.{AreChangesFrom, seen}
 use Rattle.twp_rules.specs.Keeping.{keep_numbers}
 use Rattle.twp_rules.proofs.keeping.keep_numbers.Given as goal

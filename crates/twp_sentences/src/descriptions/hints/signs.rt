@@ -57,8 +57,8 @@ pub(crate) fn fit_after(columns: &str, sight: &Surroundings<'_>) -> bool {
     true
 }
 
-/// Whether a sign is one of those that a column lists, separated by spaces: texts, in any letters, and names in angle
-/// brackets. An empty column fits every sign.
+/// Whether a sign is one of those that a column lists, separated by spaces: texts, in any letters, and
+/// names in angle brackets. An empty column fits every sign.
 pub(crate) fn fits(column: &str, sign: TokenAt<'_>) -> bool {
     if column.is_empty() {
         return true;
@@ -187,8 +187,8 @@ const NUMBER_WORDS: &str =
 /// The refusal of a character that is not allowed in a description.
 const BAD_BYTE: u8 = 42;
 
-/// Whether one of some names, separated by spaces, is that of what is expected at the refused sign; `character` is that of
-/// a character that is not allowed in a description.
+/// Whether one of some names, separated by spaces, is that of what is expected at the refused sign;
+/// `character` is that of a character that is not allowed in a description.
 pub(crate) fn is_expected(names: &str, sight: &Surroundings<'_>) -> bool {
     let here = match sight.expected {
         Some(expected) => names_of(expected),

@@ -11,27 +11,27 @@ use twp_excerpt::Span;
 
 /// What was named before: what is said of it, and where it is.
 #[derive(Drop)]
-pub(crate) struct Earlier {
+pub(crate) struct EarlierItem {
     pub(crate) help: String,
     pub(crate) other: Option<OtherPlace>,
 }
 
 impl Described<'_> {
     /// What was named before, and where, if the description is refused for an overlap.
-    pub(super) fn earlier(&self, alloc: Global) -> Result<Earlier, AllocError>
+    pub(super) fn earlier(&self, alloc: Global) -> Result<EarlierItem, AllocError>
         ensures { IfOk result (λ earlier. IsEarlierPlace self.now.origin.now self.now.text.now
             self.now.township self.now.description.now earlier.other) }
     {
         let mut help = String::new(alloc);
         let Some(shared) = shared_land_text(alloc, self.description, self.township)? else {
-            return Ok(Earlier { help, other: None });
+            return Ok(EarlierItem { help, other: None });
         };
         let Some(span) = self.span_of(shared.items.earlier) else {
-            return Ok(Earlier { help, other: None });
+            return Ok(EarlierItem { help, other: None });
         };
         self.write_earlier(span, &mut help)?;
         write_land(&shared.text, &mut help)?;
-        Ok(Earlier {
+        Ok(EarlierItem {
             help,
             other: Some(self.other_place(span)),
         })

@@ -5,126 +5,126 @@ use std::alloc::AllocError;
 use twp_excerpt::write_escaped;
 
 /// A character by its code, and what it is called.
-struct Named {
+struct NamedCharacter {
     code: char,
     name: &'static str,
 }
 
 /// The names of characters that occur in copied descriptions.
-static NAMES: &[Named] = &[
-    Named {
+static NAMES: &[NamedCharacter] = &[
+    NamedCharacter {
         code: '\u{A0}',
         name: "no-break space",
     },
-    Named {
+    NamedCharacter {
         code: '\u{A7}',
         name: "section sign",
     },
-    Named {
+    NamedCharacter {
         code: '\u{AD}',
         name: "soft hyphen",
     },
-    Named {
+    NamedCharacter {
         code: '\u{B0}',
         name: "degree sign",
     },
-    Named {
+    NamedCharacter {
         code: '\u{BE}',
         name: "three quarters",
     },
-    Named {
+    NamedCharacter {
         code: '\u{2007}',
         name: "figure space",
     },
-    Named {
+    NamedCharacter {
         code: '\u{2009}',
         name: "thin space",
     },
-    Named {
+    NamedCharacter {
         code: '\u{200B}',
         name: "zero width space",
     },
-    Named {
+    NamedCharacter {
         code: '\u{2010}',
         name: "hyphen",
     },
-    Named {
+    NamedCharacter {
         code: '\u{2011}',
         name: "non-breaking hyphen",
     },
-    Named {
+    NamedCharacter {
         code: '\u{2012}',
         name: "figure dash",
     },
-    Named {
+    NamedCharacter {
         code: '\u{2013}',
         name: "en dash",
     },
-    Named {
+    NamedCharacter {
         code: '\u{2014}',
         name: "em dash",
     },
-    Named {
+    NamedCharacter {
         code: '\u{2018}',
         name: "left single quotation mark",
     },
-    Named {
+    NamedCharacter {
         code: '\u{2019}',
         name: "right single quotation mark",
     },
-    Named {
+    NamedCharacter {
         code: '\u{201A}',
         name: "low single quotation mark",
     },
-    Named {
+    NamedCharacter {
         code: '\u{201C}',
         name: "left quotation mark",
     },
-    Named {
+    NamedCharacter {
         code: '\u{201D}',
         name: "right quotation mark",
     },
-    Named {
+    NamedCharacter {
         code: '\u{201E}',
         name: "low quotation mark",
     },
-    Named {
+    NamedCharacter {
         code: '\u{2026}',
         name: "ellipsis",
     },
-    Named {
+    NamedCharacter {
         code: '\u{202F}',
         name: "narrow no-break space",
     },
-    Named {
+    NamedCharacter {
         code: '\u{2044}',
         name: "fraction slash",
     },
-    Named {
+    NamedCharacter {
         code: '\u{2153}',
         name: "one third",
     },
-    Named {
+    NamedCharacter {
         code: '\u{2154}',
         name: "two thirds",
     },
-    Named {
+    NamedCharacter {
         code: '\u{2212}',
         name: "minus sign",
     },
-    Named {
+    NamedCharacter {
         code: '\u{2215}',
         name: "division slash",
     },
-    Named {
+    NamedCharacter {
         code: '\u{3000}',
         name: "ideographic space",
     },
-    Named {
+    NamedCharacter {
         code: '\u{FEFF}',
         name: "byte order mark",
     },
-    Named {
+    NamedCharacter {
         code: '\u{FFFD}',
         name: "replacement character",
     },

@@ -1,6 +1,6 @@
 -- One more token, or all of them.
 use Rattle.std.proofs.Common.{List, map, subst, sym}
-use Rattle.twp_grammar.specs.declared.token.Token.{Token as Piece}
+use Rattle.twp_grammar.specs.declared.tokens.Token.{Token as Piece}
 use Rattle.twp_grammar.specs.Tokens.{Left, seen as token}
 use Rattle.twp_rules.specs.Changes.{seen}
 use Rattle.twp_suggest.proofs.CutFacts.{JoinedCut, joined_begun, joined_more, joined_whole}

@@ -9,25 +9,27 @@ use Rattle.twp_answers.proofs.running_account.RunningAccount.take.Goals as goal
 
 pub take-requires-clause-part : goal.take-requires-clause-part
 take-requires-clause-part g c =
-    let more : ℕ → ℕ → ℕ → Bool = g.L.Land.places c.read.new.self.tract in
+    let more : ℕ → ℕ → ℕ → Bool = g.L.PlaceSet.places c.read.new.self.tract in
     let takes : TakesLand c.args.plat.now.township (fields_of c.args.row.now)
-    (earlier_of g.L.Land.places c.args.self.now.tracts) (earlier_of g.L.Land.places c.add.new.self) more =
+    (earlier_of g.L.PlaceSet.places c.args.self.now.tracts) (earlier_of g.L.PlaceSet.places c.add.new.self)
+    more =
     record {
-      read = earlier_of g.L.Land.places c.read.new.self;
+      read = earlier_of g.L.PlaceSet.places c.read.new.self;
       reads = rw c.township.ensures at c.in_ok-name.ensures.read;
       adds = c.in_ok-add.ensures.added;
     } in
-    (taken_from c.args.plat.now (g.L.Land.places c.args.self.now.tracts.land) more c.area_of-area.result
+    (taken_from c.args.plat.now (g.L.PlaceSet.places c.args.self.now.tracts.land) more c.area_of-area.result
     c.args.self.now.totals.remaining (taken_apart _ _ _ _ more takes)
     (rw c.in_ok-add.ensures.tract at c.area_of-area.ensures) c.requires.remaining_is).0
 
 pub returns-clause-taken : goal.returns-clause-taken
 returns-clause-taken g c =
-    let more : ℕ → ℕ → ℕ → Bool = g.L.Land.places c.read.new.self.tract in
+    let more : ℕ → ℕ → ℕ → Bool = g.L.PlaceSet.places c.read.new.self.tract in
     let takes : TakesLand c.args.plat.now.township (fields_of c.args.row.now)
-    (earlier_of g.L.Land.places c.args.self.now.tracts) (earlier_of g.L.Land.places c.add.new.self) more =
+    (earlier_of g.L.PlaceSet.places c.args.self.now.tracts) (earlier_of g.L.PlaceSet.places c.add.new.self)
+    more =
     record {
-      read = earlier_of g.L.Land.places c.read.new.self;
+      read = earlier_of g.L.PlaceSet.places c.read.new.self;
       reads = rw c.township.ensures at c.in_ok-name.ensures.read;
       adds = c.in_ok-add.ensures.added;
     } in

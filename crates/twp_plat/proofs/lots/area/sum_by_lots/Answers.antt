@@ -19,7 +19,7 @@ loop-number-preserved g c =
     section_is c.loop-number.number c.unwrap-section.result _ c.new.ensures c.unwrap-section.ensures in
     record {
       sum =
-          sum-next c.args.table.now (g.L.Land.places c.args.land.now) c.loop-number.number
+          sum-next c.args.table.now (g.L.PlaceSet.places c.args.land.now) c.loop-number.number
           c.unwrap-section.result c.loop-number.units c.units_in_section-units.result at.first number at.sum
           added.sum;
       most =
@@ -30,14 +30,14 @@ loop-number-preserved g c =
 
 pub returns-in_default : goal.returns-in_default
 returns-in_default g c =
-    lot_area c.args.table.now (g.L.Land.places c.args.land.now) 0 c.zero.result c.requires.whole
+    lot_area c.args.table.now (g.L.PlaceSet.places c.args.land.now) 0 c.zero.result c.requires.whole
     (sum-none c.args.table.now _ c.in_default.ensures) c.zero.ensures
 
 pub returns : goal.returns
 returns g c =
     let lies = c.in-Some.ensures in
-    lot_area c.args.table.now (g.L.Land.places c.args.land.now) c.loop-number.units c.unwrap.result
+    lot_area c.args.table.now (g.L.PlaceSet.places c.args.land.now) c.loop-number.units c.unwrap.result
     c.requires.whole
-    (sum-last c.args.table.now (g.L.Land.places c.args.land.now) _ _ c.loop-number.number
+    (sum-last c.args.table.now (g.L.PlaceSet.places c.args.land.now) _ _ c.loop-number.number
     c.loop-number.units lies.1 (omega arith) (omega arith) (omega arith) c.loop-number.invariant.sum)
     (area_is c.loop-number.units 1 _ c.unwrap.result (rw c.from.ensures at c.new-2.ensures) c.unwrap.ensures)

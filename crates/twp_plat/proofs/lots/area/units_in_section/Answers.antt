@@ -18,7 +18,7 @@ overflow_add-lot-end g c =
 
 pub loop-lot-init : goal.loop-lot-init
 loop-lot-init g c =
-    let held = g.L.Land.places c.args.land.now c.args.section in
+    let held = g.L.PlaceSet.places c.args.land.now c.args.section in
     let range = c.lot_count-lot-end.ensures.section in
     let counted = rw c.whole.ensures at c.count-off_lots.ensures in
     let none = of_lots-none c.args.section (places_where held) range in
@@ -34,7 +34,7 @@ loop-lot-init g c =
 
 pub overflow_sub-off_lots : goal.overflow_sub-off_lots
 overflow_sub-off_lots g c =
-    let held = g.L.Land.places c.args.land.now c.args.section in
+    let held = g.L.PlaceSet.places c.args.land.now c.args.section in
     let range = c.lot_count-lot-end.ensures.section in
     let at =
     lot_at_is c.args.section c.loop-lot.lot _ c.unwrap-column.result c.lot_place.ensures.position
@@ -51,7 +51,7 @@ overflow_sub-off_lots g c =
 
 pub loop-lot-preserved : goal.loop-lot-preserved
 loop-lot-preserved g c =
-    let held = g.L.Land.places c.args.land.now c.args.section in
+    let held = g.L.PlaceSet.places c.args.land.now c.args.section in
     let pieces : ℕ → ℕ → ℕ = position_units_by c.args.table.now c.args.section in
     let range = c.lot_count-lot-end.ensures.section in
     let so_far = c.loop-lot.invariant in
@@ -106,7 +106,7 @@ loop-lot-preserved g c =
 
 pub regular_units-requires : goal.regular_units-requires
 regular_units-requires g c =
-    let few = few_places (g.L.Land.places c.args.land.now c.args.section) in
+    let few = few_places (g.L.PlaceSet.places c.args.land.now c.args.section) in
     omega (arith, c.loop-lot.invariant.taken)
 
 pub returns-clause-sum : goal.returns-clause-sum
@@ -114,7 +114,7 @@ returns-clause-sum g c =
     let one : 1 * c.loop-lot.off_lots ≡ c.loop-lot.off_lots = omega arith in
     let sum =
     sum_of_section 1 c.args.section c.loop-lot.lot c.loop-lot.off_lots c.loop-lot.units
-    (g.L.Land.places c.args.land.now c.args.section) (position_units_by c.args.table.now c.args.section)
+    (g.L.PlaceSet.places c.args.land.now c.args.section) (position_units_by c.args.table.now c.args.section)
     (regular_by c.args.table.now c.args.section) c.lot_count-lot-end.ensures.section
     (λ lot. c.requires.whole c.args.section lot c.lot_count-lot-end.ensures.section) (omega arith)
     c.loop-lot.invariant.taken c.loop-lot.invariant.gained in
@@ -122,7 +122,7 @@ returns-clause-sum g c =
 
 pub returns-clause-most : goal.returns-clause-most
 returns-clause-most g c =
-    let few = few_places (g.L.Land.places c.args.land.now c.args.section) in
+    let few = few_places (g.L.PlaceSet.places c.args.land.now c.args.section) in
     let few' = few_lots c.args.section c.lot_count-lot-end.ensures.section in
     let places : c.loop-lot.off_lots ≤ SECTION_PLACES_MOST = omega (arith, c.loop-lot.invariant.taken) in
     omega (arith, c.loop-lot.invariant.most, c.regular_units.ensures, places, few')

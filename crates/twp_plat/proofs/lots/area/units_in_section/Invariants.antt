@@ -10,7 +10,7 @@ use Rattle.twp_plat.proofs.lots.area.units_in_section.Given as goal
 -- for the lots so far, their places are subtracted and their units are added
 abbrev pub invariant-loop-lot : goal.invariant-loop-lot
 invariant-loop-lot g l =
-    let held = g.L.Land.places l.land l.section in
+    let held = g.L.PlaceSet.places l.land l.section in
     record {
       taken : l.off_lots + over_positions (of_lots l.section l.lot (places_where held))
           ≡ count_held held (whole_block PLACE_DIGITS);

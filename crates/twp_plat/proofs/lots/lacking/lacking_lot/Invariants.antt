@@ -6,4 +6,5 @@ use Rattle.twp_plat.proofs.lots.lacking.lacking_lot.Given as goal
 -- the sections so far have no lot that is lacking
 abbrev pub invariant-loop-number : goal.invariant-loop-number
 invariant-loop-number g l =
-    (other number : ℕ) → Lacks PLACE_DIGITS l.table (g.L.Land.places l.land) other number → l.number ≤ other
+    (other number : ℕ) → Lacks PLACE_DIGITS l.table (g.L.PlaceSet.places l.land) other number
+    → l.number ≤ other

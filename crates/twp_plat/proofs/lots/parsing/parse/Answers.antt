@@ -4,7 +4,7 @@ use Rattle.std.proofs.lemmas.Result.{err_from_is_err_and}
 use Rattle.csv.specs.Records.{fields_of}
 use Rattle.twp_notes.specs.Records.{records_of, records_left}
 use Rattle.twp_notes.proofs.RecordFacts.{few_records}
-use Rattle.twp_plat.specs.steps.LotEntries.{IsRefusedAfter}
+use Rattle.twp_plat.specs.steps.LotEntries.{IsLotRefusedAfter}
 use Rattle.twp_plat.proofs.lots.RowPlaces.{after_of_word}
 use Rattle.twp_plat.proofs.lots.FirstLotFaults.{answer_refused, lots_of_entries, table_is}
 use Rattle.twp_plat.proofs.lots.parsing.parse.Goals as goal
@@ -42,7 +42,7 @@ returns-in_err-figures-clause-no_read c =
     err_from_is_err_and c.from_residual-in_err-figures.result c.from_residual-in_err-figures.ensures.1 in
     let refused = c.in_err-figures.ensures.fault in
     rw (gone.1, gone.2)
-    (λ read. (subst (IsRefusedAfter (records_left c.read-2.new.self)) read refused).not_entered)
+    (λ read. (subst (IsLotRefusedAfter (records_left c.read-2.new.self)) read refused).not_entered)
 
 pub returns-clause-answer : goal.returns-clause-answer
 returns-clause-answer c =

@@ -1,7 +1,7 @@
 -- The reader has come to a token that it takes, to one that it can't take, or to the end.
 use Rattle.std.proofs.Common.{◌<◌, ◌≤◌, ℕ, ◌+◌, List, arith, length, drop, sym, ap, subst, reverse}
 use Rattle.twp_grammar.specs.declared.item.Item.{Item}
-use Rattle.twp_read.specs.declared.reached.Reached.{Reached}
+use Rattle.twp_read.specs.declared.description.Reached.{Reached}
 use Rattle.twp_read.specs.declared.watch.Watch.{Watch}
 use Rattle.twp_grammar.specs.declared.state.State.{State}
 use Rattle.twp_grammar.specs.declared.state.State.TheVariants.{Start}

@@ -1,7 +1,7 @@
 -- One more word, and what the list continues with after it.
 use Rattle.std.proofs.Common.{List, ℕ}
 use Rattle.twp_grammar.specs.declared.item.Item.{Item}
-use Rattle.twp_read.specs.declared.reached.Reached.{Reached}
+use Rattle.twp_read.specs.declared.description.Reached.{Reached}
 use Rattle.twp_read.proofs.Leading.{leads_then}
 use Rattle.twp_read.proofs.items.Items.take_list.Goals as goal
 

@@ -2,7 +2,7 @@ use Rattle.std.proofs.Common.{ℕ, List, ◌∷◌, refl}
 use Rattle.twp_grammar.specs.declared.item.Item.{Item}
 use Rattle.twp_grammar.specs.declared.item.Item.TheVariants.{Lots}
 use Rattle.twp_grammar.specs.declared.item.Numeral.{Numeral}
-use Rattle.twp_read.specs.declared.reached.Reached.{Reached}
+use Rattle.twp_read.specs.declared.description.Reached.{Reached}
 use Rattle.twp_grammar.specs.declared.state.State.TheVariants as past
 use Rattle.twp_read.specs.steps.TokenSteps.{before_parts}
 use Rattle.twp_read.proofs.Leading.{leads_then}

@@ -2,7 +2,7 @@ use Rattle.std.proofs.Common.{drop, ◌+◌, ℕ, List, [], ◌∷◌, true, ref
 use Rattle.twp_grammar.specs.declared.item.Item.{Item}
 use Rattle.twp_grammar.specs.declared.item.Item.TheVariants.{Sections}
 use Rattle.twp_grammar.specs.declared.item.Numeral.{Numeral}
-use Rattle.twp_read.specs.declared.reached.Reached.{Reached}
+use Rattle.twp_read.specs.declared.description.Reached.{Reached}
 use Rattle.twp_grammar.specs.declared.state.State.TheVariants as past
 use Rattle.twp_read.specs.steps.TokenSteps.{before_parts}
 use Rattle.twp_read.specs.steps.Usual.{Leads}

@@ -1,6 +1,6 @@
 use Rattle.std.proofs.Common.{◌+◌, ℕ, List, refl, sym}
 use Rattle.twp_grammar.specs.declared.item.Item.{Item}
-use Rattle.twp_read.specs.declared.reached.Reached.{Reached}
+use Rattle.twp_read.specs.declared.description.Reached.{Reached}
 use Rattle.twp_grammar.proofs.StateFacts.{sections_begin}
 use Rattle.twp_read.proofs.SeveralSections.{secs_leads, several_lead}
 use Rattle.twp_read.proofs.items.Items.take_several.Goals as goal

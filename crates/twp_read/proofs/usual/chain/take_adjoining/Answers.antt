@@ -1,8 +1,8 @@
 use Rattle.std.proofs.Common.{◌<◌, ◌≤◌, ◌+◌, ℕ, List, ◌∷◌, length, refl, sym, subst, arith}
 use Rattle.twp_grammar.specs.declared.item.Item.TheVariants.{Chain}
 use Rattle.twp_grammar.specs.declared.item.Step.{Step}
-use Rattle.twp_read.specs.declared.reached.Reached.{Reached}
-use Rattle.twp_read.specs.declared.usual.step.UsualStep.{UsualStep}
+use Rattle.twp_read.specs.declared.description.Reached.{Reached}
+use Rattle.twp_read.specs.declared.usual.chain.UsualStep.{UsualStep}
 use Rattle.twp_grammar.specs.declared.state.State.TheVariants as past
 use Rattle.twp_read.specs.steps.Usual.{Leads}
 use Rattle.twp_read.proofs.StandingSteps.{step_within}

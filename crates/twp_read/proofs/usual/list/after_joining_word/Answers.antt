@@ -2,7 +2,7 @@
 use Rattle.std.proofs.Common.{◌≡◌, ◌+◌, ◌<◌, ◌≤◌, ◌∙◌, false, length, drop, slice_index, refl, sym, ap, arith}
 use Rattle.std.specs.List.{prefix_len}
 use Rattle.twp_grammar.specs.Tokens.{is_white}
-use Rattle.twp_grammar.specs.declared.kind.Kind.TheVariants.{And, To}
+use Rattle.twp_grammar.specs.declared.tokens.Kind.TheVariants.{And, To}
 use Rattle.twp_read.proofs.NumberFacts.{EndsWithin, right_here, word_ends, word_leads}
 use Rattle.twp_read.proofs.WatchFacts.{and_is_usual, to_is_usual}
 use Rattle.twp_read.proofs.usual.list.after_joining_word.Goals as goal

@@ -1,5 +1,5 @@
 use Rattle.std.proofs.Common.{refl, sym}
-use Rattle.twp_grammar.specs.declared.kind.Kind.TheVariants.{Stop}
+use Rattle.twp_grammar.specs.declared.tokens.Kind.TheVariants.{Stop}
 use Rattle.twp_read.proofs.FrontFacts.{a_full_stop}
 use Rattle.twp_read.proofs.Leading.{mark_leads}
 use Rattle.twp_read.proofs.usual.part.after_stop.Goals as goal

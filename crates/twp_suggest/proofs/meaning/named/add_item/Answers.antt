@@ -15,8 +15,8 @@ pub returns-in-Chain-clause-added : goal.returns-in-Chain-clause-added
 returns-in-Chain-clause-added g c =
     rw c.in-Chain.is
     (if_ok_at c.chain_named.result (λ at.
-    g.L.Land.places c.chain_named.new.land
-    ≡ union (g.L.Land.places c.args.land.now)
+    g.L.PlaceSet.places c.chain_named.new.land
+    ≡ union (g.L.PlaceSet.places c.args.land.now)
     (item_places PLACE_DIGITS (item_of (number_of_section c.args.section) (Chain c.in-Chain.steps at))))
     c.in-Chain.at c.chain_named.ensures.added)
 
@@ -24,7 +24,7 @@ pub returns-in-All-clause-added : goal.returns-in-All-clause-added
 returns-in-All-clause-added g c =
     rw c.in-All.is
     (if_ok_at c.all_named.result (λ at.
-    g.L.Land.places c.all_named.new.land
-    ≡ union (g.L.Land.places c.args.land.now)
+    g.L.PlaceSet.places c.all_named.new.land
+    ≡ union (g.L.PlaceSet.places c.args.land.now)
     (item_places PLACE_DIGITS (item_of (number_of_section c.args.section) (All at))))
     c.in-All.at c.all_named.ensures.added)

@@ -20,7 +20,7 @@ loop-lot-init g c =
       least = omega arith;
       added =
           added_none (lots_from PLACE_DIGITS c.args.section c.args.first (c.args.first - 1))
-          (g.L.Land.places c.args.land.now)
+          (g.L.PlaceSet.places c.args.land.now)
           (no_lots PLACE_DIGITS c.args.section c.args.first (c.args.first - 1) (omega (arith, low.0)));
     }
 
@@ -41,12 +41,13 @@ loop-lot-preserved g c =
     record {
       least = omega (arith, so_far.least);
       added = subst (λ n.
-          AreAdded (lots_from PLACE_DIGITS c.args.section c.args.first n) (g.L.Land.places c.args.land.now)
-          (g.L.Land.places c.add_block.new.land)) next
+          AreAdded (lots_from PLACE_DIGITS c.args.section c.args.first n)
+          (g.L.PlaceSet.places c.args.land.now)
+          (g.L.PlaceSet.places c.add_block.new.land)) next
           (added_next (lots_from PLACE_DIGITS c.args.section c.args.first (c.loop-lot.lot - 1))
           (lots_from PLACE_DIGITS c.args.section c.args.first c.loop-lot.lot)
-          (g.L.Land.places c.args.land.now) (g.L.Land.places c.loop-lot.land)
-          (g.L.Land.places c.add_block.new.land) c.args.section c.unwrap-block.result
+          (g.L.PlaceSet.places c.args.land.now) (g.L.PlaceSet.places c.loop-lot.land)
+          (g.L.PlaceSet.places c.add_block.new.land) c.args.section c.unwrap-block.result
           so_far.added (c.in_ok-add_block.ensures).0 (c.in_ok-add_block.ensures).1
           (next_lot c.args.section c.args.first c.loop-lot.lot c.unwrap-block.result c.requires.section
           (omega (arith, low.0, so_far.least)) so_far.least (omega (arith, high.1)) is));
@@ -56,5 +57,5 @@ pub returns : goal.returns
 returns g c =
     let all : c.loop-lot.lot - 1 ≡ c.args.last = omega (arith, c.requires.order) in
     subst (λ n.
-    AreAdded (lots_from PLACE_DIGITS c.args.section c.args.first n) (g.L.Land.places c.args.land.now)
-    (g.L.Land.places c.loop-lot.land)) all c.loop-lot.invariant.added
+    AreAdded (lots_from PLACE_DIGITS c.args.section c.args.first n) (g.L.PlaceSet.places c.args.land.now)
+    (g.L.PlaceSet.places c.loop-lot.land)) all c.loop-lot.invariant.added

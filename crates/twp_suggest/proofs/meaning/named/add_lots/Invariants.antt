@@ -7,6 +7,6 @@ use Rattle.twp_suggest.proofs.meaning.named.add_lots.Given as goal
 abbrev pub invariant-loop-lot : goal.invariant-loop-lot
 invariant-loop-lot g l = record {
   least : l.first ≤ l.lot;
-  added : AreAdded (lots_from PLACE_DIGITS l.section l.first (l.lot - 1)) (g.L.Land.places l.initial.land)
-      (g.L.Land.places l.land);
+  added : AreAdded (lots_from PLACE_DIGITS l.section l.first (l.lot - 1)) (g.L.PlaceSet.places l.initial.land)
+      (g.L.PlaceSet.places l.land);
 }

@@ -18,11 +18,12 @@ loop-number-preserved g c =
     record {
       least = omega (arith, so_far.least);
       added = subst (λ n.
-          AreAdded (sections_from PLACE_DIGITS c.args.first n) (g.L.Land.places c.args.land.now)
-          (g.L.Land.places c.add_block.new.land)) next
+          AreAdded (sections_from PLACE_DIGITS c.args.first n) (g.L.PlaceSet.places c.args.land.now)
+          (g.L.PlaceSet.places c.add_block.new.land)) next
           (added_next (sections_from PLACE_DIGITS c.args.first (c.loop-number.number - 1))
-          (sections_from PLACE_DIGITS c.args.first c.loop-number.number) (g.L.Land.places c.args.land.now)
-          (g.L.Land.places c.loop-number.land) (g.L.Land.places c.add_block.new.land) c.loop-number.number
+          (sections_from PLACE_DIGITS c.args.first c.loop-number.number) (g.L.PlaceSet.places c.args.land.now)
+          (g.L.PlaceSet.places c.loop-number.land) (g.L.PlaceSet.places c.add_block.new.land)
+          c.loop-number.number
           (whole_block PLACE_DIGITS)
           so_far.added free grown
           (next_section c.args.first c.loop-number.number (omega (arith, c.requires.first.0, so_far.least))
@@ -33,5 +34,5 @@ pub returns : goal.returns
 returns g c =
     let all : c.loop-number.number - 1 ≡ c.args.last = omega (arith, c.requires.order) in
     subst (λ n.
-    AreAdded (sections_from PLACE_DIGITS c.args.first n) (g.L.Land.places c.args.land.now)
-    (g.L.Land.places c.loop-number.land)) all c.loop-number.invariant.added
+    AreAdded (sections_from PLACE_DIGITS c.args.first n) (g.L.PlaceSet.places c.args.land.now)
+    (g.L.PlaceSet.places c.loop-number.land)) all c.loop-number.invariant.added

@@ -7,6 +7,6 @@ use Rattle.twp_suggest.proofs.meaning.named.add_sections.Given as goal
 abbrev pub invariant-loop-number : goal.invariant-loop-number
 invariant-loop-number g l = record {
   least : l.first ≤ l.number;
-  added : AreAdded (sections_from PLACE_DIGITS l.first (l.number - 1)) (g.L.Land.places l.initial.land)
-      (g.L.Land.places l.land);
+  added : AreAdded (sections_from PLACE_DIGITS l.first (l.number - 1)) (g.L.PlaceSet.places l.initial.land)
+      (g.L.PlaceSet.places l.land);
 }

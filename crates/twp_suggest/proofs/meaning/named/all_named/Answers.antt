@@ -9,6 +9,7 @@ returns-clause-added g c = λ at.
     let free = rw c.whole.ensures at (c.in_ok-add_block.ensures).0 in
     let grown = rw c.whole.ensures at (c.in_ok-add_block.ensures).1 in
     let taken =
-    all_taken c.in-Some.section at (g.L.Land.places c.args.land.now) (g.L.Land.places c.add_block.new.land)
+    all_taken c.in-Some.section at (g.L.PlaceSet.places c.args.land.now)
+    (g.L.PlaceSet.places c.add_block.new.land)
     (designation 1 N 1 E) free grown in
     rw c.in-Some.is taken.added

@@ -7,7 +7,7 @@ use Rattle.twp_suggest.proofs.meaning.named.chain_named.Goals as goal
 pub returns-clause-added : goal.returns-clause-added
 returns-clause-added g c = λ at.
     let part = c.in-Some-chain_block.ensures in
-    let old = g.L.Land.places c.args.land.now in
+    let old = g.L.PlaceSet.places c.args.land.now in
     rw c.in-Some.is
     ((c.in_ok-add_block.ensures).1
     ∙ ap (λ block. union old (block_places c.in-Some.section block)) part.1

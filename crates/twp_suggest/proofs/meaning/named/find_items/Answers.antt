@@ -7,5 +7,5 @@ pub loop-item-preserved : goal.loop-item-preserved
 loop-item-preserved g c =
     rw c.in-Ok.ensures.after
     (named_next c.items-items.result.now c.loop-item.item-index (number_of_section c.loop-item.section)
-    c.item-item.result (g.L.Land.places c.loop-item.land) (g.L.Land.places c.add_item.new.land)
+    c.item-item.result (g.L.PlaceSet.places c.loop-item.land) (g.L.PlaceSet.places c.add_item.new.land)
     c.loop-item-test.true (sym c.item-item.is) c.loop-item.invariant c.in-Ok.ensures.added)

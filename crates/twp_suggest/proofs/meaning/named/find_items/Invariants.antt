@@ -5,4 +5,4 @@ use Rattle.twp_suggest.proofs.meaning.named.find_items.Given as goal
 -- the items so far are named
 abbrev pub invariant-loop-item : goal.invariant-loop-item
 invariant-loop-item g l =
-    AreNamedTo l.items l.item-index (number_of_section l.section) (g.L.Land.places l.land)
+    AreNamedTo l.items l.item-index (number_of_section l.section) (g.L.PlaceSet.places l.land)

@@ -22,7 +22,7 @@ pub returns : goal.returns
 returns g c = λ _ section lot range. elim (cases_lt section c.loop-number.number) [
   | inl below ↦ c.loop-number.invariant.whole section lot below
   | inr above ↦
-      whole_after (g.L.Land.places c.args.land.now) _ _ section lot
+      whole_after (g.L.PlaceSet.places c.args.land.now) _ _ section lot
       c.in-Some.ensures.1
       (omega (arith, c.number-number-end.ensures.value, c.in-Some.last-is))
 ]

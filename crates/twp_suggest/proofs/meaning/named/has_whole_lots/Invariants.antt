@@ -8,5 +8,5 @@ abbrev pub invariant-loop-number : goal.invariant-loop-number
 invariant-loop-number g l = record {
   least : 1 ≤ l.number;
   whole : (section lot : ℕ) → section < l.number
-      → IsWholeOrNot PLACE_DIGITS section lot (g.L.Land.places l.land section);
+      → IsWholeOrNot PLACE_DIGITS section lot (g.L.PlaceSet.places l.land section);
 }

@@ -20,7 +20,7 @@ loop-lot-preserved g c =
     let is : block_of (position_of_lot c.args.section c.loop-lot.lot) ≡ Some c.unwrap-places.result =
     sym c.of_lot.ensures.block ∙ c.unwrap-places.ensures in
     let next =
-    whole_of_block c.args.section c.loop-lot.lot (g.L.Land.places c.args.land.now c.args.section)
+    whole_of_block c.args.section c.loop-lot.lot (g.L.PlaceSet.places c.args.land.now c.args.section)
     c.unwrap-places.result c.of_lot.ensures.section is in
     below_more _ _ c.loop-lot.invariant (next (elim c.else-meets.branch [
       | else-meets-via-then-meets+else-not-full w ↦ λ _. w.full.ensures.0 w.if-not-full.false

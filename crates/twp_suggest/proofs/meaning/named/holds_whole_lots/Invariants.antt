@@ -6,4 +6,4 @@ use Rattle.twp_suggest.proofs.meaning.named.holds_whole_lots.Given as goal
 -- the lots so far are whole, or none of them
 abbrev pub invariant-loop-lot : goal.invariant-loop-lot
 invariant-loop-lot g l =
-    (lot : ℕ) → lot < l.lot → IsWholeOrNot PLACE_DIGITS l.section lot (g.L.Land.places l.land l.section)
+    (lot : ℕ) → lot < l.lot → IsWholeOrNot PLACE_DIGITS l.section lot (g.L.PlaceSet.places l.land l.section)
