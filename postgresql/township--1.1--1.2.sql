@@ -20,6 +20,51 @@ CREATE OR REPLACE FUNCTION refusal(
 COMMENT ON FUNCTION refusal(text)
 IS 'why a description with a heading, or field notes, are refused, or NULL if they are accepted';
 
+-- Calls with a literal in place of a plat or of land, which PostgreSQL takes for a text.
+
+CREATE FUNCTION acres(notes text, description text, account text DEFAULT 'exact') RETURNS numeric
+AS 'MODULE_PATHNAME', 'twpg_acres_by_notes' LANGUAGE C IMMUTABLE STRICT PARALLEL SAFE COST 125;
+COMMENT ON FUNCTION acres(text, text, text)
+IS 'the acres of the land described, on the plat of field notes, rounded once to hundredths';
+
+CREATE FUNCTION acres_or_null(notes text, description text, account text DEFAULT 'exact') RETURNS numeric
+AS 'MODULE_PATHNAME', 'twpg_acres_by_notes_or_null' LANGUAGE C IMMUTABLE STRICT PARALLEL SAFE COST 125;
+COMMENT ON FUNCTION acres_or_null(text, text, text)
+IS 'the acres of the land described, on the plat of field notes, or NULL if it is refused';
+
+CREATE FUNCTION area(
+    notes text, description text, account text DEFAULT 'exact',
+    OUT numerator numeric, OUT denominator numeric
+) AS 'MODULE_PATHNAME', 'twpg_area_by_notes' LANGUAGE C IMMUTABLE STRICT PARALLEL SAFE COST 130;
+COMMENT ON FUNCTION area(text, text, text)
+IS 'the exact acreage of the land described, on the plat of field notes, in lowest terms';
+
+CREATE FUNCTION acres(notes text, land land, account text DEFAULT 'exact') RETURNS numeric
+AS 'MODULE_PATHNAME', 'twpg_acres_of_land_by_notes' LANGUAGE C IMMUTABLE STRICT PARALLEL SAFE COST 120;
+COMMENT ON FUNCTION acres(text, land, text)
+IS 'the acres of land, on the plat of field notes, rounded once to hundredths';
+
+CREATE FUNCTION acres_or_null(notes text, land land, account text DEFAULT 'exact') RETURNS numeric
+AS 'MODULE_PATHNAME', 'twpg_acres_of_land_by_notes_or_null' LANGUAGE C IMMUTABLE STRICT PARALLEL SAFE COST 120;
+COMMENT ON FUNCTION acres_or_null(text, land, text)
+IS 'the acres of land, on the plat of field notes, or NULL if it is in another township';
+
+CREATE FUNCTION area(
+    notes text, land land, account text DEFAULT 'exact',
+    OUT numerator numeric, OUT denominator numeric
+) AS 'MODULE_PATHNAME', 'twpg_area_of_land_by_notes' LANGUAGE C IMMUTABLE STRICT PARALLEL SAFE COST 125;
+COMMENT ON FUNCTION area(text, land, text)
+IS 'the exact acreage of land, on the plat of field notes, in lowest terms';
+
+CREATE FUNCTION township(description text) RETURNS text
+AS 'MODULE_PATHNAME', 'twpg_township_of_text' LANGUAGE C IMMUTABLE STRICT PARALLEL SAFE COST 100;
+COMMENT ON FUNCTION township(text)
+IS 'the designation of the township of a description with a heading, or of field notes';
+
+CREATE FUNCTION isempty(description text) RETURNS bool
+AS 'MODULE_PATHNAME', 'twpg_text_is_empty' LANGUAGE C IMMUTABLE STRICT PARALLEL SAFE COST 40;
+COMMENT ON FUNCTION isempty(text) IS 'whether a description with a heading is of no land at all';
+
 -- The first and the last land in the order of land.
 
 CREATE FUNCTION land_smaller(land, land) RETURNS land
@@ -44,6 +89,27 @@ CREATE FUNCTION touches(land, land) RETURNS bool
 AS 'MODULE_PATHNAME', 'twpg_land_touches' LANGUAGE C IMMUTABLE STRICT PARALLEL SAFE COST 50;
 COMMENT ON FUNCTION touches(land, land)
 IS 'whether they share a side, but no land; NULL if they are in two different townships';
+
+-- The lots and quarter-quarter sections of land, for a join with the parcels of a GIS, and a drawing of it.
+
+CREATE FUNCTION quarter_quarters(
+    land land, OUT section int4, OUT lot int4, OUT quarter_quarter text, OUT whole bool, OUT part land
+) RETURNS SETOF record
+AS 'MODULE_PATHNAME', 'twpg_quarter_quarters' LANGUAGE C IMMUTABLE STRICT PARALLEL SAFE COST 100 ROWS 8;
+COMMENT ON FUNCTION quarter_quarters(land) IS 'the lots and quarter-quarter sections that have some of the land';
+
+CREATE FUNCTION svg(land land) RETURNS text
+AS 'MODULE_PATHNAME', 'twpg_svg' LANGUAGE C IMMUTABLE STRICT PARALLEL SAFE COST 1000;
+COMMENT ON FUNCTION svg(land) IS 'a drawing of the township, with the land, as an SVG document';
+
+CREATE FUNCTION svg(plat plat, land land) RETURNS text
+AS 'MODULE_PATHNAME', 'twpg_svg_on_plat' LANGUAGE C IMMUTABLE STRICT PARALLEL SAFE COST 1000;
+COMMENT ON FUNCTION svg(plat, land) IS 'a drawing of the plat, with the land, as an SVG document';
+
+CREATE FUNCTION svg(plat plat, land land, section int4) RETURNS text
+AS 'MODULE_PATHNAME', 'twpg_svg_of_section_on_plat' LANGUAGE C IMMUTABLE STRICT PARALLEL SAFE COST 1000;
+COMMENT ON FUNCTION svg(plat, land, int4)
+IS 'a drawing of a section of the plat, with the land in it, as an SVG document';
 
 -- The order of lot tables, for sorting, grouping, and indexes.
 

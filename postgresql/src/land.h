@@ -61,13 +61,39 @@ typedef enum twpg_heading {
 /* What is wrong with an impossible heading. */
 #define TWPG_IMPOSSIBLE_NUMBERS "the numbers of a township and of its range are 1 to 99"
 
+/* grid.c: where the sections and the lots of a township are. */
+
+/* A township is six sections wide and six high, and a section four quarter-quarters. */
+#define TWPG_SECTIONS_ACROSS 6
+#define TWPG_CELLS_ACROSS 4
+
+/* The room for the parts of nearly all land. */
+#define TWPG_USUAL_PARTS 64
+
+/* Where a section is, in sections. */
+typedef struct twpg_spot {
+    int from_north;
+    int from_east;
+} twpg_spot;
+
+/* The number of the lot in each quarter-quarter of each section, by rows from the south and in each from the east; or 0
+   if it is in no lot. */
+typedef struct twpg_lot_numbers {
+    uint8_t at[TOWNSHIP_SECTIONS][TWPG_CELLS_ACROSS][TWPG_CELLS_ACROSS];
+} twpg_lot_numbers;
+
+twpg_spot twpg_spot_of(int section);
+township_part *twpg_parts_of(const township_land *land, size_t *count);
+void twpg_find_lots(const township_designation *township, twpg_lot_numbers *lots);
+
 /* headings.c: headings of descriptions, which name the township. */
 twpg_heading twpg_find_heading(twpg_bytes given, township_designation *township, size_t *end);
 bool twpg_read_heading(twpg_bytes given, township_designation *township, size_t *end);
 bool twpg_find_township(const text *given, township_designation *township);
 township_designation twpg_township_of(const text *given);
 
-/* land_reading.c: lands of descriptions, without a plat. */
+/* land_reading.c: lands of descriptions, without a plat, and their texts. */
 township_plat twpg_even_plat(const township_designation *township);
+char *twpg_land_text(const township_land *land);
 
 #endif

@@ -182,24 +182,30 @@ static township_answer write_land(const void *given, uint8_t *text, size_t room)
     return township_land_text(given, text, room);
 }
 
-PG_FUNCTION_INFO_V1(twpg_land_out);
-Datum twpg_land_out(PG_FUNCTION_ARGS) {
-    township_land land;
+/* The canonical text of land, with its heading, on one line. */
+char *twpg_land_text(const township_land *land) {
     township_answer answer;
     char *text;
 
     check_stack_depth();
-    twpg_land_of(PG_GETARG_LAND(0), &land);
-    answer = twpg_write(write_land, &land, &text);
+    answer = twpg_write(write_land, land, &text);
     if (answer.verdict != TOWNSHIP_ACCEPTED) {
         twpg_fail(answer.verdict);
     }
     if (text[0] == '\0') {
-        const township_designation *at = &land.township;
+        const township_designation *at = &land->township;
 
         text = psprintf("%s, no land.", twpg_township_text(at->number, at->north_south, at->range, at->east_west));
     }
-    PG_RETURN_CSTRING(twpg_one_line(text));
+    return twpg_one_line(text);
+}
+
+PG_FUNCTION_INFO_V1(twpg_land_out);
+Datum twpg_land_out(PG_FUNCTION_ARGS) {
+    township_land land;
+
+    twpg_land_of(PG_GETARG_LAND(0), &land);
+    PG_RETURN_CSTRING(twpg_land_text(&land));
 }
 
 static township_designation township_of(const township_plat *plat) {

@@ -19,18 +19,19 @@ static int places_of(int level) {
     return TOWNSHIP_PLACES_ACROSS >> level;
 }
 
-/* A row of places in which each cell is held if its bit is set. */
+/* A row of places in which each cell is held if its bit is set. Bits above those of the cells don't count. */
 static uint32_t spread(uint32_t cells, int level) {
     uint32_t cell = (uint32_t)((UINT64_C(1) << places_of(level)) - 1);
     uint32_t row = 0;
     int column;
 
-    for (column = 0; column < side_of(level); column++) {
-        if (cells >> column & 1) {
-            row |= cell << (column * places_of(level));
-        }
+    if (level == TWPG_LEVEL_MOST) {
+        return cells;
     }
-    return row;
+    for (column = 0; column < side_of(level); column++) {
+        row |= (cells >> column & 1) << (column * places_of(level));
+    }
+    return row * cell;
 }
 
 /* The cells of a row of places, by the easternmost place of each. */
@@ -38,6 +39,9 @@ static uint32_t gathered(uint32_t row, int level) {
     uint32_t cells = 0;
     int column;
 
+    if (level == TWPG_LEVEL_MOST) {
+        return row;
+    }
     for (column = 0; column < side_of(level); column++) {
         cells |= (row >> (column * places_of(level)) & 1) << column;
     }
@@ -54,61 +58,61 @@ static bool is_touched(const uint32_t *rows) {
     return any != 0;
 }
 
-/* Whether each cell of this level is held as a whole or not at all. */
-static bool is_of_level(const uint32_t *rows, int level) {
+/* The lines on which the land of a section begins or ends: bit k stands for the line between the columns k and k + 1 if
+   two places beside it differ, and for the line between the rows k and k + 1 if these differ. */
+static uint32_t edges_of(const uint32_t *rows) {
+    uint32_t edges = 0;
     int row;
 
     for (row = 0; row < TOWNSHIP_PLACES_ACROSS; row++) {
-        uint32_t first = rows[row - row % places_of(level)];
-
-        if (rows[row] != first || spread(gathered(first, level), level) != first) {
-            return false;
-        }
+        edges |= rows[row] ^ rows[row] >> 1;
     }
-    return true;
+    /* There is no column after the last one. */
+    edges &= UINT32_MAX >> 1;
+    for (row = 1; row < TOWNSHIP_PLACES_ACROSS; row++) {
+        edges |= (uint32_t)(rows[row] != rows[row - 1]) << (row - 1);
+    }
+    return edges;
 }
 
+/* The least level at which each cell is held as a whole or not at all: no edge is inside a cell. */
 static int level_of(const uint32_t *rows) {
+    /* The lines between the cells of each level. */
+    static const uint32_t between[] = {0, 0x00008000, 0x00808080, 0x08888888, 0x2AAAAAAA, 0x7FFFFFFF};
+    uint32_t edges = edges_of(rows);
     int level = 0;
 
-    while (level < TWPG_LEVEL_MOST && !is_of_level(rows, level)) {
+    while ((edges & ~between[level]) != 0) {
         level++;
     }
     return level;
 }
 
-static void set_bits(uint8_t *bytes, size_t first, uint32_t bits, int count) {
-    int index;
+/* Packs the cells of a section: so many bits for each row, from the lowest bit of the first byte. */
+static void pack_cells(const uint32_t *rows, int level, uint8_t *bytes) {
+    uint64_t bits = 0;
+    int count = 0;
+    int row;
 
-    for (index = 0; index < count; index++) {
-        size_t at = first + (size_t)index;
-
-        bytes[at / 8] |= (uint8_t)((bits >> index & 1) << at % 8);
+    for (row = 0; row < TOWNSHIP_PLACES_ACROSS; row += places_of(level)) {
+        bits |= (uint64_t)gathered(rows[row], level) << count;
+        for (count += side_of(level); count >= 8; count -= 8) {
+            *bytes++ = (uint8_t)bits;
+            bits >>= 8;
+        }
     }
-}
-
-static uint32_t bits_at(const uint8_t *bytes, size_t first, int count) {
-    uint32_t bits = 0;
-    int index;
-
-    for (index = 0; index < count; index++) {
-        size_t at = first + (size_t)index;
-
-        bits |= (uint32_t)(bytes[at / 8] >> at % 8 & 1) << index;
+    if (count > 0) {
+        *bytes = (uint8_t)bits;
     }
-    return bits;
 }
 
 /* Packs a section, and returns how many bytes it takes. */
 static size_t pack_section(const uint32_t *rows, uint8_t *bytes) {
     int level = level_of(rows);
-    int side = side_of(level);
-    int row;
 
     bytes[0] = (uint8_t)level;
-    memset(bytes + 1, 0, bytes_of_cells(level));
-    for (row = 0; level > 0 && row < side; row++) {
-        set_bits(bytes + 1, (size_t)(row * side), gathered(rows[row * places_of(level)], level), side);
+    if (level > 0) {
+        pack_cells(rows, level, bytes + 1);
     }
     return 1 + bytes_of_cells(level);
 }
@@ -137,6 +141,18 @@ uint64_t twpg_sections_of(twpg_packed packed) {
         sections |= (uint64_t)packed.start[DESIGNATION_BYTES + index] << (8 * index);
     }
     return sections;
+}
+
+/* The cells of a row, so many from a bit on: they begin a byte, or all of them are in one byte, and other bits may be
+   above them. */
+static uint32_t bits_at(const uint8_t *cells, size_t first, int count) {
+    uint32_t bits = 0;
+    int byte;
+
+    for (byte = 0; byte * 8 < count; byte++) {
+        bits |= (uint32_t)cells[first / 8 + (size_t)byte] << (8 * byte);
+    }
+    return bits >> first % 8;
 }
 
 static void unpack_cells(const uint8_t *cells, int level, uint32_t *rows) {

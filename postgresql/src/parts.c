@@ -3,27 +3,7 @@
  */
 #include "land.h"
 
-#include "miscadmin.h"
 #include "utils/tuplestore.h"
-
-/* The room for the parts of nearly all land. */
-#define USUAL_PARTS 64
-
-/* The parts of land, which are allocated, and how many there are. The library says how much room many need. */
-static township_part *parts_of(const township_land *land, size_t *count) {
-    township_part *parts = palloc(USUAL_PARTS * sizeof *parts);
-    township_answer answer = township_land_parts(land, parts, USUAL_PARTS);
-
-    if (answer.verdict == TOWNSHIP_NO_ROOM) {
-        parts = repalloc(parts, (size_t)answer.length * sizeof *parts);
-        answer = township_land_parts(land, parts, (size_t)answer.length);
-    }
-    if (answer.verdict != TOWNSHIP_ACCEPTED) {
-        twpg_fail(answer.verdict);
-    }
-    *count = (size_t)answer.length;
-    return parts;
-}
 
 /* The places of a part as land. */
 static Datum land_datum_of(const township_part *part, const township_designation *township) {
@@ -47,9 +27,8 @@ Datum twpg_parts(PG_FUNCTION_ARGS) {
     size_t count;
     size_t index;
 
-    check_stack_depth();
     twpg_land_of(PG_GETARG_LAND(0), &land);
-    parts = parts_of(&land, &count);
+    parts = twpg_parts_of(&land, &count);
     for (index = 0; index < count; index++) {
         const township_part *part = &parts[index];
         Datum values[] = {Int32GetDatum(part->section), Int32GetDatum(part->lot), land_datum_of(part, &land.township)};

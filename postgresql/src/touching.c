@@ -5,29 +5,24 @@
 
 #include "miscadmin.h"
 
-/* A township is six sections wide and six high. */
-#define SECTIONS_ACROSS 6
-#define ROWS (SECTIONS_ACROSS * TOWNSHIP_PLACES_ACROSS)
+#define ROWS (TWPG_SECTIONS_ACROSS * TOWNSHIP_PLACES_ACROSS)
 
 /* The places of a township: rows from the south, and in each a word for each section, from the east. In a word, the
    lowest bit is the easternmost place. */
 typedef struct twpg_grid {
-    uint32_t rows[ROWS][SECTIONS_ACROSS];
+    uint32_t rows[ROWS][TWPG_SECTIONS_ACROSS];
 } twpg_grid;
 
-/* Sections are numbered from the northeast corner, to the west in the first row, and back to the east in the next. */
 static void lay_out(const township_land *land, twpg_grid *grid) {
     int section;
     int row;
 
     for (section = 0; section < TOWNSHIP_SECTIONS; section++) {
-        int from_north = section / SECTIONS_ACROSS;
-        int along = section % SECTIONS_ACROSS;
-        int from_east = from_north % 2 == 0 ? along : SECTIONS_ACROSS - 1 - along;
-        int south = (SECTIONS_ACROSS - 1 - from_north) * TOWNSHIP_PLACES_ACROSS;
+        twpg_spot spot = twpg_spot_of(section);
+        int south = (TWPG_SECTIONS_ACROSS - 1 - spot.from_north) * TOWNSHIP_PLACES_ACROSS;
 
         for (row = 0; row < TOWNSHIP_PLACES_ACROSS; row++) {
-            grid->rows[south + row][from_east] = land->rows[section][row];
+            grid->rows[south + row][spot.from_east] = land->rows[section][row];
         }
     }
 }
@@ -37,7 +32,7 @@ static void move_west(const uint32_t *row, uint32_t *moved) {
     uint32_t carried = 0;
     int section;
 
-    for (section = 0; section < SECTIONS_ACROSS; section++) {
+    for (section = 0; section < TWPG_SECTIONS_ACROSS; section++) {
         moved[section] = row[section] << 1 | carried;
         carried = row[section] >> 31;
     }
@@ -47,7 +42,7 @@ static bool rows_share(const uint32_t *first, const uint32_t *second) {
     uint32_t shared = 0;
     int section;
 
-    for (section = 0; section < SECTIONS_ACROSS; section++) {
+    for (section = 0; section < TWPG_SECTIONS_ACROSS; section++) {
         shared |= first[section] & second[section];
     }
     return shared != 0;
@@ -55,8 +50,8 @@ static bool rows_share(const uint32_t *first, const uint32_t *second) {
 
 /* Whether a place in a row is beside one of the other row. */
 static bool rows_adjoin(const uint32_t *first, const uint32_t *second) {
-    uint32_t west_of_first[SECTIONS_ACROSS];
-    uint32_t west_of_second[SECTIONS_ACROSS];
+    uint32_t west_of_first[TWPG_SECTIONS_ACROSS];
+    uint32_t west_of_second[TWPG_SECTIONS_ACROSS];
 
     move_west(first, west_of_first);
     move_west(second, west_of_second);

@@ -19,6 +19,10 @@ SELECT count((a.land + b.land) - (a.land * b.land)) FROM lands a, lands b WHERE 
 INSERT INTO lands SELECT id + 10000, land FROM lands
 REINDEX TABLE lands
 SELECT count(value::text::land) FROM received_land
+SELECT count(svg(value)) FROM (SELECT value FROM received_land LIMIT 20) AS some
+SELECT count(svg(plat, land, 14)) FROM plats, lands WHERE township(land) = township(plat)
+SELECT count(cell) FROM received_land, quarter_quarters(value) AS cell
+SELECT acres(plat::text, 'sec. 5, lot 1.'), township(plat::text), township(land::text) FROM plats, lands WHERE lands.id = 1001
 SELECT count(value::text::plat) FROM received_plat
 SELECT count(value::text::lots) FROM received_lots
 SELECT 'checked' AS all_of_it

@@ -1,8 +1,8 @@
 # Memory that is refused to the library is the database's error, from which a connection recovers.
 new_database memory
 sql -d memory -v notes="$(cat "$root/samples/b1.csv")" << 'END' > "$work/lost"
-CREATE TABLE plats (plat plat);
-INSERT INTO plats VALUES (:'notes');
+CREATE TABLE plats (plat plat, land land);
+INSERT INTO plats VALUES (:'notes', 'T. 2 N., R. 3 W., sec. 14, NE1/4.');
 END
 try 'what refuses memory compiles' "${CC:-cc}" -std=c11 -O1 -shared -fPIC -o "$work/refuse_memory.so" "$tests/refuse_memory.c" -ldl
 (
@@ -23,6 +23,14 @@ SELECT notes(plat, 'sec. 14, NE1/4 SE1/4.') FROM plats;
 SELECT suggest('NENE Sec 14');
 SELECT suggest(plat, 'NENE Sec 14') FROM plats;
 SELECT plat FROM plats;
+SELECT land FROM plats;
+SELECT acres(plat::text, 'sec. 5, lot 1.') FROM plats;
+SELECT parts(land) FROM plats;
+SELECT quarter_quarters(land) FROM plats;
+SELECT svg(land) FROM plats;
+SELECT svg(plat, land, 14) FROM plats;
+SELECT isempty('T. 2 N., R. 3 W., sec. 14.');
+SELECT township('T. 2 N., R. 3 W., sec. 14.');
 SELECT refusal('line,between,and,quarter,corner');
 SELECT ''::plat;
 SELECT 'T. 2 N., R. 3 W., sec. 14.'::land;
@@ -32,6 +40,6 @@ END
     echo "\\! rm $work/refused"
     echo "SELECT acres(plat, 'sec. 5, lot 1.') FROM plats;"
 } > "$work/refusing.sql"
-{ yes 'ERROR:  53200' | head -n 14; echo 40.45; } > "$work/wanted"
+{ yes 'ERROR:  53200' | head -n 22; echo 40.45; } > "$work/wanted"
 sql -d memory < "$work/refusing.sql" > "$work/found"
 same 'refused memory'

@@ -107,6 +107,96 @@ static void test_lengths(void) {
     check(packed_length(&land) == 9 + 36, "the whole township");
 }
 
+/* Fills rows of section 14 with a row of places, from one row to before another. */
+static township_land rows_of(int from, int to, uint32_t places) {
+    township_land land;
+    int row;
+
+    memset(&land, 0, sizeof land);
+    for (row = from; row < to; row++) {
+        land.rows[13][row] = places;
+    }
+    return land;
+}
+
+/* The bytes of a section by its level: 1, 1 + 1, 1 + 2, 1 + 8, 1 + 32, and 1 + 128. */
+static void test_levels(void) {
+    static const struct {
+        int from;
+        int to;
+        uint32_t places;
+        size_t length;
+        const char *what;
+    } rows[] = {
+        {0, 32, 0xFFFFFFFF, 1, "a section"},
+        {16, 32, 0xFFFFFFFF, 2, "its north half"},
+        {0, 32, 0xFFFF0000, 2, "its west half"},
+        {8, 16, 0xFFFFFFFF, 3, "a row of quarter-quarters"},
+        {0, 32, 0x0000FF00, 3, "a column of quarter-quarters"},
+        {28, 32, 0xFFFFFFFF, 9, "the north row of 10 acres"},
+        {0, 32, 0xF0000000, 9, "the west column of 10 acres"},
+        {2, 4, 0xFFFFFFFF, 33, "a row of 2.5 acres"},
+        {0, 32, 0xC0000000, 33, "the west column of 2.5 acres"},
+        {30, 31, 0xFFFFFFFF, 129, "a row of places"},
+        {0, 32, 0x80000000, 129, "the west column of places"},
+        {0, 32, 0x7FFFFFFF, 129, "all but the west column of places"},
+        {0, 31, 0xFFFFFFFF, 129, "all but the north row of places"},
+        {1, 32, 0xFFFFFFFF, 129, "all but the south row of places"},
+        {0, 32, 0xAAAAAAAA, 129, "every second column of places"},
+    };
+    int index;
+
+    for (index = 0; index < (int)lengthof(rows); index++) {
+        township_land land = rows_of(rows[index].from, rows[index].to, rows[index].places);
+
+        check(packed_length(&land) == TWPG_LAND_HEAD + rows[index].length, rows[index].what);
+    }
+}
+
+/* The bytes of a quarter-quarter section, the SW1/4NW1/4 of section 14: its row is the third from the south, and its
+   column the fourth from the east, so its bit is 2 * 4 + 3. */
+static void test_bytes(void) {
+    static const uint8_t wanted[] = {2, 0, 3, 1, 0, 1 << 5, 0, 0, 0, 2, 0, 1 << 3};
+    township_land land = rows_of(16, 24, 0xFF000000);
+    uint8_t bytes[TWPG_LAND_MOST];
+
+    land.township.number = 2;
+    land.township.range = 3;
+    land.township.east_west = TOWNSHIP_WEST;
+    check(twpg_pack(&land, bytes) == sizeof wanted && memcmp(bytes, wanted, sizeof wanted) == 0, "its bytes");
+}
+
+/* Whether each square of so many places along a side is held as a whole or not at all. */
+static bool is_in_squares(const uint32_t *rows, int side) {
+    int row;
+    int column;
+
+    for (row = 0; row < 32; row++) {
+        for (column = 0; column < 32; column++) {
+            if ((rows[row] >> column & 1) != (rows[row - row % side] >> (column - column % side) & 1)) {
+                return false;
+            }
+        }
+    }
+    return true;
+}
+
+/* A random section takes the bytes of the largest squares that it is made of. */
+static void test_least_level(void) {
+    static const size_t lengths[] = {1, 2, 3, 9, 33, 129};
+    township_land land;
+    int level;
+
+    memset(&land, 0, sizeof land);
+    fill(land.rows[7], (int)chance(6));
+    land.rows[7][chance(32)] ^= chance(3) == 0 ? UINT32_C(1) << chance(32) : 0;
+    for (level = 0; !is_in_squares(land.rows[7], 32 >> level);) {
+        level++;
+    }
+    /* A section whose largest square is all of it has none of it, or all. */
+    check(packed_length(&land) == 9 + (level == 0 && land.rows[7][0] == 0 ? 0 : lengths[level]), "the least level");
+}
+
 static void test_round(void) {
     uint8_t bytes[TWPG_LAND_MOST];
     uint8_t again[TWPG_LAND_MOST];
@@ -151,7 +241,10 @@ int main(void) {
     int round;
 
     test_lengths();
+    test_levels();
+    test_bytes();
     for (round = 0; round < ROUNDS; round++) {
+        test_least_level();
         test_round();
         test_random_bytes();
     }

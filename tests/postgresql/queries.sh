@@ -46,6 +46,19 @@ shows 'an aggregate is canceled' 'ERROR:  canceling statement due to statement t
     psql -X -q -A -t -d queries -c 'SET statement_timeout = 300' -c 'SELECT overlaps(id, land) FROM crowded'
 try 'it is canceled at once' [ $(($(date +%s) - begun)) -lt 5 ]
 
+# So does the planning of a join, which compares 100 million pairs for each of its conditions if the statistics are the
+# largest.
+sql -d queries -c 'SET default_statistics_target = 10000' -c "CREATE TABLE many AS
+    SELECT land(made_up_township(n, 40), made_up_description(n)) AS land FROM generate_series(1, 30000) AS n" \
+    -c 'ANALYZE many' > "$work/lost"
+try 'the statistics are large' [ "$(sql -d queries -c "
+    SELECT cardinality(histogram_bounds) FROM (SELECT histogram_bounds::text::land[] FROM pg_stats WHERE tablename = 'many') AS s")" -gt 9000 ]
+begun=$(date +%s)
+shows 'planning is canceled' 'ERROR:  canceling statement due to statement timeout' \
+    psql -X -q -A -t -d queries -c 'SET statement_timeout = 300' -c 'EXPLAIN SELECT FROM many a
+    JOIN many b ON a.land && b.land JOIN many c ON b.land @> c.land JOIN many d ON c.land <@ d.land'
+try 'it is canceled before it ends' [ $(($(date +%s) - begun)) -lt 5 ]
+
 # A long query ends when it is canceled, and when its time is over.
 long="SELECT count(acres(plat, 'sec. 14, NE1/4.' || repeat(' ', n::int % 7)))
     FROM plats, generate_series(1, 1000000000) AS n"

@@ -1,0 +1,79 @@
+/*
+ * Functions on field notes where others take a plat, and on descriptions where others take land. With them, a
+ * literal needs no cast: PostgreSQL takes it for a text if one of the functions of that name does. The text is read
+ * anew in each call.
+ */
+#include "land.h"
+
+Datum twpg_plat_in(PG_FUNCTION_ARGS);
+Datum twpg_land_in(PG_FUNCTION_ARGS);
+Datum twpg_plat_township(PG_FUNCTION_ARGS);
+Datum twpg_land_township(PG_FUNCTION_ARGS);
+Datum twpg_land_is_empty(PG_FUNCTION_ARGS);
+Datum twpg_acres(PG_FUNCTION_ARGS);
+Datum twpg_acres_or_null(PG_FUNCTION_ARGS);
+Datum twpg_area(PG_FUNCTION_ARGS);
+Datum twpg_acres_of_land(PG_FUNCTION_ARGS);
+Datum twpg_acres_of_land_or_null(PG_FUNCTION_ARGS);
+Datum twpg_area_of_land(PG_FUNCTION_ARGS);
+
+/* Reads the first argument as the text of a type. */
+static void read_first(FunctionCallInfo fcinfo, PGFunction input) {
+    fcinfo->args[0].value = DirectFunctionCall1(input, CStringGetDatum(text_to_cstring(PG_GETARG_TEXT_PP(0))));
+}
+
+PG_FUNCTION_INFO_V1(twpg_acres_by_notes);
+Datum twpg_acres_by_notes(PG_FUNCTION_ARGS) {
+    read_first(fcinfo, twpg_plat_in);
+    return twpg_acres(fcinfo);
+}
+
+PG_FUNCTION_INFO_V1(twpg_acres_by_notes_or_null);
+Datum twpg_acres_by_notes_or_null(PG_FUNCTION_ARGS) {
+    read_first(fcinfo, twpg_plat_in);
+    return twpg_acres_or_null(fcinfo);
+}
+
+PG_FUNCTION_INFO_V1(twpg_area_by_notes);
+Datum twpg_area_by_notes(PG_FUNCTION_ARGS) {
+    read_first(fcinfo, twpg_plat_in);
+    return twpg_area(fcinfo);
+}
+
+PG_FUNCTION_INFO_V1(twpg_acres_of_land_by_notes);
+Datum twpg_acres_of_land_by_notes(PG_FUNCTION_ARGS) {
+    read_first(fcinfo, twpg_plat_in);
+    return twpg_acres_of_land(fcinfo);
+}
+
+PG_FUNCTION_INFO_V1(twpg_acres_of_land_by_notes_or_null);
+Datum twpg_acres_of_land_by_notes_or_null(PG_FUNCTION_ARGS) {
+    read_first(fcinfo, twpg_plat_in);
+    return twpg_acres_of_land_or_null(fcinfo);
+}
+
+PG_FUNCTION_INFO_V1(twpg_area_of_land_by_notes);
+Datum twpg_area_of_land_by_notes(PG_FUNCTION_ARGS) {
+    read_first(fcinfo, twpg_plat_in);
+    return twpg_area_of_land(fcinfo);
+}
+
+/* The township of a description with a heading of its own, or else of field notes. */
+PG_FUNCTION_INFO_V1(twpg_township_of_text);
+Datum twpg_township_of_text(PG_FUNCTION_ARGS) {
+    township_designation township;
+    size_t end;
+
+    if (twpg_find_heading(twpg_bytes_of_text(PG_GETARG_TEXT_PP(0)), &township, &end) == TWPG_NO_HEADING) {
+        read_first(fcinfo, twpg_plat_in);
+        return twpg_plat_township(fcinfo);
+    }
+    read_first(fcinfo, twpg_land_in);
+    return twpg_land_township(fcinfo);
+}
+
+PG_FUNCTION_INFO_V1(twpg_text_is_empty);
+Datum twpg_text_is_empty(PG_FUNCTION_ARGS) {
+    read_first(fcinfo, twpg_land_in);
+    return twpg_land_is_empty(fcinfo);
+}
