@@ -75,13 +75,14 @@ lib:
 dist: township lib
 	@sh packaging/dist.sh
 
-## bench          count instructions, and compare them with bench/expected
+## bench          count instructions, and compare them with bench/expected; measure the page
 bench:
 	@sh bench/lands.sh
 	@sh bench/descriptions.sh
 	@sh bench/library.sh
 	@sh bench/readings.sh
 	@sh bench/instructions.sh
+	@sh bench/page.sh
 
 ## install        install what `make township lib` built below PREFIX, /usr/local if none is given; proves nothing again
 # Installs what `make township lib` has built, and proves nothing again: so it can be run as root, without the kit.

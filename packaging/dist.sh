@@ -3,6 +3,9 @@
 # named: Debian packages, a wheel for Python, a crate for Rust, an archive for any Linux on x86-64, one of the sources,
 # BUILDINFO, and SHA256SUMS. The same commit makes the same bytes, in any folder and for any user: the time of each
 # file is that of the commit, and no setting of this machine or its user counts.
+#
+# The extension for the PostgreSQL of other Debians is made in images of these (packaging/server.sh). If there is none,
+# and none can be made here, those packages are left out, and a line 'left out: ..' says so.
 set -eu
 LC_ALL=C.UTF-8
 TZ=UTC
@@ -91,19 +94,31 @@ make_debian() {
     cp -a "$work/debian" "$work/source"
     rm -rf "$work/source/township" "$work/source/lib" "$work/source/NOTICES"
     find "$work/source" "$work/debian" -exec touch -h -d "@$SOURCE_DATE_EPOCH" {} +
+    cp -a "$work/debian" "$work/servers"
     (cd "$work" && dpkg-source -Zgzip -b source)
     mv "$work"/township_*.dsc "$work"/township_*.tar.gz "$dist"
     (cd "$work/debian" && dpkg-buildpackage -b -us -uc)
     mv "$work"/*.deb "$dist"
 }
 
+# The servers of other Debians whose images are here, or can be made here.
+servers_here() {
+    for server in $(sh packaging/server.sh --list); do
+        if sh packaging/server.sh --tools "$server" > "$work/tools.$server" 2> "$work/errors"; then
+            echo "$server"
+        else
+            echo "left out: the package for PostgreSQL $server: $(tail -n 1 "$work/errors")" >&2
+            rm "$work/tools.$server"
+        fi
+    done
+}
+
 make_archive() {
-    mkdir -p "$binary/share/doc/township/samples" "$binary/share/doc/township/docs"
+    mkdir -p "$binary/share/doc/township"
     make -C "$stage" install-built install-lib DESTDIR="$binary" PREFIX=
     sed -i 's|^prefix=.*|prefix=${pcfiledir}/../..|' "$binary/lib/pkgconfig/township.pc"
     cp "$stage"/*.md "$stage/LICENSE" "$stage/NOTICES" "$binary/share/doc/township"
-    cp "$stage"/docs/* "$binary/share/doc/township/docs"
-    cp "$stage"/samples/* "$binary/share/doc/township/samples"
+    cp -R "$stage/docs" "$stage/examples" "$stage/samples" "$binary/share/doc/township"
     pack "${binary##*/}" "$dist/${binary##*/}.tar.gz"
 }
 
@@ -111,6 +126,7 @@ make_wheel() {
     cp "$stage/LICENSE" "$stage/NOTICES" "$stage/bindings/python"
     mkdir "$stage/bindings/python/src/township/docs"
     cp "$stage"/docs/*.md "$stage"/[A-Z]*.md "$stage/bindings/python/src/township/docs"
+    cp -R "$stage/examples" "$stage/samples" "$stage/bindings/python/src/township"
     (cd "$stage/bindings/python" && "$python" -m build --wheel --no-isolation --outdir "$dist" \
         --config-setting=--build-option=--plat-name="$WHEEL_TAG")
 }
@@ -134,11 +150,18 @@ step 'the sources' copy_sources
 step 'the object file of the program' sh packaging/object.sh
 step 'the program and the library' add_built
 step 'the Debian packages' make_debian
+echo 'the images of other Debians, which take minutes to make the first time'
+for server in $(servers_here); do
+    step "the package for PostgreSQL $server" sh packaging/server.sh "$server" "$work/servers" "$dist"
+done
 step 'the archive for Linux' make_archive
 step 'the wheel' make_wheel
 step 'the crate' make_crate
 step 'the bill of materials' sh -c '"$1" packaging/sbom.py "$2" > "$3" && mv "$3" "$2"' sh "$python" "$dist" \
     "$work/township-$build.spdx.json"
-sh packaging/buildinfo.sh "$(cat "$work/program_glibc")" "$(cat "$work/library_glibc")" > "$dist/BUILDINFO"
+{
+    sh packaging/buildinfo.sh "$(cat "$work/program_glibc")" "$(cat "$work/library_glibc")"
+    for tools in "$work"/tools.*; do if [ -e "$tools" ]; then printf '\nMade on ' && cat "$tools"; fi; done
+} > "$dist/BUILDINFO"
 (cd "$dist" && sha256sum -- * > "$work/sums" && mv "$work/sums" SHA256SUMS)
 ls -l "$dist" | sed -n 's/^[^ ]* *[^ ]* *[^ ]* *[^ ]* *\([0-9]*\) .* \([^ ]*\)$/\1 \2/p'

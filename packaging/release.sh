@@ -2,8 +2,9 @@
 # The steps of a release that a script can do; docs/RELEASING.md has all of them.
 #
 #     sh packaging/release.sh --prepare            date the changelog, record the ABI, commit, and tag
-#     sh packaging/release.sh --verify [EARLIER]   make the packages in dist/ from that commit, and upgrade to them from
-#                                                  those in the folder EARLIER, which are of the release before
+#     sh packaging/release.sh --verify [EARLIER]   make the packages in dist/ from that commit, and upgrade to them, in
+#                                                  images, from those in the folder EARLIER, which are of the release
+#                                                  before; the first release, from a version that is made up
 #
 # Neither pushes or signs anything.
 set -eu
@@ -37,18 +38,35 @@ prepare() {
     echo "the commit $(git rev-parse --short HEAD) has the tag v$version; nothing is pushed"
 }
 
+# The tests that upgrade packages, each after the image that it is run in.
+upgrades() {
+    printf '%s\n' 'bare program' 'bare python' 'tools library' 'database postgresql'
+    for server in $(sh packaging/server.sh --list); do echo "server$server postgresql"; done
+}
+
 verify() {
     [ "$(sh packaging/sources.sh --state)" = released ] || stop "this is not the commit with the tag v$version, unchanged"
     sh packaging/version.sh --check
-    make dist
     if [ -n "${1:-}" ]; then
-        earlier=$(readlink -f "$1")
-        for test in 'bare program' 'database postgresql'; do
-            TOWNSHIP_EARLIER=$earlier sh tests/packages/inside.sh $test dist
-        done
+        earlier=$(readlink -f "$1") || stop "there is no folder $1"
+        (cd "$earlier" 2> /dev/null && sha256sum --quiet --strict -c SHA256SUMS) ||
+            stop "$1 is no folder with the packages of a release, as its SHA256SUMS lists them"
     elif [ "$(grep -c '^## ' CHANGELOG.md)" -gt 1 ]; then
         stop 'name the folder with the packages of the release before'
     fi
+    make dist
+    if [ -n "${earlier:-}" ]; then
+        before=$(dpkg-deb -f "$earlier"/township_*_amd64.deb Version)
+        dpkg --compare-versions "$before" lt "$version" || stop "version $before in $1 is not before $version"
+        export TOWNSHIP_EARLIER="$earlier"
+    fi
+    for server in $(sh packaging/server.sh --list); do
+        [ -e "dist/postgresql-$server-township_${version}_amd64.deb" ] || stop "there is no package for PostgreSQL $server"
+    done
+    upgrades | while read -r image test; do
+        echo "$test on the image $image"
+        sh tests/packages/inside.sh "$image" "$test" dist < /dev/null
+    done
     echo "the packages are in dist/; they and the tag still have to be signed, with the owner's key"
 }
 

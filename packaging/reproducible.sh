@@ -1,11 +1,12 @@
 #!/bin/sh
 # Makes the packages a second time and compares their checksums with those in dist/, or in the folder that is named: from
 # the archive of the sources there, without git, in another folder, as another user (if user namespaces can be made here),
-# in another language and time zone, with another umask, and on another day (if faketime is installed). With --compile, first compiles the program and the library again
-# there. The status is 1 if a file differs; diffoscope, if it is installed, shows where.
+# in another language and time zone, with another umask, and on another day (if faketime is installed). With --compile,
+# first compiles the program and the library again there. The status is 1 if a file differs; diffoscope, if it is
+# installed, shows where.
 set -eu
 cd "$(dirname "$0")/.."
-root=$PWD
+images=$(sh tests/packages/image.sh --folder)
 compile=
 if [ "${1:-}" = --compile ]; then
     compile=yes
@@ -39,7 +40,7 @@ elsewhere() {
         umask 077
         set -- env PATH="$work/no-git:$PATH" LC_ALL=tr_TR.UTF-8 LANGUAGE=tr TZ=Pacific/Auckland "$@"
         # If rustup has installed cargo, cargo looks for its toolchain in the home of this user.
-        set -- env HOME="$work/home" RUSTUP_HOME="${RUSTUP_HOME:-${HOME:-/root}/.rustup}" "$@"
+        set -- env HOME="$work/home" TOWNSHIP_IMAGES="$images" RUSTUP_HOME="${RUSTUP_HOME:-${HOME:-/root}/.rustup}" "$@"
         if command -v faketime > "$work/lost"; then set -- faketime '+400 days' "$@"; fi
         # The user nobody, who may still read what this user may.
         other='unshare --user --map-user=65534 --map-group=65534'

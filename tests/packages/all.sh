@@ -23,6 +23,7 @@ fi
 try 'the version is the same everywhere' sh packaging/version.sh --check
 try 'the packages are made' sh packaging/dist.sh "$dist"
 [ "$failed" = 0 ] || ended
+cp "$work/out" "$work/made"
 version=$(sh packaging/version.sh --debian)
 build=$(sh packaging/version.sh --rust)
 cat > "$work/wanted" << LIST
@@ -42,6 +43,13 @@ township_$version.dsc
 township_$version.tar.gz
 township_${version}_amd64.deb
 LIST
+for server in $(sh packaging/server.sh --list); do
+    if grep -q "^left out: the package for PostgreSQL $server:" "$work/made"; then
+        skip "$(grep "for PostgreSQL $server:" "$work/made")"
+    else
+        echo "postgresql-$server-township_${version}_amd64.deb" >> "$work/wanted"
+    fi
+done
 LC_ALL=C sort -o "$work/wanted" "$work/wanted"
 (cd "$dist" && LC_ALL=C ls) > "$work/found"
 try 'the files' diff "$work/wanted" "$work/found"
@@ -50,6 +58,7 @@ begin versions sh tests/packages/versions.sh
 try 'no path of the build is in them' sh packaging/unpacked.sh "$dist" "$work/unpacked" "$PWD/" "${work%.*}."
 python=$(python_with argparse)
 count 'the pages that the packages name' "$python" -B tests/packages/pages.py "$work/unpacked"
+count 'the fields of the packages' "$python" -B tests/packages/fields.py "$work/unpacked" "$version"
 count 'the bill of materials' "$python" -B tests/packages/materials.py "$dist" \
     "$work/unpacked/township-$build-linux-x86_64.tar.gz/township-$build-linux-x86_64/share/doc/township/NOTICES"
 
@@ -77,7 +86,7 @@ try 'no built file is in it' test ! -e "$work/sources/township" -a ! -e "$work/s
 # The service is there, and nothing starts it.
 unit=$(find "$work/unpacked/python3-township_${version}_amd64.deb" -name township.service)
 try 'the unit' cmp "$unit" packaging/debian/python3-township.township.service
-try 'no script starts it' sh -c '! grep -r "deb-systemd-invoke .*start" "$1"' \
+try 'no script starts it' sh -c '! grep -rE "deb-systemd-invoke .*(start|enable)" "$1" | grep -v try-restart' \
     sh "$work/unpacked/python3-township_${version}_amd64.deb/DEBIAN"
 if has lintian; then
     try 'lintian' lintian --fail-on error,warning --allow-root "$dist"/*.deb

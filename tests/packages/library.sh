@@ -1,8 +1,7 @@
 # The packages of the library: programs in C and C++ are compiled with them, and run.
 cd /given/source || exit 1
 files > "$work/before"
-installs 'the library' /given/dist/libtownship1_*_amd64.deb /given/dist/libtownship-dev_*_amd64.deb \
-    /given/dist/township-doc_*_all.deb
+upgrades '' libtownship1 libtownship-dev township-doc
 version=$(sh packaging/version.sh)
 try 'the library names its build' grep -a -o "\"version\":\"$(dpkg-query -W -f '${Version}' libtownship1)\"" \
     /usr/lib/x86_64-linux-gnu/libtownship.so.1
@@ -27,9 +26,7 @@ try 'its test for autopkgtest' env AUTOPKGTEST_TMP="$work" sh /given/source/pack
 
 # A program is refused by a library that lacks the version of a function that it was linked with.
 try 'the functions have a version' sh -c 'objdump -T "$1" | grep -q "TOWNSHIP_1.0) *township_read"' sh "$work/shared"
-try 'apt removes the library' apt-get purge -y libtownship1 libtownship-dev township-doc
-files > "$work/after"
-try 'nothing is left of the library' diff "$work/before" "$work/after"
+removes_all 'the library'
 
 # The archive for any Linux, unpacked anywhere.
 mkdir "$work/there"

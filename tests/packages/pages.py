@@ -1,6 +1,7 @@
 #!/usr/bin/env python3
-"""Follows what the texts in packages name: each page, such as `docs/BATCH.md`, must be in the package, or in one that it
-depends on. The packages are unpacked, each into a folder of its own that has its name (packaging/unpacked.sh).
+"""Follows what the texts in packages name: each page, such as `docs/BATCH.md`, and each example and sample, such as
+`samples/b1.csv`, must be in the package, or in one that it depends on. The packages are unpacked, each into a folder of
+its own that has its name (packaging/unpacked.sh).
 
     python3 tests/packages/pages.py UNPACKED
 
@@ -16,6 +17,8 @@ from typing import Dict, Iterator, List, Set
 
 #: A page that a text names: in docs/, or in capitals alone.
 PAGE = re.compile(r"(?<![\w/])(?:docs/)?([A-Z][A-Z-]+[.]md)\b")
+#: An example or a sample that a text names.
+EXAMPLE = re.compile(r"(?<![\w/])((?:examples|samples)/\w+[.]\w+)")
 #: What is read, besides the documents.
 SOURCES = {".1", ".c", ".css", ".h", ".html", ".js", ".json", ".md", ".py", ".rs", ".sql"}
 #: An archive of the sources, also that of the Debian source package, has all pages.
@@ -50,9 +53,12 @@ def main() -> int:
             continue
         there = [folder, *(by_name[name] for name in sorted(needed_by(folder)) if name in by_name)]
         has = {file.name for each in there for file in each.rglob("*.md")}
+        # A folder may be a link to another one, which rglob doesn't follow.
+        has |= {f"{name}/{file.name}" for each in there for name in ("examples", "samples")
+                for found in each.rglob(name) if found.is_dir() for file in found.iterdir()}
         for text in texts_of(folder):
             words = text.read_text(encoding="utf-8", errors="replace")
-            for page in sorted(set(PAGE.findall(words))):
+            for page in sorted({*PAGE.findall(words), *EXAMPLE.findall(words)}):
                 if page in has:
                     passed += 1
                 else:

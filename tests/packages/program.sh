@@ -2,24 +2,8 @@
 try 'there is no compiler here' sh -c '! command -v cc && ! command -v gcc && ! command -v clang'
 files > "$work/before"
 
-# From the version before: a release, or else this package under a lower version number.
-if [ -d /given/earlier ]; then
-    installs 'an earlier version' /given/earlier/township_*_amd64.deb /given/earlier/township-doc_*_all.deb
-else
-    mkdir "$work/earlier"
-    dpkg-deb -R /given/dist/township_*_amd64.deb "$work/earlier"
-    sed -i -e 's/^Version: .*/Version: 0.0.1/' -e 's/^\(Depends: .*\), township-doc ([^)]*)/\1/' \
-        "$work/earlier/DEBIAN/control"
-    touch "$work/earlier/usr/share/doc/township/in-the-version-before"
-    dpkg-deb -b "$work/earlier" "$work/earlier.deb" > "$work/found"
-    installs 'an earlier version' "$work/earlier.deb"
-fi
-installs 'the program over it' /given/dist/township_*_amd64.deb /given/dist/township-doc_*_all.deb
+upgrades '' township township-doc
 version=$(dpkg-query -W -f '${Version}' township)
-prints 'the version before is gone' "0
-status 0" sh -c 'find /usr -name in-the-version-before | wc -l'
-prints 'the version' "$version
-status 0" sh -c 'cd /given/dist && ls township_*_amd64.deb | cut -d _ -f 2'
 
 # The program names the same build, with its commit.
 commit=$(sed -n 's/^commit: \([0-9a-f]*\).*/\1/p' /given/dist/BUILDINFO)
@@ -68,9 +52,7 @@ try 'the completion of zsh' test -s /usr/share/zsh/vendor-completions/_township
 try 'its test for autopkgtest' sh -e /given/source/packaging/debian/tests/program
 
 # Nothing is left of it.
-try 'apt removes the program' apt-get purge -y township township-doc
-files > "$work/after"
-try 'nothing is left of the program' diff "$work/before" "$work/after"
+removes_all 'the program'
 
 # The archive for any Linux.
 tar -C /usr/local --strip-components=1 -xf /given/dist/township-*-linux-x86_64.tar.gz

@@ -8,6 +8,8 @@ printf 'name,description\nA,"sec. 5, lot 1."\nB,"sec. 5, N1/2."\n' > "$work/list
 # The package that is installed, wherever it is.
 works() {
     try "$1: it is not the sources" sh -c 'python3 -c "import township; print(township.__file__)" | grep -v /given/'
+    build=$(ls /given/dist/*.whl | sed 's/.*township-\(.*\)-py3-none-.*/\1/')
+    try "$1: it names its build" sh -c 'python3 -m township --version | grep -F "$1"' sh "$build"
     count "$1: its tests" python3 bindings/python/tests/run.py
     (cd / && python3 -m township batch $samples/b1.csv "$work/list.csv" > "$work/answers" 2> "$work/errors"
         echo "status $?" >> "$work/answers")
@@ -17,6 +19,24 @@ works() {
     done
 }
 
+# A computer with systemd, which only writes down what it is asked to do. apt gives scripts a path of its own.
+echo 'DPkg::Path "/usr/local/sbin:/usr/sbin:/usr/bin:/sbin:/bin";' > /etc/apt/apt.conf.d/path
+mkdir -p /run/systemd/system
+asked=$work/asked
+for program in systemctl deb-systemd-invoke; do
+    printf '#!/bin/sh\necho "%s $*" >> "%s"\n' "$program" "$asked" > "/usr/local/sbin/$program"
+    chmod +x "/usr/local/sbin/$program"
+done
+: > "$asked"
+# What it was asked since the last time.
+asks() {
+    grep -v 'daemon-reload' "$asked" > "$work/found"
+    printf '%s' "${2:+$2
+}" > "$work/wanted"
+    same "$1"
+    : > "$asked"
+}
+
 files > "$work/before"
 try 'pip installs the wheel' pip install -q --no-index /given/dist/township-*.whl
 works 'the wheel'
@@ -24,12 +44,14 @@ try 'pip removes the wheel' pip uninstall -q -y township
 files > "$work/after"
 try 'nothing is left of the wheel' diff "$work/before" "$work/after"
 
-installs 'the package for Python' /given/dist/libtownship1_*_amd64.deb /given/dist/python3-township_*_amd64.deb \
-    /given/dist/township-doc_*_all.deb
+# The service is restarted by an upgrade if it runs, and stopped before it is removed; nothing starts or enables it.
+upgrades "asks installation" libtownship1 python3-township township-doc
+asks 'what an upgrade asks of systemd' 'deb-systemd-invoke try-restart township.service'
 works 'the Debian package'
+man -P cat python3-township > "$work/page" 2>&1
+try 'its man page' grep -q 'acreage of lists of land' "$work/page"
 try 'its service is not enabled' sh -c '[ -e /lib/systemd/system/township.service ] && \
     [ -z "$(find /etc/systemd -name township.service)" ]'
 try 'its test for autopkgtest' sh /given/source/packaging/debian/tests/python
-try 'apt removes the package for Python' apt-get purge -y python3-township libtownship1 township-doc
-files > "$work/after"
-try 'nothing is left of the Debian package' diff "$work/before" "$work/after"
+removes_all 'the package for Python'
+asks 'what the removal asks of systemd' 'deb-systemd-invoke stop township.service'

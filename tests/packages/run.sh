@@ -14,6 +14,7 @@ skip_all() {
 }
 [ "$(id -u)" = 0 ] || skip_all 'only root can make one'
 has debootstrap || skip_all 'there is no debootstrap here'
+has ip || skip_all 'there is no ip here'
 unshare --mount --net --pid --fork true 2> "$work/lost" || skip_all 'no namespaces can be made here'
 
 # Each image, and the tests that are run in it.
@@ -24,10 +25,19 @@ rows='
     rust     rust
     older    program python
     newer    program python
-    server13 server
-    server17 server
-    server18 server
+    next     program python
+    testbed  autopkgtest
+    server13 server postgresql
+    server17 server postgresql
+    server18 server postgresql
+    servers  moved
 '
+# The version before, from which each test upgrades.
+if [ -z "${TOWNSHIP_EARLIER:-}" ]; then
+    TOWNSHIP_EARLIER=$work/earlier
+    export TOWNSHIP_EARLIER
+    try 'an earlier version' sh "$here/earlier.sh" "$dist" "$TOWNSHIP_EARLIER"
+fi
 images=$(echo "$rows" | sed -n 's/^ *\([a-z][a-z0-9]*\) .*/\1/p')
 for image in $images; do
     sh "$here/image.sh" "$image" > "$work/lost" 2> "$work/errors" || {

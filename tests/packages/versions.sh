@@ -90,6 +90,7 @@ if command -v abidw > "$work/lost"; then
     is_released
     mv ../git .git
     try 'a version is released once' sh -c '! sh packaging/release.sh --prepare'
+    . "$root/tests/packages/verified.sh"
     echo >> CHANGELOG.md
     commit 1898859045 > "$work/lost"
     try 'after a release, the version has to be raised' sh -c '! sh packaging/version.sh --check'
@@ -98,9 +99,17 @@ if command -v abidw > "$work/lost"; then
     sed -i "0,/^## /s/^## /## $next (unreleased)\n\n- A change.\n\n&/" CHANGELOG.md
     commit 1898859046 > "$work/lost"
     try 'with the next version, everything agrees' sh packaging/version.sh --check
+    refuses 'a build between releases' 'not the commit with the tag'
     lower "$version" "$(sh packaging/version.sh --debian)"
     try 'its changelog has both versions' sh -c \
         '[ "$(sh packaging/debian_changelog.sh | grep -c "^township (")" = 2 ]'
+
+    # The next release, which is upgraded from the one before.
+    git checkout -q -- .
+    try 'the next release is prepared' sh packaging/release.sh --prepare
+    refuses 'the next release without the one before' 'name the folder'
+    packages_of "$version"
+    verifies 'the next release' "$work/packages" "$work/packages"
 else
     skip 'the record of the ABI, and releases, which record it: no abidw'
 fi
