@@ -55,18 +55,62 @@ class Interface:
         assert reply.status == 200, reply.body
         return reply.json
 
+    def processes(self) -> List[int]:
+        """Return the processes that serve: the one that was started, and its workers."""
+        found = [self.process]
+        for each in Path("/proc").iterdir():
+            if each.name.isdecimal():
+                fields = _fields_of(int(each.name))
+                # The state, and the process that started it. One that has ended has no memory.
+                if fields and int(fields[1]) == self.process and fields[0] != "Z":
+                    found.append(int(each.name))
+        return found
+
     def memory(self) -> int:
-        """Return how many bytes of memory the server has in use."""
-        for line in Path(f"/proc/{self.process}/status").read_text().splitlines():
-            if line.startswith("VmRSS:"):
-                return 1024 * int(line.split()[1])
-        raise AssertionError("no VmRSS")
+        """Return how many bytes of memory the server has in use, with its workers: what they share counts once."""
+        return sum(map(_memory_of, self.processes()))
+
+    def in_files(self) -> int:
+        """Return how many bytes the server keeps in temporary files."""
+        return sum(map(_in_files_of, self.processes()))
 
     def seconds_worked(self) -> float:
         """Return how many seconds processors have worked for the server, whatever else the machine does."""
-        fields = Path(f"/proc/{self.process}/stat").read_text().rpartition(")")[2].split()
-        return (int(fields[11]) + int(fields[12])) / os.sysconf("SC_CLK_TCK")
+        ticks = 0
+        for process in self.processes():
+            fields = _fields_of(process)
+            # Its own, and those of the workers that have ended.
+            ticks += sum(map(int, fields[11:15]))
+        return ticks / os.sysconf("SC_CLK_TCK")
 
     def said(self) -> List[str]:
         """Return the lines that the server has printed."""
         return self._said.read_text().splitlines()
+
+
+def _fields_of(process: int) -> List[str]:
+    """Return what the system says of a process, from its state on: nothing if it is gone."""
+    try:
+        return Path(f"/proc/{process}/stat").read_text().rpartition(")")[2].split()
+    except OSError:
+        return []
+
+
+def _memory_of(process: int) -> int:
+    try:
+        lines = Path(f"/proc/{process}/smaps_rollup").read_text().splitlines()
+    except OSError:
+        return 0
+    return sum(1024 * int(line.split()[1]) for line in lines if line.startswith("Pss:"))
+
+
+def _in_files_of(process: int) -> int:
+    size = 0
+    for each in Path(f"/proc/{process}/fd").iterdir():
+        try:
+            # A temporary file has no name any more.
+            if os.readlink(each).endswith(" (deleted)"):
+                size += each.stat().st_size
+        except OSError:
+            continue
+    return size

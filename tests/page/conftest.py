@@ -9,7 +9,7 @@ import subprocess
 import sys
 import time
 from pathlib import Path
-from typing import Iterator, List
+from typing import Iterator, List, Sequence
 
 import pytest
 
@@ -31,20 +31,20 @@ def server(tmp_path_factory: pytest.TempPathFactory) -> Iterator[Interface]:
 
 
 @contextlib.contextmanager
-def started(said: Path, port: int = 0) -> Iterator[Interface]:
+def started(said: Path, port: int = 0, program: Sequence[str] = ("-m", "township")) -> Iterator[Interface]:
     """A server that runs meanwhile, on this port or on a free one. What it prints is in a file."""
-    command = [sys.executable, "-m", "township", "serve", "--port", str(port)]
+    command = [sys.executable, *program, "serve", "--port", str(port)]
     environment = {**os.environ}
     environment.setdefault("PYTHONPATH", str(TOP / "bindings" / "python" / "src"))
     environment.setdefault("TOWNSHIP_LIBRARY", str(TOP / "lib" / "libtownship.so"))
     with said.open("wb") as file, subprocess.Popen(command, stderr=file, env=environment) as process:
         try:
-            yield Interface(_port_in(said), process.pid, said)
+            yield Interface(port_in(said), process.pid, said)
         finally:
             process.terminate()
 
 
-def _port_in(said: Path) -> int:
+def port_in(said: Path) -> int:
     """Wait for the address that the server prints, and return its port. A busy machine takes its time."""
     for _ in range(1200):
         found = re.match(r"township: http://127\.0\.0\.1:([0-9]+)/ ", said.read_text())
@@ -85,8 +85,15 @@ def _words() -> List[str]:
 
 
 @pytest.fixture
-def page(server: Interface, driver: object) -> Page:
+def first(server: Interface, driver: object) -> Page:
     """The page as it is opened for the first time."""
     page = Page(driver, server)
     page.open_afresh()
     return page
+
+
+@pytest.fixture
+def page(first: Page) -> Page:
+    """The page with a nominal township."""
+    first.start_nominal()
+    return first

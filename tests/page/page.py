@@ -25,12 +25,22 @@ class Page:
         self.driver.execute_script("localStorage.clear(); sessionStorage.clear()")
         self.open()
 
-    def open(self, fragment: str = "") -> None:
-        """Open the page, and wait for its first drawing."""
-        self.driver.get("about:blank")
-        self.driver.get(self.server.address + fragment)
+    def start_nominal(self, township: str = "T. 2 N., R. 3 W.") -> None:
+        """Choose a nominal township for a case that is empty."""
+        self.put("#start-township", township)
+        self.one("#start-nominal button").click()
         self.wait_for(lambda: self.all("#drawing svg"))
         self.settle()
+
+    def open(self, fragment: str = "") -> None:
+        """Open the page, and wait for its first drawing, or for the choice of a plat."""
+        self.driver.get("about:blank")
+        self.driver.get(self.server.address + fragment)
+        self.wait_for_start()
+
+    def wait_for_start(self) -> None:
+        """Wait until the page that is loaded shows all of its answers."""
+        self.wait_for(lambda: self.all("#work[aria-busy=false]"))
 
     def settle(self) -> None:
         """Wait until all answers are shown."""
@@ -109,6 +119,12 @@ class Page:
         )
         self.settle()
 
+    def open_section(self, number: int) -> None:
+        """Show a section alone, as a person does who clicks it in the drawing."""
+        self.click_target("section", str(number))
+        self.one("#selected").find_element("xpath", f".//button[.='Section {number} alone']").click()
+        self.settle()
+
     def focused(self) -> str:
         """Return the name of the element with the focus: its id, or its label."""
         return str(
@@ -143,5 +159,6 @@ class Page:
     CONTROL = "\ue009"
     DELETE = "\ue017"
     ENTER = "\ue007"
+    ESCAPE = "\ue00c"
     TAB = "\ue004"
     LEFT, UP, RIGHT, DOWN = "\ue012", "\ue013", "\ue014", "\ue015"

@@ -82,8 +82,8 @@ def test_every_control_has_a_name_and_a_role(page: Page) -> None:
         found = controls(page)
         assert [each for each in found if not each[1]] == []
         names = [name for _, name in found]
-        # The drawing: 84 lines, 47 lots, and 36 sections, which can be told apart by their names.
-        drawn = [name for name in names if re.match(r"(Line \d+: |Section \d+(, lot \d)?$)", name)]
+        # The drawing: 84 lines, 47 lots, and 36 sections, which can be told apart by their names, with the acreage.
+        drawn = [name for name in names if re.match(r"(Line \d+: |Section \d+(, lot \d)?: \d+\.\d\d acres$)", name)]
         assert len(drawn) == len(set(drawn)) == 84 + 47 + 36
         assert {role for role, _ in found} >= {"button", "combobox", "tab", "textbox"}
 
@@ -92,11 +92,11 @@ def test_the_structure_of_the_page(page: Page) -> None:
     assert page.one("html").get_attribute("lang") == "en"
     assert len(page.all("h1")) == 1 and len(page.all("main")) == 1
     assert page.driver.title == "Township plat"
-    # Each table has headings; each panel says what its answer is, and answers are announced.
+    # Each table has headings, and answers are announced in one place.
     for table in page.all("table"):
         assert table.find_elements("css selector", "thead th[scope=col]")
-    for name in ("plat", "land", "compare", "tracts"):
-        assert page.one(f"#{name}-answer").get_attribute("role") == "status"
+    live = [each.get_attribute("id") for each in page.all("[role=status], [role=alert], [aria-live]")]
+    assert live == ["said", "unkept", "spoken"]
     ids = [element.get_attribute("id") for element in page.all("[id]")]
     assert len(ids) == len(set(ids))
     for element in page.all("[aria-controls], [aria-describedby], [aria-labelledby]"):
@@ -118,13 +118,20 @@ def test_tabs_by_keyboard(page: Page) -> None:
 
 def test_the_drawing_by_keyboard(page: Page) -> None:
     page.driver.execute_script("document.querySelector('.targets [tabindex=\"0\"]').focus()")
-    assert page.focused() == "Section 36"
+    assert page.focused() == "Section 36: 640.00 acres"
     page.press(page.LEFT)
     assert page.focused() == "Line 36: between sections 36 and 35"
     page.press(page.LEFT)
-    assert page.focused() == "Section 35"
+    assert page.focused() == "Section 35: 640.00 acres"
     page.press(page.UP, page.UP)
-    assert page.focused() == "Section 26"
+    assert page.focused() == "Section 26: 640.00 acres"
+    page.press(page.ENTER)
+    assert "Section 26: 640.00 acres" in page.text("#selected")
+    assert page.focused() == "Add to the description"
+    page.press(page.ESCAPE)
+    assert page.focused() == "Section 26: 640.00 acres" and page.text("#selected") == ""
+    page.press(page.ENTER, page.TAB)
+    assert page.focused() == "Section 26 alone"
     page.press(page.ENTER)
     page.wait_for_text("#drawing", "SECTION 26")
     assert page.focused() == "view"
@@ -132,6 +139,8 @@ def test_the_drawing_by_keyboard(page: Page) -> None:
 
 def test_a_whole_case_by_keyboard(page: Page) -> None:
     """From the top of the page to an answer with the Tab key and letters alone."""
+    page.driver.refresh()
+    page.settle()
     page.one("body").send_keys(page.TAB)
     assert page.focused() == "Skip to the work area"
     page.press(page.ENTER, page.TAB)
@@ -140,6 +149,64 @@ def test_a_whole_case_by_keyboard(page: Page) -> None:
     assert page.focused() == "description"
     page.press("sec. 14, NE1/4.")
     page.wait_for_text("#land-answer", "160.00 acres")
+
+
+#: Remembers each text that is announced, and when, in milliseconds after the last key.
+LISTEN = """
+window.heard = [];
+window.lastKey = 0;
+document.addEventListener('input', () => { window.lastKey = performance.now(); }, { capture: true });
+new MutationObserver(() => {
+  const text = document.querySelector('#spoken').textContent;
+  if (text !== '') window.heard.push([text, performance.now() - window.lastKey]);
+}).observe(document.querySelector('#spoken'), { childList: true, characterData: true, subtree: true });
+"""
+
+
+def test_answers_are_announced_once_after_a_pause(page: Page) -> None:
+    page.tab("land")
+    page.wait_for(lambda: page.text("#spoken") == "Write a description to see its land and acreage.")
+    page.driver.execute_script(LISTEN)
+    for text, said in (
+        ("sec. 14, NE1/4 and N1/2.", "Refused 67: this land was named before"),
+        ("sec. 14, NE1/4.", "160.00 acres."),
+    ):
+        page.type("#description", text)
+        page.wait_for(lambda: said in page.text("#spoken"))
+        heard = page.driver.execute_script("return window.heard.splice(0)")
+        # Every key gets an answer, and only the last one is announced.
+        assert len(heard) == 1 and heard[0][1] > 700
+        assert not set("|^") & set(heard[0][0]) and said in heard[0][0]
+    assert page.one("#spoken").get_attribute("role") == "status"
+    assert page.one("#land-answer").get_attribute("role") is None
+
+
+def test_every_figure_has_its_name_and_a_sentence(page: Page) -> None:
+    page.put("#lots-text", "section,lot,acres\nT,2,N,3,W\n5,1,40.45\n5,2,40.50\n")
+    page.put("#notes", page.value("#notes"))
+    page.tab("land")
+    page.type("#description", "sec. 5, lots 1 and 2.")
+    page.wait_for_text("#land-answer", "80.95 acres")
+    names = [each.text for each in page.all("#land-answer summary")]
+    assert names[0] == "Lot table" and set(names) >= {"Lot table", "Exact area", "Canonical"}
+    assert len(names) == 1 + len(page.all("#land-answer dd"))
+    for summary in page.all("#land-answer summary"):
+        sentence = summary.find_element("xpath", "../p")
+        assert not sentence.is_displayed()
+        summary.click()
+        assert sentence.is_displayed() and sentence.text.endswith(".")
+    assert "returned acreage" in page.text("#land-answer")
+    # All of them are explained on every panel.
+    page.one("details.terms summary").click()
+    assert [each.text for each in page.all("#terms dt")] == ["Exact account", "Plat account", "Lot table", "Exact area", "Canonical"]
+    assert len(page.all("#terms dd")) == 5
+    page.put("#lots-text", "")
+    page.tab("compare")
+    page.put("#first", "sec. 14, N1/2.")
+    page.put("#second", "sec. 14, E1/2.")
+    page.wait_for_text("#compare-answer", "The two overlap.")
+    heads = [each.text for each in page.all("#compare-answer thead th")]
+    assert heads == ["Land", "Acres, exact account", "Plat account", "Canonical"]
 
 
 #: Texts whose answers are wide: long words, and tables with many columns.
@@ -168,22 +235,6 @@ def test_widths(page: Page, width: int) -> None:
             assert page.one("#drawing svg").rect["width"] > 0.3 * width or width >= 2000
     finally:
         page.driver.execute_cdp_cmd("Emulation.clearDeviceMetricsOverride", {})
-
-
-def test_paper(page: Page) -> None:
-    page.driver.execute_cdp_cmd("Emulation.setEmulatedMedia", {"media": "print"})
-    try:
-        assert not page.one("#work").is_displayed() and not page.one("header").is_displayed()
-        size = page.one("#drawing svg").rect
-        # 190 and 255 millimeters, at 96 dots to an inch of 25.4 millimeters.
-        assert (size["width"], size["height"]) == (pytest.approx(718.1, abs=1), pytest.approx(963.8, abs=1))
-    finally:
-        page.driver.execute_cdp_cmd("Emulation.setEmulatedMedia", {"media": ""})
-    for paper in ({"paperWidth": 8.5, "paperHeight": 11}, {"paperWidth": 8.27, "paperHeight": 11.69}):
-        printed = page.driver.execute_cdp_cmd("Page.printToPDF", {**paper, "preferCSSPageSize": False})["data"]
-        import base64
-
-        assert len(re.findall(rb"/Type */Page\b", base64.b64decode(printed))) == 1
 
 
 def test_the_dark_theme(page: Page) -> None:

@@ -144,6 +144,8 @@ def test_the_largest_answers_in_time(server: Interface) -> None:
     tracts = [{"name": str(k), "description": f"sec. 8; sec. 9, {part}"} for k, part in enumerate(parts)]
     requests = [
         ("batch", {"descriptions": ["sec. 5, N1/2"] * 50_000}),
+        ("batch", {"descriptions": [f"sec. 14: NE{k}" for k in range(50_000)]}),
+        ("batch", {"descriptions": ["sec. 14: NE\u00bcNE\u00bc SW\u00bcSW\u00bc"] * 40_000}),
         ("report", {"tracts": tracts, "draw": True}),
         ("suggest", {"text": "NENE" * 16_384, "draw": True}),
         ("suggest", {"text": "sec. 14: NE4" + " NE4-" * 13_000, "draw": True}),
@@ -155,6 +157,34 @@ def test_the_largest_answers_in_time(server: Interface) -> None:
         answer = server.ask(kind, **NOMINAL, **fields)
         assert server.seconds_worked() - begin < 10, kind
     assert len(answer["svg"]) <= 200_000
+
+
+#: The most seconds of a processor for a request that is small, and so is not answered with an error when it takes long.
+SMALL_MOST = 1.0
+
+
+def test_the_largest_answers_to_small_requests(server: Interface) -> None:
+    """The most work that a small request can ask for takes a processor little time."""
+    tracts = [{"name": "", "description": "secs. 1-36, all."}] * 180
+    refused = [{"name": "", "description": "("}] * 260
+    requests = [
+        ("batch", {"descriptions": [""] * 2_600}),
+        ("batch", {"descriptions": ["sec. 5, N1/2"] * 500}),
+        ("report", {"tracts": tracts, "draw": True}),
+        ("report", {"tracts": refused, "draw": True}),
+        ("report", {"list": "secs. 1 to 36, all.\n" * 380, "draw": True}),
+        ("suggest", {"text": "NENE" * 2_000, "draw": True}),
+        ("suggest", {"text": "sec. 14: NE4" + " NE4-" * 1_500, "draw": True}),
+        ("suggest", {"text": "(" * 8_000, "draw": True}),
+        ("compare", {"first": "(" * 4_000, "second": "sec. 1; " * 480, "draw": True}),
+        ("land", {"description": "sec. 8, " + "NE1/4NE1/4NE1/4, " * 450 + "W1/2", "draw": True}),
+    ]
+    for kind, fields in requests:
+        body = json.dumps({**NOMINAL, **fields}, separators=(",", ":")).encode()
+        assert 6 * 1024 < len(body) <= 8 * 1024, (kind, len(body))
+        begin = server.seconds_worked()
+        assert server.post(kind, body).status == 200, (kind, fields)
+        assert server.seconds_worked() - begin < SMALL_MOST, kind
 
 
 def test_a_large_report_holds_no_other_request_up(server: Interface) -> None:

@@ -3,6 +3,7 @@ from __future__ import annotations
 
 import base64
 import json
+import random
 import re
 import xml.etree.ElementTree as ET
 from decimal import Decimal
@@ -158,6 +159,24 @@ def test_suggest_nothing(server: Interface) -> None:
     assert "the field `text` is missing" in server.post("suggest", json.dumps(NOMINAL).encode()).json["error"]
 
 
+@pytest.mark.parametrize(
+    "text, wanted",
+    [
+        ("sec. 14, the old mill", "the old mill"),
+        ("sec. 14, N½NE¼, bläh SW¼", "bläh"),
+        ("NENE, S2NE4 Sec 14-2N-3W near quux", "near quux"),
+        ("sec. 14, that portion of the NE/4 lying north of the road", "portion"),
+        ("sec. 5, N1/2", None),
+        ("quux", None),
+    ],
+)
+def test_words_that_are_not_understood(server: Interface, text: str, wanted: "str | None") -> None:
+    """They are the fewest in a row without which the text has a reading."""
+    answer = server.ask("suggest", **NOMINAL, text=text)
+    assert (None if answer["start"] is None else text[answer["start"] : answer["end"]]) == wanted
+    assert (answer["readings"] == []) is (text != "sec. 5, N1/2")
+
+
 def test_report(server: Interface) -> None:
     tracts = [{"name": "A", "description": "sec. 7, lot 1."}, {"name": "B", "description": "sec. 7, lot 4."}]
     answer = server.ask("report", notes=NOTES, tracts=tracts)
@@ -201,8 +220,12 @@ def test_each_doubtful_place_has_a_note(server: Interface) -> None:
     first, second = server.ask("report", **NOMINAL, tracts=tracts)["tracts"]
     assert places_of(first["notes"], DOUBTFUL) == PLACES and second["notes"] == []
     assert "if two parts were meant" in first["notes"][0]["sentence"]
-    [note] = server.ask("batch", **NOMINAL, descriptions=["sec. 14.", DOUBTFUL])["notes"]
-    assert note["index"] == 1 and note["sentence"] == PLAT.notes(DOUBTFUL)[0].sentence
+    batch = server.ask("batch", **NOMINAL, descriptions=["sec. 14.", DOUBTFUL])["notes"]
+    assert places_of(batch, DOUBTFUL) == PLACES and [note["index"] for note in batch] == [1, 1]
+    assert batch[0]["sentence"] == PLAT.notes(DOUBTFUL)[0].sentence
+    # A lot table changes nothing about it.
+    table = "section,lot,acres\nT,2,N,3,W\n5,1,40.45\n"
+    assert server.ask("batch", lots=table, descriptions=["sec. 14.", DOUBTFUL])["notes"] == batch
 
 
 def test_parts_of_both_are_doubtful_too(server: Interface) -> None:
@@ -215,6 +238,49 @@ def test_many_doubtful_places(server: Interface) -> None:
     text = "; ".join(f"sec. {section}, NE1/4SE1/4 SE1/4, SE1/4SE1/4 SE1/4" for section in range(1, 37))
     notes = server.ask("land", **NOMINAL, description=text)["notes"]
     assert len(notes) == 64 and notes[-1]["sentence"].endswith("; 8 more such places")
+
+
+def test_many_doubtful_places_of_a_batch_and_of_a_list(server: Interface) -> None:
+    """After 1,000 places, each description has only its first note, which says how many more there are."""
+    text = "sec. 14, NE1/4 SE1/4, NW1/4 SW1/4."
+    batch = server.ask("batch", **NOMINAL, descriptions=[text] * 502)["notes"]
+    assert [note["index"] for note in batch] == [*(index for index in range(500) for _ in range(2)), 500, 501]
+    assert {(note["start"], note["end"]) for note in batch} == {(15, 20), (28, 33)}
+    assert [note["sentence"].endswith("1 more such place") for note in batch[-3:]] == [False, True, True]
+    tracts = server.ask("report", **NOMINAL, tracts=[{"name": "A", "description": text}] * 502)["tracts"]
+    assert [len(each["notes"]) for each in tracts] == [2] * 500 + [1] * 2
+    assert "1 more such place" in tracts[-1]["notes"][0]["sentence"]
+
+
+def test_doubtful_places_of_a_long_description(server: Interface) -> None:
+    """Fewer are looked for, so that the answer does not take long, and the last note says how many more there are."""
+    text = f"sec. 14, NE1/4 SE1/4, NW1/4 SW1/4;{' ' * 50_000}sec. 15, NE1/4 SE1/4, NW1/4 SW1/4, SE1/4 NE1/4, SW1/4 NW1/4."
+    notes = server.ask("land", **NOMINAL, description=text)["notes"]
+    # 262,144 bytes are 5 times this text.
+    assert len(notes) == 5 and notes[-1]["sentence"].endswith("; 1 more such place")
+
+
+#: Lists, and the descriptions in them as they are written: `None` if a record has a fault.
+WRITTEN = [
+    ('A,"sec. 14, NE1/4."\r\n\r\nÑ½,sec. 15.', ['"sec. 14, NE1/4."', "sec. 15."]),
+    ('\ufeffsep=;\nname;description;x\n"A\n;1";"sec. 14;""";y\nB;;\n', ['"sec. 14;"""', ""]),
+    ("A\tsec. 14.\rB\tsec. 15.\r", ["sec. 14.", "sec. 15."]),
+    ("sec. 14.\nsec. 15, NE1/4.\nsec. 16.", ["sec. 14.", None, "sec. 16."]),
+    ('description\n"sec. 14.\nsec. 15.\n', [None, "sec. 15."]),
+]
+
+
+@pytest.mark.parametrize("text, wanted", WRITTEN)
+def test_descriptions_have_their_places_in_a_list(server: Interface, text: str, wanted: "list[str | None]") -> None:
+    tracts = server.ask("report", **NOMINAL, list=text)["tracts"]
+    places = [(each.get("start"), each.get("end")) for each in tracts]
+    assert [None if start is None else text[start:end] for start, end in places] == wanted
+    assert [("fault" in each) for each in tracts] == [each is None for each in wanted]
+
+
+def test_records_have_no_places(server: Interface) -> None:
+    [tract] = server.ask("report", **NOMINAL, tracts=[{"name": "A", "description": "sec. 14."}])["tracts"]
+    assert tract["line"] is None and "start" not in tract and "end" not in tract
 
 
 def test_overlaps_have_their_land(server: Interface) -> None:
@@ -342,6 +408,27 @@ def _resolved(described: dict, schema: dict) -> dict:
     return described["components"]["schemas"][name.rpartition("/")[2]] if name else schema
 
 
+def test_overlaps_are_those_of_the_library(server: Interface) -> None:
+    """Which tracts overlap is found by their places: the library finds the same pairs, with the same acreage."""
+    random.seed(36)
+    lands = ["all", "N1/2", "S1/2NE1/4", "SE1/4SE1/4", "NE1/4NE1/4SW1/4"]
+    for count in (0, 1, 2, 12, 60):
+        texts = []
+        for _ in range(count):
+            sections = sorted(random.sample(range(8, 14), random.randrange(1, 4)))
+            texts.append("; ".join(f"sec. {section}, {random.choice(lands)}" for section in sections))
+        # Some are refused, and some are the same.
+        texts += ["sec. 8, N1/3", *texts[:3]]
+        tracts = [(f"Tract {index}", text) for index, text in enumerate(texts)]
+        answer = server.ask("report", notes=NOTES, tracts=[{"name": name, "description": text} for name, text in tracts])
+        expected = PLAT.overlaps(tracts)
+        found = [(each["first"], each["second"], Decimal(each["acres"]["exact"])) for each in answer["overlaps"]]
+        assert found == [(each.first, each.second, each.acres) for each in expected][:1000]
+        assert answer["overlapping"] == len(expected)
+        named = {index for each in expected for index in (each.first, each.second)}
+        assert named == {index for index, tract in enumerate(answer["tracts"]) if tract.get("overlaps")}
+
+
 def test_the_document(server: Interface) -> None:
     """docs/HTTP.md names each route, its example works, and its limits are those of the code."""
     from township._web import app, limits
@@ -353,8 +440,18 @@ def test_the_document(server: Interface) -> None:
         "a body": limits.BODY_MOST // 1024**2,
         "simultaneous connections": limits.CONNECTIONS_MOST,
         "the time for a request to arrive": limits.SECONDS_MOST,
+        "the time for an answer to be read": limits.READING_MOST,
         "descriptions of a batch": limits.DESCRIPTIONS_MOST,
         "tracts of a list": limits.TRACTS_MOST,
     }
+    told = " ".join(text.split())
+    small = f"with more than {limits.SMALL_MOST >> 10} KiB"
+    assert f"{small} that has no answer {limits.SECONDS_MOST} seconds after its first byte" in told
+    assert f"more than {limits.HELD_MOST >> 20} MiB of a process" in told
+    assert f"more than {limits.HELD_USUAL >> 10} KiB of it are closed" in told
+    assert f"longer than {limits.IN_MEMORY >> 10} KiB in temporary files" in told
+    assert f"exceed {limits.HEAD_MOST >> 10} KiB" in told and f"do nothing for {limits.IDLE_MOST} seconds" in told
+    assert f"and {limits.IDLE_MOST} seconds without a byte" in told
+    assert f"more than {limits.SMALL_MOST >> 10} KiB" in " ".join((TOP / "docs" / "SERVING.md").read_text().split())
     [command] = re.findall(r"curl -s http://127.0.0.1:8036(\S+) .*?-d '(.*?)'", text, re.DOTALL)
     assert server.post(command[0].rpartition("/")[2], command[1].encode()).json["acres"]["exact"] == "160.00"

@@ -5,8 +5,9 @@ After a change that is meant to be seen, write them anew by `sh tests/page/run.s
 from __future__ import annotations
 
 import io
+import itertools
 from pathlib import Path
-from typing import Any, Callable, Dict, Iterator
+from typing import Any, Callable, Dict, Iterator, Optional
 
 import pytest
 
@@ -15,9 +16,8 @@ from page import Page
 TOP = Path(__file__).resolve().parents[2]
 PICTURES = Path(__file__).parent / "pictures"
 
-#: The size of a kept picture, and of the window that it shows.
-KEPT = (400, 320)
-WINDOW = (1200, 960)
+#: The windows, each with the size of the kept pictures of it.
+WINDOWS = {"": ((1200, 960), (400, 320)), "phone-": ((390, 844), (195, 422))}
 
 #: How much the pixels may differ on average, of 255, and how many in a thousand may differ by more than a quarter.
 #: Fonts are drawn a little differently by other versions of the browser.
@@ -52,9 +52,11 @@ def the_readings(page: Page) -> None:
     page.wait_for_text("#readings", "2.50 acres")
 
 
-def a_section(page: Page) -> None:
+def a_section(page: Page) -> str:
+    """On a phone, the drawing is below what is typed."""
     land(page)
-    page.click_target("section", "5")
+    page.open_section(5)
+    return "#sheet"
 
 
 def comparison(page: Page) -> None:
@@ -90,7 +92,8 @@ def refused_notes(page: Page) -> None:
     page.wait_for_text("#plat-answer", "Refused 23")
 
 
-STATES: Dict[str, Callable[[Page], None]] = {
+#: The states. Each returns what is scrolled into view, if that isn't the top of the page.
+STATES: Dict[str, Callable[[Page], Optional[str]]] = {
     "plat": the_plat,
     "land": land,
     "refusal": a_refusal,
@@ -105,10 +108,11 @@ STATES: Dict[str, Callable[[Page], None]] = {
 
 
 @pytest.fixture
-def window(page: Page) -> Iterator[Page]:
+def window(page: Page, size: str) -> Iterator[Page]:
     """The page with the sample, in a window of one size, with no cursor that blinks."""
-    size = {"width": WINDOW[0], "height": WINDOW[1], "deviceScaleFactor": 1, "mobile": False}
-    page.driver.execute_cdp_cmd("Emulation.setDeviceMetricsOverride", size)
+    (width, height), _ = WINDOWS[size]
+    metrics = {"width": width, "height": height, "deviceScaleFactor": 1, "mobile": False}
+    page.driver.execute_cdp_cmd("Emulation.setDeviceMetricsOverride", metrics)
     try:
         open_sample(page)
         yield page
@@ -117,16 +121,20 @@ def window(page: Page) -> Iterator[Page]:
         page.driver.execute_cdp_cmd("Emulation.clearDeviceMetricsOverride", {})
 
 
+@pytest.mark.parametrize("size", WINDOWS)
 @pytest.mark.parametrize("theme", ["light", "dark"])
 @pytest.mark.parametrize("name", STATES)
-def test_picture(window: Page, name: str, theme: str, request: pytest.FixtureRequest) -> None:
+def test_picture(window: Page, name: str, theme: str, size: str, request: pytest.FixtureRequest) -> None:
     image = pytest.importorskip("PIL.Image")
     features = [{"name": "prefers-color-scheme", "value": theme}]
     window.driver.execute_cdp_cmd("Emulation.setEmulatedMedia", {"features": features})
-    STATES[name](window)
+    place = STATES[name](window)
     window.driver.execute_script("document.activeElement.blur(); scrollTo(0, 0)")
-    shown = image.open(io.BytesIO(window.driver.get_screenshot_as_png())).convert("L").resize(KEPT, image.BOX)
-    kept = PICTURES / f"{name}-{theme}.png"
+    if place is not None:
+        window.driver.execute_script("document.querySelector(arguments[0]).scrollIntoView()", place)
+    shown = image.open(io.BytesIO(window.driver.get_screenshot_as_png())).convert("L")
+    shown = shown.resize(WINDOWS[size][1], image.BOX)
+    kept = PICTURES / f"{size}{name}-{theme}.png"
     if request.config.getoption("--keep-pictures"):
         PICTURES.mkdir(exist_ok=True)
         shown.save(kept, optimize=True)
@@ -143,8 +151,8 @@ def differences_of(one: Any, other: Any) -> "list[int]":
 def test_pictures_of_different_states_differ() -> None:
     """The tolerance is not so large that one state is taken for another."""
     image = pytest.importorskip("PIL.Image")
-    for theme in ("light", "dark"):
-        pictures = [image.open(PICTURES / f"{name}-{theme}.png") for name in STATES]
+    for size, theme in itertools.product(WINDOWS, ("light", "dark")):
+        pictures = [image.open(PICTURES / f"{size}{name}-{theme}.png") for name in STATES]
         for place, one in enumerate(pictures):
             for other in pictures[:place]:
                 differences = differences_of(one, other)

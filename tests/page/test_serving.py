@@ -163,10 +163,13 @@ def test_without_flask(tmp_path: Path) -> None:
 
 
 def test_addresses() -> None:
-    from township._serve import _shown
+    """An address that stands for all of this computer is never shown. test_office.py asks at those that are."""
+    from township._web.guard import in_url
+    from township._web.reached import reached_at
 
-    shown = {"127.0.0.1": "127.0.0.1", "::1": "[::1]", "0.0.0.0": "localhost", "::": "localhost"}
-    assert {host: _shown(host) for host in shown} == shown
+    shown = {"127.0.0.1": "127.0.0.1", "::1": "[::1]", "192.0.2.7": "192.0.2.7", "fe80::1%eth0": "[fe80::1]"}
+    assert {host: in_url(reached_at(host)) for host in shown} == shown
+    assert reached_at("0.0.0.0") not in ("", "0.0.0.0") and reached_at("::") not in ("", "::")
 
 
 def test_a_port_in_use(server: Interface) -> None:

@@ -98,6 +98,47 @@ class Combined(unittest.TestCase):
         rest = land("sec. 6.") - land("sec. 6, lots 2 to 7.")
         self.assertEqual(rest, land("sec. 6, lot 1, S1/2NE1/4, SE1/4NW1/4, E1/2SW1/4, SE1/4."))
 
+    def test_compared_by_name(self):
+        nothing = Land.empty(WHERE)
+        for first, second, overlap, holds in (
+            (land("sec. 14."), land("sec. 14, N1/2."), True, True),
+            (land("sec. 14, N1/2."), land("sec. 14."), True, False),
+            (land("sec. 14, N1/2."), land("sec. 14, E1/2."), True, False),
+            (land("sec. 14, N1/2."), land("sec. 14, S1/2."), False, False),
+            (land("sec. 14."), Land.of(OTHER, "sec. 14."), False, False),
+            (land("sec. 14."), nothing, False, True),
+            (nothing, nothing, False, True),
+        ):
+            with self.subTest(first=first, second=second):
+                self.assertEqual((first.overlaps(second), first.contains(second)), (overlap, holds))
+                self.assertEqual(second.overlaps(first), overlap)
+                self.assertEqual(first.disjoint(second), not overlap)
+        self.assertTrue(land("sec. 14, N1/2.").contains("sec. 14, NE1/4."))
+        with self.assertRaises(township.Refused):
+            land("sec. 14.").contains("sec. 37.")
+
+    def test_empty(self):
+        nothing = Land.empty(WHERE)
+        self.assertEqual(nothing, land("sec. 14.") - land("sec. 14."))
+        self.assertEqual((bool(nothing), nothing.text, list(nothing)), (False, "", []))
+        self.assertEqual(nothing | land("sec. 14."), land("sec. 14."))
+        self.assertNotEqual(nothing, Land.empty(OTHER))
+        with self.assertRaises(ValueError):
+            Land.empty("T. 0 N., R. 3 W.")
+
+    def test_union_of_many(self):
+        sections = [land(f"sec. {number}.") for number in range(1, 37)]
+        self.assertEqual(Land.union(iter(sections)).text.count("\n"), 37)
+        self.assertEqual(Land.union(sections + sections), Land.union(sections))
+        self.assertEqual(Land.union(sections[:1]), sections[0])
+        self.assertEqual(Land.union([Land.empty(WHERE), sections[13]]), sections[13])
+        with self.assertRaisesRegex(ValueError, "Land.empty"):
+            Land.union([])
+        with self.assertRaisesRegex(ValueError, "township"):
+            Land.union([sections[0], Land.of(OTHER, "sec. 14.")])
+        with self.assertRaises(TypeError):
+            Land.union(["sec. 14.", "sec. 15."])
+
     def test_in_different_townships(self):
         one, other = land("sec. 14."), Land.of(OTHER, "sec. 14.")
         for combine in (Land.__or__, Land.__and__, Land.__sub__, Land.__xor__):
@@ -263,6 +304,11 @@ class Values(unittest.TestCase):
     def test_shown(self):
         self.assertEqual(repr(land("sec. 14, N1/2.")), "<township.Land: T. 2 N., R. 3 W., sec. 14, N1/2.>")
         self.assertEqual(repr(land("sec. 14.") - land("sec. 14.")), "<township.Land: none in T. 2 N., R. 3 W.>")
+        self.assertEqual(
+            repr(Land.union(land(f"sec. {number}.") for number in range(1, 37))),
+            "<township.Land: T. 2 N., R. 3 W., sec. 1, all; sec. 2, all; sec. 3, all; sec. 4, all; sec. 5, all; "
+            "sec. 6, all; ..>",
+        )
 
 
 if __name__ == "__main__":

@@ -4,7 +4,7 @@ import pickle
 import unittest
 from decimal import Decimal
 
-from township import Overlap, Refusal, Refused, TractAnswer, _library
+from township import Land, Overlap, Refusal, Refused, TractAnswer, _library
 from township._written import text_by
 
 from samples import TRACTS, even, uneven
@@ -42,6 +42,20 @@ class Reports(unittest.TestCase):
     def test_any_iterable_of_text_or_bytes(self):
         report = uneven().report({"A": b"sec. 7, lot 1.", b"B": "sec. 14, N½."}.items())
         self.assertEqual([tract.acres for tract in report.tracts], [Decimal("39.18"), Decimal("320.00")])
+
+    def test_land(self):
+        plat = uneven()
+        described = [("A", "sec. 7, lot 1."), ("B", "sec. 7, lot 4; sec. 14, N1/2."), ("C", "sec. 15.")]
+        lands = [(name, plat.land(description)) for name, description in described]
+        self.assertEqual(plat.report(lands), plat.report(described))
+        self.assertEqual(plat.report([lands[0], *described[1:]]), plat.report(described))
+        again = [*lands, ("D", plat.land("sec. 14, NE1/4."))]
+        self.assertEqual(plat.report_each(again)[3].acres, plat.acres("sec. 14, NE1/4."))
+        self.assertEqual([(it.first, it.second) for it in plat.overlaps(again)], [(1, 3)])
+        for land, number in ((Land.empty("T. 2 N., R. 3 W."), 44), (Land.of("T. 3 N., R. 3 W.", "sec. 14."), 61)):
+            with self.subTest(land=land), self.assertRaises(Refused) as refused:
+                plat.report([("A", land)])
+            self.assertEqual((refused.exception.number, refused.exception.inner.number), (83, number))
 
     def test_no_tracts(self):
         report = uneven().report([])

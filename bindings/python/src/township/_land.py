@@ -4,8 +4,11 @@ from __future__ import annotations
 from ctypes import byref, c_uint32
 from decimal import Decimal
 from fractions import Fraction
+from functools import reduce
+from operator import or_
+from textwrap import shorten
 from types import MappingProxyType
-from typing import TYPE_CHECKING, Any, Dict, Iterator, List, Mapping, Sequence, Tuple, Union, overload
+from typing import TYPE_CHECKING, Any, Dict, Iterable, Iterator, List, Mapping, Sequence, Tuple, Union, overload
 
 from . import _library
 from ._account import Account
@@ -19,6 +22,9 @@ from ._written import text_by
 if TYPE_CHECKING:
     from ._lots import Lots
     from ._plat import Plat
+
+#: The most characters of a description in the representation of land.
+_SHOWN_MOST = 100
 
 #: The rows of a section that has no land.
 _NO_ROWS = bytes(4 * _library.PLACES_ACROSS)
@@ -110,6 +116,31 @@ class Land:
         land._compared_to(land)
         return land
 
+    @classmethod
+    def empty(cls, township: Named) -> Land:
+        """Make empty land in a township, to which `|` adds.
+
+        >>> bool(township.Land.empty("T. 2 N., R. 3 W."))
+        False
+        """
+        return cls._of_struct(_library.Land(township=_library.Designation(*codes_of(township_named(township)))))
+
+    @classmethod
+    def union(cls, lands: Iterable[Land]) -> Land:
+        """Return the land that is in any of several lands, as `|` does for two.
+
+        Raise `ValueError` if there are none, since their township is then unknown, or if they are in different
+        townships.
+
+        >>> township.Land.union(plat.land(f"sec. 14, {part}.") for part in ("NE1/4", "NW1/4", "S1/2"))
+        <township.Land: T. 2 N., R. 3 W., sec. 14, all.>
+        """
+        each = iter(lands)
+        first = next(each, None)
+        if first is None:
+            raise ValueError("the union of no lands has no township; use Land.empty")
+        return reduce(or_, each, first)
+
     @property
     def township(self) -> Township:
         """The township's designation."""
@@ -192,6 +223,26 @@ class Land:
         True
         """
         return not self or not other or self._compared_to(other) == _library.DISJOINT
+
+    def disjoint(self, other: Land) -> bool:
+        """Return whether the two have no place in common: `isdisjoint`, by the name that it has for shapes."""
+        return self.isdisjoint(other)
+
+    def overlaps(self, other: Land) -> bool:
+        """Return whether the two have a place in common, also if they are the same or one contains the other.
+
+        >>> plat.land("sec. 14, N1/2.").overlaps(plat.land("sec. 14, NE1/4."))
+        True
+        """
+        return not self.isdisjoint(other)
+
+    def contains(self, other: Union[Land, Text]) -> bool:
+        """Return whether each place of the other land, or of a description, is in this land.
+
+        >>> plat.land("sec. 14, N1/2.").contains("sec. 14, NE1/4.")
+        True
+        """
+        return other in self
 
     def _repr_svg_(self) -> str:
         """Return the drawing that a notebook shows, without acreage, which needs a plat: see `Plat.svg`."""
@@ -287,4 +338,5 @@ class Land:
         return Land.of_rows, (tuple(self.township), rows)
 
     def __repr__(self) -> str:
-        return f"<township.Land: {' '.join(self.text.split()) or f'none in {self.township}'}>"
+        shown = shorten(self.text, _SHOWN_MOST, placeholder=" ..") or f"none in {self.township}"
+        return f"<township.Land: {shown}>"

@@ -13,7 +13,7 @@ from ._figures import acres_of_hundredths, fraction_of
 from ._land import Land
 from ._lot_faults import LACKING, refused_lots
 from ._refused import DESCRIPTION, LAND, LIST, LOT_TABLE, Refused, exception_of, failure_of, hinted
-from ._report import LotsReport, list_of, report_by
+from ._report import Described, LotsReport, list_of, report_by
 from ._spelling import Named, township_named
 from ._text import Path, Text, encoded, names_a_file, shown
 from ._township import Township, codes_of, nominal_plat_of, township_of
@@ -176,8 +176,8 @@ class Lots:
             self._check_description(answer, given)
         return fraction_of(area)
 
-    def report(self, tracts: Iterable[Tuple[Text, Text]]) -> LotsReport:
-        """Return the acreage of tracts, each a name and a description, and that of all of them together.
+    def report(self, tracts: Iterable[Tuple[Text, Described]]) -> LotsReport:
+        """Return the acreage of tracts, each a name and a description or `Land`, and that of all of them together.
 
         There may be at most 1,000 tracts, and they must not overlap. A name is 1 to 64 bytes of printable
         ASCII, and each name must be unique.

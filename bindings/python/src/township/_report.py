@@ -3,12 +3,16 @@ from __future__ import annotations
 
 import ctypes
 from decimal import Decimal
-from typing import Iterable, NamedTuple, Optional, Tuple
+from typing import Iterable, NamedTuple, Optional, Tuple, Union
 
 from . import _library
 from ._figures import acres_of_hundredths
+from ._land import Land
 from ._refused import Refusal, inner_refusal, refusal_of
 from ._text import Text, encoded
+
+#: The land of a tract: a description, or land as a value.
+Described = Union[Text, Land]
 
 
 class Tract(NamedTuple):
@@ -123,10 +127,14 @@ def _tract_of(tract: _library.Tract) -> Tract:
     return Tract(tract.name.decode("ascii"), acres_of_hundredths(tract.hundredths))
 
 
-def list_of(tracts: Iterable[Tuple[Text, Text]]) -> bytes:
-    """Return the list of tracts (CSV) with these names and descriptions. Every field is quoted."""
+def list_of(tracts: Iterable[Tuple[Text, Described]]) -> bytes:
+    """Return the list of tracts (CSV) with these names and descriptions. Every field is quoted.
+
+    Land is described by its canonical text.
+    """
     records = [b"name,description"]
-    for name, description in tracts:
+    for name, given in tracts:
+        description = given.text if isinstance(given, Land) else given
         records.append(_quoted(name) + b"," + _quoted(description))
     return b"\n".join(records) + b"\n"
 

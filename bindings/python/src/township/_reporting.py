@@ -6,7 +6,7 @@ from typing import Iterable, Tuple
 
 from . import _library
 from ._refused import LIST, exception_of
-from ._report import Overlap, Report, TractAnswer, answers_on, list_of, overlaps_on, report_on
+from ._report import Described, Overlap, Report, TractAnswer, answers_on, list_of, overlaps_on, report_on
 from ._text import Text, encoded
 
 
@@ -17,8 +17,8 @@ class Reporting:
 
     _parts: _library.Plat
 
-    def report(self, tracts: Iterable[Tuple[Text, Text]]) -> Report:
-        """Return the report on tracts, each a name and a description.
+    def report(self, tracts: Iterable[Tuple[Text, Described]]) -> Report:
+        """Return the report on tracts, each a name and a description, or a name and `Land`.
 
         There may be at most 1,000 tracts, and they must not overlap. A name is 1 to 64 bytes of printable
         ASCII, and each name must be unique.
@@ -49,7 +49,7 @@ class Reporting:
             raise self._list_exception(answer, given)
         return report
 
-    def report_each(self, tracts: Iterable[Tuple[Text, Text]]) -> Tuple[TractAnswer, ...]:
+    def report_each(self, tracts: Iterable[Tuple[Text, Described]]) -> Tuple[TractAnswer, ...]:
         """Return the answer to each of the tracts, whatever is wrong with the others: its acreage or its refusal.
 
         The refusal is the first that the tract has by itself, at its record: the tract with index k is record
@@ -78,7 +78,7 @@ class Reporting:
             raise self._list_exception(answer, given)
         return answers
 
-    def overlaps(self, tracts: Iterable[Tuple[Text, Text]]) -> Tuple[Overlap, ...]:
+    def overlaps(self, tracts: Iterable[Tuple[Text, Described]]) -> Tuple[Overlap, ...]:
         """Return all overlaps of the tracts, in the order of the later tract, and then of the earlier one.
 
         A tract that `report_each` refuses as no tract, or for its description, overlaps none.

@@ -4,7 +4,7 @@ from __future__ import annotations
 import argparse
 import sys
 import webbrowser
-from typing import Any
+from typing import Any, Sequence
 
 from ._batch import Status, Stopped
 from ._web.limits import PORT
@@ -58,29 +58,34 @@ def run_serve(asked: argparse.Namespace) -> Status:
     """Serve until Ctrl-C. Raise `Stopped` if that is not possible."""
     try:
         from ._web.app import create_app
-        from ._web.guard import LOCAL_HOSTS
-        from ._web.serving import server_of
+        from ._web.guard import LOCAL_HOSTS, in_url
+        from ._web.reached import is_address, reached_at
+        from ._web.serving import Server
     except ModuleNotFoundError as error:
         remedy = "install python3-flask and python3-waitress"
         raise Stopped(f"township: the page needs {error.name}: {remedy}") from error
-    app = create_app(LOCAL_HOSTS | {name.lower() for name in asked.name})
+    names = {*LOCAL_HOSTS, *map(str.lower, asked.name)}
+    if not is_address(asked.host):
+        names.add(asked.host.lower())
+    app = create_app(names)
     try:
-        server = server_of(app, asked.host, asked.port)
+        server = Server(app, asked.host, asked.port)
     except (OSError, ValueError) as error:
         raise Stopped(f"township: cannot listen on {asked.host}, port {asked.port}: {error}") from error
-    address = f"http://{_shown(asked.host)}:{server.effective_port}/"
-    print(f"township: {address} (Ctrl-C stops it)", file=sys.stderr, flush=True)
+    address = f"http://{in_url(reached_at(server.address))}:{server.port}/"
+    print(f"township: {address} (Ctrl-C stops it)", file=sys.stderr)
+    if names != LOCAL_HOSTS or in_url(server.address) not in LOCAL_HOSTS:
+        print(f"township: {_said(sorted(names))}", file=sys.stderr)
+    sys.stderr.flush()
     if asked.open:
         webbrowser.open(address)
     server.run()
     return Status.ACCEPTED
 
 
-def _shown(host: str) -> str:
-    """Return an address as browsers take it."""
-    if host in ("0.0.0.0", "::"):
-        return "localhost"
-    return f"[{host}]" if ":" in host else host
+def _said(names: Sequence[str]) -> str:
+    """Return what is said of the names under which the server answers."""
+    return f"it answers as {', '.join(names)}, and by its own address (--name adds a name)"
 
 
 def _port(word: str) -> int:

@@ -1,25 +1,26 @@
 """Drawings of plats, as SVG: a township on a sheet, or one of its sections.
 
 `subject` says what is drawn, and `of_plat` finds it. `layout` says where sections, lots, and lines are; `places`
-turns land into paths, and `hatching` shades them. `township_sheet` and `section_sheet` draw the two kinds of sheets,
-with the parts in `sheet` that both use, and `title_block` the block below. `targets` adds the shapes that the page
-makes buttons of, and `markup` writes the elements.
+turns land into paths, `pieces` into pieces with closed outlines, and `hatching` shades them; `tracts_drawn` outlines
+and names tracts. `township_sheet` and `section_sheet` draw the two kinds of sheets, with the parts in `sheet` that both
+use, and `title_block` the block below. `targets` adds the shapes that the page makes buttons of, and `markup` writes
+the elements.
 """
 from __future__ import annotations
 
 from typing import Optional
 
 from .section_sheet import section_sheet
-from .subject import Figures, Rows, Shade, Subject
+from .subject import Figures, Outline, Rows, Shade, Subject
 from .township_sheet import township_sheet
 
-__all__ = ["Figures", "Rows", "Shade", "Subject", "svg_of"]
+__all__ = ["Figures", "Outline", "Rows", "Shade", "Subject", "svg_of"]
 
 
 def svg_of(subject: Subject, section: Optional[int] = None, targets: bool = False) -> str:
     """Return the drawing of a township, or of one of its sections, as an SVG document.
 
-    With `targets`, the drawing of a township has transparent shapes over its lines, lots, and sections, which
-    the page makes buttons of.
+    With `targets`, the drawing has transparent shapes over its lines, lots, and sections, which the page makes
+    buttons of.
     """
-    return township_sheet(subject, targets) if section is None else section_sheet(subject, section)
+    return township_sheet(subject, targets) if section is None else section_sheet(subject, section, targets)

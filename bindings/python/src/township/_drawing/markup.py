@@ -1,6 +1,7 @@
 """Elements of SVG, as text. Every text and every attribute is escaped."""
 from __future__ import annotations
 
+import functools
 import re
 from html import escape
 from typing import Iterable, Union
@@ -51,8 +52,12 @@ def escaped(text: str) -> str:
     return escape(fit(text), quote=False)
 
 
+@functools.lru_cache(maxsize=4096)
 def text(words: str, x: float, y: float, size: float, **attributes: Value) -> str:
-    """Return a line of text whose baseline begins at (x, y)."""
+    """Return a line of text whose baseline begins at (x, y).
+
+    Most of them are the same in each drawing of a plat, of which the page asks for one with each key, so they are kept.
+    """
     return element("text", escaped(words), x=x, y=y, font_size=size, **attributes)
 
 

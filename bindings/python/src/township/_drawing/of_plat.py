@@ -8,6 +8,7 @@ from .._account import ACCOUNTS, Account
 from .._refused import Refused
 from .._text import Text
 from . import svg_of
+from .layout import REGULAR
 from .subject import Figures, Shade, Subject
 
 if TYPE_CHECKING:
@@ -17,6 +18,11 @@ if TYPE_CHECKING:
 
 #: What the title block calls each account.
 _NAMES = {"exact": "Exact account", "plat": "Plat account"}
+
+#: What the figures of a drawing are based on, in words.
+_BY_NOTES = "Acreage by the field notes."
+_BY_RULE = "Acreage of a nominal township, whose section lines are all regular."
+_BY_LOTS = "Acreage by the lot table."
 
 _SECTIONS = 36
 
@@ -70,13 +76,14 @@ def subject_of(plat: Plat, *shades: Shade, lots: Optional[Lots] = None, is_measu
 def _figures_of(plat: Plat) -> Figures:
     lots = {(number, lot): acres for number, each in plat.sections.items() for lot, acres in each.lots.items()}
     sections = {number: each.total for number, each in plat.sections.items()}
-    return Figures(lots, sections, plat.total, plat.closing_quarters)
+    is_regular = all(quarter == REGULAR for quarter in plat.closing_quarters)
+    return Figures(lots, sections, plat.total, plat.closing_quarters, _BY_RULE if is_regular else _BY_NOTES)
 
 
 def _figures_by(lots: Lots, plat: Plat) -> Figures:
     sections = {number: _acres_by(lots, f"sec. {number}.") for number in plat.sections}
     total = _acres_by(lots, "secs. 1 to 36, all.")
-    return Figures(lots.figures, sections, total, plat.closing_quarters, "Acreage by the lot table.")
+    return Figures(lots.figures, sections, total, plat.closing_quarters, _BY_LOTS)
 
 
 def _acres_by(lots: Lots, description: str) -> Optional[Decimal]:

@@ -48,16 +48,19 @@ def boxes_of(picture: Picture) -> List[Box]:
     found: List[Box] = []
     open_runs: Dict[Tuple[int, int], int] = {}
     for y, row in enumerate([*picture, 0]):
-        runs = set(_runs(row))
-        for run in [each for each in open_runs if each not in runs]:
+        # Most rows of a picture are empty.
+        if not row and not open_runs:
+            continue
+        present = set(runs(row))
+        for run in [each for each in open_runs if each not in present]:
             top = open_runs.pop(run)
             found.append(Box(run[0], top, run[1], y - top))
-        for run in runs:
+        for run in present:
             open_runs.setdefault(run, y)
     return sorted(found, key=lambda box: (box.y, box.x))
 
 
-def _runs(row: int) -> Iterator[Tuple[int, int]]:
+def runs(row: int) -> Iterator[Tuple[int, int]]:
     """Yield the first bit and the length of each run of ones."""
     start = 0
     while row:
@@ -104,8 +107,10 @@ def _edges(picture: Picture) -> Iterator[Tuple[int, int, int]]:
     A run ends where the land changes sides, so that no side of the outline crosses another.
     """
     for y, (above, below) in enumerate(zip([0, *picture], [*picture, 0])):
+        if above == below:
+            continue
         for one_side in (above & ~below, below & ~above):
-            for x, length in _runs(one_side):
+            for x, length in runs(one_side):
                 yield y, x, length
 
 
@@ -113,7 +118,9 @@ def _turned(picture: Picture, width: int) -> Picture:
     """Return a picture in which rows and columns have changed places."""
     columns = [0] * width
     for y, row in enumerate(picture):
-        for x, length in _runs(row):
+        if not row:
+            continue
+        for x, length in runs(row):
             for column in range(x, x + length):
                 columns[column] |= 1 << y
     return columns

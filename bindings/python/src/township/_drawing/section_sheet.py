@@ -1,13 +1,15 @@
 """The sheet of one section."""
 from __future__ import annotations
 
-from typing import Iterator, List, Optional
+import functools
+from typing import Callable, Iterator, List, Optional
 
-from .layout import LOT, SECTION, Box, Lot, closing_of, lots_of
-from .markup import element, number, text
-from .places import picture_of_section
-from .sheet import WIDTH, Shading, chains, document, halo, heading, north_arrow, weight_of
+from .layout import LOT, SECTION, Box, closing_of, lots_of
+from .markup import element, number
+from .places import Picture, picture_of_section
+from .sheet import WIDTH, Shading, centered, chains, document, halo, heading, north_arrow, weight_of
 from .subject import Figures, Rows, Subject
+from .targets import targets_of
 from .title_block import grouped, title_block
 
 #: The side of a place and of the section, in millimeters, and where its northwest corner is.
@@ -26,34 +28,56 @@ _DIVISIONS = (
 )
 #: The distance, in millimeters, of the texts along a closing line from it.
 _APART = 1.8
+#: What a screen shows of the sheet: the section, the figures along it, and the north arrow.
+_VIEW = Box(9, 21, 180, 176)
 _NOTE = "Along each closing line: its last quarter mile, in chains (20.00 if regular)."
 
 
-def section_sheet(subject: Subject, section: int) -> str:
+def section_sheet(subject: Subject, section: int, targets: bool) -> str:
     """Return the drawing of a section, with the land in it."""
-
-    def picture_of(rows: Rows) -> List[int]:
-        return picture_of_section(rows.get(section, ()))
-
-    shading = Shading(subject, picture_of, SECTION, SIDE)
+    shading = Shading(subject, _pictured(section), SECTION, SIDE)
+    tracts = shading.tracts(LEFT, TOP, _taken(section))
     parts = [
         heading(f"Section {section}", str(subject.township)),
-        north_arrow(WIDTH - 9, 26.0),
+        north_arrow(WIDTH - 6, TOP + 16),
         *shading.land(LEFT, TOP),
         *(_division(*division, section) for division in _DIVISIONS),
         _boundary(),
+        *tracts.parts,
         *_lots(subject.figures, section),
-        halo(list(_aliquot_names(section)), 0.9),
+        halo(list(_aliquot_names(section)), 0.9, 2.7, "aliquot-names"),
     ]
     total, notes = None, []
+    if tracts.left_out:
+        notes.append(f"{tracts.left_out} tracts are not outlined.")
     if subject.figures is not None:
-        total, notes = subject.figures.sections[section], [subject.figures.note]
+        total = subject.figures.sections[section]
+        notes.append(subject.figures.note)
         if subject.figures.closing_quarters and _closes(section):
-            parts.extend(_closing_quarters(subject.figures, section))
+            closing = list(_closing_quarters(subject.figures, section))
+            parts.append(halo(closing, 0.5, 3.4, "closing"))
             notes.append(_NOTE)
     parts.append(title_block(subject, shading, (f"Section {section}", total), TOP + SIDE + 6, notes))
+    if targets:
+        parts.append(targets_of(LEFT, TOP, PLACE, subject.figures, section))
     name = f"Section {section} of {subject.township}"
-    return document(name, _described(subject, section), shading.definitions(), parts)
+    return document(subject, name, _described(subject, section), shading.definitions(), parts, _VIEW)
+
+
+@functools.lru_cache(maxsize=36)
+def _pictured(section: int) -> Callable[[Rows], Picture]:
+    """Return the function that returns the picture of land in a section."""
+    return lambda rows: picture_of_section(rows.get(section, ()))
+
+
+def _taken(section: int) -> List[Box]:
+    """Return the places that the names and figures of lots and quarter-quarter sections take."""
+    lots = {(box.x, box.y) for _, box in lots_of(section)}
+    return [
+        Box(x + 1, y + 2, LOT - 2, 4) if (x, y) in lots else Box(x + 1, y + 3, LOT - 2, 2)
+        for x in range(0, SECTION, LOT)
+        for y in range(0, SECTION, LOT)
+    ]
 
 
 def _described(subject: Subject, section: int) -> str:
@@ -92,13 +116,14 @@ def _division(step: int, width: float, dashes: str, section: int) -> str:
         stroke="currentColor",
         stroke_width=width,
         stroke_dasharray=dashes,
+        **{"class": f"division-{step}"},
     )
 
 
 def _boundary() -> str:
     """Return the boundary of the section."""
     box = {"x": LEFT, "y": TOP, "width": SIDE, "height": SIDE}
-    return element("rect", **box, fill="none", stroke="currentColor", stroke_width=0.8)
+    return element("rect", **box, fill="none", stroke="currentColor", stroke_width=0.8, **{"class": "boundary"})
 
 
 def _lots(figures: Optional[Figures], section: int) -> Iterator[str]:
@@ -106,19 +131,13 @@ def _lots(figures: Optional[Figures], section: int) -> Iterator[str]:
     lots = list(lots_of(section))
     moves = "".join(f"M{number(_x(box.x))} {number(_y(box.y))}h40v40h-40z" for _, box in lots)
     if lots:
-        yield element("path", d=moves, fill="none", stroke="currentColor", stroke_width=0.5)
-    texts: List[str] = []
-    for lot, box in lots:
-        texts.extend(_of_lot(figures, lot, box))
-    yield halo(texts, 0.9)
-
-
-def _of_lot(figures: Optional[Figures], lot: Lot, box: Box) -> Iterator[str]:
-    x, y = _x(box.x + LOT / 2), _y(box.y + LOT / 2)
-    yield text(f"Lot {lot.number}", x, y, 5.0)
-    acres = None if figures is None else figures.lots[lot.section, lot.number]
-    if acres is not None:
-        yield text(f"{grouped(acres)} acres", x, y + 6, 3.6)
+        yield element("path", d=moves, fill="none", stroke="currentColor", stroke_width=0.5, **{"class": "lot-sides"})
+    middles = [(lot, _x(box.x + LOT / 2), _y(box.y + LOT / 2)) for lot, box in lots]
+    yield halo([centered(f"Lot {lot.number}", x, y, -0.35) for lot, x, y in middles], 0.9, 5.0, "lot-names")
+    if figures is not None:
+        known = [(figures.lots[lot.section, lot.number], x, y) for lot, x, y in middles]
+        acres = [centered(f"{grouped(each)} acres", x, y, 1.3) for each, x, y in known if each is not None]
+        yield halo(acres, 0.9, 3.6, "lot-acres")
 
 
 def _aliquot_names(section: int) -> Iterator[str]:
@@ -127,7 +146,7 @@ def _aliquot_names(section: int) -> Iterator[str]:
     for x in range(0, SECTION, LOT):
         for y in range(0, SECTION, LOT):
             if (x, y) not in taken:
-                yield text(_aliquot_name(x, y), _x(x + LOT / 2), _y(y + LOT / 2) + 0.9, 2.7)
+                yield centered(_aliquot_name(x, y), _x(x + LOT / 2), _y(y + LOT / 2))
 
 
 def _aliquot_name(x: int, y: int) -> str:
@@ -155,9 +174,7 @@ def _closing_quarters(figures: Figures, section: int) -> Iterator[str]:
         if line.north:
             x = _x(SECTION) + 1.9 + _APART if side == "E" else _x(0) - _APART
             turn = f"rotate(-90 {number(x)} {number(_y(LOT / 2))})"
-            yield text(
-                chains(quarter), x, _y(LOT / 2), 3.4, text_anchor="middle", font_weight=weight, transform=turn
-            )
+            yield element("text", chains(quarter), x=x, y=_y(LOT / 2), font_weight=weight, transform=turn)
         else:
             y = _y(SECTION) + 2.4 + _APART if side == "S" else _y(0) - _APART
-            yield text(chains(quarter), _x(LOT / 2), y, 3.4, text_anchor="middle", font_weight=weight)
+            yield element("text", chains(quarter), x=_x(LOT / 2), y=y, font_weight=weight)

@@ -1,4 +1,4 @@
-"""What is drawn: a township, the figures of its plat, and shaded land."""
+"""What is drawn: a township, the figures of its plat, shaded land, and tracts."""
 from __future__ import annotations
 
 from decimal import Decimal
@@ -22,7 +22,7 @@ class Figures(NamedTuple):
     #: The last quarter mile of each section line, by line index, in thousandths of a chain; or nothing, if there are no
     #: field notes.
     closing_quarters: Sequence[int]
-    #: What the note at the foot says of the figures.
+    #: What the note at the foot says of the figures: what they are based on.
     note: str = ""
 
 
@@ -38,6 +38,17 @@ class Shade(NamedTuple):
     acres: Tuple[Tuple[str, Decimal], ...] = ()
 
 
+class Outline(NamedTuple):
+    """A tract, which gets an outline and its name."""
+
+    rows: Rows
+    name: str
+    #: The acreage that is its figure, if there is one.
+    acres: Optional[str] = None
+    #: Its place in the list of tracts.
+    place: int = 0
+
+
 class Subject(NamedTuple):
     """What a drawing shows."""
 
@@ -46,3 +57,5 @@ class Subject(NamedTuple):
     figures: Optional[Figures] = None
     #: The land that is shaded, each shade with a hatching of its own.
     shades: Sequence[Shade] = ()
+    #: The tracts that are outlined.
+    outlines: Sequence[Outline] = ()

@@ -1,22 +1,27 @@
-"""Transparent shapes over the lines, lots, and sections of a township, which the page makes buttons of."""
+"""Transparent shapes over the lines, lots, and sections of a drawing, which the page makes buttons of."""
 from __future__ import annotations
 
 import functools
-from typing import Iterator
+from typing import List, Optional, Tuple
 
 from .layout import ACROSS, LOT, SECTION, Line, box_of, lines, lots_of
 from .markup import element, group, number
+from .subject import Figures
+
+#: Half the width of the strip along a line, in places.
+_STRIP = 1.5
 
 
-@functools.lru_cache(maxsize=1)
-def targets_of(left: float, top: float, place: float) -> str:
-    """Return the shapes over a township whose northwest corner is at (left, top).
+def targets_of(left: float, top: float, place: float, figures: Optional[Figures], section: Optional[int] = None) -> str:
+    """Return the shapes over a township, or a section, whose northwest corner is at (left, top).
 
-    Each has the attribute `data-section`, `data-lot`, or `data-line`. Lots are above their sections, and lines
-    above both.
+    Each has the attribute `data-section`, `data-lot`, or `data-line`, and those of land `data-acres`, if its acreage is
+    known. Lots are above their sections, and lines above both.
     """
+    parts = _sections() + _lots() if section is None else _section_alone(section)
+    shapes = [shape % _acres(figures, named) for shape, named in parts]
     return group(
-        [*_sections(), *_lots(), *map(_line, lines())],
+        [*shapes, *(_lines() if section is None else ())],
         transform=f"translate({number(left)} {number(top)}) scale({number(place)})",
         fill="none",
         stroke="none",
@@ -25,29 +30,76 @@ def targets_of(left: float, top: float, place: float) -> str:
     )
 
 
-def _sections() -> Iterator[str]:
+#: A shape, in which `%s` is where its acreage goes, and the section, and the lot, that it is.
+Shape = Tuple[str, Tuple[int, Optional[int]]]
+
+
+def _acres(figures: Optional[Figures], named: Tuple[int, Optional[int]]) -> str:
+    """Return the attribute for the acreage of a section or a lot, if it is known."""
+    section, lot = named
+    if figures is None:
+        return ""
+    acres = figures.sections[section] if lot is None else figures.lots[section, lot]
+    return "" if acres is None else f' data-acres="{acres}"'
+
+
+def _shape(x: int, y: int, size: int, data: str, named: Tuple[int, Optional[int]]) -> Shape:
+    return f'<rect x="{x}" y="{y}" width="{size}" height="{size}" {data}%s/>', named
+
+
+@functools.lru_cache(maxsize=1)
+def _sections() -> List[Shape]:
+    found = []
     for section in range(1, ACROSS * ACROSS + 1):
         box = box_of(section)
-        yield element("rect", x=box.x, y=box.y, width=SECTION, height=SECTION, data_section=section)
+        found.append(_shape(box.x, box.y, SECTION, f'data-section="{section}"', (section, None)))
+    return found
 
 
-def _lots() -> Iterator[str]:
+@functools.lru_cache(maxsize=1)
+def _lots() -> List[Shape]:
+    found: List[Shape] = []
     for section in range(1, ACROSS * ACROSS + 1):
         corner = box_of(section)
-        for lot, box in lots_of(section):
-            yield element(
-                "rect",
-                x=corner.x + box.x,
-                y=corner.y + box.y,
-                width=LOT,
-                height=LOT,
-                data_lot=f"{section}.{lot.number}",
-            )
+        found.extend(_lots_at(section, corner.x, corner.y))
+    return found
+
+
+def _lots_at(section: int, x: int, y: int) -> List[Shape]:
+    """Return the lots of a section whose northwest corner is at a place."""
+    return [
+        _shape(x + box.x, y + box.y, LOT, f'data-lot="{section}.{lot.number}"', (section, lot.number))
+        for lot, box in lots_of(section)
+    ]
+
+
+def _section_alone(section: int) -> List[Shape]:
+    return [_shape(0, 0, SECTION, f'data-section="{section}"', (section, None)), *_lots_at(section, 0, 0)]
+
+
+@functools.lru_cache(maxsize=1)
+def _lines() -> List[str]:
+    return [_line(line) for line in lines()]
 
 
 def _line(line: Line) -> str:
-    """Return a strip along a line, which keeps clear of the corners at its ends."""
-    long, wide = SECTION - 4, 3
-    x, y = (line.x - wide / 2, line.y + 2) if line.north else (line.x + 2, line.y - wide / 2)
+    """Return a strip along a line, which keeps clear of the corners at its ends, and of lots beside it.
+
+    `data-out` says to which side of the line all of the strip is, if the line is on the boundary: the strip is then
+    outside the township.
+    """
+    start, end = 2, SECTION - 2
+    row, column = line.y // SECTION, line.x // SECTION
+    if line.north:
+        outside = -1 if column == 0 else 1 if column == ACROSS else 0
+        start = LOT + 1 if row == 0 and not outside else start
+    else:
+        outside = -1 if row == 0 else 1 if row == ACROSS else 0
+        start = LOT + 1 if column == 0 and not outside else start
+    across = {-1: -2 * _STRIP, 0: -_STRIP, 1: 0.0}[outside]
+    long, wide = end - start, 2 * _STRIP
+    x, y = (line.x + across, line.y + start) if line.north else (line.x + start, line.y + across)
     width, height = (wide, long) if line.north else (long, wide)
-    return element("rect", x=x * 1.0, y=y * 1.0, width=width, height=height, data_line=line.index)
+    return element(
+        "rect", x=x * 1.0, y=y * 1.0, width=width * 1.0, height=height * 1.0, data_line=line.index, data_out=outside
+    )

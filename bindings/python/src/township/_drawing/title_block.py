@@ -17,6 +17,8 @@ _FIGURES = 133.0
 _COLUMNS = 62
 _LINES = 9
 _LEADING = 4.2
+#: The characters on a line of the notes.
+_NOTE_COLUMNS = 130
 _NOTE = "Schematic, not to scale."
 
 
@@ -33,9 +35,15 @@ def title_block(subject: Subject, shading: Shading, total: Figure, y: float, not
         element("path", d=lines, fill="none", stroke="currentColor", stroke_width=0.3),
         *_land(subject, shading, y + 6.0),
         *_figures(subject, total, y + 6.0, bottom - 2.0),
-        text(" ".join(filter(None, [_NOTE, *notes])), _LEFT, HEIGHT - 4.5, 2.6, font_style="italic"),
+        *_notes(" ".join(filter(None, [_NOTE, *notes]))),
     ]
-    return group(parts)
+    return group(parts, **{"class": "block"})
+
+
+def _notes(words: str) -> Iterator[str]:
+    """Yield the lines below the block."""
+    for place, line in enumerate(textwrap.wrap(words, _NOTE_COLUMNS)[:2]):
+        yield text(line, _LEFT, HEIGHT - 5.5 + 3.2 * place, 2.6, font_style="italic")
 
 
 def grouped(acres: Decimal) -> str:

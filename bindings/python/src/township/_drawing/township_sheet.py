@@ -2,47 +2,84 @@
 from __future__ import annotations
 
 import functools
-from typing import Iterator, List
+from typing import Iterator, List, Tuple
 
 from .layout import ACROSS, LOT, SECTION, TOWNSHIP, Box, Line, box_of, lines, lots_of
-from .markup import element, group, number, text
+from .markup import element, number
 from .places import picture_of_township
-from .sheet import WIDTH, Shading, chains, document, halo, heading, north_arrow, weight_of
+from .sheet import (
+    NARROW,
+    SMALLEST,
+    WIDTH,
+    Shading,
+    centered,
+    chains,
+    document,
+    halo,
+    heading,
+    north_arrow,
+    weight_of,
+)
 from .subject import Figures, Subject
 from .targets import targets_of
 from .title_block import grouped, title_block
 
 #: The side of a place and of the township, in millimeters, and where its northwest corner is.
-PLACE = 0.8
+PLACE = 0.86
 SIDE = PLACE * TOWNSHIP
 LEFT = (WIDTH - SIDE) / 2
-TOP = 33.0
+TOP = 27.0
+
+#: What a screen shows of the sheet: the township, the figures along it, and the north arrow.
+_VIEW = Box(1, 21, 184, 173)
 
 _SECTIONS = range(1, ACROSS * ACROSS + 1)
 _NOTE = "At the end of each closing line: its last quarter mile, in chains (20.00 if regular)."
+
+#: Lines between a lot's number and its acreage, which are above its middle if a tract's name can be below.
+_APART = 1.0
 
 
 def township_sheet(subject: Subject, targets: bool) -> str:
     """Return the drawing of a township, with its land."""
     shading = Shading(subject, picture_of_township, TOWNSHIP, SIDE)
-    name = f"Plat of {subject.township}"
+    tracts = shading.tracts(LEFT, TOP, _taken())
     parts = [
         heading(_long_name(subject), "Plat of the township, by sections and lots"),
-        north_arrow(WIDTH - 9, 26.0),
+        north_arrow(WIDTH - 7.5, TOP + 20),
         *shading.land(LEFT, TOP),
         _lines(),
+        *tracts.parts[:1],
         *_numbers(subject),
     ]
     total, notes = None, []
+    if tracts.left_out:
+        notes.append(f"{tracts.left_out} tracts are not outlined.")
     if subject.figures is not None:
-        total, notes = subject.figures.total, [subject.figures.note]
+        total = subject.figures.total
+        notes.append(subject.figures.note)
         if subject.figures.closing_quarters:
-            parts.append(group(_closing_quarters(subject.figures), font_size=2.5, **{"class": "closing"}))
+            closing = list(_closing_quarters(subject.figures))
+            parts.append(halo(closing, 0.5, 2.5, "closing"))
             notes.append(_NOTE)
-    parts.append(title_block(subject, shading, ("Township", total), TOP + SIDE + 6, notes))
+    parts.append(title_block(subject, shading, ("Township", total), TOP + SIDE + 5, notes))
     if targets:
-        parts.append(targets_of(LEFT, TOP, PLACE))
-    return document(name, _described(subject), shading.definitions(), parts)
+        parts.append(targets_of(LEFT, TOP, PLACE, subject.figures))
+    name = f"Plat of {subject.township}"
+    return document(subject, name, _described(subject), shading.definitions(), parts, _VIEW)
+
+
+@functools.lru_cache(maxsize=1)
+def _taken() -> List[Box]:
+    """Return the places that the numbers and figures of sections and lots take."""
+    found = []
+    for section in _SECTIONS:
+        corner = box_of(section)
+        middle = SECTION // 2
+        found.append(Box(corner.x + middle - 5, corner.y + middle - 3, 10, 10))
+        for _, lot in lots_of(section):
+            found.append(Box(corner.x + lot.x, corner.y + lot.y, LOT, 5))
+    return found
 
 
 def _long_name(subject: Subject) -> str:
@@ -69,8 +106,8 @@ def _y(places: float) -> float:
     return TOP + PLACE * places
 
 
-def _path(moves: str, width: float, **attributes: str) -> str:
-    """Return lines of this width. Their path is in places."""
+def _path(moves: str, width: float, kind: str, **attributes: str) -> str:
+    """Return lines of this width and kind. Their path is in places."""
     return element(
         "path",
         d=moves,
@@ -78,21 +115,31 @@ def _path(moves: str, width: float, **attributes: str) -> str:
         fill="none",
         stroke="currentColor",
         stroke_width=width / PLACE,
-        **attributes,
+        **{"class": kind, **attributes},
     )
 
 
 @functools.lru_cache(maxsize=1)
 def _lines() -> str:
     """Return the lines that every drawing of a township has."""
-    return "\n".join([_quarter_lines(), _lot_lines(), _section_lines()])
+    return "\n".join([*_finer_lines(), _quarter_lines(), _lot_lines(), _section_lines()])
+
+
+def _finer_lines() -> Iterator[str]:
+    """Yield the lines between quarter-quarter sections, and those that divide these in turn.
+
+    They are displayed only where a screen enlarges the drawing.
+    """
+    for step, kind in ((8, "sixteenths"), (4, "finer"), (2, "finest")):
+        moves = "".join(f"M0 {each}H{TOWNSHIP}M{each} 0V{TOWNSHIP}" for each in range(step, TOWNSHIP, 2 * step))
+        yield _path(moves, 0.1, kind, display="none")
 
 
 def _quarter_lines() -> str:
     """Return the lines that divide each section into quarters."""
     middles = range(SECTION // 2, TOWNSHIP, SECTION)
     moves = "".join(f"M0 {each}H{TOWNSHIP}M{each} 0V{TOWNSHIP}" for each in middles)
-    return _path(moves, 0.12, stroke_dasharray="1.6 1.2")
+    return _path(moves, 0.12, "quarters", stroke_dasharray="1.6 1.2")
 
 
 def _lot_lines() -> str:
@@ -103,7 +150,7 @@ def _lot_lines() -> str:
         for _, lot in lots_of(section):
             x, y = corner.x + lot.x, corner.y + lot.y
             moves.append(f"M{x} {y + LOT}h{LOT}v-{LOT}")
-    return _path("".join(moves), 0.15)
+    return _path("".join(moves), 0.15, "lot-sides")
 
 
 def _section_lines() -> str:
@@ -111,38 +158,57 @@ def _section_lines() -> str:
     inner = range(SECTION, TOWNSHIP, SECTION)
     moves = "".join(f"M0 {each}H{TOWNSHIP}M{each} 0V{TOWNSHIP}" for each in inner)
     boundary = f"M0 0H{TOWNSHIP}V{TOWNSHIP}H0Z"
-    return _path(moves, 0.3) + "\n" + _path(boundary, 0.8)
+    return _path(moves, 0.3, "section-lines") + "\n" + _path(boundary, 0.8, "boundary")
 
 
 def _numbers(subject: Subject) -> Iterator[str]:
     """Yield the number and the acreage of each section and of each lot."""
-    sections: List[str] = []
-    lots: List[str] = []
-    for section in _SECTIONS:
-        corner = box_of(section)
-        sections.extend(_of_section(subject.figures, section, corner))
-        for lot, box in lots_of(section):
-            x, y = _x(corner.x + box.x + LOT / 2), _y(corner.y + box.y + LOT / 2)
-            lots.extend(_of_lot(subject.figures, section, lot.number, x, y))
-    yield halo(sections, 0.9)
-    yield halo(lots, 0.5)
-
-
-def _of_section(figures: "Figures | None", section: int, corner: Box) -> Iterator[str]:
-    x, y = _x(corner.x + SECTION / 2), _y(corner.y + SECTION / 2)
-    yield text(str(section), x, y + 1.9, 5.4)
-    acres = None if figures is None else figures.sections[section]
-    if acres is not None:
-        yield text(grouped(acres), x, y + 5.2, 2.1, font_style="italic")
-
-
-def _of_lot(figures: "Figures | None", section: int, lot: int, x: float, y: float) -> Iterator[str]:
-    acres = None if figures is None else figures.lots[section, lot]
-    if acres is None:
-        yield text(str(lot), x, y + 0.8, 2.4)
+    yield _section_numbers()
+    figures = subject.figures
+    if figures is None:
+        yield _lot_numbers(0.0)
         return
-    yield text(str(lot), x, y - 0.3, 2.1)
-    yield text(grouped(acres), x, y + 2.0, 1.7)
+    # Below them, there is room for the name of a tract.
+    above = _APART if subject.outlines else _APART / 2
+    yield _lot_numbers(above)
+    sections = [
+        centered(grouped(acres), *_middle_of(section), 2.0)
+        for section, acres in figures.sections.items()
+        if acres is not None
+    ]
+    yield halo(sections, 0.9, SMALLEST, "section-acres", font_style="italic")
+    lots = [
+        centered(grouped(acres), *_middle_of(section, lot), _APART - above, LOT * PLACE - 0.6)
+        for (section, lot), acres in figures.lots.items()
+        if acres is not None
+    ]
+    yield halo(lots, 0.5, SMALLEST, "lot-acres", font_family=NARROW)
+
+
+@functools.lru_cache(maxsize=1)
+def _section_numbers() -> str:
+    return halo([centered(str(section), *_middle_of(section)) for section in _SECTIONS], 0.9, 5.4, "section-numbers")
+
+
+@functools.lru_cache(maxsize=3)
+def _lot_numbers(above: float) -> str:
+    """Return the numbers of all lots, so many lines above their middle."""
+    numbers = [
+        centered(str(lot.number), *_middle_of(section, lot.number), -above)
+        for section in _SECTIONS
+        for lot, _ in lots_of(section)
+    ]
+    return halo(numbers, 0.5, SMALLEST, "lot-numbers", font_family=NARROW)
+
+
+@functools.lru_cache(maxsize=128)
+def _middle_of(section: int, lot: int = 0) -> Tuple[float, float]:
+    """Return the middle of a section, or of one of its lots, on the sheet."""
+    corner = box_of(section)
+    for each, box in lots_of(section):
+        if each.number == lot:
+            return _x(corner.x + box.x + LOT / 2), _y(corner.y + box.y + LOT / 2)
+    return _x(corner.x + SECTION / 2), _y(corner.y + SECTION / 2)
 
 
 def _closing_quarters(figures: Figures) -> Iterator[str]:
@@ -152,9 +218,10 @@ def _closing_quarters(figures: Figures) -> Iterator[str]:
             yield _closing_quarter(line, figures.closing_quarters[line.index])
 
 
+@functools.lru_cache(maxsize=1024)
 def _closing_quarter(line: Line, quarter: int) -> str:
     if line.north:
         x, y, anchor = _x(line.x), _y(0) - 1.8, "middle"
     else:
         x, y, anchor = _x(0) - 1.8, _y(line.y) + 0.9, "end"
-    return text(chains(quarter), x, y, 2.5, text_anchor=anchor, font_weight=weight_of(quarter))
+    return element("text", chains(quarter), x=x, y=y, text_anchor=anchor, font_weight=weight_of(quarter))

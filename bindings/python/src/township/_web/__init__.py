@@ -1,9 +1,10 @@
 """The page, and the JSON interface of `docs/HTTP.md`: `python -m township serve`.
 
-A request goes through these modules: `serving` receives it, `guard` refuses it if it is not allowed, `app` finds
-its route, `given` reads its JSON and `basis` the plat, `answers` and `tracts` ask the library, `drawn` adds the
-drawing, and `refusals` and `replies` make JSON of what was found. `listed` reads lists as `batch` does, `doubts`
-finds the doubtful places of descriptions, `overlapping` the overlaps of tracts, and `sectionlines` the places of
-field notes that the page shows; `files` decodes files. `assets` loads the files of the page, and `limits` lists the
-limits. All acreages are the library's.
+`serving` is waitress, in several processes, and says how long a request may take. It calls the application: `guard`
+refuses a request if it is not allowed, `app` finds its route, `given` reads its JSON and `basis` the plat, `answers`
+and `tracts` ask the library, `drawn` adds the drawing, `refusals` and `replies` make JSON of what was found, and
+`packing` packs it. `listed` reads lists as `batch` does, `doubts` finds the doubtful places of descriptions,
+`overlapping` the overlaps of tracts, and `sectionlines` the places of field notes that the page shows; `files` decodes
+files. `assets` loads the files of the page, `limits` lists the limits, and `reached` finds the address that is shown.
+All acreages are the library's.
 """

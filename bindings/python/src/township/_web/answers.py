@@ -2,26 +2,35 @@
 from __future__ import annotations
 
 from decimal import Decimal
-from typing import Dict, List, Optional
+from typing import Dict, Iterable, List, Optional
 
 from .._drawing.layout import lines
 from .._drawing.of_plat import subject_of
 from .._drawing.sheet import chains
+from .._full import FullAnswers
 from .._land import Land
 from .._lots import Lots
 from .._plat import Plat
 from .._refused import Refused
 from . import drawn
 from .basis import Basis, decimals_of
-from .doubts import doubts_of
+from .doubts import doubts_of, doubts_of_many
 from .drawn import drawing, without_figures
 from .given import Given, RefusedBasis
 from .limits import DESCRIPTIONS_MOST, DOUBTS_MOST
 from .refusals import Json, refused_json
 from .sectionlines import line_refused, written
 
-#: What a drawing says of land whose description has a note.
-DOUBTFUL = "can be read in two ways"
+#: What a drawing says of land whose description has a note: in words, and in one word, where there are several lands.
+_DOUBTFUL = "can be read in two ways"
+DOUBTFUL = "doubtful"
+
+#: What the lands of a comparison are called, without a note and with one.
+_COMPARED = {
+    "both": ("In both", f"In both, {DOUBTFUL}"),
+    "first_only": ("Only in the first", f"First only, {DOUBTFUL}"),
+    "second_only": ("Only in the second", f"Second only, {DOUBTFUL}"),
+}
 
 #: The fields that give a plat, and a lot table.
 BASIS = frozenset({"notes", "township", "lots"})
@@ -70,7 +79,7 @@ def land_answer(body: bytes) -> Json:
         **land_json(basis, land),
         "area": basis.area(land),
         "notes": notes,
-        **drawing(given, basis, [("Land" if not notes else f"Land ({DOUBTFUL})", land)]),
+        **drawing(given, basis, [("Land" if not notes else f"Land ({_DOUBTFUL})", land)]),
     }
 
 
@@ -91,12 +100,11 @@ def compare_answer(body: bytes) -> Json:
         return {"refused": refused, **drawing(given, basis, shown)}
     first, second = lands["first"], lands["second"]
     kinds = {"both": first & second, "first_only": first - second, "second_only": second - first}
-    labels = {"both": "In both", "first_only": "Only in the first", "second_only": "Only in the second"}
+    notes = {name: doubts_of(basis.plat, text, lands[name], DOUBTS_MOST).json(text) for name, text in texts.items()}
+    labels = {name: words[any(notes.values())] for name, words in _COMPARED.items()}
     return {
         "comparison": comparison_of(first, second),
-        "notes": {
-            name: doubts_of(basis.plat, text, lands[name], DOUBTS_MOST).json(text) for name, text in texts.items()
-        },
+        "notes": notes,
         **{name: land_json(basis, land) for name, land in kinds.items()},
         **drawing(given, basis, [(labels[name], land) for name, land in kinds.items() if land]),
     }
@@ -113,12 +121,28 @@ def batch_answer(body: bytes) -> Json:
     answers = basis.plat._full_answers(descriptions, account or "exact")
     acres: List[object] = [decimals_of(each) for each in answers.hundredths]
     refused: List[Json] = []
+    sentences = _Sentences(answers, descriptions)
     for index in answers.refused:
         acres[index] = None
         number, at = answers.refusal(index)
-        refused.append({"index": index, "number": number, "at": at, "sentence": answers.sentence(index)})
-    notes = [{"index": index, "sentence": answers.sentence(index)} for index in answers.noted]
-    return {"acres": acres, "refused": refused, "notes": notes}
+        refused.append({"index": index, "number": number, "at": at, "sentence": sentences.of(index)})
+    return {"acres": acres, "refused": refused, "notes": _batch_notes(basis.plat, descriptions, answers.noted)}
+
+
+class _Sentences:
+    """The sentences on descriptions. Each takes the library longer than an acreage, and is asked for once."""
+
+    def __init__(self, answers: FullAnswers, descriptions: List[str]) -> None:
+        self._answers = answers
+        self._descriptions = descriptions
+        self._known: Dict[str, str] = {}
+
+    def of(self, index: int) -> str:
+        """Return the sentence on a description."""
+        description = self._descriptions[index]
+        if description not in self._known:
+            self._known[description] = self._answers.sentence(index)
+        return self._known[description]
 
 
 def _batch_by_lots(plat: Plat, lots: Lots, descriptions: List[str]) -> Json:
@@ -131,9 +155,14 @@ def _batch_by_lots(plat: Plat, lots: Lots, descriptions: List[str]) -> Json:
         except Refused as error:
             acres.append(None)
             refused.append({"index": index, "number": error.number, "at": error.at, "sentence": error.sentence})
-    noted = plat._full_answers(descriptions, "exact")
-    notes = [{"index": index, "sentence": noted.sentence(index)} for index in noted.noted]
-    return {"acres": acres, "refused": refused, "notes": notes}
+    noted = plat._full_answers(descriptions, "exact").noted
+    return {"acres": acres, "refused": refused, "notes": _batch_notes(plat, descriptions, noted)}
+
+
+def _batch_notes(plat: Plat, descriptions: List[str], noted: Iterable[int]) -> List[Json]:
+    """Return the notes on those of many accepted descriptions that have any."""
+    found = doubts_of_many(plat, ((index, descriptions[index]) for index in noted))
+    return [{"index": index, **note} for index, each in found.items() for note in each.json(descriptions[index])]
 
 
 def land_json(basis: Basis, land: Land) -> Json:

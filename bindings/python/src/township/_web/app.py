@@ -10,11 +10,11 @@ from werkzeug.exceptions import HTTPException
 from .._version import __version__
 from .answers import batch_answer, compare_answer, land_answer, plat_answer
 from .assets import TEMPLATES, Asset, asset_of, interface, static_assets
-from .basis import nominal_plat
 from .files import file_answer
 from .given import Invalid, RefusedBasis
 from .guard import LOCAL_HOSTS, guard
 from .limits import BODY_MOST
+from .packing import pack, takes_packed
 from .replies import failed, replied
 from .refusals import Json, refused_json
 from .sectionlines import section_lines
@@ -32,9 +32,6 @@ ANSWERS: Dict[str, Callable[[bytes], Json]] = {
     "file": file_answer,
 }
 
-#: The township that the page shows first.
-FIRST = "T. 2 N., R. 3 W."
-
 #: Where the routes of the JSON interface begin.
 PREFIX = "/api/v1/"
 
@@ -48,7 +45,7 @@ def create_app(hosts: Collection[str] = LOCAL_HOSTS) -> Flask:
     guard(app, hosts)
     _handle_errors(app)
     with app.app_context(), app.test_request_context():
-        shown = {"version": __version__, "lines": section_lines(), "notes": nominal_plat(FIRST).write_notes()}
+        shown = {"version": __version__, "lines": section_lines()}
         page = asset_of(render_template("page.html", **shown).encode("utf-8"), ".html")
     _serve(app, "/", page)
     _serve(app, f"{PREFIX}openapi.json", interface())
@@ -66,8 +63,12 @@ def _serve(app: Flask, path: str, asset: Asset) -> None:
     """Add a route to a file of the page."""
 
     def serve() -> Response:
-        response = Response(asset.data, content_type=asset.type)
-        response.set_etag(asset.tag)
+        is_packed = takes_packed()
+        response = Response(asset.packed if is_packed else asset.data, content_type=asset.type)
+        response.set_etag(f"{asset.tag}-gzip" if is_packed else asset.tag)
+        if is_packed:
+            response.headers["Content-Encoding"] = "gzip"
+        response.headers["Vary"] = "Accept-Encoding"
         response.headers["Cache-Control"] = "no-cache"
         response.make_conditional(request)
         return response
@@ -80,7 +81,7 @@ def _answer(app: Flask, name: str, answer: Callable[[bytes], Json]) -> None:
 
     def post() -> Response:
         try:
-            return replied(answer(request.get_data(cache=False)))
+            return pack(replied(answer(request.get_data(cache=False))))
         except RefusedBasis as error:
             return replied({"refused": refused_json(error.refused, error.of, error.text)})
         except Invalid as invalid:

@@ -5,6 +5,8 @@ import hashlib
 from pathlib import Path
 from typing import Dict, NamedTuple
 
+from .packing import packed
+
 _HERE = Path(__file__).resolve().parent
 _STATIC = _HERE / "static"
 TEMPLATES = _HERE / "templates"
@@ -12,6 +14,7 @@ TEMPLATES = _HERE / "templates"
 #: The types of the files, by the ends of their names.
 _TYPES = {
     ".css": "text/css; charset=utf-8",
+    ".csv": "text/csv; charset=utf-8",
     ".html": "text/html; charset=utf-8",
     ".js": "text/javascript; charset=utf-8",
     ".json": "application/json",
@@ -23,6 +26,8 @@ class Asset(NamedTuple):
     """A file of the page."""
 
     data: bytes
+    #: The same, packed.
+    packed: bytes
     type: str
     #: Changes when the file does.
     tag: str
@@ -30,7 +35,7 @@ class Asset(NamedTuple):
 
 def asset_of(data: bytes, suffix: str) -> Asset:
     """Return an asset with this content."""
-    return Asset(data, _TYPES[suffix], hashlib.sha256(data).hexdigest()[:16])
+    return Asset(data, packed(data), _TYPES[suffix], hashlib.sha256(data).hexdigest()[:16])
 
 
 def static_assets() -> Dict[str, Asset]:

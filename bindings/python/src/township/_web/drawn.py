@@ -4,7 +4,7 @@ from __future__ import annotations
 from decimal import Decimal
 from typing import Optional, Sequence, Tuple
 
-from .._drawing import Shade, Subject, svg_of
+from .._drawing import Outline, Shade, Subject, svg_of
 from .._drawing.of_plat import shade_of, shown_on, subject_of
 from .._land import Land
 from .basis import BY_LOTS, Basis
@@ -16,15 +16,17 @@ from .sectionlines import designation_in
 FIELDS = frozenset({"draw", "section", "targets"})
 
 
-def drawing(given: Given, basis: Basis, lands: Sequence[Tuple[str, Land]] = ()) -> Json:
-    """Return the drawing of lands with their labels, if the request asks for it."""
+def drawing(
+    given: Given, basis: Basis, lands: Sequence[Tuple[str, Land]] = (), outlines: Sequence[Outline] = ()
+) -> Json:
+    """Return the drawing of lands with their labels, and of tracts with their names, if the request asks for it."""
     section = given.section()
     targets = given.flag("targets")
     if not given.flag("draw"):
         return {}
     shades = [_shade_of(basis, label, land, section) for label, land in lands]
     subject = subject_of(basis.plat, *shades, lots=basis.lots, is_measured=basis.is_measured)
-    return {"svg": svg_of(subject, section, targets)}
+    return {"svg": svg_of(subject._replace(outlines=outlines), section, targets)}
 
 
 def without_figures(given: Given, notes: str) -> Json:

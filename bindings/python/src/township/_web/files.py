@@ -4,6 +4,7 @@ from __future__ import annotations
 import base64
 import binascii
 import io
+import re
 from typing import Tuple, cast
 
 from .._batch.decoding import Counted, Decoded, is_another_format
@@ -12,6 +13,9 @@ from .refusals import Json
 
 #: The encodings that a file may have if it has no byte order mark, in the order in which they are tried.
 _ENCODINGS = ("utf-8", "windows-1252")
+
+#: A byte that is no character in the encoding, as Python has it.
+_UNDECODED = re.compile("[\udc80-\udcff]")
 
 
 def file_answer(body: bytes) -> Json:
@@ -32,7 +36,7 @@ def _decoded(data: bytes) -> Tuple[str, str]:
     for encoding in _ENCODINGS:
         decoded = Decoded(_counted(data), encoding)
         text = "".join(iter(decoded.read, ""))
-        if not any("\udc80" <= each <= "\udcff" for each in text):
+        if not _UNDECODED.search(text):
             return text, decoded.encoding
     # Some bytes are no characters in Windows-1252 either. They stay what they are, and are refused where they are used.
     return text, decoded.encoding

@@ -24,7 +24,8 @@ _POLICY = "; ".join(
     ]
 )
 
-_HEADERS: Dict[str, str] = {
+#: The headers of every response.
+HEADERS: Dict[str, str] = {
     "Content-Security-Policy": _POLICY,
     "X-Content-Type-Options": "nosniff",
     "X-Frame-Options": "DENY",
@@ -36,26 +37,40 @@ _HEADERS: Dict[str, str] = {
 
 
 def guard(app: Flask, hosts: Collection[str]) -> None:
-    """Refuse requests for other hosts or from pages of other hosts, and set the headers of each response."""
+    """Refuse requests for other hosts or from pages of other hosts, and set the headers of each response.
+
+    Besides these hosts, the address by which the client has reached this computer is accepted.
+    """
 
     def check() -> Optional[Response]:
-        if _name_in(request.headers.get("Host", "")) not in hosts:
-            return failed(421, "this server does not answer for that host")
+        if not request.method:
+            return failed(400, "the request has no method")
+        # A page of another host can have its own name lead to this computer, but never an address.
+        names = {*hosts, in_url(request.environ.get("SERVER_NAME", ""))}
+        if _name_in(request.headers.get("Host", "")) not in names:
+            return failed(421, "this server does not answer under that name; its option --name adds one")
         origin = request.headers.get("Origin")
-        if origin is not None and _host_of(origin) not in hosts:
+        if origin is not None and _host_of(origin) not in names:
             return failed(403, "pages of other hosts may not use this server")
         if request.method == "POST" and request.mimetype != "application/json":
             return failed(415, "send JSON, with the content type application/json")
         return None
 
-    def protect(response: Response) -> Response:
-        for name, value in _HEADERS.items():
-            response.headers[name] = value
-        response.headers.setdefault("Cache-Control", "no-store")
-        return response
-
     app.before_request(check)
     app.after_request(protect)
+
+
+def protect(response: Response) -> Response:
+    """Set the headers of a response that every one has."""
+    for name, value in HEADERS.items():
+        response.headers[name] = value
+    response.headers.setdefault("Cache-Control", "no-store")
+    return response
+
+
+def in_url(address: str) -> str:
+    """Return an address of a computer as URLs have it."""
+    return f"[{address.partition('%')[0]}]" if ":" in address else address
 
 
 def _host_of(origin: str) -> str:

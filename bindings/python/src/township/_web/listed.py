@@ -14,6 +14,7 @@ from .._batch.separators import headed
 from .._batch.shape import Shape
 from .._readings import Reading, suggest
 from .._text import encoded
+from .fieldplaces import FieldPlaces, Place
 
 #: The columns that are used. A list without a heading has both of them, in this order, or descriptions alone.
 _NAME, _DESCRIPTION = "name", "description"
@@ -28,6 +29,8 @@ class Listed(NamedTuple):
     line: Optional[int] = None
     #: What is wrong with the record itself, so that its description is not read; or nothing.
     fault: str = ""
+    #: Where its description is in the list, if it can be replaced there.
+    place: Optional[Place] = None
 
 
 class _Columns(NamedTuple):
@@ -42,12 +45,17 @@ def tracts_in(text: str, most: int) -> List[Listed]:
     """Return the tracts of a list: one more than `most` at most, which is enough to refuse it.
 
     >>> tracts_in("name;description\\nA;sec. 14, NE1/4.\\n", 9)
-    [Listed(name='A', description='sec. 14, NE1/4.', line=2, fault='')]
+    [Listed(name='A', description='sec. 14, NE1/4.', line=2, fault='', place=Place(start=19, end=34))]
     """
-    columns, shape, records = _records_in(text[1:] if text.startswith(MARK) else text)
+    # The mark is no part of the list, but a character of the text.
+    marks = len(MARK) if text.startswith(MARK) else 0
+    columns, shape, records = _records_in(text[marks:])
+    places = FieldPlaces(text[marks:], shape)
     found: List[Listed] = []
     for record in records:
-        found.append(_listed(record, columns, shape, len(found)))
+        place = places.description(record)
+        moved = None if place is None else Place(place.start + marks, place.end + marks)
+        found.append(_listed(record, columns, len(found), moved))
         if len(found) > most:
             break
     return found
@@ -79,7 +87,7 @@ def _width_of_first(text: str, separator: str) -> int:
         return 1
 
 
-def _listed(record: Record, columns: _Columns, shape: Shape, index: int) -> Listed:
+def _listed(record: Record, columns: _Columns, index: int, place: Optional[Place]) -> Listed:
     """Return the tract of a record. One that has no name is called by its number."""
     name = "" if columns.name is None else record.fields[columns.name]
     shown, description = name or str(index + 1), record.fields[columns.description]
@@ -90,7 +98,7 @@ def _listed(record: Record, columns: _Columns, shape: Shape, index: int) -> List
             "quotation marks, and begin the list with the heading name,description"
         )
     # A part of a description is never shown as if it were one.
-    return Listed(shown, "" if fault else description, record.line, fault)
+    return Listed(shown, "" if fault else description, record.line, fault, None if fault else place)
 
 
 def _names_land(name: str, description: str) -> bool:

@@ -1,17 +1,13 @@
-"""The overlaps of the tracts of a list, all of which one call of the library finds."""
+"""The overlaps of the tracts of a list."""
 from __future__ import annotations
 
-from ctypes import byref
-from typing import FrozenSet, List, NamedTuple, Sequence, Tuple
+from typing import FrozenSet, List, NamedTuple, Optional, Sequence, Set, Tuple
 
 from .. import _library
-from .._plat import Plat
-from .._refused import failure_of
-from .._report import list_of
-from .given import Invalid
+from .._land import Land
 
-#: The record of the first tract of a list.
-_FIRST = 2
+#: The rows of a whole section: a bit for each place.
+_WHOLE = b"\xff" * (4 * _library.PLACES_ACROSS)
 
 
 class Overlapping(NamedTuple):
@@ -25,24 +21,32 @@ class Overlapping(NamedTuple):
     tracts: FrozenSet[int]
 
 
-def overlapping(plat: Plat, descriptions: Sequence[str], most: int) -> Overlapping:
-    """Return the overlaps of tracts with these descriptions, and the first `most` pairs.
+def overlapping(lands: Sequence[Optional[Land]], most: int) -> Overlapping:
+    """Return the overlaps of tracts with these lands, of which some may have none, and the first `most` pairs.
 
-    The library works without the lock of Python, so that other requests go on in the meantime.
+    Two tracts overlap if they share a place. The library finds the same pairs (`Plat.overlaps`), but also the acreage
+    of each of them, which takes ten times as long, and is asked for only if it is shown.
     """
-    given = list_of((str(index), description) for index, description in enumerate(descriptions))
-    # There is room for all pairs, since a second call would take as long as the first.
-    room = len(descriptions) * (len(descriptions) - 1) // 2
-    found = (_library.Overlap * room)()
-    answer = _library.overlaps(byref(plat._parts), given, len(given), found, room)
-    if answer.verdict == _library.REFUSED:
-        raise Invalid(f"the descriptions of all tracts together are longer than {answer.at:,} bytes")
-    if answer.verdict != _library.ACCEPTED:
-        raise failure_of(answer.verdict)
-    # An overlap is four words of 32 bits: the records of the two tracts, and its acreage.
-    words = memoryview(found).cast("B").cast("I")[: 4 * answer.length]
-    firsts: List[int] = words[0::4].tolist()
-    seconds: List[int] = words[1::4].tolist()
-    tracts = frozenset(record - _FIRST for record in {*firsts, *seconds})
-    pairs = [(first - _FIRST, second - _FIRST) for first, second in zip(firsts[:most], seconds[:most])]
-    return Overlapping(answer.length, pairs, tracts)
+    rows = [b"" if land is None else bytes(land._parts.rows) for land in lands]
+    # The places of each tract, and its whole sections, each as a bit. Few bits are compared faster than many.
+    sets = [int.from_bytes(each, "little") for each in rows]
+    wholes = [_whole_sections(each) for each in rows]
+    number = 0
+    pairs: List[Tuple[int, int]] = []
+    tracts: Set[int] = set()
+    taken = 0
+    for later, places in enumerate(sets):
+        if places & taken:
+            whole = wholes[later]
+            earlier = [index for index in range(later) if wholes[index] & whole or sets[index] & places]
+            number += len(earlier)
+            pairs.extend((first, later) for first in earlier[: most - len(pairs)])
+            tracts.update(earlier, (later,))
+        taken |= places
+    return Overlapping(number, pairs, frozenset(tracts))
+
+
+def _whole_sections(rows: bytes) -> int:
+    """Return the sections of which all places are in these rows."""
+    pieces = (rows[start : start + len(_WHOLE)] for start in range(0, len(rows), len(_WHOLE)))
+    return sum(1 << section for section, piece in enumerate(pieces) if piece == _WHOLE)

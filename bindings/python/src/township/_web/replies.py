@@ -8,10 +8,14 @@ from flask import Response
 from .refusals import Json
 
 
+def data_of(answer: Json) -> bytes:
+    """Return the JSON of an answer."""
+    return (json.dumps(answer, separators=(",", ":")) + "\n").encode("ascii")
+
+
 def replied(answer: Json, status: int = 200) -> Response:
     """Return a response with JSON."""
-    data = json.dumps(answer, separators=(",", ":")) + "\n"
-    return Response(data, status, mimetype="application/json")
+    return Response(data_of(answer), status, mimetype="application/json")
 
 
 def failed(status: int, message: str) -> Response:

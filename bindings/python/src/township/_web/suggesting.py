@@ -14,6 +14,7 @@ from .answers import BASIS, land_json
 from .basis import Basis
 from .given import Given
 from .refusals import Json, refused_json
+from .unknown import unknown_words
 
 
 def suggest_answer(body: bytes) -> Json:
@@ -24,7 +25,8 @@ def suggest_answer(body: bytes) -> Json:
     basis = given.basis()
     found = suggest(text)
     written = encoded(text)
-    start, end = (None, None) if found.beyond is None else (_place(written, byte) for byte in found.beyond)
+    place = found.beyond if found or found.reason is not None else unknown_words(text)
+    start, end = (None, None) if place is None else (_place(written, byte) for byte in place)
     return {
         "readings": [
             _reading_json(basis, written, reading, condition_of(written, reading, found), draws) for reading in found

@@ -3,16 +3,17 @@ from __future__ import annotations
 
 from typing import AbstractSet, Dict, Iterator, List, NamedTuple, Optional, Sequence, Tuple
 
+from .._drawing import Outline
 from .._land import Land
 from .._plat import Plat
 from .._refused import Refused
 from . import drawn
-from .answers import BASIS, land_json
+from .answers import BASIS, DOUBTFUL, land_json
 from .basis import Basis
-from .doubts import Doubts, doubts_of
+from .doubts import Doubts, doubts_of_many
 from .drawn import drawing
 from .given import Given, Invalid
-from .limits import DOUBTS_MOST, DOUBTS_OF_LIST_MOST, OVERLAPS_TEXT_MOST, PAIRS_MOST, TRACTS_MOST
+from .limits import OVERLAPS_TEXT_MOST, PAIRS_MOST, TRACTS_MOST
 from .listed import Listed, tracts_in
 from .overlapping import overlapping
 from .refusals import Json, refused_json
@@ -49,18 +50,17 @@ def report_answer(body: bytes) -> Json:
     tracts = [_tract(plat, each) for each in listed]
     whole = plat.land("secs. 1 to 36, all.")
     joined = _joined(tracts, whole - whole)
-    # Tracts that share no land need not be looked at.
-    sharing = [tract.land is not None and not tract.land.isdisjoint(joined.shared) for tract in tracts]
-    descriptions = [tract.listed.description if shares else "" for tract, shares in zip(tracts, sharing)]
-    found = overlapping(plat, descriptions, PAIRS_MOST)
+    found = overlapping([tract.land for tract in tracts], PAIRS_MOST)
+    doubts = _doubts(plat, tracts)
+    shown = _tracts_json(basis, tracts, found.tracts, doubts)
     return {
-        "tracts": _tracts_json(basis, tracts, found.tracts),
+        "tracts": shown,
         "refused": sum(tract.land is None for tract in tracts),
         "overlaps": _overlaps_json(basis, tracts, found.pairs),
         "overlapping": found.number,
         "total": land_json(basis, joined.taken),
         "remaining": land_json(basis, whole - joined.taken),
-        **drawing(given, basis, list(_shown(tracts, joined, selected))),
+        **drawing(given, basis, list(_shown(tracts, joined, selected, doubts)), _outlines(tracts, shown)),
     }
 
 
@@ -114,15 +114,18 @@ def _overlaps_json(basis: Basis, tracts: List[Tract], pairs: Sequence[Tuple[int,
     return found
 
 
-def _tracts_json(basis: Basis, tracts: List[Tract], overlapping: AbstractSet[int]) -> List[Json]:
+def _tracts_json(
+    basis: Basis, tracts: List[Tract], overlapping: AbstractSet[int], doubts: Dict[int, Doubts]
+) -> List[Json]:
     """Return each tract, with its acreage, canonical description, and notes, or why it has none."""
     accepted = [(tract.listed.description, tract.land) for tract in tracts if tract.land is not None]
     acres = iter(basis.acres_many([description for description, _ in accepted], [land for _, land in accepted]))
-    doubts = _doubts(basis.plat, tracts)
     found: List[Json] = []
     for index, tract in enumerate(tracts):
         listed = tract.listed
         shown: Json = {"name": listed.name, "description": listed.description, "line": listed.line}
+        if listed.place is not None:
+            shown.update(start=listed.place.start, end=listed.place.end)
         if tract.land is not None:
             notes = doubts.get(index, Doubts()).json(listed.description)
             shown.update(acres=next(acres), canonical=tract.land.text, notes=notes, overlaps=index in overlapping)
@@ -135,28 +138,37 @@ def _tracts_json(basis: Basis, tracts: List[Tract], overlapping: AbstractSet[int
 
 
 def _doubts(plat: Plat, tracts: List[Tract]) -> Dict[int, Doubts]:
-    """Return the notes on the tracts that have any, by their indexes. The first of many are marked in all places."""
-    answers = plat._full_answers([tract.listed.description for tract in tracts], "exact")
-    found: Dict[int, Doubts] = {}
-    room = DOUBTS_OF_LIST_MOST
-    for index in answers.noted:
-        land = tracts[index].land
-        if land is not None:
-            most = max(1, min(room, DOUBTS_MOST))
-            found[index] = doubts_of(plat, tracts[index].listed.description, land, most)
-            room -= len(found[index].notes)
+    """Return the notes on the tracts that have any, by their indexes."""
+    descriptions = [tract.listed.description for tract in tracts]
+    noted = plat._full_answers(descriptions, "exact").noted
+    return doubts_of_many(plat, ((index, descriptions[index]) for index in noted if tracts[index].land is not None))
+
+
+def _outlines(tracts: Sequence[Tract], shown: Sequence[Json]) -> List[Outline]:
+    """Return the tracts that have land, each with the acreage that is its figure."""
+    found: List[Outline] = []
+    for place, (tract, json) in enumerate(zip(tracts, shown)):
+        if tract.land is not None:
+            acres = json["acres"]
+            if not isinstance(acres, dict):
+                raise AssertionError("a tract with land has an acreage")
+            figure = acres["lots"] if "lots" in acres else acres["exact"]
+            found.append(Outline(tract.land.rows, tract.listed.name, figure, place))
     return found
 
 
-def _shown(tracts: List[Tract], joined: Joined, selected: Optional[int]) -> Iterator[Tuple[str, Land]]:
+def _shown(
+    tracts: List[Tract], joined: Joined, selected: Optional[int], doubts: Dict[int, Doubts]
+) -> Iterator[Tuple[str, Land]]:
     """Yield what the drawing shows: all tracts but the selected one, their overlaps, and the selected one."""
     chosen = tracts[selected] if selected is not None and selected < len(tracts) else None
     rest, shared = joined.taken - joined.shared, joined.shared
     if chosen is not None and chosen.land is not None:
         rest, shared = rest - chosen.land, shared - chosen.land
     if rest:
-        yield "Tracts", rest
+        yield f"Tracts, some {DOUBTFUL}" if doubts else "Tracts", rest
     if shared:
         yield "In several tracts", shared
     if chosen is not None and chosen.land is not None:
-        yield f"Tract {chosen.listed.name}"[:_LABEL_MOST], chosen.land
+        name = f"Tract {chosen.listed.name}"[:_LABEL_MOST]
+        yield f"{name}, {DOUBTFUL}" if selected in doubts else name, chosen.land

@@ -1,6 +1,9 @@
 /** Answers as elements: acreage, words, refusals, and notes. */
 
 import { make } from "./dom.js";
+import { explained } from "./explained.js";
+import { term } from "./terms.js";
+import { spelled } from "./wording.js";
 
 /** Returns an acreage with commas. */
 export function grouped(acres) {
@@ -41,13 +44,13 @@ export function landAnswer({ acres, canonical, area }) {
   const list = make(
     "dl",
     {},
-    ...(name === "Lot table" ? row("By", "the lot table") : []),
     ...others.flatMap(([other, text]) => row(other, `${text} acres`)),
     ...(area === undefined || exact === null ? [] : row("Exact area", `${exact} acres`)),
     ...row("Canonical", canonical.trim()),
   );
   const figure = figureOf(acres);
-  return [make("p", { class: "acres" }, `${figure[0].toUpperCase()}${figure.slice(1)}`), list];
+  const words = make("p", { class: "acres" }, `${figure[0].toUpperCase()}${figure.slice(1)}`);
+  return [make("div", { class: "figure-of" }, words, term(name)), list];
 }
 
 /** Returns the texts of an acreage, of which the first is the figure. */
@@ -58,7 +61,7 @@ export function figuresOf(acres) {
 /** Returns the names of the columns for an acreage. */
 export function figureNames(acres) {
   const [[first], ...others] = kindsOf(acres).map(([name]) => [name]);
-  return [first === "Lot table" ? "Acres by the lot table" : "Acres", ...others.map(([name]) => name)];
+  return [first === "Lot table" ? "Acres by the lot table" : "Acres, exact account", ...others.map(([name]) => name)];
 }
 
 /** Returns cells with these figures. */
@@ -66,15 +69,16 @@ export function figureCells(acres) {
   return figuresOf(acres).map((each) => make("td", { class: "figure" }, each));
 }
 
-/** Returns a refusal with its explanation. */
-export function refusalAnswer(refused, what = "") {
+/** Returns a refusal with its explanation, and with a button that calls `readings()`, if it is given. */
+export function refusalAnswer(refused, what = "", readings = undefined) {
   const explanation = refused.explanation.replace(/^township: /, "").trimEnd();
   return make(
     "div",
     { class: "refused" },
     make("strong", {}, `${what}Refused ${refused.number}: `),
-    refused.sentence,
-    make("pre", {}, explanation),
+    ...spelled(refused.sentence),
+    explained(explanation),
+    readings && readingsButton(readings),
   );
 }
 
@@ -83,9 +87,15 @@ export function refusalAnswer(refused, what = "") {
  * `readings()`, if it is given, is called by a button of the note.
  */
 export function noteAnswer(note, of = "", readings = undefined) {
-  const button = readings === undefined ? null : make("button", { type: "button" }, "Show the readings");
-  button?.addEventListener("click", readings);
-  return make("p", { class: "note" }, make("strong", {}, `${of}Note: `), note.sentence, button && " ", button);
+  const button = readings && readingsButton(readings);
+  return make("p", { class: "note" }, make("strong", {}, `${of}Note: `), ...spelled(note.sentence), button && " ", button);
+}
+
+/** Returns a button that calls a function, which shows the readings of a text. */
+export function readingsButton(call = () => {}) {
+  const button = make("button", { type: "button", class: "to-readings" }, "Show the readings");
+  button.addEventListener("click", call);
+  return button;
 }
 
 /** Returns a text in which places are marked. Their `start` and `end` are in Unicode code points. */
@@ -107,5 +117,5 @@ export function failure(error) {
 }
 
 function row(name, value) {
-  return [make("dt", {}, name), make("dd", {}, value)];
+  return [make("dt", {}, term(name)), make("dd", {}, ...spelled(value))];
 }

@@ -22,16 +22,25 @@ export function giveUp() {
   for (const control of pending.values()) control.abort();
 }
 
+/** There is no answer, since the server does not run. */
+class NoServer extends Error {}
+
+/** Throws an error again, as what it means if there is no connection. */
+function unconnected(error) {
+  throw error instanceof TypeError ? new NoServer("the server does not answer.") : error;
+}
+
 /** Posts a request, and returns the answer. Throws an Error with the server's message if there is none. */
 export async function post(kind, request, signal) {
-  const response = await fetch(`api/v1/${kind}`, {
+  const sent = fetch(`api/v1/${kind}`, {
     method: "POST",
     headers: { "Content-Type": "application/json" },
     body: JSON.stringify(request),
     signal,
   });
-  if (AWAY.includes(response.status)) throw new TypeError("the server is being restarted");
-  const answer = await response.json();
+  const response = await sent.catch(unconnected);
+  if (AWAY.includes(response.status)) throw new NoServer("the server is being restarted.");
+  const answer = await response.json().catch(unconnected);
   if (!response.ok) throw new Error(answer.error ?? response.statusText);
   return answer;
 }
@@ -47,8 +56,7 @@ export async function ask(kind, request) {
     return seen === changes ? answer : null;
   } catch (error) {
     if (control.signal.aborted || seen !== changes) return null;
-    // fetch throws this if there is no connection.
-    if (error instanceof TypeError) {
+    if (error instanceof NoServer) {
       lost();
       throw new Error("the server does not answer; the page asks again until it does.");
     }

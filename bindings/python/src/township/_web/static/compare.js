@@ -6,6 +6,7 @@ import { byId, make } from "./dom.js";
 import { follow, mark } from "./marks.js";
 import * as readings from "./readings.js";
 import { basis, kept } from "./store.js";
+import { spelled } from "./wording.js";
 
 const NAMES = ["first", "second"];
 const WORDS = {
@@ -44,12 +45,7 @@ export function fill() {
 export async function refresh(request) {
   const place = byId("compare-answer");
   const [first, second] = NAMES.map((name) => kept[name]);
-  if (first.trim() === "" || second.trim() === "") {
-    place.replaceChildren("Write two descriptions to compare their land.");
-    readings.clear(byId("compare-readings"));
-    NAMES.forEach((name) => mark(byId(name), []));
-    return undefined;
-  }
+  if (first.trim() === "" || second.trim() === "") return showNone("Write two descriptions to compare their land.");
   try {
     const answer = await ask("compare", { ...basis(), first, second, ...request });
     if (answer === null) return null;
@@ -63,22 +59,34 @@ export async function refresh(request) {
     place.replaceChildren(...(refused === undefined ? [...comparison(answer), ...notesOf(answer)] : refusals(refused)));
     return answer;
   } catch (error) {
-    place.replaceChildren(failure(error));
-    return null;
+    return showNone(failure(error));
   }
+}
+
+/** Shows why there is no answer, and nothing of one that was shown before. */
+export function showNone(reason) {
+  byId("compare-answer").replaceChildren(reason);
+  readings.clear(byId("compare-readings"));
+  NAMES.forEach((name) => mark(byId(name), []));
 }
 
 function refusals(refused) {
   if (refused.number !== undefined) return [refusalAnswer(refused)];
-  return Object.entries(refused).map(([name, each]) => refusalAnswer(each, `The ${name} description: `));
+  return Object.entries(refused).map(([name, each]) => {
+    return refusalAnswer(each, `The ${name} description: `, () => showReadings(name));
+  });
+}
+
+/** Shows the readings of one of the descriptions, of which one can be picked. */
+function showReadings(name) {
+  readings.suggest(byId("compare-readings"), kept[name], (text) => pick(name, text), `The ${name} description. `);
 }
 
 /** Returns the notes on both descriptions, from each of which its readings can be shown and picked. */
 function notesOf({ notes }) {
-  return NAMES.flatMap((name) => notes[name].map((note) => {
-    const show = () => readings.suggest(byId("compare-readings"), kept[name], (text) => pick(name, text));
-    return noteAnswer(note, `The ${name} description. `, show);
-  }));
+  return NAMES.flatMap((name) => {
+    return notes[name].map((note) => noteAnswer(note, `The ${name} description. `, () => showReadings(name)));
+  });
 }
 
 /** Takes a reading as one of the descriptions. */
@@ -100,7 +108,7 @@ function comparison(answer) {
       {},
       make("th", { scope: "row" }, key, ` ${words}`),
       ...figureCells(acres),
-      make("td", {}, land),
+      make("td", {}, ...spelled(land)),
     );
   });
   const figures = figureNames(answer.both.acres);

@@ -1,17 +1,34 @@
-/** The drawing, which the server makes; here its lines, lots, and sections become buttons. */
+/** The drawing, which the server makes; here its lines, lots, sections, land, and tracts become buttons. */
 
-import { byId, save } from "./dom.js";
-import { where } from "./lines.js";
+import { byId, make, save } from "./dom.js";
+import { describe, isIn, LOT, partAt, SECTION } from "./parts.js";
+import * as selection from "./selection.js";
+import { visible } from "./shown.js";
+import * as zoom from "./zoom.js";
 
 const ARROWS = { ArrowLeft: [-1, 0], ArrowRight: [1, 0], ArrowUp: [0, -1], ArrowDown: [0, 1] };
+/** The least side of a part that a click selects, in pixels. */
+const PART_LEAST = 24;
+/** The most entries of the key. A list of tracts has a table, too. */
+const KEY_MOST = 60;
+const TARGETS = ".targets rect, .outlines path, g.land";
 let chosen = "section 36";
+/** The drawing as the server made it. */
+let original = null;
 
-/** Shows a drawing. `open(kind, value)` is called for the target that is clicked. */
-export function show(text, label, open) {
+/** Prepares the drawing. `acts` are those of the selection. */
+export function prepare(acts) {
+  selection.prepare(acts);
+  zoom.prepare();
+}
+
+/** Shows the drawing of a section, or of the township (""), with its key. */
+export function show(text, label, section) {
   const parsed = new DOMParser().parseFromString(text, "image/svg+xml");
+  original = text;
   const svg = document.importNode(parsed.documentElement, true);
   const had = byId("drawing").contains(document.activeElement);
-  const targets = [...svg.querySelectorAll(".targets rect")];
+  const targets = [...svg.querySelectorAll(TARGETS)];
   if (targets.length > 0) {
     svg.setAttribute("role", "group");
     svg.setAttribute("aria-describedby", "drawing-help");
@@ -19,18 +36,34 @@ export function show(text, label, open) {
   svg.setAttribute("aria-label", label);
   // A title of the whole drawing would be shown at the pointer.
   svg.querySelector("title")?.remove();
-  targets.forEach(prepare);
-  svg.addEventListener("click", (event) => opened(event.target, open));
-  svg.addEventListener("keydown", (event) => pressed(event, targets, open));
+  for (const each of targets) prepareTarget(each);
+  svg.addEventListener("keydown", (event) => pressed(event, targets));
+  svg.addEventListener("click", clicked);
   byId("drawing").replaceChildren(svg);
-  const current = targets.find((each) => nameOf(each) === chosen) ?? targets[0];
+  zoom.attach(svg, section);
+  showKey(svg);
+  const current = targets.find((each) => idOf(each) === chosen) ?? targets[0];
   current?.setAttribute("tabindex", "0");
   if (had) current?.focus();
+  selection.keepUp();
 }
 
 /** Shows no drawing. */
 export function clear() {
+  original = null;
   byId("drawing").replaceChildren();
+  byId("key").replaceChildren();
+  selection.clear();
+}
+
+/** Returns the drawing for a sheet of paper, as the server made it, or null if there is none. */
+export function sheet() {
+  if (original === null) return null;
+  // Its hatchings have other names than those on the screen.
+  const parsed = new DOMParser().parseFromString(original.replaceAll("hatching-", "sheet-"), "image/svg+xml");
+  const copy = document.importNode(parsed.documentElement, true);
+  copy.querySelector(".targets")?.remove();
+  return copy;
 }
 
 /** Marks a section line as refused, or none. */
@@ -39,56 +72,131 @@ export function markLine(index) {
   if (index !== undefined) document.querySelector(`.targets [data-line="${index}"]`)?.classList.add("refused");
 }
 
-/** Saves the drawing that is shown, without its buttons. */
+/** Saves the drawing that is shown, as a sheet. */
 export function saveDrawing(name) {
-  const svg = byId("drawing").querySelector("svg");
-  if (svg === null) return;
-  const copy = svg.cloneNode(true);
-  copy.querySelector(".targets")?.remove();
-  copy.setAttribute("role", "img");
-  copy.removeAttribute("aria-describedby");
-  save(name, new XMLSerializer().serializeToString(copy), "image/svg+xml");
+  const copy = sheet();
+  if (copy !== null) save(name, new XMLSerializer().serializeToString(copy), "image/svg+xml");
 }
 
-function prepare(target) {
+function prepareTarget(target) {
   target.setAttribute("role", "button");
   target.setAttribute("tabindex", "-1");
-  target.setAttribute("aria-label", labelOf(target.dataset));
+  target.setAttribute("aria-label", selection.labelOf(thingOf(target)));
 }
 
-function labelOf({ line, lot, section }) {
-  if (line !== undefined) return `Line ${line}: ${where(line)}`;
-  if (lot !== undefined) return `Section ${lot.replace(".", ", lot ")}`;
-  return `Section ${section}`;
+/** Returns what a target is. */
+function thingOf(target) {
+  const { acres, label, line, lot, name, section, shade, tract, words } = target.dataset;
+  if (line !== undefined) return { kind: "line", value: line };
+  if (lot !== undefined) return { kind: "lot", value: lot, acres, description: `sec. ${lot.replace(".", ", lot ")}` };
+  if (tract !== undefined) return { kind: "tract", value: tract, name, acres };
+  if (shade !== undefined) return { kind: "shade", value: shade, label, words, acres };
+  return { kind: "part", section, x: 0, y: 0, size: SECTION, acres, description: `sec. ${section}` };
 }
 
-const nameOf = (target) => Object.entries(target.dataset)[0].join(" ");
+function idOf(target) {
+  const { kind, value, section } = thingOf(target);
+  return `${kind === "part" ? "section" : kind} ${value ?? section}`;
+}
 
-function opened(target, open) {
-  if (target.dataset === undefined || target.getAttribute("role") !== "button") return;
+/** Shows what the hatchings and outlines are, as buttons that select them. */
+function showKey(svg) {
+  const tracts = [...svg.querySelectorAll(".outlines path")];
+  const entries = [...svg.querySelectorAll("g.land"), ...tracts].slice(0, KEY_MOST).map(entryOf);
+  const left = tracts.length + svg.querySelectorAll("g.land").length - entries.length;
+  if (left > 0) entries.push(make("li", {}, `and ${left} more tracts`));
+  byId("key").replaceChildren(...entries);
+}
+
+function entryOf(target) {
+  const button = make("button", { type: "button" }, swatchOf(target), visible(selection.labelOf(thingOf(target))));
+  button.addEventListener("click", () => open([thingOf(target)]));
+  return make("li", {}, button);
+}
+
+/** Returns a swatch: the hatching of land, or the outline of tracts. */
+function swatchOf(target) {
+  const made = (tag, attributes) => {
+    const element = document.createElementNS("http://www.w3.org/2000/svg", tag);
+    for (const [name, value] of Object.entries(attributes)) element.setAttribute(name, value);
+    return element;
+  };
+  const key = target.dataset.key;
+  const swatch = made("svg", { class: "swatch", viewBox: "0 0 6 4", "aria-hidden": "true" });
+  const fill = key === undefined ? "none" : `url(#${key})`;
+  swatch.append(made("rect", { x: "0.2", y: "0.2", width: "5.6", height: "3.6", fill, class: key === undefined ? "outline" : "" }));
+  return swatch;
+}
+
+/** Selects what was clicked: the first of all that is there. */
+function clicked(event) {
+  const target = event.target.closest("[role=button]");
+  if (target === null) return;
+  const found = document.elementsFromPoint(event.clientX, event.clientY).map((each) => each.closest?.("#drawing [role=button]"));
+  const targets = found.includes(target) ? [...new Set(found.filter((each) => each))] : [target];
   choose(target);
-  const [[kind, value]] = Object.entries(target.dataset);
-  open(kind, value);
+  open(targets.flatMap((each) => thingsOf(each, event)).sort((one, other) => rankOf(one) - rankOf(other)));
+}
+
+/** Selects the first of some things, and moves the focus to what can be done with it. */
+function open(things) {
+  selection.select(things);
+  if (!byId("work").contains(document.activeElement) || document.activeElement.matches("textarea")) {
+    byId("selected").querySelector("button")?.focus();
+  }
+}
+
+/** Lines come first, then tracts and land, and then lots and parts, the smallest first. */
+function rankOf({ kind, size = 0 }) {
+  return ["line", "tract", "shade", "lot", "part"].indexOf(kind) + size;
+}
+
+/** Returns the things of a target at a point: a section has parts there, of which the smallest that can be hit counts. */
+function thingsOf(target, event) {
+  const thing = thingOf(target);
+  if (thing.kind !== "part") return [thing];
+  const place = new DOMPoint(event.clientX, event.clientY).matrixTransform(target.getScreenCTM().inverse());
+  const [x, y] = [place.x - target.x.baseVal.value, place.y - target.y.baseVal.value].map(Math.floor);
+  if (!(x >= 0 && x < SECTION && y >= 0 && y < SECTION)) return [thing];
+  const lots = lotsOf(target);
+  const pixels = target.getBoundingClientRect().width / SECTION;
+  const isLot = lots.some((lot) => isIn({ x, y }, { ...lot, size: LOT }));
+  const sizes = [1, 2, 4, 8, 16].filter((size) => size * pixels >= PART_LEAST && !(isLot && size <= LOT)).slice(0, 3);
+  const parts = sizes.map((size) => partAt(thing.section, x, y, size));
+  return [...parts.map((part) => ({ ...part, description: describe(part, lots) })), thing];
+}
+
+/** Returns the lots of a section, each with its number and where it is in the section. */
+function lotsOf(section) {
+  const [left, top] = [section.x.baseVal.value, section.y.baseVal.value];
+  return [...section.parentElement.querySelectorAll(`[data-lot^="${section.dataset.section}."]`)].map((lot) => ({
+    number: lot.dataset.lot.split(".")[1],
+    x: lot.x.baseVal.value - left,
+    y: lot.y.baseVal.value - top,
+  }));
 }
 
 function choose(target) {
-  for (const each of target.parentElement.querySelectorAll('[tabindex="0"]')) each.setAttribute("tabindex", "-1");
+  for (const each of document.querySelectorAll('#drawing [tabindex="0"]')) each.setAttribute("tabindex", "-1");
   target.setAttribute("tabindex", "0");
-  chosen = nameOf(target);
+  chosen = idOf(target);
 }
 
-function pressed(event, targets, open) {
+function pressed(event, targets) {
   const target = event.target;
-  if (event.key === "Enter" || event.key === " ") {
+  if (zoom.pressed(event)) {
     event.preventDefault();
-    opened(target, open);
+  } else if (event.key === "Enter" || event.key === " ") {
+    event.preventDefault();
+    choose(target);
+    open([thingOf(target)]);
   } else if (event.key in ARROWS) {
     event.preventDefault();
     const next = nearest(target, targets, ARROWS[event.key]);
-    if (next !== undefined) {
-      choose(next);
-      next.focus();
-    }
+    if (next === undefined) return;
+    choose(next);
+    zoom.reveal(next.getBoundingClientRect());
+    next.focus({ preventScroll: zoom.isWhole() === false });
   }
 }
 
@@ -107,6 +215,8 @@ function nearest(from, targets, [right, down]) {
   return best;
 }
 
-function center(rect) {
-  return ["x", "y"].map((axis, place) => rect[axis].baseVal.value + rect[["width", "height"][place]].baseVal.value / 2);
+/** Returns the middle of a target, in places. */
+function center(target) {
+  const { x, y, width, height } = target.getBBox();
+  return [x + width / 2, y + height / 2];
 }

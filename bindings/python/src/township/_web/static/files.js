@@ -4,7 +4,7 @@ import { post } from "./api.js";
 import { byId, say } from "./dom.js";
 import { visible } from "./shown.js";
 
-/** Calls `use(text)` with the text of each file that is opened by an input, which can open the same one again. */
+/** Calls `use(text, name)` for each file that is opened by an input, which can open the same one again. */
 export function onOpen(id, use) {
   const input = byId(id);
   input.addEventListener("change", async () => {
@@ -13,7 +13,7 @@ export function onOpen(id, use) {
     try {
       const { text, encoding } = await post("file", { data: await base64Of(file) });
       say(encoding === "utf-8" ? "" : `${visible(file.name)} is read as ${encoding.toUpperCase()}.`);
-      use(text);
+      use(text, visible(file.name));
     } catch (error) {
       say(`${visible(file.name)} is not opened: ${error.message}`);
     } finally {

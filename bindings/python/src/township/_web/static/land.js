@@ -26,10 +26,8 @@ export function fill() {
   if (area.value !== kept.description) area.value = kept.description;
 }
 
-/** Adds a lot to the description, such as `5.1`, lot 1 of section 5. */
-export function withLot(description, lot) {
-  const [section, number] = lot.split(".");
-  const words = `sec. ${section}, lot ${number}`;
+/** Returns a description with land added, such as `sec. 5, lot 1`. */
+export function withLand(description, words) {
   const before = description.trim().replace(/[.;]$/, "");
   return before === "" ? `${words}.` : `${before}; ${words}.`;
 }
@@ -38,12 +36,7 @@ export function withLot(description, lot) {
 export async function refresh(request) {
   const place = byId("land-answer");
   const area = byId("description");
-  if (kept.description.trim() === "") {
-    place.replaceChildren("Write a description to see its land and acreage.");
-    mark(area, []);
-    readings.clear(byId("readings"));
-    return undefined;
-  }
+  if (kept.description.trim() === "") return showNone("Write a description to see its land and acreage.");
   try {
     const answer = await ask("land", { ...basis(), description: kept.description, ...request });
     if (answer === null) return null;
@@ -61,17 +54,24 @@ export async function refresh(request) {
     }
     return answer;
   } catch (error) {
-    place.replaceChildren(failure(error));
-    return null;
+    return showNone(failure(error));
   }
 }
 
-/** Shows the readings of a refused description, or marks what rules them out as well. */
+/** Shows why there is no answer, and nothing of one that was shown before. */
+export function showNone(reason) {
+  byId("land-answer").replaceChildren(reason);
+  mark(byId("description"), []);
+  readings.clear(byId("readings"));
+}
+
+/** Shows the readings of a refused description, or marks what rules them out, or what is not understood. */
 async function explain(refused) {
   const { reason, start, end } = (await readings.suggest(byId("readings"), kept.description, pick)) ?? {};
-  if (!reason) return;
-  const places = [refused, { start, end }].map((place) => ({ start: place.start, end: place.end, kind: "wrong" }));
-  mark(byId("description"), places.sort((one, other) => one.start - other.start));
+  if (typeof start !== "number") return;
+  const places = reason === null ? [{ start, end }] : [refused, { start, end }];
+  const marks = places.map((place) => ({ start: place.start, end: place.end, kind: "wrong" }));
+  mark(byId("description"), marks.sort((one, other) => one.start - other.start));
 }
 
 /** Takes a reading as the description. */

@@ -1,21 +1,34 @@
 /** The page: puts the panels and the drawing together. */
 
 import { giveUp, outdate, whenLost } from "./api.js";
-import { cases, open as openCase, wordsOf } from "./cases.js";
+import * as casebar from "./casebar.js";
 import * as compare from "./compare.js";
-import { byId, make, oneAtATime, say } from "./dom.js";
+import { byId, oneAtATime, say } from "./dom.js";
 import * as drawing from "./drawing.js";
 import * as land from "./land.js";
 import * as plat from "./plat.js";
-import { basis, keep, kept, link, linked, replace, takeBack } from "./store.js";
+import * as print from "./print.js";
+import * as spoken from "./spoken.js";
+import * as start from "./start.js";
+import { basis, hasPlat, keep, kept, link, replace, takeBack } from "./store.js";
 import * as tabs from "./tabs.js";
+import { terms } from "./terms.js";
 import * as tracts from "./tracts.js";
 
-/** What is said after a link was opened. */
-const BESIDE = "The link is opened as a case of its own. Your own work is kept: choose it under Case.";
+/** What the panels say before there is a plat. */
+const NO_PLAT = "First choose what the acreage is based on.";
 /** The milliseconds after which a server that does not answer is asked again. */
 const AGAIN = 1_000;
 const PANELS = { plat, land, compare, tracts };
+/** What the texts are called that can be replaced. */
+const TEXTS = {
+  notes: "field notes",
+  lots: "lot table",
+  description: "description",
+  first: "first description",
+  second: "second description",
+  tracts: "list of tracts",
+};
 
 let changes = 0;
 let platShown = null;
@@ -25,25 +38,34 @@ async function refresh() {
   const seen = changes;
   await answer();
   if (seen !== changes) return;
-  showOwnCase();
+  casebar.showOwn();
   byId("work").setAttribute("aria-busy", "false");
 }
 
 /** Asks for the answers of the panel that is open, and shows the drawing that comes with them. */
 async function answer() {
+  start.show(!hasPlat());
+  if (!hasPlat()) return showNone();
   const name = kept.panel in PANELS ? kept.panel : "plat";
   const section = kept.view === "" ? {} : { section: Number(kept.view) };
-  const request = { draw: true, targets: kept.view === "", ...section };
+  const request = { draw: true, targets: true, ...section };
   const panel = PANELS[name];
-  const others = () => [panel.refresh(request), isPlatShown() ? null : refreshPlat({})];
+  const others = () => [panel.refresh(request), isPlatShown() ? undefined : refreshPlat({})];
   const [given] = await Promise.all(panel === plat ? [refreshPlat(request)] : others());
   if (given === null) return;
   // The drawing of the plat alone is shown where a panel has nothing to shade.
   const drawn = given?.svg === undefined && panel !== plat ? await refreshPlat(request) : given;
   if (drawn === null || name !== kept.panel) return;
-  if (drawn.svg === undefined) drawing.clear();
-  else drawing.show(drawn.svg, labelOf(), open);
+  if (drawn?.svg === undefined) drawing.clear();
+  else drawing.show(drawn.svg, labelOf(), kept.view);
   plat.markRefused();
+}
+
+/** Shows that there is no plat yet, and nothing of one that was shown before. */
+function showNone() {
+  platShown = null;
+  for (const panel of Object.values(PANELS)) panel.showNone(NO_PLAT);
+  drawing.clear();
 }
 
 const isPlatShown = () => platShown === JSON.stringify(basis());
@@ -53,7 +75,7 @@ async function refreshPlat(request) {
   const asked = JSON.stringify(basis());
   platShown = null;
   const given = await plat.refresh(request);
-  if (given !== null) platShown = asked;
+  if (given) platShown = asked;
   return given;
 }
 
@@ -83,10 +105,15 @@ function replaceText(name, value) {
   showAll();
 }
 
-/** Takes the last replacement back, or makes it again. */
+/** Takes the last replacement back, or makes it again, or brings back a case that was deleted. */
 function undo(isAgain) {
-  if (takeBack(isAgain) === undefined) return say(isAgain ? "There is nothing to redo." : "There is nothing to undo.");
-  say(isAgain ? "Done again." : "Undone.");
+  const name = takeBack(isAgain);
+  if (name === undefined) {
+    if (!isAgain && casebar.undelete()) return;
+    say(isAgain ? "There is nothing to redo." : "There is nothing to undo.");
+    return;
+  }
+  say(`${isAgain ? "Redone" : "Undone"} in the ${TEXTS[name]}.`);
   showAll();
 }
 
@@ -96,16 +123,24 @@ function showAll() {
   refreshCalmly();
 }
 
-/** Opens what was clicked in the drawing: the figures of a line or a lot, or a section. */
-function open(kind, value) {
-  if (kind === "section") {
-    byId("view").value = value;
-    change("view", value);
-    byId("view").focus();
-    return;
-  }
+/** Shows a section alone. */
+function openSection(section) {
+  byId("view").value = section;
+  change("view", section);
+  byId("view").focus();
+}
+
+/** Opens the distances of a section line. */
+function openLine(line) {
   openPanel("plat");
-  plat.open(kind, value);
+  plat.open("line", line);
+}
+
+/** Marks what is selected in the drawing in the panel that is open. */
+function picked({ kind, value }) {
+  if (kept.panel === "plat" && (kind === "line" || kind === "lot")) plat.open(kind, value);
+  const tract = document.querySelector(`#tracts-table [data-tract="${value}"]`);
+  if (kept.panel === "tracts" && kind === "tract" && tract?.getAttribute("aria-pressed") === "false") tract.click();
 }
 
 function openNotes(notes) {
@@ -114,64 +149,54 @@ function openNotes(notes) {
   refreshCalmly();
 }
 
-function useLot(lot) {
-  replaceText("description", land.withLot(kept.description, lot));
+/** Opens the place for the text of field notes, or of a lot table, to be pasted. */
+function openText(name) {
+  openPanel("plat");
+  plat.openText(name);
+}
+
+const useLot = (lot) => useLand(`sec. ${lot.replace(".", ", lot ")}`);
+
+/** Adds land to the description. */
+function useLand(words) {
+  replaceText("description", land.withLand(kept.description, words));
   openPanel("land");
   byId("description").focus();
 }
 
+/** Copies a link to the case, and shows it where it can be copied by hand. */
 async function copyLink() {
   const address = link();
-  if (address === null) return say("This case is too large for a link. Save the field notes instead.");
-  history.replaceState(null, "", address);
+  byId("link-row").hidden = address === null;
+  if (address === null) return say("This case is too large for a link. Save it to a file instead.");
+  byId("link").value = address;
+  const words = "It carries the whole case.";
   try {
     await navigator.clipboard.writeText(address);
-    say("The link is copied. It carries the plat and the descriptions.");
+    say(`The link is copied. ${words}`);
   } catch {
-    say("The link is in the address bar. It carries the plat and the descriptions.");
+    byId("link").select();
+    say(`Copy the link. ${words}`);
   }
-}
-
-/** Puts the notes and refusals of the panel that is open beside the drawing, for the printed sheet. */
-function preparePrint() {
-  const said = byId(`panel-${kept.panel}`).querySelectorAll(".answer .note, .answer .refused, td .note, tr.wrong");
-  const copies = [...said].map((each) => make("p", {}, each.textContent.replace("Show the readings", "").trim()));
-  byId("printed").replaceChildren(...copies);
-}
-
-/** Shows the cases that the browser keeps, of which another can be opened. */
-function showCases() {
-  const options = cases().map(({ name, words, when, isOwn }) => {
-    return make("option", { value: name, selected: isOwn }, isOwn ? words : `${words}${when}`);
-  });
-  byId("case").replaceChildren(...options);
-}
-
-/** Shows some words of the case of this tab, which has changed. */
-function showOwnCase() {
-  const [own] = byId("case").selectedOptions;
-  const words = wordsOf(kept);
-  if (own !== undefined && own.textContent !== words) own.textContent = words;
 }
 
 plat.prepare(openNotes, (table) => change("lots", table), replaceText, useLot);
 for (const panel of [land, compare]) panel.prepare(change, replaceText);
 tracts.prepare(change, replaceText, refreshCalmly);
-addEventListener("beforeprint", preparePrint);
+start.prepare(replaceText, openText);
+casebar.prepare();
+drawing.prepare({ use: useLand, section: openSection, line: openLine, picked });
+print.prepare(() => kept.panel);
+spoken.prepare();
+byId("terms").replaceChildren(...terms());
 whenLost(() => setTimeout(refreshCalmly, AGAIN));
 byId("undo").addEventListener("click", () => undo(false));
 byId("redo").addEventListener("click", () => undo(true));
-byId("case").addEventListener("change", () => openCase(byId("case").value));
-// Another tab has changed a case.
-addEventListener("storage", showCases);
-showCases();
-if (linked.refused !== undefined) say(linked.refused);
-if (linked.values !== undefined) say(BESIDE);
 for (const panel of Object.values(PANELS)) panel.fill();
 byId("view").value = kept.view;
 byId("view").addEventListener("change", () => change("view", byId("view").value));
 byId("save-drawing").addEventListener("click", () => drawing.saveDrawing("plat.svg"));
 byId("copy-link").addEventListener("click", copyLink);
-byId("print").addEventListener("click", () => print());
+byId("print").addEventListener("click", () => window.print());
 const openPanel = tabs.prepare((name) => change("panel", name));
 openPanel(kept.panel in PANELS ? kept.panel : "plat");

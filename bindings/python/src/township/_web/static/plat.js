@@ -7,7 +7,7 @@ import { markLine } from "./drawing.js";
 import { onOpen } from "./files.js";
 import * as lines from "./lines.js";
 import { follow, mark } from "./marks.js";
-import { basis, isTableAlone, kept } from "./store.js";
+import { basis, kept } from "./store.js";
 
 let changed = () => {};
 let replaced = () => {};
@@ -72,6 +72,13 @@ export function fill() {
   }
 }
 
+/** Opens the text of the field notes (`notes`) or of the lot table (`lots`). */
+export function openText(name) {
+  const area = byId(name === "notes" ? "notes" : "lots-text");
+  area.closest("details").open = true;
+  area.focus();
+}
+
 /** Asks for the plat, and shows its lots or its refusal. Returns the answer, or null if it is outdated. */
 export async function refresh(request) {
   const place = byId("plat-answer");
@@ -80,7 +87,7 @@ export async function refresh(request) {
     const answer = await ask("plat", { ...basis(), ...request });
     if (answer === null) return null;
     const refused = answer.refused;
-    for (const part of document.querySelectorAll("[data-needs-notes]")) part.hidden = isTableAlone();
+    showParts();
     if (answer.written !== undefined) lines.learn(asked, answer.written);
     if (refused !== undefined) {
       showNone(refusalAnswer(refused), refused);
@@ -89,12 +96,17 @@ export async function refresh(request) {
     showRefusal(refused);
     place.replaceChildren(...totalOf(answer));
     showLots(answer.sections);
-    byId("where").textContent = answer.township;
+    byId("where").textContent = answer.basis === "nominal" ? `${answer.township} (nominal)` : answer.township;
     return answer;
   } catch (error) {
     showNone(failure(error));
-    return null;
+    return undefined;
   }
+}
+
+/** Shows the parts that need field notes, if there are any. */
+function showParts() {
+  for (const part of document.querySelectorAll("[data-needs-notes]")) part.hidden = kept.notes.trim() === "";
 }
 
 /** Returns the acreage of the township, and what it rests on. */
@@ -107,8 +119,9 @@ function totalOf({ total, basis: name, notes }) {
 }
 
 /** Shows why there is no plat, and nothing of one that was shown before. */
-function showNone(reason, refused) {
+export function showNone(reason, refused) {
   byId("plat-answer").replaceChildren(reason);
+  showParts();
   byId("where").textContent = "";
   showLots([]);
   showRefusal(refused);
@@ -150,6 +163,7 @@ function showLots(sections) {
   );
   const active = document.activeElement?.dataset?.lot;
   byId("lots").tBodies[0].replaceChildren(...rows);
+  byId("lots").closest("details").hidden = rows.length === 0;
   if (active !== undefined) document.querySelector(`button[data-lot="${active}"]`)?.focus();
 }
 

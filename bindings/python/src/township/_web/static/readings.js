@@ -2,8 +2,10 @@
 
 import { figureOf } from "./answer.js";
 import { ask } from "./api.js";
-import { byId, make } from "./dom.js";
+import { make } from "./dom.js";
+import { visible } from "./shown.js";
 import { basis } from "./store.js";
+import { spelled } from "./wording.js";
 
 const UNCERTAIN = "No reading of this text is certain: what is marked in it is not understood.";
 
@@ -14,21 +16,21 @@ export function clear(place) {
 
 /**
  * Asks for the readings of a text, and shows them in a place, each with its acreage and its drawing.
- * `pick(description)` is called for the one that is picked; without it, none can be. A text whose only reading is the
- * text itself needs none.
+ * `pick(description)` is called for the one that is picked. A text whose only reading is the text itself needs none.
+ * `of` names the text if there are others.
  * Returns the answer, or null if there is none.
  */
-export async function suggest(place, text, pick) {
+export async function suggest(place, text, pick, of = "") {
   try {
     const answer = await ask("suggest", { ...basis(), text, draw: true });
     if (answer === null) return null;
     const { readings = [], reason } = answer;
     if (readings.length === 0) {
       const said = reason ? `Lots and aliquot parts can't describe this land: ${reason}.` : UNCERTAIN;
-      place.replaceChildren(make("p", {}, said));
+      place.replaceChildren(make("p", {}, `${of}${said}`));
     } else if (readings.length > 1 || readings[0].text !== text) {
       const cards = readings.map((each) => item(each, pick));
-      place.replaceChildren(heading(readings.length), make("ol", { class: "readings" }, ...cards));
+      place.replaceChildren(heading(readings.length, of), make("ol", { class: "readings" }, ...cards));
     } else {
       clear(place);
     }
@@ -40,21 +42,20 @@ export async function suggest(place, text, pick) {
   }
 }
 
-function heading(count) {
-  return make("h2", {}, count === 1 ? "Perhaps this was meant" : "Which was meant?");
+function heading(count, of) {
+  return make("h2", {}, `${of}${count === 1 ? "Perhaps this was meant" : "Which was meant?"}`);
 }
 
-/** Returns a reading as a button, with what it does below it. Without `pick`, it is no button. */
+/** Returns a reading as a button, with what it does below it. */
 function item(reading, pick) {
   const description = reading.text.trim();
-  const [tag, type] = pick === undefined ? ["div", {}] : ["button", { type: "button" }];
-  const shown = [picture(reading), acreage(reading), make("span", {}, description), condition(reading)];
-  const button = make(tag, { ...type, class: "reading" }, ...shown);
-  if (pick !== undefined) button.addEventListener("click", () => pick(description));
+  const shown = [picture(reading), acreage(reading), make("span", {}, ...spelled(description)), condition(reading)];
+  const button = make("button", { type: "button", class: "reading" }, ...shown);
+  button.addEventListener("click", () => pick(description));
   const phrases = reading.phrases.map(({ text, meaning }) => `${text} ${meaning}`);
   const remarks = reading.remark === null ? [] : [reading.remark];
   const assumed = reading.assumptions.map((each) => `Assumed: ${each}`);
-  const said = [...phrases, ...remarks, ...assumed].map((each) => make("li", {}, each));
+  const said = [...phrases, ...remarks, ...assumed].map((each) => make("li", {}, visible(each)));
   return make("li", {}, button, said.length === 0 ? null : make("ul", {}, ...said));
 }
 

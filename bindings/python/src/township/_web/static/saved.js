@@ -8,7 +8,7 @@ export function written(fields) {
   return fields.map((field) => quoted(FORMULA.test(field) ? `'${field}` : field)).join(",");
 }
 
-/** Returns a field as it is written in CSV. */
+/** Returns a field as it is written in CSV, whichever separator is between fields. */
 export function quoted(field) {
-  return /[",\r\n]/.test(field) ? `"${field.replaceAll('"', '""')}"` : field;
+  return /[",;\t\r\n]/.test(field) ? `"${field.replaceAll('"', '""')}"` : field;
 }

@@ -1,12 +1,15 @@
-/** What the user has entered: a case, which is kept in the browser, and which links carry. */
+/** What the user has entered: a case, which is kept in the browser, and which links and files carry. */
 
 import { claimed, stored } from "./cases.js";
-import { byId } from "./dom.js";
 import { visible } from "./shown.js";
 
 const LINK_MOST = 8_000;
+/** The mark of a file that is a case. */
+const KIND = "township case";
+/** An empty case. */
 const FIRST = {
-  notes: byId("notes").defaultValue,
+  name: "",
+  notes: "",
   lots: "",
   description: "",
   first: "",
@@ -29,6 +32,9 @@ export const kept = { ...FIRST, ...textsIn(linked.values ?? stored(claim) ?? {})
 
 /** What was replaced by something other than typing, and what was taken back. */
 const undone = { done: [], back: [] };
+
+let isKept = true;
+let unkept = () => {};
 
 if (linked.values !== undefined) save();
 
@@ -56,26 +62,36 @@ export function takeBack(isAgain = false) {
   return last.name;
 }
 
+/** Calls a function with whether the browser keeps the case, now and when that changes. */
+export function whenUnkept(call) {
+  unkept = call;
+  call(isKept);
+}
+
 /** Keeps the case, unless there is nothing in it yet. */
 function save() {
   const isEmpty = Object.keys(FIRST).every((name) => SHOWN.includes(name) || kept[name] === FIRST[name]);
+  const before = isKept;
   try {
     if (isEmpty) localStorage.removeItem(claim);
     else localStorage.setItem(claim, JSON.stringify({ ...kept, at: Date.now() }));
+    isKept = true;
   } catch {
-    // The browser keeps nothing, or is full: the page works without.
+    // The browser keeps nothing, or is full: the page works without, and says so.
+    isKept = isEmpty;
   }
+  if (isKept !== before) unkept(isKept);
 }
 
-/** Returns whether there is only a lot table: the field notes are those that the page begins with. */
-export function isTableAlone() {
-  return kept.lots.trim() !== "" && kept.notes === FIRST.notes;
+/** Returns whether there is something that acreage is based on: field notes or a lot table. */
+export function hasPlat() {
+  return kept.notes.trim() !== "" || kept.lots.trim() !== "";
 }
 
 /** What all acreage rests on, as the fields of a request. No plat is made up beside a lot table. */
 export function basis() {
   const table = kept.lots.trim() === "" ? {} : { lots: kept.lots };
-  return isTableAlone() ? table : { notes: kept.notes, ...table };
+  return kept.notes.trim() === "" ? table : { notes: kept.notes, ...table };
 }
 
 /** Returns the texts of an object that the page knows. */
@@ -84,12 +100,30 @@ function textsIn(found) {
   return Object.fromEntries(names.map((name) => [name, found[name]]));
 }
 
-/** Returns a link to the plat and the descriptions as they are, or null if they are too long for one. */
+/** Returns a link to the case, or null if it is too long for one. */
 export function link() {
-  const { notes, lots, description, first, second, panel } = kept;
-  const bytes = new TextEncoder().encode(JSON.stringify({ notes, lots, description, first, second, panel }));
+  const { view, ...values } = kept;
+  const bytes = new TextEncoder().encode(JSON.stringify(values));
   const text = btoa(String.fromCharCode(...bytes)).replaceAll("+", "-").replaceAll("/", "_").replace(/=+$/, "");
   return bytes.length > LINK_MOST ? null : `${location.origin}${location.pathname}#case=${text}`;
+}
+
+/** Returns the case as the text of a file. */
+export function fileOf() {
+  return `${JSON.stringify({ kind: KIND, ...kept }, null, 1)}\n`;
+}
+
+/** Returns the values in the text of a file. Throws an Error that says why it is not a case. */
+export function valuesInFile(text) {
+  let values;
+  try {
+    values = JSON.parse(text);
+  } catch {
+    values = null;
+  }
+  if (values?.kind !== KIND) throw new Error("it is not a case that this page has saved.");
+  const { kind, ...others } = values;
+  return known(others);
 }
 
 /** Returns what the link carries that led here, or why it is not opened. It is not sent to the server. */
@@ -102,11 +136,19 @@ function inLink() {
     const bytes = Uint8Array.from(atob(text.replaceAll("-", "+").replaceAll("_", "/")), (each) => each.charCodeAt(0));
     values = JSON.parse(new TextDecoder("utf-8", { fatal: true }).decode(bytes));
   } catch {
-    return { refused: "The link is not opened: it is damaged." };
+    values = null;
   }
   if (values === null || typeof values !== "object") return { refused: "The link is not opened: it is damaged." };
-  const unknown = Object.keys(values).find((name) => !(name in FIRST) || typeof values[name] !== "string");
-  if (unknown === undefined) return { values };
-  const name = visible(unknown.slice(0, 40));
-  return { refused: `The link is not opened: this page does not know what it carries as “${name}”.` };
+  try {
+    return { values: known(values) };
+  } catch (error) {
+    return { refused: `The link is not opened: ${error.message}` };
+  }
+}
+
+/** Returns values whose names are all known, and which are texts. Throws an Error if they are not. */
+function known(values) {
+  const unknown = Object.keys(values).find((name) => !Object.hasOwn(FIRST, name) || typeof values[name] !== "string");
+  if (unknown === undefined) return values;
+  throw new Error(`this page does not know what it carries as “${visible(unknown.slice(0, 40))}”.`);
 }

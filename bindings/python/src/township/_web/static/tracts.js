@@ -9,30 +9,35 @@ import {
   figuresOf,
   markedText,
   noteAnswer,
+  readingsButton,
   refusalAnswer,
 } from "./answer.js";
-import { byId, make, save } from "./dom.js";
+import { byId, make, save, say } from "./dom.js";
 import { onOpen } from "./files.js";
 import * as readings from "./readings.js";
-import { written } from "./saved.js";
+import { quoted, written } from "./saved.js";
 import { visible } from "./shown.js";
 import { basis, kept } from "./store.js";
+import { spelled } from "./wording.js";
 
 const ADDED = ["acres", "acres_exact", "acres_plat", "refusal", "at", "sentence", "note", "canonical"];
 const HEADING = ["name", "description", ...ADDED];
 const PAIRS_SHOWN = 50;
-/** The tracts that are shown, as the server answered them. */
+/** The tracts that are shown, as the server answered them, and the request that it answered. */
 let answered = [];
+let asked = "";
 let selected = null;
 /** The rows of the table, in order, each with the text of all that it was made from. */
 let shown = [];
+let replace = () => {};
 
 /**
  * Prepares the panel. `onChange(name, text)` is called when the list is typed, `onReplace(name, text)` when one is
- * opened, and `onSelect()` when a tract is picked.
+ * opened or a reading is picked, and `onSelect()` when a tract is picked.
  */
 export function prepare(onChange, onReplace, onSelect) {
   const area = byId("tracts");
+  replace = onReplace;
   area.addEventListener("input", () => {
     selected = null;
     onChange("tracts", area.value);
@@ -41,10 +46,13 @@ export function prepare(onChange, onReplace, onSelect) {
     selected = null;
     onReplace("tracts", text);
   });
-  byId("save-tracts").addEventListener("click", () => save("tracts.csv", answersAsCsv(), "text/csv"));
+  byId("save-tracts").addEventListener("click", () => {
+    if (isCurrent()) save("tracts.csv", answersAsCsv(), "text/csv");
+    else say("The answers are on their way. Save them when they are shown.");
+  });
   byId("tracts-table").tBodies[0].addEventListener("click", (event) => {
     const { tract } = event.target.dataset;
-    if (event.target.matches(".note button")) showReadings(event.target.closest("tr"));
+    if (event.target.matches(".to-readings")) showReadings(event.target.closest("tr"));
     if (tract === undefined) return;
     selected = selected === Number(tract) ? null : Number(tract);
     onSelect();
@@ -59,38 +67,63 @@ export function fill() {
 /** Asks for the answers on all tracts, and shows them. Returns the answer, or null if it is outdated. */
 export async function refresh(request) {
   const place = byId("tracts-answer");
-  if (kept.tracts.trim() === "") {
-    showNone("Paste or open a list to see its tracts.");
-    return undefined;
-  }
-  const list = kept.tracts;
+  if (kept.tracts.trim() === "") return showNone("Paste or open a list to see its tracts.");
+  const wanted = wants();
   try {
-    const answer = await ask("report", { ...basis(), list, ...request, ...(selected === null ? {} : { selected }) });
+    const answer = await ask("report", { ...wanted, ...request, ...(selected === null ? {} : { selected }) });
     if (answer === null) return null;
     if (answer.tracts === undefined) {
       showNone(refusalAnswer(answer.refused));
       return answer;
     }
     answered = answer.tracts;
+    asked = JSON.stringify(wanted);
     readings.clear(byId("tracts-readings"));
     place.replaceChildren(...summary(answer));
     showTable(answer);
     return answer;
   } catch (error) {
-    showNone(failure(error));
-    return null;
+    return showNone(failure(error));
   }
 }
 
-/** Shows the readings of the tract in a row of the table. */
-function showReadings(row) {
+/** Returns what the answers depend on. */
+function wants() {
+  return { ...basis(), list: kept.tracts };
+}
+
+/** Returns whether the answers are those on the list and the plat as they are now. */
+function isCurrent() {
+  return asked === JSON.stringify(wants());
+}
+
+/** Shows the readings of the tract in a row of the table, of which one can be picked. */
+async function showReadings(row) {
   const index = shown.findIndex((each) => each.row === row);
-  if (index >= 0) readings.suggest(byId("tracts-readings"), answered[index].description);
+  if (index < 0) return;
+  const { name, description } = answered[index];
+  const place = byId("tracts-readings");
+  await readings.suggest(place, description, (text) => pick(index, text), `Tract ${visible(name)}. `);
+  place.scrollIntoView({ block: "nearest" });
+}
+
+/** Takes a reading as the description of a tract: in its place in the list, which stays as it is otherwise. */
+function pick(index, description) {
+  const { name, start, end } = answered[index];
+  if (!isCurrent()) return;
+  const points = [...kept.tracts];
+  const before = points.slice(0, start).join("");
+  const field = quoted(description);
+  replace("tracts", `${before}${field}${points.slice(end).join("")}`);
+  say(`The description of tract ${visible(name)} is replaced in the list.`);
+  byId("tracts").focus();
+  byId("tracts").setSelectionRange(before.length, before.length + field.length);
 }
 
 /** Shows why there are no answers, and none that are older. */
-function showNone(reason) {
+export function showNone(reason) {
   answered = [];
+  asked = JSON.stringify(wants());
   byId("tracts-answer").replaceChildren(reason);
   byId("tracts-table").hidden = true;
   readings.clear(byId("tracts-readings"));
@@ -105,7 +138,7 @@ function summary({ tracts, total, remaining, refused, overlaps, overlapping }) {
   const items = overlaps.map(({ first, second, acres, canonical }) => {
     const names = [first, second].map((index) => visible(tracts[index].name)).join(" and ");
     const land = canonical === null ? "" : `, ${withoutHeading(canonical)}`;
-    return make("li", {}, `${names}: ${figureOf(acres)}${land}`);
+    return make("li", {}, ...spelled(`${names}: ${figureOf(acres)}${land}`));
   });
   const list = make("ul", {}, ...items.slice(0, PAIRS_SHOWN));
   const others = items.length <= PAIRS_SHOWN ? null : make(
@@ -169,14 +202,15 @@ function filledRow(blank, { tract, index, isSelected }) {
     if (isSelected) row.className = "chosen";
   }
   const words = isAccepted ? withoutHeading(tract.canonical) : reasonOf(tract);
-  row.lastChild.textContent = tract.overlaps ? `${words} (overlaps)` : words;
+  row.lastChild.replaceChildren(...spelled(tract.overlaps ? `${words} (overlaps)` : words));
   if (tract.notes?.length > 0) row.lastChild.append(...doubtsOf(tract));
+  // The table calls for the readings.
+  if (tract.refused !== undefined) row.lastChild.append(" ", readingsButton());
   return row;
 }
 
 /** Returns the notes on a tract, and its description with each doubtful place marked. */
 function doubtsOf({ name, description, notes }) {
-  // The table calls for the readings.
   const readingsOf = (place) => (place === 0 ? () => {} : undefined);
   const items = notes.map((note, place) => noteAnswer(note, `Tract ${visible(name)}. `, readingsOf(place)));
   return [make("p", {}, markedText(description, notes)), ...items];
