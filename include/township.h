@@ -15,7 +15,8 @@
  *         printf("%.2f acres\n", (double)answer.hundredths / 100);
  *     }
  *
- * examples/acres.c in the repository is a complete program, and says how to link it.
+ * The example examples/acres.c is a complete program, and says how to link it. Debian's packages have it in
+ * /usr/share/doc/township.
  *
  * No pointer may be NULL, even for zero bytes, and memory that a call writes must not overlap the memory of any other
  * argument. There is nothing to free, and nothing is kept from one call to the next: call any function from any
@@ -250,7 +251,7 @@ typedef struct township_designation {
 } township_designation;
 
 /*
- * Land: a set of places in a township. A place is a square of 5/8 of an acre, nominally; its side is 1/32 of the
+ * Land: a set of places in a township. A place is nominally a square of 5/8 of an acre; its side is 1/32 of the
  * section's side. `rows[section - 1][row]` is a row of places, counted from 0 in the south of the section; its bit
  * `k`, counted from the lowest, is the place in column `k`, counted from 0 in the east. You may copy land, store it,
  * compare it byte by byte, or fill it in by hand: each function that takes land checks that it contains each lot
@@ -295,8 +296,8 @@ typedef struct township_part {
 #define TOWNSHIP_RULE_NUMERAL 4u         /* a word for a number is written in digits */
 #define TOWNSHIP_RULE_COPIED 5u          /* a number that the text contains elsewhere is written where it belongs */
 #define TOWNSHIP_RULE_COPIED_STEP 6u     /* a step of an aliquot part is repeated where it also applies */
-#define TOWNSHIP_RULE_DAMAGE 7u          /* a letter that scanning made of a digit is written as the digit, or the
-                                            other way around */
+#define TOWNSHIP_RULE_DAMAGE 7u          /* a digit that was scanned as a letter is restored, or a letter that was
+                                            scanned as a digit */
 #define TOWNSHIP_RULE_EXCEPTION 8u       /* what follows is excluded from the land */
 #define TOWNSHIP_RULE_ZEROS 9u           /* the zeros before a number are left out */
 #define TOWNSHIP_RULE_FRACTION_DIGIT 10u /* the fraction digit of a register is left out: a 0 after the number of a
@@ -384,7 +385,7 @@ typedef struct township_suggestion {
 /* Makes a plat from field notes. On any verdict other than TOWNSHIP_ACCEPTED, `plat` is unchanged. */
 township_answer township_read(const uint8_t *notes, size_t notes_length, township_plat *plat);
 
-/* Writes field notes (CSV) from which township_read makes this plat again. In them, each half mile is 40 chains
+/* Writes field notes (CSV) from which township_read makes the same plat. In them, each half mile is 40 chains
    long, except for the second half miles of closing lines. */
 township_answer township_write_notes(const township_plat *plat, uint8_t *text, size_t room);
 
