@@ -52,6 +52,11 @@ def escaped(text: str) -> str:
     return escape(fit(text), quote=False)
 
 
+def attribute(text: str) -> str:
+    """Return the markup of the value of an attribute, without the quotation marks around it."""
+    return escape(fit(text))
+
+
 @functools.lru_cache(maxsize=4096)
 def text(words: str, x: float, y: float, size: float, **attributes: Value) -> str:
     """Return a line of text whose baseline begins at (x, y).
@@ -68,4 +73,4 @@ def group(parts: Iterable[str], **attributes: Value) -> str:
 
 
 def _value(value: Value) -> str:
-    return number(value) if isinstance(value, float) else escape(fit(str(value)))
+    return number(value) if isinstance(value, float) else attribute(str(value))

@@ -2,7 +2,7 @@
 from __future__ import annotations
 
 import functools
-from typing import Callable, Iterator, List, Optional
+from typing import Callable, Iterator, Optional, Tuple
 
 from .layout import LOT, SECTION, Box, closing_of, lots_of
 from .markup import element, number
@@ -70,14 +70,14 @@ def _pictured(section: int) -> Callable[[Rows], Picture]:
     return lambda rows: picture_of_section(rows.get(section, ()))
 
 
-def _taken(section: int) -> List[Box]:
+def _taken(section: int) -> Tuple[Box, ...]:
     """Return the places that the names and figures of lots and quarter-quarter sections take."""
     lots = {(box.x, box.y) for _, box in lots_of(section)}
-    return [
+    return tuple(
         Box(x + 1, y + 2, LOT - 2, 4) if (x, y) in lots else Box(x + 1, y + 3, LOT - 2, 2)
         for x in range(0, SECTION, LOT)
         for y in range(0, SECTION, LOT)
-    ]
+    )
 
 
 def _described(subject: Subject, section: int) -> str:

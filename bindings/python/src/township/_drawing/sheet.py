@@ -6,7 +6,7 @@ from __future__ import annotations
 
 import functools
 import hashlib
-from typing import Callable, Dict, Iterator, List, Sequence
+from typing import Callable, Dict, Iterator, List, Sequence, Tuple
 
 from .hatching import hatching_at, pattern, pieces_by_size, shaded
 from .layout import REGULAR, Box
@@ -173,7 +173,7 @@ class Shading:
                 **{"class": "land" if any(picture) else "no-land", **acres},
             )
 
-    def tracts(self, x: float, y: float, taken: Sequence[Box]) -> Drawn:
+    def tracts(self, x: float, y: float, taken: Tuple[Box, ...]) -> Drawn:
         """Return the outlines and names of the tracts, on a square whose northwest corner is at (x, y)."""
         drawn = tracts_drawn(self._subject.outlines, self._picture_of, self._width, self._place, taken)
         if not drawn.parts:

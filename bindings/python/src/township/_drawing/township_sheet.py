@@ -2,7 +2,7 @@
 from __future__ import annotations
 
 import functools
-from typing import Iterator, List, Tuple
+from typing import Iterator, Tuple
 
 from .layout import ACROSS, LOT, SECTION, TOWNSHIP, Box, Line, box_of, lines, lots_of
 from .markup import element, number
@@ -70,7 +70,7 @@ def township_sheet(subject: Subject, targets: bool) -> str:
 
 
 @functools.lru_cache(maxsize=1)
-def _taken() -> List[Box]:
+def _taken() -> Tuple[Box, ...]:
     """Return the places that the numbers and figures of sections and lots take."""
     found = []
     for section in _SECTIONS:
@@ -79,7 +79,7 @@ def _taken() -> List[Box]:
         found.append(Box(corner.x + middle - 5, corner.y + middle - 3, 10, 10))
         for _, lot in lots_of(section):
             found.append(Box(corner.x + lot.x, corner.y + lot.y, LOT, 5))
-    return found
+    return tuple(found)
 
 
 def _long_name(subject: Subject) -> str:

@@ -2,10 +2,10 @@
 from __future__ import annotations
 
 import functools
-from typing import Callable, Dict, Iterator, List, NamedTuple, Optional, Sequence, Tuple
+from typing import Callable, Dict, List, NamedTuple, Optional, Sequence, Tuple
 
 from .layout import Box
-from .markup import element, escaped, fit, group, number
+from .markup import attribute, escaped, fit, group, number
 from .pieces import loops_of
 from .places import Picture, boxes_of
 from .subject import Outline, Rows
@@ -40,12 +40,24 @@ class Shape(NamedTuple):
     largest: Box
     loops: str
 
+    def __hash__(self) -> int:
+        return hash(self.loops)
+
+
+class Tract(NamedTuple):
+    """A tract that is outlined: its name, its acreage, its place in the list, and its land."""
+
+    name: str
+    acres: Optional[str]
+    place: int
+    shape: Shape
+
 
 #: A function that returns the picture of land.
 Pictured = Callable[[Rows], Picture]
 
 
-@functools.lru_cache(maxsize=4096)
+@functools.lru_cache(maxsize=2048)
 def _shape_of(rows: Tuple[Tuple[int, Sequence[int]], ...], picture_of: Pictured) -> Optional[Shape]:
     """Return the shape of land, or `None` if the picture has none of it. While a list is typed, most tracts stay."""
     picture = picture_of(dict(rows))
@@ -102,44 +114,53 @@ class Room:
         top, bottom = max(0, box.y - height), min(len(self._free), box.y + box.height + height)
         left, right = max(0, box.x - width), min(self._width, box.x + box.width + width)
         across = ((1 << (right - left)) - 1) << left
-        beside = shape._replace(top=top, rows=[across & ~row for row in self._tracts[top:bottom]])
-        return self.find(beside, width, height)
+        around = zip(self._free[top:bottom], self._tracts[top:bottom])
+        return _fitting([free & across & ~tracts for free, tracts in around], top, box, width, height)
 
     def find(self, shape: Shape, width: int, height: int) -> Optional[Box]:
         """Return a free rectangle of this size in land, the nearest to the middle of its largest rectangle."""
-        box = shape.largest
+        if len(shape.rows) < height:
+            return None
         rows = [free & land for free, land in zip(self._free[shape.top :], shape.rows)]
-        wanted = (box.x + (box.width - width) / 2, box.y + (box.height - height) / 2)
-        best: Optional[Box] = None
-        least = float("inf")
-        for index in range(len(rows) - height + 1):
-            y = shape.top + index
-            if abs(y - wanted[1]) >= least:
-                continue
-            fitting = self._all
-            for row in rows[index : index + height]:
-                fitting &= row
-            length = 1
-            while fitting and length < width:
-                step = min(length, width - length)
-                fitting &= fitting >> step
-                length += step
-            x = _nearest(fitting, wanted[0])
-            if x is not None and abs(y - wanted[1]) + abs(x - wanted[0]) / 4 < least:
-                least = abs(y - wanted[1]) + abs(x - wanted[0]) / 4
-                best = Box(x, y, width, height)
-        return best
+        return _fitting(rows, shape.top, shape.largest, width, height)
+
+
+def _fitting(rows: Picture, top: int, around: Box, width: int, height: int) -> Optional[Box]:
+    """Return a rectangle of this size in a picture whose first row is `top` rows down: the nearest to the middle of
+    a box."""
+    # Beside a tract among others, nothing is free.
+    if not any(rows):
+        return None
+    wanted = (around.x + (around.width - width) / 2, around.y + (around.height - height) / 2)
+    best: Optional[Box] = None
+    least = float("inf")
+    for index in range(len(rows) - height + 1):
+        y = top + index
+        if abs(y - wanted[1]) >= least:
+            continue
+        fitting = rows[index]
+        for row in rows[index + 1 : index + height]:
+            fitting &= row
+        length = 1
+        while fitting and length < width:
+            step = min(length, width - length)
+            fitting &= fitting >> step
+            length += step
+        x = _nearest(fitting, wanted[0])
+        if x is not None and abs(y - wanted[1]) + abs(x - wanted[0]) / 4 < least:
+            least = abs(y - wanted[1]) + abs(x - wanted[0]) / 4
+            best = Box(x, y, width, height)
+    return best
 
 
 def tracts_drawn(
-    outlines: Sequence[Outline], picture_of: Pictured, size: int, place: float, taken: Sequence[Box]
+    outlines: Sequence[Outline], picture_of: Pictured, size: int, place: float, taken: Tuple[Box, ...]
 ) -> Drawn:
     """Return the outlines and names of tracts on a square of `size` places, in which names keep clear of `taken`.
 
-    The groups are in places. A name that has no room on paper is not displayed, but can be on a screen that enlarges it.
+    The groups are in places. A name without room on paper is not displayed, but can be on a screen that enlarges it.
     """
-    room = Room(size, taken if outlines else ())
-    shown: List[Tuple[Outline, Shape]] = []
+    shown: List[Tract] = []
     left, left_out = _PATHS_MOST, 0
     for outline in outlines:
         if left < 0:
@@ -152,56 +173,65 @@ def tracts_drawn(
         if left < 0:
             left_out += 1
             continue
-        room.occupy(shape)
-        shown.append((outline, shape))
-    paths = [_path(outline, shape.loops) for outline, shape in shown]
-    names = [_name(outline, shape, room, place) for outline, shape in shown]
-    return Drawn(list(_groups(paths, names, place)), left_out)
+        shown.append(Tract(outline.name, outline.acres, outline.place, shape))
+    return Drawn(list(_groups(tuple(shown), size, place, taken)), left_out)
 
 
-def _groups(paths: List[str], names: List[str], place: float) -> Iterator[str]:
-    if paths:
-        attributes: Dict[str, str] = {"class": "outlines"}
-        yield group(paths, fill="none", stroke="#1d4e89", stroke_width=0.45 / place, **attributes)
-        yield group(
-            names,
-            font_size=SIZE / place,
-            font_weight="bold",
-            font_style="italic",
-            text_anchor="middle",
-            fill="#1d4e89",
-            stroke="#fff",
-            stroke_width=0.6 / place,
-            stroke_linejoin="round",
-            paint_order="stroke",
-            **{"class": "halo names"},
-        )
+@functools.lru_cache(maxsize=4)
+def _groups(tracts: Tuple[Tract, ...], size: int, place: float, taken: Tuple[Box, ...]) -> Tuple[str, ...]:
+    """Return the outlines and the names of tracts.
+
+    While a description is typed, it is refused at most of its keys, and no outline changes from one key to the next.
+    """
+    if not tracts:
+        return ()
+    room = Room(size, taken)
+    for tract in tracts:
+        room.occupy(tract.shape)
+    attributes: Dict[str, str] = {"class": "outlines"}
+    paths = group(map(_path, tracts), fill="none", stroke="#1d4e89", stroke_width=0.45 / place, **attributes)
+    names = group(
+        [_name(tract, room, place) for tract in tracts],
+        font_size=SIZE / place,
+        font_weight="bold",
+        font_style="italic",
+        text_anchor="middle",
+        fill="#1d4e89",
+        stroke="#fff",
+        stroke_width=0.6 / place,
+        stroke_linejoin="round",
+        paint_order="stroke",
+        **{"class": "halo names"},
+    )
+    return paths, names
 
 
-def _path(outline: Outline, loops: str) -> str:
-    acres: Dict[str, str] = {} if outline.acres is None else {"data_acres": outline.acres}
-    return element("path", d=loops, data_tract=outline.place, data_name=outline.name[:80], **acres)
+def _path(tract: Tract) -> str:
+    # With a thousand tracts, `element` would take as long as all the rest of the drawing.
+    acres = "" if tract.acres is None else f' data-acres="{attribute(tract.acres)}"'
+    return f'<path d="{tract.shape.loops}" data-tract="{tract.place}" data-name="{attribute(tract.name[:80])}"{acres}/>'
 
 
-def _name(outline: Outline, shape: Shape, room: Room, place: float) -> str:
+def _name(tract: Tract, room: Room, place: float) -> str:
     """Return the name of a tract, at the free place that is the nearest to its middle."""
-    words = shortened(outline.name)
+    words, shape = shortened(tract.name), tract.shape
     width, height = size_of(words, place)
-    best = room.alone(shape).largest
-    found = room.find(room.alone(shape), width, height) or room.find_beside(shape, width, height)
+    alone = room.alone(shape)
+    best = alone.largest
+    found = room.find(alone, width, height) or room.find_beside(shape, width, height)
     at = found or Box(best.x + (best.width - width) // 2, best.y + (best.height - height) // 2, width, height)
-    attributes: Dict[str, str] = {"display": "none"}
+    shown = ' display="none"'
     x = at.x + at.width / 2
     if found is not None:
         room.take(found)
-        attributes = {}
+        shown = ""
         # A name beside its land is written away from it, however large its letters are on a screen.
         if at.x + at.width <= shape.largest.x:
-            x, attributes = at.x + at.width - 0.5, {"text_anchor": "end"}
+            x, shown = at.x + at.width - 0.5, ' text-anchor="end"'
         elif at.x >= shape.largest.x + shape.largest.width:
-            x, attributes = at.x + 0.5, {"text_anchor": "start"}
-    y = at.y + at.height / 2
-    return element("text", escaped(words), x=number(x), y=number(y), dy=".35em", data_of=outline.place, **attributes)
+            x, shown = at.x + 0.5, ' text-anchor="start"'
+    place_of = f'x="{number(x)}" y="{number(at.y + at.height / 2)}" dy=".35em"'
+    return f'<text {place_of} data-of="{tract.place}"{shown}>{escaped(words)}</text>'
 
 
 def shortened(name: str) -> str:

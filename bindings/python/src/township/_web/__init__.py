@@ -4,7 +4,8 @@
 refuses a request if it is not allowed, `app` finds its route, `given` reads its JSON and `basis` the plat, `answers`
 and `tracts` ask the library, `drawn` adds the drawing, `refusals` and `replies` make JSON of what was found, and
 `packing` packs it. `listed` reads lists as `batch` does, `doubts` finds the doubtful places of descriptions,
-`overlapping` the overlaps of tracts, and `sectionlines` the places of field notes that the page shows; `files` decodes
-files. `assets` loads the files of the page, `limits` lists the limits, and `reached` finds the address that is shown.
+`known` remembers the land of descriptions, `overlapping` finds the overlaps of tracts, and `sectionlines` the places of
+field notes that the page shows; `files` decodes files. `assets` loads the files of the page, `limits` lists the limits,
+and `reached` finds the address that is shown.
 All acreages are the library's.
 """

@@ -2,7 +2,7 @@
 from __future__ import annotations
 
 import re
-from typing import Iterator, List, NamedTuple, Optional
+from typing import List, NamedTuple, Optional
 
 from .._batch.lines import LINE_END
 from .._batch.records import Record
@@ -22,7 +22,7 @@ class FieldPlaces:
     def __init__(self, text: str, shape: Shape) -> None:
         self._text = text
         self._shape = shape
-        self._lines = [0, *(found.end() for found in LINE_END.finditer(text))]
+        self._lines: List[int] = [0, *(found.end() for found in LINE_END.finditer(text))]
         # A quoted field, or one without quotation marks around it; and what ends it.
         self._field = re.compile(rf'(?:"(?:[^"]|"")*"|[^{re.escape(shape.separator)}\r\n]*)')
 
@@ -35,24 +35,23 @@ class FieldPlaces:
 
         Return `None` if it is not there as the reader of the list read it.
         """
-        column = self._shape.column
-        fields: List[Place] = [place for place, _ in zip(self._fields(record.line), range(column + 1))]
-        if record.fault or len(fields) <= column:
+        if record.fault:
             return None
-        place = fields[column]
-        return place if _unquoted(self._text[place.start : place.end]) == record.fields[column] else None
+        start, column = self._lines[record.line - 1], self._shape.column
+        for _ in range(column):
+            end = self._end_of_field(start)
+            if self._text[end : end + 1] != self._shape.separator:
+                return None
+            start = end + 1
+        end = self._end_of_field(start)
+        return Place(start, end) if _unquoted(self._text[start:end]) == record.fields[column] else None
 
-    def _fields(self, line: int) -> Iterator[Place]:
-        """Yield the places of the fields of the record that begins on a line."""
-        start = self._lines[line - 1]
-        while True:
-            found = self._field.match(self._text, start)
-            if found is None:
-                raise AssertionError("a field can be empty")
-            yield Place(start, found.end())
-            if self._text[found.end() : found.end() + 1] != self._shape.separator:
-                return
-            start = found.end() + 1
+    def _end_of_field(self, start: int) -> int:
+        """Return where the field ends that begins at a place."""
+        found = self._field.match(self._text, start)
+        if found is None:
+            raise AssertionError("a field can be empty")
+        return found.end()
 
 
 def _unquoted(field: str) -> str:

@@ -3,11 +3,7 @@ from __future__ import annotations
 
 from typing import FrozenSet, List, NamedTuple, Optional, Sequence, Set, Tuple
 
-from .. import _library
-from .._land import Land
-
-#: The rows of a whole section: a bit for each place.
-_WHOLE = b"\xff" * (4 * _library.PLACES_ACROSS)
+from .known import Known
 
 
 class Overlapping(NamedTuple):
@@ -21,19 +17,18 @@ class Overlapping(NamedTuple):
     tracts: FrozenSet[int]
 
 
-def overlapping(lands: Sequence[Optional[Land]], most: int) -> Overlapping:
-    """Return the overlaps of tracts with these lands, of which some may have none, and the first `most` pairs.
+def overlapping(tracts: Sequence[Optional[Known]], most: int) -> Overlapping:
+    """Return the overlaps of tracts, of which some may have no land, and the first `most` pairs.
 
     Two tracts overlap if they share a place. The library finds the same pairs (`Plat.overlaps`), but also the acreage
     of each of them, which takes ten times as long, and is asked for only if it is shown.
     """
-    rows = [b"" if land is None else bytes(land._parts.rows) for land in lands]
-    # The places of each tract, and its whole sections, each as a bit. Few bits are compared faster than many.
-    sets = [int.from_bytes(each, "little") for each in rows]
-    wholes = [_whole_sections(each) for each in rows]
+    # Whole sections have few bits, which are compared faster than many.
+    sets = [0 if tract is None else tract.places for tract in tracts]
+    wholes = [0 if tract is None else tract.whole for tract in tracts]
     number = 0
     pairs: List[Tuple[int, int]] = []
-    tracts: Set[int] = set()
+    found: Set[int] = set()
     taken = 0
     for later, places in enumerate(sets):
         if places & taken:
@@ -41,12 +36,6 @@ def overlapping(lands: Sequence[Optional[Land]], most: int) -> Overlapping:
             earlier = [index for index in range(later) if wholes[index] & whole or sets[index] & places]
             number += len(earlier)
             pairs.extend((first, later) for first in earlier[: most - len(pairs)])
-            tracts.update(earlier, (later,))
+            found.update(earlier, (later,))
         taken |= places
-    return Overlapping(number, pairs, frozenset(tracts))
-
-
-def _whole_sections(rows: bytes) -> int:
-    """Return the sections of which all places are in these rows."""
-    pieces = (rows[start : start + len(_WHOLE)] for start in range(0, len(rows), len(_WHOLE)))
-    return sum(1 << section for section, piece in enumerate(pieces) if piece == _WHOLE)
+    return Overlapping(number, pairs, frozenset(found))

@@ -1,9 +1,10 @@
 """The answer on a list of tracts, of which some may be refused, and some may overlap."""
 from __future__ import annotations
 
-from typing import AbstractSet, Dict, Iterator, List, NamedTuple, Optional, Sequence, Tuple
+from typing import AbstractSet, Dict, Iterable, Iterator, List, NamedTuple, Optional, Sequence, Tuple
 
 from .._drawing import Outline
+from .._full import FullAnswers
 from .._land import Land
 from .._plat import Plat
 from .._refused import Refused
@@ -13,6 +14,7 @@ from .basis import Basis
 from .doubts import Doubts, doubts_of_many
 from .drawn import drawing
 from .given import Given, Invalid
+from .known import Known, known
 from .limits import OVERLAPS_TEXT_MOST, PAIRS_MOST, TRACTS_MOST
 from .listed import Listed, tracts_in
 from .overlapping import overlapping
@@ -27,8 +29,13 @@ class Tract(NamedTuple):
     """A tract of a list, with its land or the refusal of its description: neither, if its record has a fault."""
 
     listed: Listed
-    land: Optional[Land] = None
+    known: Optional[Known] = None
     refused: Optional[Refused] = None
+
+    @property
+    def land(self) -> Optional[Land]:
+        """The land of the tract, if it has any."""
+        return None if self.known is None else self.known.land
 
 
 class Joined(NamedTuple):
@@ -47,12 +54,13 @@ def report_answer(body: bytes) -> Json:
     selected = given.index("selected")
     basis = given.basis()
     plat = basis.plat
-    tracts = [_tract(plat, each) for each in listed]
+    answers = plat._full_answers([each.description for each in listed], "exact")
+    tracts = _tracts(plat, listed, answers)
     whole = plat.land("secs. 1 to 36, all.")
-    joined = _joined(tracts, whole - whole)
-    found = overlapping([tract.land for tract in tracts], PAIRS_MOST)
-    doubts = _doubts(plat, tracts)
-    shown = _tracts_json(basis, tracts, found.tracts, doubts)
+    found = overlapping([tract.known for tract in tracts], PAIRS_MOST)
+    joined = _joined(tracts, found.tracts, whole - whole)
+    doubts = _doubts(plat, tracts, answers.noted)
+    shown = _tracts_json(basis, tracts, answers.texts(), found.tracts, doubts)
     return {
         "tracts": shown,
         "refused": sum(tract.land is None for tract in tracts),
@@ -77,23 +85,27 @@ def _listed(given: Given) -> List[Listed]:
     return listed
 
 
-def _tract(plat: Plat, listed: Listed) -> Tract:
-    if listed.fault:
-        return Tract(listed)
-    try:
-        return Tract(listed, land=plat.land(listed.description))
-    except Refused as refused:
-        return Tract(listed, refused=refused)
+def _tracts(plat: Plat, listed: List[Listed], answers: FullAnswers) -> List[Tract]:
+    """Return the tracts, each with the land of its description, or its refusal."""
+    township, refused = plat.township, set(answers.refused)
+    found: List[Tract] = []
+    for index, each in enumerate(listed):
+        if each.fault:
+            found.append(Tract(each))
+        elif index in refused:
+            found.append(Tract(each, refused=answers.refused_at(index)))
+        else:
+            found.append(Tract(each, known=known(township, each.description)))
+    return found
 
 
-def _joined(tracts: List[Tract], none: Land) -> Joined:
-    """Return the land of all tracts together. `none` is no land."""
+def _joined(tracts: List[Tract], overlapping: AbstractSet[int], none: Land) -> Joined:
+    """Return the land of all tracts together, of which these overlap others. `none` is no land."""
     taken, shared = none, none
-    for tract in tracts:
+    for index, tract in enumerate(tracts):
         if tract.land is not None:
-            common = taken & tract.land
-            if common:
-                shared = shared | common
+            if index in overlapping:
+                shared = shared | (taken & tract.land)
             taken = taken | tract.land
     return Joined(taken, shared)
 
@@ -115,9 +127,12 @@ def _overlaps_json(basis: Basis, tracts: List[Tract], pairs: Sequence[Tuple[int,
 
 
 def _tracts_json(
-    basis: Basis, tracts: List[Tract], overlapping: AbstractSet[int], doubts: Dict[int, Doubts]
+    basis: Basis, tracts: List[Tract], texts: List[str], overlapping: AbstractSet[int], doubts: Dict[int, Doubts]
 ) -> List[Json]:
-    """Return each tract, with its acreage, canonical description, and notes, or why it has none."""
+    """Return each tract, with its acreage, canonical description, and notes, or why it has none.
+
+    `texts` are the canonical descriptions, for which the library need not be called for each tract.
+    """
     accepted = [(tract.listed.description, tract.land) for tract in tracts if tract.land is not None]
     acres = iter(basis.acres_many([description for description, _ in accepted], [land for _, land in accepted]))
     found: List[Json] = []
@@ -127,8 +142,8 @@ def _tracts_json(
         if listed.place is not None:
             shown.update(start=listed.place.start, end=listed.place.end)
         if tract.land is not None:
-            notes = doubts.get(index, Doubts()).json(listed.description)
-            shown.update(acres=next(acres), canonical=tract.land.text, notes=notes, overlaps=index in overlapping)
+            notes = doubts[index].json(listed.description) if index in doubts else []
+            shown.update(acres=next(acres), canonical=texts[index], notes=notes, overlaps=index in overlapping)
         elif tract.refused is not None:
             shown.update(refused=refused_json(tract.refused, "description", listed.description))
         else:
@@ -137,23 +152,22 @@ def _tracts_json(
     return found
 
 
-def _doubts(plat: Plat, tracts: List[Tract]) -> Dict[int, Doubts]:
+def _doubts(plat: Plat, tracts: List[Tract], noted: Iterable[int]) -> Dict[int, Doubts]:
     """Return the notes on the tracts that have any, by their indexes."""
-    descriptions = [tract.listed.description for tract in tracts]
-    noted = plat._full_answers(descriptions, "exact").noted
-    return doubts_of_many(plat, ((index, descriptions[index]) for index in noted if tracts[index].land is not None))
+    accepted = (index for index in noted if tracts[index].land is not None)
+    return doubts_of_many(plat, ((index, tracts[index].listed.description) for index in accepted))
 
 
 def _outlines(tracts: Sequence[Tract], shown: Sequence[Json]) -> List[Outline]:
     """Return the tracts that have land, each with the acreage that is its figure."""
     found: List[Outline] = []
     for place, (tract, json) in enumerate(zip(tracts, shown)):
-        if tract.land is not None:
+        if tract.known is not None:
             acres = json["acres"]
             if not isinstance(acres, dict):
                 raise AssertionError("a tract with land has an acreage")
             figure = acres["lots"] if "lots" in acres else acres["exact"]
-            found.append(Outline(tract.land.rows, tract.listed.name, figure, place))
+            found.append(Outline(tract.known.rows, tract.listed.name, figure, place))
     return found
 
 
