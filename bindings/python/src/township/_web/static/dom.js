@@ -19,6 +19,15 @@ export function say(text) {
   byId("said").textContent = text;
 }
 
+/** Waits until the browser has shown what was changed; but not long, since in the background it shows nothing. */
+export function painted() {
+  return new Promise((done) => {
+    // What is changed before the first of these two calls is in the frame between them.
+    requestAnimationFrame(() => requestAnimationFrame(done));
+    setTimeout(done, 200);
+  });
+}
+
 /** Lets the browser save a text as a file. */
 export function save(name, text, type) {
   const url = URL.createObjectURL(new Blob([text], { type }));

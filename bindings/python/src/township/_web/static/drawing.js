@@ -11,10 +11,13 @@ const ARROWS = { ArrowLeft: [-1, 0], ArrowRight: [1, 0], ArrowUp: [0, -1], Arrow
 const PART_LEAST = 24;
 /** The most entries of the key. A list of tracts has a table, too. */
 const KEY_MOST = 60;
+/** The characters of a drawing that takes long to show: one of hundreds of tracts. */
+const LONG = 80_000;
 const TARGETS = ".targets rect, .outlines path, g.land";
 let chosen = "section 36";
-/** The drawing as the server made it. */
+/** The drawing as the server made it, and what it is of. */
 let original = null;
+let shown = {};
 
 /** Prepares the drawing. `acts` are those of the selection. */
 export function prepare(acts) {
@@ -22,11 +25,16 @@ export function prepare(acts) {
   zoom.prepare();
 }
 
+/** Returns whether a drawing takes longer to show than all of the answer that it comes with. */
+export const isLong = (text) => text.length > LONG && text !== original;
+
 /** Shows the drawing of a section, or of the township (""), with its key. */
 export function show(text, label, section) {
-  const parsed = new DOMParser().parseFromString(text, "image/svg+xml");
+  // Most keys change no land. What is selected, and the part that is in view, stay as they are.
+  if (text === original && label === shown.label && section === shown.section) return;
   original = text;
-  const svg = document.importNode(parsed.documentElement, true);
+  shown = { label, section };
+  const svg = parsed(text);
   const had = byId("drawing").contains(document.activeElement);
   const targets = [...svg.querySelectorAll(TARGETS)];
   if (targets.length > 0) {
@@ -60,10 +68,14 @@ export function clear() {
 export function sheet() {
   if (original === null) return null;
   // Its hatchings have other names than those on the screen.
-  const parsed = new DOMParser().parseFromString(original.replaceAll("hatching-", "sheet-"), "image/svg+xml");
-  const copy = document.importNode(parsed.documentElement, true);
+  const copy = parsed(original.replaceAll("hatching-", "sheet-"));
   copy.querySelector(".targets")?.remove();
   return copy;
+}
+
+/** Returns the element of a drawing. As a part of HTML, it is read in a third of the time that XML takes. */
+function parsed(text) {
+  return document.adoptNode(new DOMParser().parseFromString(text, "text/html").querySelector("svg"));
 }
 
 /** Marks a section line as refused, or none. */
@@ -85,11 +97,13 @@ function prepareTarget(target) {
 }
 
 /** Returns what a target is. */
-function thingOf(target) {
-  const { acres, label, line, lot, name, section, shade, tract, words } = target.dataset;
+function thingOf({ dataset }) {
+  // A drawing has up to a thousand tracts.
+  const { acres, tract } = dataset;
+  if (tract !== undefined) return { kind: "tract", value: tract, name: dataset.name, acres };
+  const { label, line, lot, section, shade, words } = dataset;
   if (line !== undefined) return { kind: "line", value: line };
   if (lot !== undefined) return { kind: "lot", value: lot, acres, description: `sec. ${lot.replace(".", ", lot ")}` };
-  if (tract !== undefined) return { kind: "tract", value: tract, name, acres };
   if (shade !== undefined) return { kind: "shade", value: shade, label, words, acres };
   return { kind: "part", section, x: 0, y: 0, size: SECTION, acres, description: `sec. ${section}` };
 }

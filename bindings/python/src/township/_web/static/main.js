@@ -3,7 +3,7 @@
 import { giveUp, outdate, whenLost } from "./api.js";
 import * as casebar from "./casebar.js";
 import * as compare from "./compare.js";
-import { byId, oneAtATime, say } from "./dom.js";
+import { byId, oneAtATime, painted, say } from "./dom.js";
 import * as drawing from "./drawing.js";
 import * as land from "./land.js";
 import * as plat from "./plat.js";
@@ -56,9 +56,17 @@ async function answer() {
   // The drawing of the plat alone is shown where a panel has nothing to shade.
   const drawn = given?.svg === undefined && panel !== plat ? await refreshPlat(request) : given;
   if (drawn === null || name !== kept.panel) return;
+  if (drawing.isLong(drawn?.svg ?? "") && !(await isStillWanted())) return;
   if (drawn?.svg === undefined) drawing.clear();
   else drawing.show(drawn.svg, labelOf(), kept.view);
   plat.markRefused();
+}
+
+/** Lets the browser show the answer before its drawing. Returns whether the drawing is still that of what is asked. */
+async function isStillWanted() {
+  const seen = changes;
+  await painted();
+  return seen === changes;
 }
 
 /** Shows that there is no plat yet, and nothing of one that was shown before. */

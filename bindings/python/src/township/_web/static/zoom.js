@@ -240,7 +240,7 @@ function showTexts(pixels) {
     if (kind === "section-acres") group.setAttribute("display", lot * 4 >= size * 6 ? "inline" : "none");
     if (kind === "aliquot-names") group.setAttribute("display", lot >= 6.5 * size ? "inline" : "none");
     if (kind === "closing") group.setAttribute("display", CLOSING_ROOM * pixels >= 3.7 * size ? "inline" : "none");
-    if (kind === "names") showNames(size);
+    if (kind === "names") showNames(size, pixels);
     // A long figure is squeezed into its lot.
     for (const text of group.querySelectorAll("[textLength]")) {
       const wanted = (text.textContent.length * 0.56 * size) / pixels;
@@ -250,15 +250,14 @@ function showTexts(pixels) {
 }
 
 /** Shows the names of tracts that have room at this size, those that are first in the list first. */
-function showNames(size) {
+function showNames(size, pixels) {
   const shown = [];
-  const matrix = drawn.svg.getScreenCTM();
-  const unit = drawn.place;
+  const unit = drawn.place * pixels;
   for (const text of drawn.names) {
     const half = text.textContent.length * 0.3 * size;
     const beside = { start: half, end: -half }[text.getAttribute("text-anchor")] ?? 0;
-    const x = Number(text.getAttribute("x")) * unit * matrix.a + beside;
-    const y = Number(text.getAttribute("y")) * unit * matrix.d;
+    const x = Number(text.getAttribute("x")) * unit + beside;
+    const y = Number(text.getAttribute("y")) * unit;
     const isFree = shown.every((other) => Math.abs(other.y - y) > size || Math.abs(other.x - x) > half + other.half);
     if (isFree) shown.push({ x, y, half });
     text.setAttribute("display", isFree ? "inline" : "none");
