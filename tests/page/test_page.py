@@ -12,14 +12,10 @@ import township
 
 from conftest import started
 from page import Page
-from strain import Strain
 
 TOP = Path(__file__).resolve().parents[2]
 NOTES = TOP / "samples" / "b1.csv"
 PLAT = township.Plat.open(NOTES)
-
-#: How often a time is taken. The least one counts.
-TRIES = 3
 
 
 def open_sample(page: Page) -> None:
@@ -340,77 +336,6 @@ def test_a_server_that_was_restarted_is_asked_again(driver: object, tmp_path: Pa
     with started(tmp_path / "second", first.port):
         page.wait_for_text("#land-answer", "640.00 acres")
         assert page.all("#drawing .land") != []
-
-
-def test_long_texts_are_answered_at_once(page: Page) -> None:
-    """65,536 bytes of description, and 1,000 tracts: from the key to the answer on the screen in 200 milliseconds."""
-    corners = ("NE1/4", "NW1/4", "SW1/4", "SE1/4")
-    parts = ["".join(corners[k >> 2 * step & 3] for step in range(5)) for k in range(1000)]
-    groups = [f"sec. {section}, {', '.join(parts)}" for section in (8, 9)]
-    text = f"{'; '.join(groups)}; sec. 10."
-    text += " " * (65_536 - len(text) - TRIES)
-    listed = "name,description\n" + "".join(f'{k},"sec. 8, {part}."\n' for k, part in enumerate(parts))
-    strain = Strain()
-    page.tab("land")
-    pasted = [time_of_paste(page, "#description", "#land-answer", text, "acres") for _ in range(TRIES)]
-    page.settle()
-    strain.look()
-    typed = [time_of_key(page, "#description", "#land-answer", 0) for _ in range(TRIES)]
-    strain.look()
-    assert len(page.value("#description")) == 65_536 and "acres" in page.text("#land-answer")
-    page.tab("tracts")
-    pasted_lists = [time_of_paste(page, "#tracts", "#tracts-answer", listed, "1000 tracts") for _ in range(TRIES)]
-    page.settle()
-    strain.look()
-    # In the last description, before the quotation mark that ends it.
-    typed_lists = [time_of_key(page, "#tracts", "#tracts-answer", len('"\n')) for _ in range(TRIES)]
-    assert "1000 tracts" in page.text("#tracts-answer") and len(page.all("#tracts-table tbody tr")) == 1000
-    longer = strain.factor()
-    print("milliseconds to the answer:", typed, typed_lists, "after a paste:", pasted, pasted_lists, "times", longer)
-    assert max(min(typed), min(typed_lists)) < 200 * longer
-    # A paste of all tracts draws their whole table anew: 190 to 230 milliseconds on an idle machine, and 680 beside the
-    # packages and PostgreSQL.
-    assert max(min(pasted), min(pasted_lists)) < 1_000 * longer
-
-
-def time_of_paste(page: Page, area: str, answer: str, text: str, wanted: str) -> float:
-    """Return the milliseconds from a change of a whole text to the frame that shows its answer."""
-    page.put(area, "sec. 36.")
-    page.wait_for(lambda: "640.00" in page.text(answer))
-    edit = "input.value = given; input.dispatchEvent(new InputEvent('input', { bubbles: true }));"
-    return time_of(page, area, answer, wanted, edit, text)
-
-
-def time_of_key(page: Page, area: str, answer: str, from_end: int) -> float:
-    """Return the milliseconds from the key for a blank, typed before the end, to the frame that shows the answer."""
-    place = len(page.value(area)) - from_end
-    edit = "input.setSelectionRange(given, given); document.execCommand('insertText', false, ' ');"
-    milliseconds = time_of(page, area, answer, "", edit, place)
-    page.settle()
-    return milliseconds
-
-
-def time_of(page: Page, area: str, answer: str, wanted: str, edit: str, given: object) -> float:
-    """Return the milliseconds from an edit of an input to the frame that shows an answer with `wanted`."""
-    return page.driver.execute_async_script(
-        """
-        const [area, answer, wanted, given, done] = arguments;
-        const place = document.querySelector(answer);
-        const input = document.querySelector(area);
-        input.focus();
-        const begin = performance.now();
-        new MutationObserver((_, watcher) => {
-            if (!place.textContent.includes(wanted)) return;
-            watcher.disconnect();
-            requestAnimationFrame(() => setTimeout(() => done(performance.now() - begin)));
-        }).observe(place, { childList: true, subtree: true, characterData: true });
-        """
-        + edit,
-        area,
-        answer,
-        wanted,
-        given,
-    )
 
 
 def test_no_other_host_and_no_complaints(page: Page) -> None:

@@ -36,14 +36,17 @@ let platShown = null;
 /** Shows new answers. */
 async function refresh() {
   const seen = changes;
-  await answer();
+  await answer(seen);
   if (seen !== changes) return;
   casebar.showOwn();
   byId("work").setAttribute("aria-busy", "false");
 }
 
-/** Asks for the answers of the panel that is open, and shows the drawing that comes with them. */
-async function answer() {
+/**
+ * Asks for the answers of the panel that is open, and shows the drawing that comes with them, unless there have been
+ * more changes than so many by then.
+ */
+async function answer(seen) {
   start.show(!hasPlat());
   if (!hasPlat()) return showNone();
   const name = kept.panel in PANELS ? kept.panel : "plat";
@@ -56,17 +59,12 @@ async function answer() {
   // The drawing of the plat alone is shown where a panel has nothing to shade.
   const drawn = given?.svg === undefined && panel !== plat ? await refreshPlat(request) : given;
   if (drawn === null || name !== kept.panel) return;
-  if (drawing.isLong(drawn?.svg ?? "") && !(await isStillWanted())) return;
+  // The browser shows the answer before a long drawing.
+  if (drawing.isLong(drawn?.svg ?? "")) await painted();
+  if (seen !== changes) return;
   if (drawn?.svg === undefined) drawing.clear();
   else drawing.show(drawn.svg, labelOf(), kept.view);
   plat.markRefused();
-}
-
-/** Lets the browser show the answer before its drawing. Returns whether the drawing is still that of what is asked. */
-async function isStillWanted() {
-  const seen = changes;
-  await painted();
-  return seen === changes;
 }
 
 /** Shows that there is no plat yet, and nothing of one that was shown before. */
