@@ -15,6 +15,7 @@ import pytest
 
 from asking import Interface
 from page import Page
+from wire import complete
 
 TOP = Path(__file__).resolve().parents[2]
 
@@ -42,6 +43,22 @@ def started(said: Path, port: int = 0, program: Sequence[str] = ("-m", "township
             yield Interface(port_in(said), process.pid, said)
         finally:
             process.terminate()
+
+
+@pytest.fixture(scope="module")
+def office(tmp_path_factory: pytest.TempPathFactory) -> Iterator[Interface]:
+    """A server of its own."""
+    with started(tmp_path_factory.mktemp("office") / "said") as interface:
+        yield interface
+
+
+@pytest.fixture(scope="module")
+def slow(tmp_path_factory: pytest.TempPathFactory) -> Iterator[Interface]:
+    """A server with answers that never end."""
+    program = [str(Path(__file__).with_name("slow.py"))]
+    with started(tmp_path_factory.mktemp("slow") / "said", program=program) as interface:
+        complete(interface)
+        yield interface
 
 
 def port_in(said: Path) -> int:

@@ -5,6 +5,7 @@ import ctypes
 import os
 import signal
 import sys
+import time
 from typing import Dict
 
 from township._command import main
@@ -24,16 +25,24 @@ def wait(body: bytes) -> Dict[str, object]:
         ctypes.CDLL(None).sleep(1000)
 
 
+def late(body: bytes) -> Dict[str, object]:
+    """Answer, but too late."""
+    time.sleep(limits.SECONDS_MOST + 1)
+    return {}
+
+
 def die(body: bytes) -> Dict[str, object]:
     """End the process, as a fault of memory would."""
     os.kill(os.getpid(), signal.SIGSEGV)
     return wait(body)
 
 
-ANSWERS.update(spin=spin, wait=wait, die=die)
+ANSWERS.update(spin=spin, wait=wait, late=late, die=die)
 
-#: The seconds after which what never ends is ended with its process, so that the tests need not wait for a minute.
+#: The seconds after which what never ends is ended with its process, and within which an answer must be read, so that the
+#: tests need not wait for a minute.
 limits.ENDLESS = 3
+limits.READING_MOST = 5
 
 if __name__ == "__main__":
     sys.exit(main())

@@ -1,10 +1,8 @@
 """What the page does, in a browser."""
 from __future__ import annotations
 
-import base64
 import csv
 import io
-import json
 import xml.etree.ElementTree as ET
 from pathlib import Path
 

@@ -163,7 +163,7 @@ def test_without_flask(tmp_path: Path) -> None:
 
 
 def test_addresses() -> None:
-    """An address that stands for all of this computer is never shown. test_office.py asks at those that are."""
+    """An address that stands for all of this computer is never shown. test_names.py asks at those that are."""
     from township._web.guard import in_url
     from township._web.reached import reached_at
 
