@@ -169,12 +169,28 @@ def test_a_deleted_case_comes_back(page: Page) -> None:
     page.wait_for_text("#said", "There is nothing in this case yet.")
 
 
+def test_times_are_those_of_the_user(page: Page) -> None:
+    describe(page, "sec. 14.", "640.00 acres")
+    loaded(page, page.one("#new-case").click)
+    page.driver.execute_script(
+        "const key = Object.keys(localStorage).find((each) => each.startsWith('township.case.'));"
+        "const kept = JSON.parse(localStorage.getItem(key));"
+        "localStorage.setItem(key, JSON.stringify({ ...kept, at: Date.UTC(2030, 0, 31, 20, 5) }))"
+    )
+    page.driver.execute_cdp_cmd("Emulation.setTimezoneOverride", {"timezoneId": "America/Boise"})
+    try:
+        loaded(page, page.driver.refresh)
+        assert [each.text for each in page.all("#case option")] == ["empty case", "sec. 14., 2030-01-31 13:05"]
+    finally:
+        page.driver.execute_cdp_cmd("Emulation.setTimezoneOverride", {"timezoneId": ""})
+
+
 def test_a_link_carries_the_case(page: Page) -> None:
     page.one("#open-notes").send_keys(str(NOTES))
     page.wait_for_text("#plat-answer", "23,037.57")
     page.tab("tracts")
     page.put("#tracts", "A,sec. 1.\n")
-    page.wait_for_text("#tracts-answer", "1 tracts")
+    page.wait_for_text("#tracts-answer", "1 tract:")
     page.tab("land")
     page.type("#description", "sec. 7, lots 1 to 4 ½.")
     manage(page)

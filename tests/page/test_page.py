@@ -157,7 +157,7 @@ def test_a_reading_says_its_condition_and_what_it_assumes(page: Page) -> None:
 def test_a_text_without_a_reading_says_why(page: Page) -> None:
     page.tab("land")
     page.type("#description", "sec. 14, the old mill")
-    page.wait_for_text("#readings", "No reading of this text is certain: what is marked in it is not understood.")
+    page.wait_for_text("#readings", "No reading of this text is certain: the marked words are not understood.")
     assert [each.get_property("textContent") for each in page.all("#panel-land .back mark")] == ["the old mill"]
     page.type("#description", "NENE, S2NE4 Sec 14-2N-3W near quux")
     page.wait_for(lambda: page.text("#panel-land .back mark") == "near quux")
@@ -225,6 +225,12 @@ def test_tracts(page: Page) -> None:
     rows = list(csv.DictReader(io.StringIO(page.saved("tracts.csv"))))
     assert [row["acres"] for row in rows] == ["320.00", "320.00", ""]
     assert rows[2]["refusal"] == "66" and rows[2]["name"] == 'C "x"'
+
+
+def test_one_tract(page: Page) -> None:
+    page.tab("tracts")
+    page.put("#tracts", 'A,"sec. 14, N1/2."\n')
+    page.wait_for_text("#tracts-answer", "1 tract: 320.00 acres in all")
 
 
 def test_semicolons_in_a_list_with_commas(page: Page) -> None:

@@ -85,8 +85,9 @@ def test_tracts_are_printed_with_their_table_and_notes(paper: Page) -> None:
     rows = found[found.index("Tracts") + 1 : found.index("Notes")]
     assert [row.split()[0] for row in rows] == ["Tract", "A", "B", "C", "D"]
     assert "320.00" in rows[1] and "sec. 14, N1/2." in rows[1] and "refused 66" in rows[4]
+    assert not any("Show the readings" in each for each in found)
     notes = found[found.index("Notes") + 1 :]
-    assert any("A and B: 160.00 acres" in note for note in notes)
+    assert notes[:2] == ["Overlapping tracts (shared land is counted once):", "A and B: 160.00 acres, sec. 14, NE1/4."]
     assert any(note.startswith("Tract C. Note:") and "80.00 acres" in note for note in notes)
     assert page.all("#printed button") == []
     assert len(page.all("#printed .outlines path")) == 3 and page.all("#printed .targets") == []
@@ -94,6 +95,46 @@ def test_tracts_are_printed_with_their_table_and_notes(paper: Page) -> None:
     for pattern in page.all("#printed pattern"):
         assert len(page.all(f"[id='{pattern.get_attribute('id')}']")) == 1
     assert pages(page, 8.5, 11) == 2
+
+
+def test_all_overlaps_are_printed(paper: Page) -> None:
+    """Each is a paragraph, also those that are folded away on the screen."""
+    page = paper
+    page.tab("tracts")
+    page.put("#tracts", "".join(f'{name},"sec. 14, N1/2."\n' for name in "ABCDEFGHIJKL"))
+    page.wait_for_text("#tracts-answer", "16 more")
+    found = printed(page)
+    notes = found[found.index("Notes") + 1 :]
+    assert len(notes) == 1 + 12 * 11 // 2
+    assert notes[-1] == "K and L: 320.00 acres, sec. 14, N1/2."
+
+
+def test_a_refusal_on_paper(paper: Page) -> None:
+    """The excerpt keeps its lines, so that the carets are under what they mark."""
+    page = paper
+    page.tab("land")
+    page.put("#description", "sec. 14, NE1/4 and N1/2.")
+    page.wait_for_text("#land-answer", "Refused 67")
+    assert printed(page)[-1] == "Refused 67: this land was named before"
+    lines = page.text("#printed pre").split("\n")
+    [text, carets] = [line for line in lines if " | " in line]
+    assert text[carets.index("^") : carets.rindex("^") + 1] == "N1/2"
+    # The first places of an excerpt, and its last ones, are on different lines.
+    assert page.driver.execute_script("return getComputedStyle(document.querySelector('#printed pre')).whiteSpace") != "normal"
+
+
+def test_a_table_that_fits_on_a_sheet_is_not_divided(paper: Page) -> None:
+    page = paper
+    page.tab("compare")
+    page.put("#first", "sec. 14, N1/2.")
+    page.put("#second", "sec. 14, E1/2.")
+    page.wait_for_text("#compare-answer", "The two overlap.")
+    printed(page)
+    page.driver.execute_cdp_cmd("Emulation.setEmulatedMedia", {"media": "print"})
+    style = "return getComputedStyle(document.querySelector('#printed {}')).{}"
+    assert page.driver.execute_script(style.format("table", "breakInside")) == "avoid"
+    # The hatchings in it are backgrounds, which are not printed otherwise.
+    assert page.driver.execute_script(style.format(".key-1", "printColorAdjust")) == "exact"
 
 
 def test_the_basis_on_paper(paper: Page) -> None:

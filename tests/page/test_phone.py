@@ -29,6 +29,22 @@ while (walker.nextNode()) {
 return [seen, broken];
 """
 
+#: The fractions whose period, comma, or semicolon is on the next line.
+ALONE = """
+const tops = (node, from, to) => {
+  const range = document.createRange();
+  range.setStart(node, from);
+  range.setEnd(node, to);
+  return Math.round(range.getBoundingClientRect().bottom);
+};
+return [...document.querySelectorAll('.aliquot')].filter((each) => each.getClientRects().length > 0).filter((each) => {
+  let after = each.nextSibling;
+  while (after !== null && after.nodeType === Node.ELEMENT_NODE && after.tagName === 'WBR') after = after.nextSibling;
+  if (after?.nodeType !== Node.TEXT_NODE || !/^[.,;]/.test(after.data)) return false;
+  return tops(after, 0, 1) !== tops(each.firstChild, 0, each.textContent.length);
+}).map((each) => each.parentElement.textContent);
+"""
+
 #: Where the caret and what it marks are in an excerpt, and the box in which they are seen.
 CARET = """
 const excerpt = document.querySelector('#panel-land .excerpt');
@@ -90,6 +106,7 @@ def test_nothing_breaks_inside_a_fraction(phone: Page) -> None:
     page.click_target("section", "14")
     seen, broken = page.driver.execute_script(BROKEN)
     assert seen >= 12 and broken == []
+    assert page.driver.execute_script(ALONE) == []
     page.put("#description", "sec. 5, N1/2, SE1/4NE1/4NE1/4NE1/4NE1/4.")
     page.wait_for_text("#land-answer", "Refused 66")
     seen, broken = page.driver.execute_script(BROKEN)
@@ -105,3 +122,16 @@ def test_nothing_breaks_inside_a_fraction(phone: Page) -> None:
     page.wait_for_text("#compare-answer", "the same land")
     seen, broken = page.driver.execute_script(BROKEN)
     assert seen >= 12 and broken == []
+    assert page.driver.execute_script(ALONE) == []
+
+
+def test_the_fractions_of_a_reading_are_beside_each_other(phone: Page) -> None:
+    page = phone
+    page.tab("land")
+    page.put("#description", "sec. 14: NE1/4NE1/4 SW1/4SW1/4")
+    page.wait_for_text("#readings", "2.50 acres")
+    for reading in page.all("#readings .reading > span"):
+        fractions = reading.find_elements("css selector", ".aliquot")
+        assert len(fractions) == 4
+        # Two lines at most, where each of the fractions would take one.
+        assert len({round(each.rect["y"]) for each in fractions}) <= 2

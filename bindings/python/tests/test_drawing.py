@@ -418,6 +418,24 @@ class Forms(unittest.TestCase):
         # A strict content security policy allows no style attributes and no scripts.
         self.assertNotRegex(drawing, r"<script|<style| style=| on[a-z]+=")
 
+    def test_names_of_land_fit_in_the_title_block(self):
+        def names(label):
+            shades = [Shade(even().land(f"sec. {section}.").rows, label, "") for section in (14, 15)]
+            drawing = ET.fromstring(svg_of(subject_of(even(), *shades)))
+            return [each for each in drawing.iter(f"{SVG}text") if each.get("font-weight") == "bold" and each.text[0] == "T"]
+
+        # Each is at the left, where there is more room, and above its figures.
+        for label in ("Tracts, some doubtful", "Tract A"):
+            self.assertEqual([(each.text, each.get("textLength")) for each in names(label)], 4 * [(label, None)])
+        label = "Tract The heirs of Jeremiah Johnson"
+        self.assertEqual({(each.text, each.get("textLength")) for each in names(label)}, {
+            (label, None), ("Tract The heirs of Jeremiah ..", "44")
+        })
+        for each in names("T" * 65):
+            left, width = float(each.get("x")), float(each.get("textLength"))
+            self.assertLessEqual(left + width, 129 if left < 129 else 178)
+            self.assertTrue(each.text.endswith(" ..") and 10 < len(each.text) < 65)
+
     def test_the_title_block_ends_on_the_sheet(self):
         accounts = (("Exact account", 1), ("Plat account", 1), ("Lot table", 1))
         shades = [Shade({}, "Only in the second", "sec. 14, all; " * 40, accounts)] * 3

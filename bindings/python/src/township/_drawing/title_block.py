@@ -2,8 +2,10 @@
 from __future__ import annotations
 
 import textwrap
+from bisect import bisect
 from decimal import Decimal
-from typing import Iterator, List, Optional, Sequence, Tuple
+from itertools import accumulate
+from typing import Dict, Iterator, List, Optional, Sequence, Tuple
 
 from .markup import element, group, number, text
 from .sheet import HEIGHT, WIDTH, Shading
@@ -17,6 +19,9 @@ _FIGURES = 133.0
 _COLUMNS = 62
 _LINES = 9
 _LEADING = 4.2
+#: How wide characters in bold are, as a part of their size, and how much they may be squeezed.
+_NARROW, _WIDE, _THIN = 0.58, 0.8, " .,;:()'-1234567890"
+_SQUEEZED_MOST = 1.4
 #: The characters on a line of the notes.
 _NOTE_COLUMNS = 130
 _NOTE = "Schematic, not to scale."
@@ -73,12 +78,23 @@ def _land(subject: Subject, shading: Shading, y: float) -> Iterator[str]:
             stroke="currentColor",
             stroke_width=0.25,
         )
-        yield text(shade.label, _LEFT + 12.5, y, 3.4, font_weight="bold")
+        yield _name(shade.label, _LEFT + 12.5, y, 3.4, _FIGURES - 5 - _LEFT - 12.5)
         y += _LEADING + 0.6
         for line in _wrapped(shade.words, share):
             yield text(line, _LEFT + 4, y, 3.0)
             y += _LEADING
         y += 0.6
+
+
+def _name(words: str, x: float, y: float, size: float, most: float) -> str:
+    """Return the name of land in bold letters, as wide as this at most: it is squeezed, and cut if it is much longer."""
+    widths = list(accumulate(size * (_NARROW if each.islower() or each in _THIN else _WIDE) for each in words))
+    if not words or widths[-1] <= most:
+        return text(words, x, y, size, font_weight="bold")
+    if widths[-1] > _SQUEEZED_MOST * most:
+        words = f"{words[: bisect(widths, _SQUEEZED_MOST * most) - 3].rstrip()} .."
+    squeezed: Dict[str, str] = {"textLength": number(most), "lengthAdjust": "spacingAndGlyphs"}
+    return text(words, x, y, size, font_weight="bold", **squeezed)
 
 
 def _wrapped(words: str, most: int) -> List[str]:
@@ -110,7 +126,7 @@ def _figures(subject: Subject, total: Figure, y: float, bottom: float) -> Iterat
     leading = min(_LEADING, (bottom - y) / max(len(lines), 1))
     for name, acres in lines:
         if acres is None:
-            yield text(name, _FIGURES, y, 3.2, font_weight="bold")
+            yield _name(name, _FIGURES, y, 3.2, _RIGHT - 1 - _FIGURES)
         else:
             yield text(name, _FIGURES, y, 3.0)
             yield text(grouped(acres), _RIGHT - 3, y, 3.1, text_anchor="end")

@@ -13,6 +13,8 @@ const DELETED = "township.deleted";
 /** What a tab says after it was reloaded. */
 const SAID = "township.said";
 const WORDS_MOST = 40;
+/** Times where the user is, as in Sweden: 2030-01-31 13:05. */
+const TIME = new Intl.DateTimeFormat("sv-SE", { dateStyle: "short", timeStyle: "short" });
 
 /** Returns the keys of all cases that are kept, from the one that was changed last. */
 function keys() {
@@ -138,7 +140,7 @@ function remember(key) {
 /** Returns when a case was last changed, in words. */
 function whenOf(key) {
   const at = stored(key)?.at ?? 0;
-  return at === 0 ? "" : `, ${new Date(at).toISOString().slice(0, 16).replace("T", " ")}`;
+  return at === 0 ? "" : `, ${TIME.format(at)}`;
 }
 
 /** Returns what a case is called: its name, or else some words of it. */

@@ -118,7 +118,7 @@ function showKey(svg) {
   const tracts = [...svg.querySelectorAll(".outlines path")];
   const entries = [...svg.querySelectorAll("g.land"), ...tracts].slice(0, KEY_MOST).map(entryOf);
   const left = tracts.length + svg.querySelectorAll("g.land").length - entries.length;
-  if (left > 0) entries.push(make("li", {}, `and ${left} more tracts`));
+  if (left > 0) entries.push(make("li", {}, `and ${left} more ${left === 1 ? "tract" : "tracts"}`));
   byId("key").replaceChildren(...entries);
 }
 

@@ -7,7 +7,7 @@ import { visible } from "./shown.js";
 import { basis } from "./store.js";
 import { spelled } from "./wording.js";
 
-const UNCERTAIN = "No reading of this text is certain: what is marked in it is not understood.";
+const UNCERTAIN = "No reading of this text is certain: the marked words are not understood.";
 
 /** Shows no readings in a place. */
 export function clear(place) {

@@ -133,7 +133,7 @@ function summary({ tracts, total, remaining, refused, overlaps, overlapping }) {
   const all = figureOf(total.acres);
   const rest = figureOf(remaining.acres);
   const left = refused > 0 ? ` Not counted: ${refused} refused.` : "";
-  const figures = make("p", {}, `${tracts.length} tracts: ${all} in all, ${rest} remaining.${left}`);
+  const figures = make("p", {}, `${counted(tracts.length, "tract")}: ${all} in all, ${rest} remaining.${left}`);
   if (overlapping === 0) return [figures];
   const items = overlaps.map(({ first, second, acres, canonical }) => {
     const names = [first, second].map((index) => visible(tracts[index].name)).join(" and ");
@@ -148,9 +148,14 @@ function summary({ tracts, total, remaining, refused, overlaps, overlapping }) {
     make("ul", {}, ...items.slice(PAIRS_SHOWN)),
   );
   const unseen = overlapping - items.length;
-  const unlisted = unseen > 0 ? make("p", {}, `${unseen} more pairs are not listed.`) : null;
+  const unlisted = unseen > 0 ? make("p", {}, `${counted(unseen, "more pair")} not listed.`) : null;
   const heading = make("strong", {}, "Overlapping tracts (shared land is counted once):");
   return [figures, make("div", { class: "note" }, heading, list, others, unlisted)];
+}
+
+/** Returns a number of things in words, such as `2 tracts`. */
+function counted(number, thing) {
+  return `${number} ${thing}${number === 1 ? "" : "s"}`;
 }
 
 /** Shows a row for each tract. A row that stays as it was is kept, since a long list takes a while to lay out. */
