@@ -8,8 +8,9 @@ from typing import Any, Callable, List
 
 from asking import Interface
 
-#: The seconds that an answer may take. It takes some milliseconds; a busy machine takes longer.
-PATIENCE = 10.0
+#: The seconds that an answer may take. It takes some milliseconds; a machine that builds packages at the same time takes
+#: many times as long. Times that users notice are tested in test_times.py.
+PATIENCE = 30.0
 
 
 class Page:
