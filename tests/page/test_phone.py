@@ -1,7 +1,7 @@
 """The page on a phone."""
 from __future__ import annotations
 
-from typing import Iterator, Tuple
+from typing import Iterator
 
 import pytest
 
