@@ -149,6 +149,23 @@ def test_nothing_is_left_of_a_server_that_is_killed(tmp_path: Path) -> None:
             assert not left
 
 
+@pytest.mark.parametrize("delay", [0, 0.005, 0.01, 0.02, 0.04, 0.08])
+def test_ctrl_c_at_once(tmp_path: Path, delay: float) -> None:
+    """It ends the server with status 0, and without a word, also while its processes begin."""
+    command = [sys.executable, "-m", "township", "serve", "--port", "0"]
+    environment = {**os.environ, "PYTHONPATH": os.environ.get("PYTHONPATH", str(TOP / "bindings" / "python" / "src"))}
+    said = tmp_path / "said"
+    with said.open("wb") as file, subprocess.Popen(command, stderr=file, env=environment, start_new_session=True) as run:
+        try:
+            port_in(said)
+            time.sleep(delay)
+            os.killpg(run.pid, signal.SIGINT)
+            assert run.wait(timeout=20) == 0
+        finally:
+            run.kill()
+    assert len(said.read_text().splitlines()) == 1
+
+
 def test_ctrl_c(tmp_path: Path) -> None:
     """It ends the server with status 0, even while something is computed."""
     command = [sys.executable, str(Path(__file__).with_name("slow.py")), "serve", "--port", "0"]

@@ -18,7 +18,7 @@ import threading
 import time
 from concurrent.futures import ThreadPoolExecutor, TimeoutError
 from multiprocessing.connection import wait
-from typing import Any, Dict, Iterable, List
+from typing import Any, Dict, Iterable, Iterator, List
 
 from flask import Flask, Response
 from waitress.adjustments import Adjustments
@@ -170,6 +170,16 @@ class Timed:
         return response(environment, start_response)
 
 
+@contextlib.contextmanager
+def _uninterrupted() -> Iterator[None]:
+    """Let Ctrl-C wait. While Python forks, it would ignore it, or a process that has just begun would end by it."""
+    signal.pthread_sigmask(signal.SIG_BLOCK, {signal.SIGINT})
+    try:
+        yield
+    finally:
+        signal.pthread_sigmask(signal.SIG_UNBLOCK, {signal.SIGINT})
+
+
 class Server:
     """The processes, and the socket on which they listen."""
 
@@ -190,9 +200,10 @@ class Server:
         workers: List[Any] = []
         try:
             while True:
-                while len(workers) < limits.PROCESSES:
-                    workers.append(fork.Process(target=self._work, args=(parent,), daemon=True))
-                    workers[-1].start()
+                with _uninterrupted():
+                    while len(workers) < limits.PROCESSES:
+                        workers.append(fork.Process(target=self._work, args=(parent,), daemon=True))
+                        workers[-1].start()
                 wait([each.sentinel for each in workers])
                 for ended in [each for each in workers if not each.is_alive()]:
                     workers.remove(ended)
