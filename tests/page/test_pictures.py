@@ -132,6 +132,9 @@ def test_picture(window: Page, name: str, theme: str, size: str, request: pytest
     window.driver.execute_script("document.activeElement.blur(); scrollTo(0, 0)")
     if place is not None:
         window.driver.execute_script("document.querySelector(arguments[0]).scrollIntoView()", place)
+    # The pointer is where something was clicked, and what is there now may look different below it.
+    window.driver.execute_cdp_cmd("Input.dispatchMouseEvent", {"type": "mouseMoved", "x": 0, "y": 0})
+    window.driver.execute_async_script("requestAnimationFrame(() => requestAnimationFrame(arguments[0]))")
     shown = image.open(io.BytesIO(window.driver.get_screenshot_as_png())).convert("L")
     shown = shown.resize(WINDOWS[size][1], image.BOX)
     kept = PICTURES / f"{size}{name}-{theme}.png"
