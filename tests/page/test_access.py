@@ -177,8 +177,25 @@ def test_answers_are_announced_once_after_a_pause(page: Page) -> None:
         # Every key gets an answer, and only the last one is announced.
         assert len(heard) == 1 and heard[0][1] > 700
         assert not set("|^") & set(heard[0][0]) and said in heard[0][0]
+        # Nothing is announced of what is folded away.
+        assert "section lines" not in heard[0][0]
     assert page.one("#spoken").get_attribute("role") == "status"
     assert page.one("#land-answer").get_attribute("role") is None
+
+
+def test_a_long_answer_is_announced_in_part(page: Page) -> None:
+    page.tab("tracts")
+    page.put("#tracts", "".join(f'Tract {k},"sec. 14, N1/2."\n' for k in range(12)))
+    page.wait_for(lambda: "12 tracts: 320.00 acres in all" in page.text("#spoken"))
+    assert 300 < len(page.text("#spoken")) <= 400 < len(page.text("#tracts-answer"))
+
+
+def test_an_excerpt_says_what_is_marked(page: Page) -> None:
+    page.tab("land")
+    # At the end of a text, there is nothing to mark.
+    for text, label in (("sec. 14, NE1/4 and N1/2.", "Marked: N1/2"), ("sec. 14, ", "Excerpt"), ("sec. 41.", "Marked: 41")):
+        page.put("#description", text)
+        page.wait_for(lambda: [each.get_attribute("aria-label") for each in page.all("#land-answer [role=img]")] == [label])
 
 
 def test_every_figure_has_its_name_and_a_sentence(page: Page) -> None:

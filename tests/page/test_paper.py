@@ -85,6 +85,8 @@ def test_tracts_are_printed_with_their_table_and_notes(paper: Page) -> None:
     rows = found[found.index("Tracts") + 1 : found.index("Notes")]
     assert [row.split()[0] for row in rows] == ["Tract", "A", "B", "C", "D"]
     assert "320.00" in rows[1] and "sec. 14, N1/2." in rows[1] and "refused 66" in rows[4]
+    # A refusal takes the columns of the figures, too.
+    assert page.one("#printed tbody tr:nth-child(4) td").get_property("colSpan") == 3
     assert not any("Show the readings" in each for each in found)
     notes = found[found.index("Notes") + 1 :]
     assert notes[:2] == ["Overlapping tracts (shared land is counted once):", "A and B: 160.00 acres, sec. 14, NE1/4."]
@@ -95,6 +97,17 @@ def test_tracts_are_printed_with_their_table_and_notes(paper: Page) -> None:
     for pattern in page.all("#printed pattern"):
         assert len(page.all(f"[id='{pattern.get_attribute('id')}']")) == 1
     assert pages(page, 8.5, 11) == 2
+
+
+def test_nothing_is_printed_of_a_list_that_was_emptied(paper: Page) -> None:
+    page = paper
+    page.tab("tracts")
+    page.put("#tracts", 'A,"sec. 14, N1/2."\n')
+    page.wait_for_text("#tracts-answer", "320.00 acres in all")
+    page.put("#tracts", "")
+    page.wait_for_text("#tracts-answer", "Paste or open a list")
+    [dated] = printed(page)
+    assert dated.startswith("Printed ") and page.all("#printed table, #printed .outlines") == []
 
 
 def test_all_overlaps_are_printed(paper: Page) -> None:

@@ -106,7 +106,6 @@ def test_nothing_breaks_inside_a_fraction(phone: Page) -> None:
     page.click_target("section", "14")
     seen, broken = page.driver.execute_script(BROKEN)
     assert seen >= 12 and broken == []
-    assert page.driver.execute_script(ALONE) == []
     page.put("#description", "sec. 5, N1/2, SE1/4NE1/4NE1/4NE1/4NE1/4.")
     page.wait_for_text("#land-answer", "Refused 66")
     seen, broken = page.driver.execute_script(BROKEN)
@@ -122,7 +121,20 @@ def test_nothing_breaks_inside_a_fraction(phone: Page) -> None:
     page.wait_for_text("#compare-answer", "the same land")
     seen, broken = page.driver.execute_script(BROKEN)
     assert seen >= 12 and broken == []
-    assert page.driver.execute_script(ALONE) == []
+
+
+@pytest.mark.parametrize("text", ["sec. 14, NE1/4NE1/4NE1/4NE1/4NE1/4.", "sec. 14, NE1/4NE1/4; sec. 15, E1/2."])
+def test_no_period_is_alone_on_a_line(page: Page, text: str) -> None:
+    """However wide the text is, if there is room for a fraction and a period beside the name of the text."""
+    page.tab("land")
+    page.put("#description", text)
+    page.wait_for_text("#land-answer", "Canonical")
+    try:
+        for width in range(230, 480, 3):
+            page.driver.execute_script("document.querySelector('#land-answer').style.width = `${arguments[0]}px`", width)
+            assert page.driver.execute_script(ALONE) == [], width
+    finally:
+        page.driver.execute_script("document.querySelector('#land-answer').removeAttribute('style')")
 
 
 def test_the_fractions_of_a_reading_are_beside_each_other(phone: Page) -> None:
