@@ -1,6 +1,7 @@
 """The examples in the docstrings and in the README, run at the top of the repository."""
 import doctest
 import importlib
+import inspect
 import os
 import pkgutil
 from decimal import Decimal
@@ -18,10 +19,19 @@ PANDAS = "township.pandas"
 NEEDS = {PANDAS: ("pandas",), "township._web.": ("flask", "waitress")}
 
 
+class Finder(doctest.DocTestFinder):
+    """Finds the methods of public classes, too: these classes say that they are of the package, and not of its modules."""
+
+    def _from_module(self, module, found):
+        if module is township and inspect.isfunction(found) and "." in found.__qualname__:
+            return True
+        return super()._from_module(module, found)
+
+
 def load_tests(loader, tests, pattern):
     """All examples of all modules, each docstring's as a test of its own."""
     for module in _modules():
-        tests.addTest(doctest.DocTestSuite(module, setUp=_enter, tearDown=_leave))
+        tests.addTest(doctest.DocTestSuite(module, test_finder=Finder(), setUp=_enter, tearDown=_leave))
     tests.addTest(
         doctest.DocFileSuite(str(README), module_relative=False, encoding="utf-8", setUp=_enter, tearDown=_leave)
     )

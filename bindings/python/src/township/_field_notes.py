@@ -139,7 +139,8 @@ class Notes(Mapping[str, Distances]):
         >>> notes.plat()
         Traceback (most recent call last):
             ...
-        township.Refused: notes:54:15: the second half mile of W,5,8 (section line 52) is 39.000 chains
+        township.Refused: notes:55: the second half mile between sections 5 and 8 is 39.000 chains; allowed: 39.750 \
+to 40.250
         """
         return Plat.read(self.csv())
 

@@ -202,7 +202,7 @@ class Lots:
         tract contains a lot that the table lacks.
 
         >>> lots = township.Lots.of_figures("T. 2 N., R. 3 W.", {(5, 1): "40.45", (5, 2): "40.55"})
-        >>> lots.report_csv("name,description\\nA,\"sec. 5, lots 1 and 3.\"\\n")
+        >>> lots.report_csv('name,description\\nA,"sec. 5, lots 1 and 3."\\n')
         Traceback (most recent call last):
             ...
         township.Refused: tracts: record 2: the lot table has no record for lot 3 of section 5
