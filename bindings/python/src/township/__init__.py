@@ -29,7 +29,7 @@ from ._parts import Part
 from ._plat import Plat
 from ._readings import Change, Reading, Readings, suggest
 from ._refused import Refusal, Refused, failure_of
-from ._report import LotsReport, Overlap, Report, Tract, TractAnswer
+from ._report import LotsOverlap, LotsReport, Overlap, Report, Tract, TractAnswer
 from ._rounding import rounded
 from ._township import EastWest, NorthSouth, Township
 from ._version import __version__
@@ -43,6 +43,7 @@ __all__ = [
     "EastWest",
     "Land",
     "Lots",
+    "LotsOverlap",
     "LotsReport",
     "NorthSouth",
     "Note",
@@ -67,7 +68,7 @@ __all__ = [
 ]
 
 for _public in (
-    *(Answers, Change, Difference, Land, Lots, LotsReport, Note, Notes, OtherPlace, Overlap, Part, Plat),
+    *(Answers, Change, Difference, Land, Lots, LotsOverlap, LotsReport, Note, Notes, OtherPlace, Overlap, Part, Plat),
     *(Reading, Readings, Refusal, Refused, Report, Section, Township, Tract, TractAnswer),
 ):
     # Tracebacks and pickles name each class as users import it.

@@ -4,30 +4,31 @@ from __future__ import annotations
 from ctypes import byref
 from decimal import Decimal
 from fractions import Fraction
-from typing import Callable, Iterable, Iterator, List, Sequence, Tuple, Union
+from typing import Callable, Iterable, Iterator, List, Sequence, Union
 
 from . import _library
 from ._account import Account, code_of
+from ._describing import Describing
 from ._differences import Difference, differences_of
-from ._explanation import explained_by
 from ._figures import acres_of_hundredths, fraction_of
-from ._full import FullAnswers, texts_or_refusals
+from ._full import FullAnswers
 from ._land import Land
 from ._lots import Lots
-from ._many import Answers, answers_of
-from ._note import Note, notes_of
-from ._readings import Reading, Readings, suggest
-from ._refused import DESCRIPTION, Refused, exception_of, failure_of
+from ._many import Answers, answers_of, each_acres
+from ._readings import Readings
+from ._refused import Refused, failure_of
 from ._reporting import Reporting
 from ._text import Text, encoded
 from ._township import township_of
-from ._written import text_by, without_text
 
 
-class Answering(Reporting):
+class Answering(Reporting, Describing):
     """The answers on a plat."""
 
     __slots__ = ()
+
+    def _plat_struct(self) -> _library.Plat:
+        return self._parts
 
     def acres(self, description: Union[Text, Land], account: Account = "exact") -> Decimal:
         """Return the acreage of the land described, or of a `Land`, rounded once to hundredths, half up.
@@ -47,7 +48,7 @@ class Answering(Reporting):
         given = encoded(description)
         answer = _library.acres(byref(self._parts), given, len(given), code_of(account))
         if answer.verdict != _library.ACCEPTED:
-            raise self._exception_of(answer, given)
+            raise self._described_exception(answer, given)
         return acres_of_hundredths(answer.hundredths)
 
     def area(self, description: Union[Text, Land], account: Account = "exact") -> Fraction:
@@ -63,55 +64,8 @@ class Answering(Reporting):
         given = encoded(description)
         answer = _library.area(byref(self._parts), given, len(given), code_of(account), byref(area))
         if answer.verdict != _library.ACCEPTED:
-            raise self._exception_of(answer, given)
+            raise self._described_exception(answer, given)
         return fraction_of(area)
-
-    def land(self, description: Text) -> Land:
-        """Return the land described, as a value that can be combined and compared with other land.
-
-        >>> rest = plat.land("sec. 5, all.") - plat.land("sec. 5, lots 1 and 2.")
-        >>> plat.acres(rest)
-        Decimal('561.40')
-        """
-        return Land._read(township_of(self._parts), self._parts, encoded(description), DESCRIPTION)
-
-    def normal(self, description: Text) -> str:
-        """Return the canonical description, which is the same for any two descriptions of the same land.
-
-        >>> print(plat.normal("sec. 14, SE1/4, NE1/4, NW1/4."), end="")
-        T. 2 N., R. 3 W.,
-        sec. 14, N1/2, SE1/4.
-        """
-        given = encoded(description)
-        answer, text = text_by(_library.normal, byref(self._parts), given, len(given))
-        if answer.verdict != _library.ACCEPTED:
-            raise self._exception_of(answer, given)
-        return text
-
-    def notes(self, description: Text) -> List[Note]:
-        """Return the notes on an accepted description: there is one if a place can be read in two ways.
-
-        The note is on the first such place; its last line says how many more there are. The acreage in it is
-        that of the account `exact`. Raise `Refused` if the description is refused.
-
-        >>> plat.notes("sec. 14, NE1/4, SE1/4.")
-        []
-        >>> for note in plat.notes("sec. 14, NE1/4 SE1/4."):
-        ...     print(note.line, note.column, note.sentence)
-        1 16 NE1/4 SE1/4 is read as one part of 40.00 acres, the NE1/4 of the SE1/4; if two parts were meant, \
-write a comma after NE1/4 (320.00 acres)
-        """
-        given = encoded(description)
-        asked = (byref(self._parts), given, len(given), DESCRIPTION, len(DESCRIPTION))
-        # Nearly all accepted descriptions have no note, which the answer says without a text.
-        answer = without_text(_library.explain_description, *asked)
-        if answer.verdict == _library.ACCEPTED:
-            return []
-        if answer.verdict == _library.NO_ROOM:
-            answer, text, explained = explained_by(_library.explain_description_parts, *asked)
-            if answer.verdict == _library.ACCEPTED:
-                return notes_of(answer, text, explained)
-        raise self._exception_of(answer, given)
 
     def suggest(self, text: Text, account: Account = "exact") -> Readings:
         """Return the readings of a text: the descriptions that it may mean, in a fixed order, with their acreage.
@@ -128,16 +82,7 @@ write a comma after NE1/4 (320.00 acres)
         61
         """
         code_of(account)
-        found = suggest(text)
-        return Readings([self._on_plat(each, account) for each in found], found.reason, found.beyond)
-
-    def _on_plat(self, reading: Reading, account: Account) -> Reading:
-        """Return what a reading comes to on the plat."""
-        try:
-            acres = self.acres(reading.text, account)
-            return reading._replace(acres=acres, normal=self.normal(reading.text))
-        except Refused as refused:
-            return reading._replace(refused=refused)
+        return self._measured_readings(text, lambda reading: self.acres(reading, account))
 
     def acres_of(
         self, descriptions: Iterable[Text], account: Account = "exact"
@@ -160,7 +105,8 @@ write a comma after NE1/4 (320.00 acres)
         """
         if isinstance(descriptions, (str, bytes)):
             raise TypeError("this takes many descriptions; for one there is Plat.acres")
-        return self._each_acres(descriptions, code_of(account))
+        call, parts, code = _library.acres, byref(self._parts), code_of(account)
+        return each_acres(descriptions, lambda given: call(parts, given, len(given), code), self._described_exception)
 
     def acres_many(self, descriptions: Sequence[Text], account: Account = "exact") -> Answers:
         """Return the answers to many descriptions, which one call of the library gives.
@@ -172,45 +118,12 @@ write a comma after NE1/4 (320.00 acres)
         >>> answers[0], answers[1].number, answers[2]
         (Decimal('40.45'), 64, Decimal('640.00'))
         """
-        if isinstance(descriptions, (str, bytes)):
-            raise TypeError("this takes many descriptions; for one there is Plat.acres")
-        return answers_of(byref(self._parts), list(descriptions), code_of(account), self._exception_of)
-
-    def normal_many(self, descriptions: Sequence[Text]) -> List[Union[str, Refused]]:
-        """Return the canonical descriptions of many descriptions, or their refusals, by one call of the library.
-
-        This is several times as fast as `normal` for each, and takes 400 bytes of memory for each description.
-
-        >>> texts = plat.normal_many(["sec. 14, SE1/4, NE1/4, NW1/4.", "sec. 5, lot 5."])
-        >>> print(texts[0], end="")
-        T. 2 N., R. 3 W.,
-        sec. 14, N1/2, SE1/4.
-        >>> texts[1].number
-        64
-        """
-        if isinstance(descriptions, (str, bytes)):
-            raise TypeError("this takes many descriptions; for one there is Plat.normal")
-        return texts_or_refusals(self._full_answers(list(descriptions), "exact"))
+        many = self._listed(descriptions, "acres")
+        return answers_of(byref(self._parts), many, code_of(account), self._described_exception)
 
     def _full_answers(self, descriptions: Sequence[Text], account: Account) -> FullAnswers:
         """Return everything that the library answers about many descriptions."""
-        return FullAnswers(byref(self._parts), descriptions, code_of(account), self._exception_of)
-
-    def _each_acres(self, descriptions: Iterable[Text], code: int) -> Iterator[Union[Decimal, Refused]]:
-        """Yield the answers of `acres_of`. Whatever does not depend on the description is computed once."""
-        call = _library.acres
-        parts = byref(self._parts)
-        accepted = _library.ACCEPTED
-        for description in descriptions:
-            given = encoded(description)
-            answer = call(parts, given, len(given), code)
-            if answer.verdict == accepted:
-                yield acres_of_hundredths(answer.hundredths)
-                continue
-            exception = self._exception_of(answer, given)
-            if not isinstance(exception, Refused):
-                raise exception
-            yield exception
+        return FullAnswers(byref(self._parts), descriptions, code_of(account), self._described_exception)
 
     def differences(self, lots: Lots) -> List[Difference]:
         """Return the lots whose acreage on the printed plat differs from the one in a lot table.
@@ -234,8 +147,3 @@ write a comma after NE1/4 (320.00 acres)
             raise failure_of(answer.verdict, land.township, township_of(self._parts))
         hundredths: int = answer.hundredths
         return hundredths
-
-    def _exception_of(self, answer: _library.Answer, given: bytes) -> Exception:
-        """Return the exception for a description that is not accepted."""
-        explain = _library.explain_description_parts
-        return exception_of(answer, explain, byref(self._parts), given, len(given), source=DESCRIPTION)

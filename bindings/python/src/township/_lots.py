@@ -3,32 +3,28 @@ from __future__ import annotations
 
 from ctypes import byref
 from decimal import Decimal
-from fractions import Fraction
 from types import MappingProxyType
-from typing import Any, Iterable, List, Mapping, Optional, Tuple, Union
+from typing import Any, List, Mapping, Optional, Tuple
 
 from . import _library
 from ._decimals import Number, scaled
-from ._figures import acres_of_hundredths, fraction_of
-from ._land import Land
-from ._lot_faults import LACKING, refused_lots
-from ._refused import DESCRIPTION, LAND, LIST, LOT_TABLE, Refused, exception_of, failure_of, hinted
-from ._report import Described, LotsReport, list_of, report_by
+from ._figures import acres_of_hundredths
+from ._lot_faults import refused_lots
+from ._lot_list import lots_of_township
+from ._lots_answering import LotsAnswering
+from ._refused import LOT_TABLE, Refused, failure_of, hinted
 from ._spelling import Named, township_named
 from ._text import Path, Text, encoded, names_a_file, shown
-from ._township import Township, codes_of, nominal_plat_of, township_of
+from ._township import Township, codes_of, township_of
 
-#: The number of lots in each section that has any.
-_COUNTS = {1: 4, 2: 4, 3: 4, 4: 4, 5: 4, 6: 7, 7: 4, 18: 4, 19: 4, 30: 4, 31: 4}
-
-#: The section and the number of each lot, in order.
-LOTS = [(section, lot) for section, count in _COUNTS.items() for lot in range(1, count + 1)]
+#: The acreage of a quarter-quarter section.
+_STANDARD = 40
 
 #: The largest figure of a lot, in hundredths of an acre.
 _MOST = 99_999
 
 
-class Lots:
+class Lots(LotsAnswering):
     """A lot table: the acreage that the approved plat returns for the lots of a township.
 
     By a lot table, each whole lot counts at its returned acreage, and other land at its nominal area, 40 acres
@@ -50,12 +46,10 @@ class Lots:
     township.Refused: description: the lot table has no record for lot 3 of section 5
     """
 
-    __slots__ = ("_parts", "__weakref__")
-
-    _parts: _library.Lots
+    __slots__ = ("__weakref__",)
 
     def __new__(cls, *_: object, **__: object) -> Lots:
-        raise TypeError("make a lot table with Lots.open, Lots.read, or Lots.of_figures")
+        raise TypeError("make a lot table with Lots.open, Lots.read, Lots.of_figures, or Lots.new")
 
     @classmethod
     def _of_struct(cls, parts: _library.Lots) -> Lots:
@@ -118,12 +112,26 @@ class Lots:
         Fraction(81, 1)
         """
         parts = _library.Lots(township=_library.Designation(*codes_of(township_named(township))))
+        lots = lots_of_township()
         for key, figure in figures.items():
-            if key not in LOTS:
+            if key not in lots:
                 raise ValueError(f"no lot has the section and the number {key!r}")
             if figure is not None:
-                parts.figures[LOTS.index(key)] = _hundredths(figure)
+                parts.figures[lots.index(key)] = _hundredths(figure)
         return cls._of_struct(parts)
+
+    @classmethod
+    def new(cls, township: Named) -> Lots:
+        """Make a lot table to fill in: each lot of the township has 40 acres.
+
+        Replace each figure with the one on the approved plat, and leave out the lots whose acreage isn't known.
+
+        >>> print(township.Lots.new("T. 2 N., R. 3 W.").csv()[:38], end="")
+        section,lot,acres
+        T,2,N,3,W
+        1,1,40.00
+        """
+        return cls.of_figures(township, dict.fromkeys(lots_of_township(), _STANDARD))
 
     @property
     def township(self) -> Township:
@@ -139,7 +147,7 @@ class Lots:
         (Decimal('40.45'), None)
         """
         acres = [acres_of_hundredths(each) if each else None for each in self._parts.figures]
-        return MappingProxyType(dict(zip(LOTS, acres)))
+        return MappingProxyType(dict(zip(lots_of_township(), acres)))
 
     def csv(self) -> str:
         """Return the table (CSV), from which `Lots.read` makes it again.
@@ -152,90 +160,6 @@ class Lots:
         records = ["section,lot,acres", ",".join(map(str, ("T", *self.township)))]
         records += [f"{section},{lot},{acres}" for (section, lot), acres in self.figures.items() if acres]
         return "\n".join(records) + "\n"
-
-    def acres(self, description: Union[Text, Land]) -> Decimal:
-        """Return the acreage of the land described, or of a `Land`, rounded once to hundredths, half up."""
-        if isinstance(description, Land):
-            answer = _library.lots_land_acres(byref(self._parts), byref(description._parts))
-            self._check_land(answer, description)
-        else:
-            given = encoded(description)
-            answer = _library.lots_acres(byref(self._parts), given, len(given))
-            self._check_description(answer, given)
-        return acres_of_hundredths(answer.hundredths)
-
-    def area(self, description: Union[Text, Land]) -> Fraction:
-        """Return the exact area of the land described, or of a `Land`, in acres. `acres` returns it rounded."""
-        area = _library.Fraction()
-        if isinstance(description, Land):
-            answer = _library.lots_land_area(byref(self._parts), byref(description._parts), byref(area))
-            self._check_land(answer, description)
-        else:
-            given = encoded(description)
-            answer = _library.lots_area(byref(self._parts), given, len(given), byref(area))
-            self._check_description(answer, given)
-        return fraction_of(area)
-
-    def report(self, tracts: Iterable[Tuple[Text, Described]]) -> LotsReport:
-        """Return the acreage of tracts, each a name and a description or `Land`, and that of all of them together.
-
-        There may be at most 1,000 tracts, and they must not overlap. A name is 1 to 64 bytes of printable
-        ASCII, and each name must be unique.
-
-        If the tracts are refused, the location in `Refused` refers to the list that they make: the tract with
-        index k is record k + 2.
-
-        >>> lots = township.Lots.of_figures("T. 2 N., R. 3 W.", {(5, 1): "40.45", (5, 2): "40.55"})
-        >>> report = lots.report([("A", "sec. 5, lot 1."), ("B", "sec. 5, lot 2, S1/2NE1/4.")])
-        >>> report.tracts
-        (Tract(name='A', acres=Decimal('40.45')), Tract(name='B', acres=Decimal('120.55')))
-        >>> report.total
-        Decimal('161.00')
-        """
-        return self.report_csv(list_of(tracts))
-
-    def report_csv(self, tracts: Text) -> LotsReport:
-        """Return the same for a list of tracts (CSV, at most 1,048,576 bytes; see `docs/TRACTS-FORMAT.md`).
-
-        Raise `Refused`, with a number from 80 to 85, if the list is refused. If a tract's description is
-        refused, the number is 83, and `inner` contains the description's own refusal; its number is 94 if the
-        tract contains a lot that the table lacks.
-
-        >>> lots = township.Lots.of_figures("T. 2 N., R. 3 W.", {(5, 1): "40.45", (5, 2): "40.55"})
-        >>> lots.report_csv('name,description\\nA,"sec. 5, lots 1 and 3."\\n')
-        Traceback (most recent call last):
-            ...
-        township.Refused: tracts: record 2: the lot table has no record for lot 3 of section 5
-        """
-        given = encoded(tracts)
-        answer, report = report_by(byref(self._parts), given)
-        if answer.verdict != _library.ACCEPTED:
-            raise self._list_exception(answer, given)
-        return report
-
-    def _list_exception(self, answer: _library.Answer, given: bytes) -> Exception:
-        """Return the exception for a list of tracts that is not accepted."""
-        if answer.verdict == _library.TRACT_REFUSED and answer.inner_number == LACKING:
-            return refused_lots(answer, LIST.decode())
-        explain = _library.explain_list_parts
-        plat = nominal_plat_of(self.township)
-        return exception_of(answer, explain, byref(plat), given, len(given), source=LIST)
-
-    def _check_description(self, answer: _library.Answer, given: bytes) -> None:
-        """Raise the exception for a description that is not accepted."""
-        if answer.verdict == _library.REFUSED and answer.number == LACKING:
-            raise refused_lots(answer, DESCRIPTION.decode())
-        if answer.verdict != _library.ACCEPTED:
-            explain = _library.explain_description_parts
-            plat = nominal_plat_of(self.township)
-            raise exception_of(answer, explain, byref(plat), given, len(given), source=DESCRIPTION)
-
-    def _check_land(self, answer: _library.Answer, land: Land) -> None:
-        """Raise the exception for land that is not accepted."""
-        if answer.verdict == _library.REFUSED:
-            raise refused_lots(answer, LAND.decode())
-        if answer.verdict != _library.ACCEPTED:
-            raise failure_of(answer.verdict, land.township, self.township)
 
     def __eq__(self, other: object) -> bool:
         if not isinstance(other, Lots):

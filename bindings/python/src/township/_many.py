@@ -5,7 +5,7 @@ import ctypes
 from array import array
 from decimal import Decimal
 from itertools import accumulate
-from typing import Callable, Iterator, List, Sequence, Tuple, Union, overload
+from typing import Callable, Iterable, Iterator, List, Sequence, Tuple, Union, overload
 
 from . import _library
 from ._figures import acres_of_hundredths
@@ -19,6 +19,9 @@ _HUNDREDTHS = _library.Answer.hundredths.offset // 8
 
 #: The type code of an array of such words. A `size_t` is one, too.
 _WORD = "Q"
+
+#: Asks the library about a description.
+Ask = Callable[[bytes], _library.Answer]
 
 #: Returns the exception for a description that is not accepted.
 Refuse = Callable[[_library.Answer, bytes], Exception]
@@ -79,6 +82,9 @@ class Answers(Sequence[Union[Decimal, Refused]]):
     def __iter__(self) -> Iterator[Union[Decimal, Refused]]:
         return map(self.__getitem__, range(len(self)))
 
+    def __repr__(self) -> str:
+        return f"<township.Answers to {len(self)} descriptions: {len(self.refused)} refused>"
+
 
 def answers_of(parts: object, descriptions: Sequence[Text], code: int, refuse: Refuse) -> Answers:
     """Return the answers to many descriptions on a plat, by the account with this code."""
@@ -91,6 +97,33 @@ def answers_of(parts: object, descriptions: Sequence[Text], code: int, refuse: R
     if answer.verdict != _library.ACCEPTED:
         raise failure_of(answer.verdict)
     return Answers(words, given, offsets, refuse)
+
+
+def answers_by(call: Ask, descriptions: Sequence[Text], refuse: Refuse) -> Answers:
+    """Return the answers to many descriptions, each by a call of its own."""
+    given, offsets = in_a_row(descriptions)
+    words = array(_WORD, bytes(8 * _WORDS * len(descriptions)))
+    answers = _answers_in(words)
+    for index, description in enumerate(map(encoded, descriptions)):
+        answers[index] = call(description)
+    return Answers(words, given, offsets, refuse)
+
+
+def each_acres(
+    descriptions: Iterable[Text], call: Ask, refuse: Refuse
+) -> Iterator[Union[Decimal, Refused]]:
+    """Yield the acreage of each description, or its refusal."""
+    accepted = _library.ACCEPTED
+    for description in descriptions:
+        given = encoded(description)
+        answer = call(given)
+        if answer.verdict == accepted:
+            yield acres_of_hundredths(answer.hundredths)
+            continue
+        exception = refuse(answer, given)
+        if not isinstance(exception, Refused):
+            raise exception
+        yield exception
 
 
 def _answers_in(words: "array[int]") -> "ctypes.Array[_library.Answer]":

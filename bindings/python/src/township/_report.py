@@ -66,6 +66,17 @@ class Overlap(NamedTuple):
     acres: Decimal
 
 
+class LotsOverlap(NamedTuple):
+    """Two tracts of a list that overlap, by their indexes: the tract with index k is record k + 2."""
+
+    #: The index of the earlier tract.
+    first: int
+    #: The index of the later one.
+    second: int
+    #: The acreage by the lot table of the land in both. None if the table lacks one of its lots.
+    acres: Optional[Decimal]
+
+
 def report_on(parts: object, given: bytes) -> Tuple[_library.Answer, Report]:
     """Return the library's answer to a list of tracts, and its report, which is empty if it is not accepted."""
     tracts = (_library.Tract * _library.TRACTS_MOST)()
@@ -103,7 +114,7 @@ def _answer_of(given: _library.TractAnswer) -> TractAnswer:
 _USUAL_OVERLAPS = 64
 
 #: The record of the first tract of a list.
-_FIRST_TRACT = 2
+FIRST_TRACT = 2
 
 
 def overlaps_on(parts: object, given: bytes) -> Tuple[_library.Answer, Tuple[Overlap, ...]]:
@@ -119,7 +130,7 @@ def overlaps_on(parts: object, given: bytes) -> Tuple[_library.Answer, Tuple[Ove
 def _overlap_of(overlap: _library.Overlap) -> Overlap:
     """Return an overlap."""
     acres = acres_of_hundredths(overlap.hundredths)
-    return Overlap(overlap.first - _FIRST_TRACT, overlap.second - _FIRST_TRACT, acres)
+    return Overlap(overlap.first - FIRST_TRACT, overlap.second - FIRST_TRACT, acres)
 
 
 def _tract_of(tract: _library.Tract) -> Tract:

@@ -8,7 +8,8 @@ from typing import Iterator, List, Mapping, Optional, Tuple, Union
 
 import township
 import township.pandas
-from township import Account, Change, Difference, EastWest, Land, Lots, NorthSouth, Notes, Overlap, Part, Plat
+from township import Account, Change, Difference, EastWest, Land, Lots, LotsOverlap, NorthSouth, Notes, Overlap
+from township import Part, Plat
 from township import Reading, Readings, Refusal, Refused, Report, Section, Township, Tract, TractAnswer, suggest
 
 
@@ -67,6 +68,26 @@ def lands(plat: Plat, lots: Lots) -> Optional[Decimal]:
     differences: List[Difference] = plat.differences(Lots.of_figures(land.township, lots.figures))
     drawings: List[str] = [plat.svg(), plat.svg(land=land, section=14), plat.svg(land=b"sec. 14.")]
     return acres[0] + differences[0].by if is_less and areas and lot and drawings else None
+
+
+def many(plat: Plat, lots: Lots) -> Optional[Decimal]:
+    answers: List[Union[Decimal, Refused]] = [*plat.acres_many(["sec. 14."])]
+    answers += lots.acres_many([b"sec. 14."])
+    texts: List[Union[str, Refused]] = plat.normal_many(["sec. 14."]) + lots.normal_many(["sec. 14."])
+    one_by_one: Iterator[Union[Decimal, Refused]] = lots.acres_of(["sec. 14."])
+    tracts: Tuple[TractAnswer, ...] = lots.report_each([("A", "sec. 14."), ("B", lots.land("sec. 15."))])
+    overlaps: Tuple[LotsOverlap, ...] = lots.overlaps([("A", "sec. 14.")])
+    shared: Optional[Decimal] = overlaps[0].acres
+    new: Lots = Lots.new("T. 2 N., R. 3 W.")
+    found: Readings = new.suggest("NENE Sec 14")
+    return shared if answers and texts and one_by_one and tracts and found else None
+
+
+def wrong_many(lots: Lots) -> None:
+    lots.acres_many(["sec. 14."], account="plat")  # type: ignore[call-arg]
+    lots.report_each("name,description")  # type: ignore[arg-type]
+    township.Township("2", "N", 3, "W")  # type: ignore[arg-type]
+    township.Township(2, "E", 3, "W")  # type: ignore[arg-type]
 
 
 def readings(plat: Plat) -> Optional[Decimal]:
