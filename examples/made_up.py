@@ -4,6 +4,7 @@ from __future__ import annotations
 
 import pathlib
 import random
+from collections import Counter
 from collections.abc import Iterator
 
 import township
@@ -15,7 +16,7 @@ CLOSING_LINES = (*range(7), *range(47, 84, 6))
 CORNERS = ("NE", "NW", "SW", "SE")
 SIDES = ("N", "S", "E", "W")
 # The sections with lots, along the north and west boundaries of a township, and their numbers of lots.
-LOTS = {1: 4, 2: 4, 3: 4, 4: 4, 5: 4, 6: 7, 7: 4, 18: 4, 19: 4, 30: 4, 31: 4}
+LOTS = Counter(section for section, _ in township.Lots.new("T. 1 N., R. 1 E.").figures)
 
 
 def plats(seed: int, count: int) -> list[township.Plat]:

@@ -15,6 +15,9 @@ from township import _command
 NOTES = TOP / "samples" / "b1.csv"
 EVEN_NOTES = TOP / "samples" / "b0.csv"
 
+#: A lot table of T. 2 N., R. 3 W., by which lot 1 of section 5 has another acreage than by any notes.
+LOTS = "section,lot,acres\nT,2,N,3,W\n5,1,41.23\n"
+
 #: The columns that are added.
 ADDED = ["acres", "refusal", "at", "sentence", "note", "canonical"]
 

@@ -1,7 +1,7 @@
 """Batches over the townships of a folder."""
 import unittest
 
-from batches import ADDED, EVEN_NOTES, HEADING, BatchCase, records
+from batches import ADDED, EVEN_NOTES, HEADING, LOTS, BatchCase, records
 
 
 class Folders(BatchCase):
@@ -12,24 +12,29 @@ class Folders(BatchCase):
         self.put("no notes", "plats/readme.txt")
         self.put("no notes", "plats/.hidden.csv")
 
-    def over(self, data, *words, status=1, folder="plats"):
-        """The records that result from a list over the folder."""
+    def over(self, data, *words, status=1, folder="plats", missing=()):
+        """The records that result from a list over the folder. These lines are on standard error."""
         run = self.run_words("batch", "--plats", self.folder / folder, self.put(data), *words)
-        self.assertEqual((run.returncode, run.stderr), (status, b""))
+        said = "".join(f"township: {line}\n" for line in missing).replace("FOLDER", str(self.folder / folder))
+        self.assertEqual((run.returncode, run.stderr.decode()), (status, said))
         return records(run.stdout)
 
-    def acres(self, data, *words, status=1, folder="plats"):
+    def acres(self, data, *words, **named):
         """The acres of each record, or what is wrong with it."""
-        rows = self.over(data, *words, status=status, folder=folder)
-        width = len(rows[0]) - len(ADDED)
+        rows = self.over(data, *words, **named)
+        width = len(rows[0]) - len(ADDED) - 1
         return [row[width] or row[width + 3] for row in rows[1:]]
+
+    def plats(self, data, *words, **named):
+        """The file by which each record is answered."""
+        return [row[-1] for row in self.over(data, *words, **named)[1:]]
 
     def test_each_record_is_on_its_own_plat(self):
         rows = self.over(
             'township,description\n"T. 2 N., R. 3 W.","sec. 5, lot 1."\n"T. 3 S., R. 4 E.","sec. 5, lot 1."\n', status=0
         )
-        self.assertEqual(rows[1][2:], ["40.45", "", "", "", "", HEADING + "sec. 5, lot 1."])
-        self.assertEqual(rows[2][2:], ["40.00", "", "", "", "", "T. 3 S., R. 4 E., sec. 5, lot 1."])
+        self.assertEqual(rows[1][2:], ["40.45", "", "", "", "", HEADING + "sec. 5, lot 1.", "b1.csv"])
+        self.assertEqual(rows[2][2:], ["40.00", "", "", "", "", "T. 3 S., R. 4 E., sec. 5, lot 1.", "other.CSV"])
 
     def test_accepted_spellings(self):
         for spelling in ("T. 2 N., R. 3 W.", "T. 2 N., R. 3 W.,", "T2N R3W", "t2n r3w", "T. 2 N. R. 3 W.",
@@ -44,16 +49,37 @@ class Folders(BatchCase):
             ("2N3W", "`2N3W` is not a township, such as T. 2 N., R. 3 W.: "),
             ("T. 2 N.", "`T. 2 N.` is not a township, such as T. 2 N., R. 3 W.: "),
             ("sec. 5;", "`sec. 5;` is not a township, such as T. 2 N., R. 3 W."),
-            ("T. 0 N., R. 3 W.", "there are no field notes for T. 0 N., R. 3 W. in "),
-            ("T2N R3W sec. 37;", "there are no field notes for T2N R3W sec. 37; in "),
+            ("T. 0 N., R. 3 W.", "there are no field notes and no lot table for T. 0 N., R. 3 W. in "),
+            ("T2N R3W sec. 37;", "there are no field notes and no lot table for T2N R3W sec. 37; in "),
         ):
             with self.subTest(spelling=spelling):
                 [found] = self.acres(f'township,description\n"{spelling}",sec. 14.\n')
                 self.assertTrue(found.startswith(said), found)
 
-    def test_township_without_field_notes(self):
-        [found] = self.acres("township,description\nT5N R3W,sec. 14.\n")
-        self.assertEqual(found, f"there are no field notes for T. 5 N., R. 3 W. in {self.folder / 'plats'}")
+    def test_township_without_a_plat(self):
+        data = "township,description\nT5N R3W,sec. 14.\nT2N R3W,sec. 14.\nT2N,sec. 14.\n"
+        said = f"there are no field notes and no lot table for T. 5 N., R. 3 W. in {self.folder / 'plats'}"
+        rows = self.over(data, missing=[f"{said}: 1 record"])
+        self.assertEqual(rows[1][2:], ["", "", "", said, "", "", "missing"])
+        # A text that is no township has no plat, but none is missing.
+        self.assertEqual([row[-1] for row in rows], ["plat", "missing", "b1.csv", ""])
+
+    def test_townships_without_plats_are_counted(self):
+        rows = [f"T{number}N R3W,sec. 14.\n" for number in (*range(20, 31), 31, 31, 20, 2)]
+        said = "there are no field notes and no lot table for T. {} N., R. 3 W. in FOLDER: {}"
+        missing = [said.format(20, "2 records"), *(said.format(number, "1 record") for number in range(21, 30))]
+        for jobs in ("1", "2"):
+            found = self.plats("township,description\n" + "".join(rows), "--jobs", jobs,
+                               missing=[*missing, ".. and so for 2 more: 3 records"])
+            self.assertEqual(found, ["missing"] * 14 + ["b1.csv"])
+
+    def test_missing_plats_are_counted_in_a_resumed_batch(self):
+        listed, made = self.put("township,description\n" + "T5N R3W,sec. 14.\n" * 1500), self.folder / "made.csv"
+        words = ("batch", "--plats", self.folder / "plats", listed, "--output", made)
+        whole = self.run_words(*words)
+        self.assertTrue(whole.stderr.endswith(b": 1,500 records\n"), whole.stderr)
+        made.write_bytes(made.read_bytes()[:-300])
+        self.assertEqual(self.run_words(*words, "--resume").stderr, whole.stderr)
 
     def test_one_fault_never_stops_the_rest(self):
         found = self.acres('township,description\nT2N,sec. 14.\nT2N R3W,sec. 14.,NE1/4\nT2N R3W,sec. 37.\n"T2N R3W\n'
@@ -82,13 +108,15 @@ class Folders(BatchCase):
         self.assertEqual(records(run.stdout)[1][2], "640.00")
         self.assertTrue(run.stderr.startswith(f"township: {bad}:1: ".encode()), run.stderr)
 
-    def test_field_notes_are_never_overwritten(self):
+    def test_files_of_the_folder_are_never_overwritten(self):
         listed = self.put("township,description\nT2N R3W,sec. 14.\n")
-        notes = self.folder / "plats" / "b1.csv"
-        before = notes.read_bytes()
-        run = self.run_words("batch", "--plats", self.folder / "plats", listed, "--output", notes)
-        self.assertEqual((run.returncode, notes.read_bytes()), (3, before))
-        self.assertIn(b"the output must not be one of the inputs", run.stderr)
+        # The last one is refused, and is an input nevertheless.
+        for name, text in (("b1.csv", None), ("lots.csv", LOTS), ("bad.csv", "line\n")):
+            file = self.put(text, f"plats/{name}") if text else self.folder / "plats" / name
+            before = file.read_bytes()
+            run = self.run_words("batch", "--plats", self.folder / "plats", listed, "--output", file)
+            self.assertEqual((run.returncode, file.read_bytes()), (3, before))
+            self.assertIn(b"the output must not be one of the inputs", run.stderr)
 
     def test_two_files_for_one_township(self):
         self.put_notes("plats/again.csv")
@@ -101,7 +129,9 @@ class Folders(BatchCase):
     def test_folders_that_cannot_be_used(self):
         (self.folder / "empty").mkdir()
         listed = self.put("township,description\nT2N R3W,sec. 14.\n")
-        for folder, said in (("empty", b"there are no field notes"), ("none", b"No such file"), ("list.csv", b"Not a dir")):
+        for folder, said in (
+            ("empty", b"there are no field notes and no lot tables"), ("none", b"No such file"), ("list.csv", b"Not a dir")
+        ):
             run = self.run_words("batch", "--plats", self.folder / folder, listed)
             self.assertEqual((run.returncode, run.stdout), (3, b""))
             self.assertIn(said, run.stderr)
@@ -120,6 +150,7 @@ class Meridians(Folders):
             'meridian,township,description\nBoise meridian,T2N R3W,"sec. 5, lot 1."\nWillamette,T2N R3W,"sec. 5, lot 1."\n'
             "Ute,T2N R3W,sec. 14.\n,T2N R3W,sec. 14.\n",
             folder="meridians",
+            missing=["there is no folder for the principal meridian `Ute` in FOLDER: 1 record"],
         )
         self.assertEqual(found[:2], ["40.45", "40.00"])
         self.assertTrue(found[2].startswith("there is no folder for the principal meridian `Ute` in "), found)
@@ -149,8 +180,29 @@ class Meridians(Folders):
     def test_files_beside_the_folders_are_on_no_meridian(self):
         self.put_notes("meridians/local.csv", "T,9,N,9,E")
         data = "meridian,township,description\n,T9N R9E,sec. 14.\nBoise Meridian,T9N R9E,sec. 14.\n"
-        found = self.acres(data, folder="meridians")
+        said = "there are no field notes and no lot table for T. 9 N., R. 9 E. in FOLDER: 1 record"
+        found = self.acres(data, folder="meridians", missing=[said])
         self.assertEqual((found[0], found[1][:24]), ("640.00", "there are no field notes"))
+
+    def test_names_of_files_in_folders_of_meridians(self):
+        data = "meridian,township,description\nBoise Meridian,T2N R3W,sec. 14.\nUte,T2N R3W,sec. 14.\n"
+        said = "there is no folder for the principal meridian `Ute` in FOLDER: 1 record"
+        found = self.plats(data, folder="meridians", missing=[said])
+        self.assertEqual(found, ["Boise Meridian/b1.csv", "missing"])
+
+    def test_two_columns_of_the_meridian(self):
+        listed = self.put("meridian,Meridian,township,description\nBoise,Ute,T2N R3W,sec. 14.\n")
+        # The first one has exactly the name.
+        run = self.run_words("batch", "--plats", self.folder / "one", listed)
+        self.put_notes("one/Boise/b1.csv")
+        run = self.run_words("batch", "--plats", self.folder / "one", listed)
+        self.assertEqual((run.returncode, run.stderr), (0, b""))
+        listed = self.put("meridian,meridian,township,description\nBoise,Ute,T2N R3W,sec. 14.\n")
+        run = self.run_words("batch", "--plats", self.folder / "one", listed)
+        self.assertEqual((run.returncode, run.stdout), (3, b""))
+        self.assertIn(b"the heading has 2 columns `meridian`, 1 and 2; name one of them by its number", run.stderr)
+        run = self.run_words("batch", "--plats", self.folder / "one", listed, "--meridian", "1")
+        self.assertEqual((run.returncode, run.stderr), (0, b""))
 
     def test_folder_without_meridians_is_of_one(self):
         found = self.acres(

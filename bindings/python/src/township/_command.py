@@ -12,6 +12,7 @@ from ._batch.decoding import ENCODINGS
 from ._batch.options import STANDARD
 from ._batch.workbook import is_workbook
 from ._draw import add_draw
+from ._lots_command import add_lots
 from ._measuring import Command, acres_command, compare_command
 from ._serve import add_serve
 from ._suggest import suggest_command
@@ -20,14 +21,16 @@ from ._suggest import suggest_command
 _JOBS_MOST = 1024
 
 _USAGE = """python -m township batch [options] NOTES LIST
+       python -m township batch [options] --lots LOTS LIST
        python -m township batch [options] --plats FOLDER LIST"""
 
 _BATCH = """\
 Gives the acreage of each description in a list.
 
-The list is a CSV file or a workbook (.xlsx) with a heading. Its column `description` contains the
-descriptions. All are in the township of the field notes NOTES; or, with --plats, the column `township`
-says in which township each is, as in T. 2 N., R. 3 W. The same columns are written, and these:
+The list is a CSV file, a workbook (.xlsx), or a Parquet file (.parquet). Its column `description` contains the
+descriptions. All are in the township of the field notes NOTES, or of the lot table LOTS; or, with --plats,
+the column `township` says in which township each is, as in T. 2 N., R. 3 W. The folder contains field notes
+and lot tables; if a township has both, the lot table controls. The same columns are written, and these:
 
   acres      the acreage of the land described, if the description is accepted
   refusal    the number of the refusal, if it is refused
@@ -35,6 +38,10 @@ says in which township each is, as in T. 2 N., R. 3 W. The same columns are writ
   sentence   what is wrong, in words
   note       both readings of the first place that can be read in two ways, if it is accepted
   canonical  the canonical description, which is the same for all descriptions of the same land
+
+With --plats, this one is added, too:
+
+  plat       the file by which the acreage is computed, or `missing` if the township has none
 
 With --suggest, these are added, too. They never change the columns above:
 
@@ -47,7 +54,7 @@ With --suggest, these are added, too. They never change the columns above:
 _STATUS = """\
 exit status:
   0    all descriptions are accepted
-  1    some descriptions or field notes are refused; standard error says why the notes are
+  1    some descriptions or files of the folder are refused; standard error says why the files are
   2    the command line is not valid
   3    a file cannot be read or written, the list has no such column, or memory ran out; standard error
        says why
@@ -89,10 +96,7 @@ def _run_batch(batch: argparse.ArgumentParser, asked: argparse.Namespace) -> int
 
 def _options_in(batch: argparse.ArgumentParser, asked: argparse.Namespace) -> Options:
     """Return what the command line of a batch asks for. If it is not valid, exit with status 2."""
-    wanted = 1 if asked.plats is not None else 2
-    if len(asked.files) != wanted:
-        wrong = "with --plats, name only the list" if asked.plats else "name the field notes and the list"
-        batch.error(wrong)
+    _check_inputs(batch, asked)
     output = None if asked.output == STANDARD else asked.output
     if asked.resume and (output is None or is_workbook(output)):
         batch.error("--resume needs an --output file that is not a workbook")
@@ -102,8 +106,9 @@ def _options_in(batch: argparse.ArgumentParser, asked: argparse.Namespace) -> Op
     return Options(
         list=listed,
         notes=notes[0] if notes else None,
+        lots=asked.lots,
         plats=asked.plats,
-        account=asked.account,
+        account=asked.account or "exact",
         column=asked.column,
         township=asked.township,
         meridian=asked.meridian,
@@ -115,6 +120,17 @@ def _options_in(batch: argparse.ArgumentParser, asked: argparse.Namespace) -> Op
         suggest=asked.suggest,
         jobs=asked.jobs,
     )
+
+
+def _check_inputs(batch: argparse.ArgumentParser, asked: argparse.Namespace) -> None:
+    """If the command line does not name one list, and one thing by which to answer it, exit with status 2."""
+    if asked.lots is not None and asked.plats is not None:
+        batch.error("name a lot table with --lots, or a folder with --plats")
+    if asked.lots is not None and asked.account is not None:
+        batch.error("with --lots there is only one account")
+    named = "--plats" if asked.plats is not None else "--lots" if asked.lots is not None else None
+    if len(asked.files) != (1 if named else 2):
+        batch.error(f"with {named}, name only the list" if named else "name the field notes and the list")
 
 
 def _count(word: str) -> int:
@@ -130,6 +146,7 @@ def _parsers() -> Tuple[argparse.ArgumentParser, Dict[str, Command]]:
     parser.add_argument("--version", action="version", version=_version())
     commands = parser.add_subparsers(metavar="COMMAND", required=True)
     add_draw(commands)
+    add_lots(commands)
     add_serve(commands)
     return parser, {
         "acres": acres_command(commands),
@@ -168,22 +185,24 @@ def _batch_command(commands: Any) -> Command:
 
 def _add_inputs(batch: argparse.ArgumentParser) -> None:
     """Add the options for what is read."""
+    batch.add_argument("--lots", metavar="LOTS", help="use a lot table (CSV) instead of field notes")
     batch.add_argument(
         "--plats",
         metavar="FOLDER",
-        help="a folder of field notes, one file for each township; or of folders by principal meridian",
+        help="a folder of field notes and lot tables, one or both for each township; or of folders by principal "
+        "meridian",
     )
     batch.add_argument(
         "--account",
         choices=sorted(ACCOUNTS),
-        default="exact",
-        help="how a whole lot counts: at its exact area, or as printed on the plat (default: exact)",
+        help="how a whole lot counts by field notes: at its exact area, or as printed on the plat (default: exact)",
     )
     batch.add_argument(
         "--column",
         metavar="NAME",
         default="description",
-        help="the column of descriptions (default: description)",
+        help="the column of descriptions, by its name, or by its number if no column has that name "
+        "(default: description)",
     )
     batch.add_argument(
         "--township",

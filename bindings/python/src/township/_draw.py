@@ -6,7 +6,7 @@ import sys
 from typing import Any
 
 from ._batch import Status, Stopped
-from ._batch.folder import plat_in
+from ._batch.files import plat_in
 from ._batch.options import STANDARD
 from ._batch.stopped import reading, writing
 from ._refused import Refused

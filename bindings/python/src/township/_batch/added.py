@@ -2,11 +2,15 @@
 from __future__ import annotations
 
 import functools
-from typing import Any, Dict, List, Sequence
+from typing import Any, Dict, List, Optional, Sequence
 
 from .._figures import acres_of_hundredths
+from .columns import ADDED
 
 _CACHED = 1 << 14
+
+#: The index of the note among the fields.
+_NOTE = ADDED.index("note")
 
 #: The acreage of some hundredths, as a number and as a text. The same few acreages are common: they are made once.
 acres_of = functools.lru_cache(_CACHED)(acres_of_hundredths)
@@ -19,14 +23,17 @@ class Added:
     Nearly all descriptions are accepted, and have an acreage and a canonical description, and nothing else.
     """
 
-    def __init__(self, hundredths: List[int], canonical: List[str]) -> None:
+    def __init__(self, hundredths: List[int], canonical: List[str], files: Optional[List[str]] = None) -> None:
         self.hundredths = hundredths
         self.canonical = canonical
+        #: The file by which each is answered. `None` if the answers do not name files.
+        self.files = files
         #: All fields of the other records, by their index.
         self.others: Dict[int, List[Any]] = {}
 
-    def put(self, indexes: Sequence[int], hundredths: List[int], canonical: List[str]) -> None:
-        """Put these at the indexes, which are in order."""
+    def put(self, indexes: Sequence[int], hundredths: List[int], canonical: List[str], file: str) -> None:
+        """Put these at the indexes, which are in order. All of them are answered by a file."""
+        self._put_file(indexes, file)
         if len(indexes) == len(self.hundredths):
             self.hundredths, self.canonical = hundredths, canonical
             return
@@ -34,11 +41,41 @@ class Added:
             self.hundredths[index] = number
             self.canonical[index] = text
 
+    def _put_file(self, indexes: Sequence[int], file: str) -> None:
+        if self.files is not None:
+            for index in indexes:
+                self.files[index] = file
+
+    def put_fault(self, indexes: Sequence[int], fault: str, file: str) -> None:
+        """Put this fault at the indexes, as the sentence of records that are not answered."""
+        self._put_file(indexes, file)
+        for index in indexes:
+            self.others[index] = [None, None, None, fault, None, None, *self._file_of(index)]
+
+    def _file_of(self, index: int) -> List[Any]:
+        """Return the field of the file, if there is one."""
+        return [] if self.files is None else [self.files[index] or None]
+
+    def put_refusal(self, index: int, number: int, at: int, sentence: str) -> None:
+        """Put the refusal of a description."""
+        self.others[index] = [None, number, at, sentence, None, None, *self._file_of(index)]
+
+    def put_note(self, index: int, note: str) -> None:
+        """Put the note on a description that is accepted."""
+        fields = self.fields_of(index)
+        fields[_NOTE] = note
+        self.others[index] = fields
+
+    def extend(self, index: int, fields: Sequence[Any]) -> None:
+        """Add further fields to a record."""
+        self.others[index] = [*self.fields_of(index), *fields]
+
     def fields_of(self, index: int) -> List[Any]:
         """Return the fields that are added to a record."""
         fields = self.others.get(index)
         if fields is None:
-            return [acres_of(self.hundredths[index]), None, None, None, None, self.canonical[index]]
+            acres, canonical = acres_of(self.hundredths[index]), self.canonical[index]
+            return [acres, None, None, None, None, canonical, *self._file_of(index)]
         return fields
 
     def all_fields(self) -> List[List[Any]]:

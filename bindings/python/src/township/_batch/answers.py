@@ -2,25 +2,24 @@
 from __future__ import annotations
 
 import itertools
-from dataclasses import dataclass
+from dataclasses import dataclass, field
 from typing import Any, Dict, Iterable, Iterator, List, Sequence, Tuple, Union
 
 from .._account import Account
+from .._full import FullAnswers
 from .._phrases import tidy
 from .._plat import Plat
 from .added import Added
 from .cells import text_of
 from .columns import ADDED, SUGGESTED
+from .files import Basis
 from .plain import PlainRows
-from .plats import Found, Plats
+from .plats import MISSING, Found, Plats
 from .records import Record
 from .rows import ReadRows, rows_of
 
 #: The records of a piece of a list.
 Rows = Union[PlainRows, ReadRows]
-
-#: The index of the note among the fields that are added.
-_NOTE = ADDED.index("note")
 
 
 @dataclass
@@ -31,6 +30,8 @@ class Counts:
     refused: int = 0
     #: The number of descriptions with bytes that are not valid in the encoding of the list.
     undecoded: int = 0
+    #: The numbers of records for whose township there is no file, by the sentence that says so.
+    missing: Dict[str, int] = field(default_factory=dict)
 
     @property
     def all(self) -> int:
@@ -42,6 +43,12 @@ class Counts:
         self.accepted += other.accepted
         self.refused += other.refused
         self.undecoded += other.undecoded
+        for sentence, number in other.missing.items():
+            self.add_missing(sentence, number)
+
+    def add_missing(self, sentence: str, number: int) -> None:
+        """Add records for whose township there is no file."""
+        self.missing[sentence] = self.missing.get(sentence, 0) + number
 
 
 class Answers:
@@ -61,7 +68,11 @@ class Answers:
 
     def count_earlier(self, record: Record, added: Sequence[str]) -> None:
         """Count a record that was answered before."""
-        self.find_first_meridian(rows_of([record], ""))
+        rows = rows_of([record], "")
+        self.find_first_meridian(rows)
+        if self.plats.names_files and added[len(ADDED) : len(ADDED) + 1] == [MISSING]:
+            fields, = self._plat_fields(rows)
+            self.counts.add_missing(self.plats.plat_of(*fields).fault, 1)
         if added[:1] != [""]:
             self.counts.accepted += 1
         else:
@@ -76,23 +87,34 @@ class Answers:
                 self.plats.plat_of(*fields)
 
     def added_to(self, record: Record) -> List[Any]:
-        """Return the fields that are added to a record, in the order of `columns.ADDED` and `columns.SUGGESTED`."""
+        """Return the fields that are added to a record, in the order of the columns that are added."""
         return self.added_to_all(rows_of([record], "")).fields_of(0)
 
     def added_to_all(self, rows: Rows) -> Added:
         """Return the fields that are added to records."""
-        added = Added([0] * rows.number, [""] * rows.number)
+        files = [""] * rows.number if self.plats.names_files else None
+        added = Added([0] * rows.number, [""] * rows.number, files)
         for index, fault in rows.faults.items():
-            added.others[index] = self._unanswered(fault)
+            self._put_unanswered(Found(None, fault=fault), [index], added)
         descriptions = rows.column(self._column)
         if isinstance(rows, ReadRows):
             descriptions = list(map(_description, descriptions))
         for found, indexes in self._by_plat(rows):
-            if isinstance(found, str):
-                added.others.update((index, self._unanswered(found)) for index in indexes)
+            if found.by is None:
+                self._put_unanswered(found, indexes, added)
             else:
-                self._answer(found, descriptions, indexes, added)
+                self._answer(found.by, found.file, descriptions, indexes, added)
         return added
+
+    def _put_unanswered(self, found: Found, indexes: Sequence[int], added: Added) -> None:
+        """Put the reason why records are not answered, and count them."""
+        added.put_fault(indexes, found.fault, found.file)
+        self.counts.refused += len(indexes)
+        if found.file == MISSING:
+            self.counts.add_missing(found.fault, len(indexes))
+        if self._suggests:
+            for index in indexes:
+                added.extend(index, [None] * len(SUGGESTED))
 
     def _by_plat(self, rows: Rows) -> Iterator[Tuple[Found, Sequence[int]]]:
         """Yield the plats of the records without a fault, or the reasons that there are none, and the indexes."""
@@ -111,36 +133,31 @@ class Answers:
         columns = self.plats.columns
         return zip(*map(rows.column, columns)) if columns else itertools.repeat((), rows.number)
 
-    def _unanswered(self, reason: str) -> List[Any]:
-        """Return the fields of a record that is not answered, and count it."""
-        self.counts.refused += 1
-        return [None, None, None, reason, None, None, *([None] * len(SUGGESTED) if self._suggests else ())]
-
-    def _answer(self, plat: Plat, descriptions: Sequence[str], indexes: Sequence[int], added: Added) -> None:
-        """Answer the descriptions with these indexes on a plat, and count them."""
+    def _answer(
+        self, by: Basis, file: str, descriptions: Sequence[str], indexes: Sequence[int], added: Added
+    ) -> None:
+        """Answer the descriptions with these indexes on a plat, or by a lot table, and count them."""
         chosen = [descriptions[index] for index in indexes]
-        answers = plat._full_answers(chosen, self._account)
-        added.put(indexes, answers.hundredths, answers.texts(on_one_line=True))
+        answers = self._full_answers(by, chosen)
+        added.put(indexes, answers.hundredths, answers.texts(on_one_line=True), file)
         for place in answers.noted:
-            fields = added.fields_of(indexes[place])
-            fields[_NOTE] = answers.sentence(place)
-            added.others[indexes[place]] = fields
+            added.put_note(indexes[place], answers.sentence(place))
         for place in answers.refused:
-            added.others[indexes[place]] = self._refused(*answers.refusal(place), answers.sentence(place))
+            added.put_refusal(indexes[place], *answers.refusal(place), answers.sentence(place))
             self.counts.undecoded += any("\udc80" <= each <= "\udcff" for each in chosen[place])
+        self.counts.refused += len(answers.refused)
         self.counts.accepted += len(chosen) - len(answers.refused)
         if self._suggests:
             for index, description in zip(indexes, chosen):
-                added.others[index] = added.fields_of(index) + self._suggested(plat, description)
+                added.extend(index, self._suggested(by, description))
 
-    def _refused(self, number: int, at: int, sentence: str) -> List[Any]:
-        """Return the fields of a refusal, and count it."""
-        self.counts.refused += 1
-        return [None, number, at, sentence, None, None]
+    def _full_answers(self, by: Basis, descriptions: Sequence[str]) -> FullAnswers:
+        """Return the answers to descriptions. Only on a plat is there a choice of accounts."""
+        return by._full_answers(descriptions, self._account) if isinstance(by, Plat) else by._full_answers(descriptions)
 
-    def _suggested(self, plat: Plat, description: str) -> List[Any]:
+    def _suggested(self, by: Basis, description: str) -> List[Any]:
         """Return the fields on the readings of a description. Only if it has one reading does that have fields."""
-        readings = plat.suggest(description, self._account)
+        readings = by.suggest(description, self._account) if isinstance(by, Plat) else by.suggest(description)
         if len(readings) != 1:
             return [None, len(readings), None, None]
         reading, = readings

@@ -1,6 +1,7 @@
 """Finds the columns of a list by their names."""
 from __future__ import annotations
 
+import re
 from typing import List, Optional, Sequence
 
 from .._text import shown
@@ -9,7 +10,10 @@ from .stopped import Stopped
 #: The columns that a batch adds.
 ADDED = ("acres", "refusal", "at", "sentence", "note", "canonical")
 
-#: The columns on readings, which it adds after them if it is asked to suggest readings.
+#: The column of the file by which a description is answered, which it adds after them if there are several files.
+PLAT = "plat"
+
+#: The columns on readings, which it adds after all of these if it is asked to suggest readings.
 SUGGESTED = ("reading", "readings", "assumes", "reading_acres")
 
 #: The number of columns that a message lists, and the number of characters of each name.
@@ -30,22 +34,42 @@ def index_in(heading: Sequence[str], name: str) -> Optional[int]:
 def column_in(heading: Sequence[str], name: str, option: str, place: str) -> int:
     """Return the index of a column, or stop with a message that shows the heading.
 
-    `option` is the option that names the column, and `place` the file and the line of the heading.
+    If no column has the name, and it is a number, it counts the columns, from 1. `option` is the option that names the
+    column, and `place` the file and the line of the heading.
     """
     index = index_in(heading, name)
     if index is not None:
         return index
-    count = sum(_plain(each) == _plain(name) for each in heading)
-    found = f"{count} columns" if count else "no column"
+    numbers = [number for number, each in enumerate(heading, start=1) if _plain(each) == _plain(name)]
+    if numbers:
+        which = " and ".join(map(str, numbers))
+        raise Stopped(
+            f"township: {place}: the heading has {len(numbers)} columns `{name}`, {which}; name one of them by its "
+            f"number, as in {option} {numbers[0]}"
+        )
+    if re.fullmatch("[0-9]{1,6}", name) and 1 <= int(name) <= len(heading):
+        return int(name) - 1
     raise Stopped(
-        f"township: {place}: the heading has {found} `{name}`; name the column with {option}. "
+        f"township: {place}: the heading has no column `{name}`; name the column with {option}. "
         f"The heading is: {_shown_heading(heading)}"
     )
 
 
-def added_to(heading: Sequence[str], prefix: str, place: str, suggests: bool = False) -> List[str]:
-    """Return the names of the added columns, or stop if the heading has one of them."""
-    names = [prefix + name for name in (*ADDED, *(SUGGESTED if suggests else ()))]
+def optional_column_in(heading: Sequence[str], name: str, option: str, place: str) -> Optional[int]:
+    """Return the index of a column, or `None` if there is none. Stop if there are several."""
+    if any(_plain(each) == _plain(name) for each in heading):
+        return column_in(heading, name, option, place)
+    return None
+
+
+def added_names(names_files: bool, suggests: bool) -> List[str]:
+    """Return the names of the added columns, in their order."""
+    return [*ADDED, *([PLAT] if names_files else ()), *(SUGGESTED if suggests else ())]
+
+
+def added_to(heading: Sequence[str], prefix: str, place: str, added: Sequence[str]) -> List[str]:
+    """Return the names of the added columns with their prefix, or stop if the heading has one of them."""
+    names = [prefix + name for name in added]
     for name in names:
         if name in heading:
             raise Stopped(

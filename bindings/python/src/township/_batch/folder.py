@@ -1,13 +1,14 @@
-"""Field notes: those in a file, and those in a folder of townships."""
+"""A folder of townships: their field notes, and their lot tables."""
 from __future__ import annotations
 
 import os
-from typing import Dict, List, NamedTuple
+from dataclasses import dataclass, field
+from typing import Dict, List, NamedTuple, Union
 
-from .._plat import Plat
-from .._refused import Refused
+from .._lots import Lots
 from .._text import shown
 from .._township import Township
+from .files import Basis, basis_in
 from .stopped import Status, Stopped, reading
 
 _SUFFIX = ".csv"
@@ -16,29 +17,47 @@ _SUFFIX = ".csv"
 NO_MERIDIAN = ""
 
 
-class Notes(NamedTuple):
-    """The field notes in a file."""
+class PlatFile(NamedTuple):
+    """Field notes or a lot table, in a file."""
 
-    file: str
-    plat: Plat
-
-
-#: The field notes of each township. Two files may be for the same one.
-Townships = Dict[Township, List[Notes]]
+    path: str
+    #: Its name in the folder of townships.
+    name: str
+    by: Basis
 
 
-def plat_in(file: str) -> Plat:
-    """Return the plat of the field notes in a file, or stop."""
-    with reading(file):
-        try:
-            return Plat.open(file)
-        except Refused as refused:
-            message = refused.explanation.rstrip("\n") or f"township: {refused}"
-            raise Stopped(message, Status.REFUSED) from refused
+@dataclass
+class PlatFiles:
+    """The files of a township."""
+
+    township: Township
+    notes: List[PlatFile] = field(default_factory=list)
+    tables: List[PlatFile] = field(default_factory=list)
+
+    def add(self, file: PlatFile) -> None:
+        """Add a file."""
+        (self.tables if isinstance(file.by, Lots) else self.notes).append(file)
+
+    def controlling(self) -> Union[PlatFile, str]:
+        """Return the file that acreage is computed by, or why there is none.
+
+        The acreage that the approved plat returns controls: a lot table comes before field notes. Several files of a
+        kind must be the same.
+        """
+        for kind, files in (("lot tables", self.tables), ("field notes", self.notes)):
+            other = next((each for each in files if each.by != files[0].by), None)
+            if other is not None:
+                names = f"{shown(files[0].path)} and {shown(other.path)}"
+                return f"two files have different {kind} for {self.township}: {names}"
+        return (self.tables or self.notes)[0]
+
+
+#: The files of each township.
+Townships = Dict[Township, PlatFiles]
 
 
 class Folder:
-    """The field notes of a folder, one file (`.csv`) for each township.
+    """The field notes and lot tables of a folder (`.csv`). A township can have both.
 
     The folders inside it are for principal meridians, whose names they have.
     """
@@ -49,19 +68,17 @@ class Folder:
         self.meridians: Dict[str, Townships] = {}
         #: The explanations of the files that are refused.
         self.refused: List[str] = []
+        #: All files that were read.
+        self.files: List[str] = []
         with reading(name):
             self._read(name, NO_MERIDIAN)
             for entry in _entries(name):
                 if entry.is_dir():
                     self._read(entry.path, meridian_key(entry.name))
         if not self.meridians and not self.refused:
-            raise Stopped(f"township: {shown(name)}: there are no field notes ({_SUFFIX}) in this folder")
-
-    @property
-    def files(self) -> List[str]:
-        """The files of field notes that make plats."""
-        townships = (each.values() for each in self.meridians.values())
-        return [notes.file for found in townships for several in found for notes in several]
+            raise Stopped(
+                f"township: {shown(name)}: there are no field notes and no lot tables ({_SUFFIX}) in this folder"
+            )
 
     def _read(self, folder: str, meridian: str) -> None:
         """Read the files of a folder, and none of the folders inside it."""
@@ -69,16 +86,19 @@ class Folder:
             if not entry.is_dir() and entry.name.lower().endswith(_SUFFIX):
                 self._read_file(entry.path, meridian)
 
-    def _read_file(self, file: str, meridian: str) -> None:
-        """Read field notes. One file that is refused does not stop the others."""
+    def _read_file(self, path: str, meridian: str) -> None:
+        """Read a file. One that is refused does not stop the others."""
+        self.files.append(path)
         try:
-            plat = plat_in(file)
+            by = basis_in(path)
         except Stopped as stopped:
             if stopped.status != Status.REFUSED:
                 raise
             self.refused.append(str(stopped))
             return
-        self.meridians.setdefault(meridian, {}).setdefault(plat.township, []).append(Notes(file, plat))
+        townships = self.meridians.setdefault(meridian, {})
+        files = townships.setdefault(by.township, PlatFiles(by.township))
+        files.add(PlatFile(path, shown(os.path.relpath(path, self.name)), by))
 
 
 def meridian_key(name: str) -> str:

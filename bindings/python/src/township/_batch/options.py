@@ -14,9 +14,11 @@ class Options(NamedTuple):
 
     #: The name of the list, or `-`.
     list: str
-    #: The name of the file of field notes. If it is `None`, `plats` is not.
+    #: The name of the file of field notes. If it is `None`, `lots` or `plats` is not.
     notes: Optional[str] = None
-    #: The name of the folder of field notes.
+    #: The name of the lot table.
+    lots: Optional[str] = None
+    #: The name of the folder of field notes and lot tables.
     plats: Optional[str] = None
     account: Account = "exact"
     #: The names of the columns that are read.

@@ -41,6 +41,9 @@ class PlainRows(NamedTuple):
         """Return the records with the fields that are added to them."""
         acres = map(acres_text_of, added.hundredths)
         canonical = _written_all(added.canonical, self.separator)
+        if added.files is not None:
+            names = {name: self.separator + _written(name, self.separator) for name in set(added.files)}
+            canonical = [description + names[name] for description, name in zip(canonical, added.files)]
         before, between = self.separator, self.separator * 5
         rows = [
             f"{text}{before}{acreage}{between}{description}\n"

@@ -1,25 +1,38 @@
-"""The plat on which a record's description is answered."""
+"""The plat or the lot table by which a record's description is answered."""
 from __future__ import annotations
 
 import functools
 from typing import Any, NamedTuple, Optional, Protocol, Sequence, Union
 
-from .._plat import Plat
 from .._spelling import NotTownship, township_spelled
 from .._text import shown
 from .cells import text_of
-from .folder import NO_MERIDIAN, Folder, Notes, Townships, meridian_key
+from .files import Basis
+from .folder import NO_MERIDIAN, Folder, Townships, meridian_key
 from .stopped import Stopped
 
-#: A plat, or the reason that there is none.
-Found = Union[Plat, str]
+#: What the column of files contains if there is no file for a record's township.
+MISSING = "missing"
 
 #: The number of different spellings that are remembered.
 _SPELLINGS = 1 << 16
 
 
+class Found(NamedTuple):
+    """What a record is answered by, or the reason that there is nothing."""
+
+    by: Optional[Basis]
+    #: The name of its file in the folder, or `MISSING`, or nothing.
+    file: str = ""
+    #: Why the record is not answered.
+    fault: str = ""
+
+
 class Plats(Protocol):
-    """The plats of a batch."""
+    """The plats and lot tables of a batch."""
+
+    #: Whether records can be answered by different files, so that each answer names its file.
+    names_files: bool
 
     #: The first principal meridian that a record names, where all must be on the same one; else nothing.
     first_meridian: str
@@ -38,15 +51,17 @@ class Plats(Protocol):
         ...
 
     def plat_of(self, *fields: Any) -> Found:
-        """Return the plat of a record with these fields in the columns, or the reason that there is none."""
+        """Return what a record with these fields in the columns is answered by."""
         ...
 
 
 class OnePlat:
-    """The plat of all records."""
+    """The plat, or the lot table, of all records."""
 
-    def __init__(self, plat: Plat) -> None:
-        self._plat = plat
+    names_files = False
+
+    def __init__(self, by: Basis) -> None:
+        self._found = Found(by)
         self.first_meridian = ""
 
     def awaits_first_meridian(self) -> bool:
@@ -62,8 +77,8 @@ class OnePlat:
         return ()
 
     def plat_of(self, *fields: Any) -> Found:
-        """Return the plat."""
-        return self._plat
+        """Return the plat, or the lot table."""
+        return self._found
 
 
 class Key(NamedTuple):
@@ -75,11 +90,13 @@ class Key(NamedTuple):
 
 
 class FolderPlats:
-    """The plats of a folder, found by the columns of a record.
+    """The plats and lot tables of a folder, found by the columns of a record.
 
     Townships of the same numbers on two meridians are never mixed. If the folder has folders by meridian, the
     list must say which one a township is on; if it has none, all records must be on the same meridian.
     """
+
+    names_files = True
 
     def __init__(self, folder: Folder, key: Key) -> None:
         if key.meridian is None and len(folder.meridians) > 1:
@@ -110,28 +127,29 @@ class FolderPlats:
         return [index for index in self._key if index is not None]
 
     def plat_of(self, *fields: Any) -> Found:
-        """Return the plat of a record with these fields in the columns, or the reason that there is none."""
+        """Return what a record with these fields in the columns is answered by."""
         township, meridian = (*fields, "")[:2]
         return self._remembered(text_of(township).strip(), text_of(meridian).strip())
 
     def _find(self, spelling: str, meridian: str) -> Found:
-        """Return the plat of the township that is spelled so."""
+        """Return what is in the folder for the township that is spelled so."""
         townships = self._townships_on(meridian)
-        if isinstance(townships, str):
+        if isinstance(townships, Found):
             return townships
         try:
             township = township_spelled(spelling, townships)
         except NotTownship as error:
-            return str(error)
-        notes = townships.get(township, []) if township else []
-        if not notes:
-            return f"there are no field notes for {township or spelling} in {self._shown}"
-        other = next((each for each in notes if each.plat != notes[0].plat), None)
-        if other is not None:
-            return f"two files have different field notes for {township}: {_names(notes[0], other)}"
-        return notes[0].plat
+            return Found(None, fault=str(error))
+        files = townships.get(township) if township else None
+        if files is None:
+            fault = f"there are no field notes and no lot table for {township or spelling} in {self._shown}"
+            return Found(None, MISSING if township else "", fault)
+        controlling = files.controlling()
+        if isinstance(controlling, str):
+            return Found(None, fault=controlling)
+        return Found(controlling.by, controlling.name)
 
-    def _townships_on(self, meridian: str) -> Union[Townships, str]:
+    def _townships_on(self, meridian: str) -> Union[Townships, Found]:
         """Return the townships on a meridian, or the reason that there are none."""
         if not self._by_meridian:
             return self._townships_on_one(meridian)
@@ -140,19 +158,18 @@ class FolderPlats:
         if townships is not None:
             return townships
         if key == NO_MERIDIAN:
-            return "the principal meridian is missing"
-        return f"there is no folder for the principal meridian `{meridian}` in {self._shown}"
+            return Found(None, fault="the principal meridian is missing")
+        fault = f"there is no folder for the principal meridian `{meridian}` in {self._shown}"
+        return Found(None, MISSING, fault)
 
-    def _townships_on_one(self, meridian: str) -> Union[Townships, str]:
+    def _townships_on_one(self, meridian: str) -> Union[Townships, Found]:
         """Return all townships. If the list has meridians, they are on the first one that a record names."""
         self.first_meridian = self.first_meridian or meridian
         if meridian_key(meridian) not in ("", meridian_key(self.first_meridian)):
-            return (
+            fault = (
                 f"the township is on another principal meridian, `{meridian}` and not "
                 f"`{self.first_meridian}`: {self._shown} needs a folder for each"
             )
+            return Found(None, fault=fault)
         return next(iter(self._folder.meridians.values()), {})
 
-
-def _names(one: Notes, other: Notes) -> str:
-    return f"{shown(one.file)} and {shown(other.file)}"

@@ -1,16 +1,18 @@
 """Runs a batch, from the list to the answers."""
 from __future__ import annotations
 
+import itertools
 import os
 import sys
 from contextlib import nullcontext
-from typing import TYPE_CHECKING, ContextManager, Iterator, List, Optional, Sequence
+from typing import TYPE_CHECKING, ContextManager, Iterator, List, Mapping, Optional, Sequence
 
 from .._text import shown
 from .answered import Piece, answers_to, pieces_of
 from .answers import Answers
-from .columns import added_to, column_in, index_in
-from .folder import Folder, plat_in
+from .columns import added_names, added_to, column_in, optional_column_in
+from .files import Basis, lots_in, plat_in
+from .folder import Folder
 from .interrupts import Interrupts
 from .options import Options
 from .plats import FolderPlats, Key, OnePlat, Plats
@@ -25,40 +27,47 @@ from .stopped import Status, Stopped
 if TYPE_CHECKING:
     from .workers import Workers
 
+#: The number of townships without a file that are named at the end.
+_TOWNSHIPS_NAMED = 10
+
 
 def run_batch(options: Options) -> Status:
-    """Read the field notes and the list, and write the answers. Raise `Stopped` if that cannot be completed.
+    """Read the plats and the list, and write the answers. Raise `Stopped` if that cannot be completed.
 
     If it is interrupted, the answers so far are written.
     """
-    notes = _Notes(options)
-    _check_output(options.output, [options.list, *notes.files])
+    plats = _Plats(options)
+    _check_output(options.output, [options.list, *plats.files])
     with source_of(options) as source:
-        answers = Answers(notes.plats_for(source, options), source.shape.column, options.account, options.suggest)
+        answers = Answers(plats.plats_for(source, options), source.shape.column, options.account, options.suggest)
         try:
             with Interrupts() as interrupts:
                 _answer(source, answers, options, interrupts)
             interrupted = False
         except KeyboardInterrupt:
             interrupted = True
-    _say(notes.refused + _remarks(answers, options, interrupted))
+    _say(plats.refused + _remarks(answers, options, interrupted))
     if interrupted:
         return Status.INTERRUPTED
-    return Status.REFUSED if answers.counts.refused or notes.refused else Status.ACCEPTED
+    return Status.REFUSED if answers.counts.refused or plats.refused else Status.ACCEPTED
 
 
-class _Notes:
-    """The field notes that the command line names: a file, or a folder."""
+class _Plats:
+    """What the command line names: field notes, a lot table, or a folder of both."""
 
     def __init__(self, options: Options) -> None:
-        self._name = options.notes
-        self._plat = plat_in(options.notes) if options.notes is not None else None
+        self._names = list(filter(None, [options.notes, options.lots]))
+        self._one: Optional[Basis] = None
+        if options.notes is not None:
+            self._one = plat_in(options.notes)
+        elif options.lots is not None:
+            self._one = lots_in(options.lots)
         self._folder = Folder(options.plats) if options.plats is not None else None
 
     @property
     def files(self) -> List[str]:
-        """The files of field notes."""
-        return self._folder.files if self._folder else list(filter(None, [self._name]))
+        """The files of field notes and lot tables."""
+        return self._folder.files if self._folder else self._names
 
     @property
     def refused(self) -> List[str]:
@@ -67,10 +76,10 @@ class _Notes:
 
     def plats_for(self, source: Source, options: Options) -> Plats:
         """Return the plats for the records of a list."""
-        if self._plat is not None:
-            return OnePlat(self._plat)
+        if self._one is not None:
+            return OnePlat(self._one)
         if self._folder is None:
-            raise ValueError("a batch takes field notes, or a folder of them")
+            raise ValueError("a batch takes field notes, a lot table, or a folder of them")
         township = column_in(source.heading, options.township, "--township", source.place)
         return FolderPlats(self._folder, Key(township, _meridian_in(source, options)))
 
@@ -78,7 +87,7 @@ class _Notes:
 def _meridian_in(source: Source, options: Options) -> Optional[int]:
     """Return the index of the meridian's column. Only if the command line names it must there be one."""
     if options.meridian is None:
-        return index_in(source.heading, "meridian")
+        return optional_column_in(source.heading, "meridian", "--meridian", source.place)
     return column_in(source.heading, options.meridian, "--meridian", source.place)
 
 
@@ -92,7 +101,8 @@ def _check_output(output: Optional[str], inputs: Sequence[str]) -> None:
 
 def _answer(source: Source, answers: Answers, options: Options, interrupts: Interrupts) -> None:
     """Write the list with its answers."""
-    heading = [*source.heading, *added_to(source.heading, options.prefix, source.place, options.suggest)]
+    added = added_names(answers.plats.names_files, options.suggest)
+    heading = [*source.heading, *added_to(source.heading, options.prefix, source.place, added)]
     begun = options.resume and _skip_earlier(source, heading, answers, options, interrupts)
     # They are forked before the output is opened, so that they have no part of it to write.
     with _workers(options.jobs, answers, source.shape) as workers:
@@ -156,8 +166,8 @@ def _workers(jobs: int, answers: Answers, shape: Shape) -> ContextManager[Option
 
 def _remarks(answers: Answers, options: Options, interrupted: bool) -> List[str]:
     """Return what there is to say at the end."""
-    remarks = []
     counts = answers.counts
+    remarks = list(_missing(counts.missing))
     if counts.undecoded and options.encoding == "utf-8":
         verb = "is" if counts.undecoded == 1 else "are"
         remarks.append(
@@ -169,6 +179,19 @@ def _remarks(answers: Answers, options: Options, interrupted: bool) -> List[str]
     elif sys.stderr.isatty():
         remarks.append(f"township: {counts.all} records: {counts.accepted} accepted, {counts.refused} not")
     return remarks
+
+
+def _missing(counts: Mapping[str, int]) -> Iterator[str]:
+    """Yield what to say about the townships for which there is no file: the first ones by name, and how many more."""
+    for sentence, number in itertools.islice(counts.items(), _TOWNSHIPS_NAMED):
+        yield f"township: {sentence}: {_records(number)}"
+    rest = list(counts.values())[_TOWNSHIPS_NAMED:]
+    if rest:
+        yield f"township: .. and so for {len(rest):,} more: {_records(sum(rest))}"
+
+
+def _records(number: int) -> str:
+    return "1 record" if number == 1 else f"{number:,} records"
 
 
 def _say(remarks: List[str]) -> None:

@@ -1,0 +1,103 @@
+"""Files of field notes and of lot tables. Each begins with its own heading, by which a file is recognized."""
+from __future__ import annotations
+
+import re
+from typing import Callable, Tuple, TypeVar, Union
+
+from .. import _library
+from .._lots import Lots
+from .._plat import Plat
+from .._refused import Refused
+from .._text import shown
+from .stopped import Status, Stopped, reading
+
+#: What acreage is computed by: the plat that field notes make, or a lot table.
+Basis = Union[Plat, Lots]
+
+_Made = TypeVar("_Made", Plat, Lots)
+
+#: The numbers of refusals by which a text is not seen to be field notes, or a lot table: it is too large, is empty, or
+#: has another heading.
+_NOT_NOTES = (
+    _library.REFUSAL_NOTES_TOO_LARGE,
+    _library.REFUSAL_NOTES_EMPTY,
+    _library.REFUSAL_NOTES_HEADING,
+)
+_NOT_LOTS = (
+    _library.REFUSAL_LOTS_TOO_LARGE,
+    _library.REFUSAL_LOTS_EMPTY,
+    _library.REFUSAL_LOTS_HEADING,
+)
+
+#: The first words of the headings, as a spreadsheet may have spoiled them. They only decide what is explained.
+_MEANT_AS_NOTES = re.compile(rb"[^a-z\n]*lines?\b", re.IGNORECASE)
+_MEANT_AS_LOTS = re.compile(rb"[^a-z\n]*sec(tion|tions)?\b", re.IGNORECASE)
+
+_NEITHER = (
+    "this is neither field notes nor a lot table: field notes begin with `line,between,and,quarter,corner`, and a lot "
+    "table begins with `section,lot,acres`"
+)
+
+
+def plat_in(file: str) -> Plat:
+    """Return the plat of the field notes in a file, or stop."""
+    return _made_of(Plat.open, file)
+
+
+def lots_in(file: str) -> Lots:
+    """Return the lot table in a file, or stop."""
+    return _made_of(Lots.open, file)
+
+
+def basis_in(file: str) -> Basis:
+    """Return the plat of field notes or the lot table in a file, or stop. The library recognizes the heading."""
+    with reading(file), open(file, "rb") as opened:
+        # One byte more than the limit is enough for a refusal.
+        text = opened.read(max(_library.NOTES_MOST, _library.LOTS_TEXT_MOST) + 1)
+    notes, table = _tried(text, file)
+    for made in (notes, table):
+        if not isinstance(made, Refused):
+            return made
+    raise _stopped(_explained(notes, table, text, file))
+
+
+def _tried(text: bytes, file: str) -> Tuple[Union[Plat, Refused], Union[Lots, Refused]]:
+    """Return what a text is as field notes, and as a lot table."""
+    name = shown(file)
+    notes: Union[Plat, Refused]
+    table: Union[Lots, Refused]
+    try:
+        notes = Plat._of_notes(text, name.encode("utf-8", "backslashreplace"))
+    except Refused as refused:
+        notes = refused
+    try:
+        table = Lots._read(text, name)
+    except Refused as refused:
+        table = refused
+    return notes, table
+
+
+def _explained(notes: object, table: object, text: bytes, file: str) -> str:
+    """Return why a text is neither: the refusal of what it was meant to be, if that can be seen."""
+    is_notes = isinstance(notes, Refused) and (notes.number not in _NOT_NOTES or _MEANT_AS_NOTES.match(text))
+    is_table = isinstance(table, Refused) and (table.number not in _NOT_LOTS or _MEANT_AS_LOTS.match(text))
+    for meant, refused in ((is_notes, notes), (is_table, table)):
+        if meant and isinstance(refused, Refused):
+            return _message(refused)
+    return f"township: {shown(file)}:1: {_NEITHER}"
+
+
+def _made_of(make: Callable[[str], _Made], file: str) -> _Made:
+    with reading(file):
+        try:
+            return make(file)
+        except Refused as refused:
+            raise _stopped(_message(refused)) from refused
+
+
+def _message(refused: Refused) -> str:
+    return refused.explanation.rstrip("\n") or f"township: {refused}"
+
+
+def _stopped(message: str) -> Stopped:
+    return Stopped(message, Status.REFUSED)
