@@ -98,9 +98,24 @@ class Faults(BatchCase):
         quotes = "put a description that contains a separator in quotation marks"
         self.assertEqual(rows, [
             (["sec. 14."], "640.00", ""),
-            (["sec. 14"], "", f"line 3 has 2 fields, but the heading has 1; {quotes}"),
+            (["sec. 14, NE1/4."], "", f"line 3 has 2 fields, but the heading has 1; {quotes}"),
             (["sec. 15."], "640.00", ""),
         ])
+
+    def test_record_that_is_too_wide_keeps_its_fields(self):
+        # The fields after the last of the heading are in it, as they would be in a record.
+        data = 'id,description\n7,sec. 14, NE1/4,"a ""b"", c",\n8,sec. 14.\n9,"sec. 14",",",\n'
+        rows = self.faults(data)
+        self.assertEqual([row[0] for row in rows], [
+            ["7", 'sec. 14, NE1/4,"a ""b"", c",'], ["8", "sec. 14."], ["9", 'sec. 14,",",'],
+        ])
+        self.assertEqual([row[1] for row in rows], ["", "640.00", ""])
+        for row in rows[::2]:
+            self.assertIn(f"the heading has 2; put a description that contains a separator", row[2])
+
+    def test_separator_of_the_fields_that_are_too_many(self):
+        run = self.run_words("batch", NOTES, self.put('id;description\n7;a;b,c;"d;e"\n'))
+        self.assertEqual(run.stdout.decode().splitlines()[1][:24], '7;"a;b,c;""d;e""";;;;"li')
 
     def test_too_few_fields(self):
         rows = self.faults("id,description\n7\n8,sec. 14.\n")
@@ -177,8 +192,25 @@ class Columns(BatchCase):
         self.assertTrue(said.endswith("The heading is: " + ", ".join(f"`{name}`" for name in shown) + "\n"), said)
 
     def test_column_that_is_not_the_only_one(self):
-        said = self.stopped("description,description\na,b\n")
-        self.assertIn("the heading has 2 columns `description`", said)
+        said = self.stopped("description,id,Description ,description\na,b,c,d\n")
+        self.assertIn("the heading has 3 columns `description`, 1 and 3 and 4; name one of them by its number, as in "
+                      "--column 1\n", said)
+
+    def test_column_by_its_number(self):
+        data = "description,description\nsec. 14.,\"sec. 14, N1/2\"\n"
+        for number, acres in (("1", "640.00"), ("2", "320.00")):
+            rows = self.batch(data, "--column", number, status=0)
+            self.assertEqual(rows[0][:3], ["description", "description", "acres"])
+            self.assertEqual(rows[1][:3], ["sec. 14.", "sec. 14, N1/2", acres])
+        for number in ("0", "3", "-1", "1.0", "01x", "9" * 5000):
+            with self.subTest(number=number[:9]):
+                self.assertIn(f"the heading has no column `{number}`", self.stopped(data, f"--column={number}"))
+
+    def test_name_that_is_a_number(self):
+        rows = self.batch("1,2,description\nsec. 13,sec. 14.,sec. 15\n", "--column", "2", status=0)
+        self.assertTrue(rows[1][-1].endswith("sec. 14, all."), rows[1])
+        rows = self.batch("2,1\n\"sec. 14, N1/2\",sec. 14.\n", "--column", "1", status=0)
+        self.assertEqual(rows[1][2], "640.00")
 
     def test_empty_list(self):
         for data in ("", "\n\n"):

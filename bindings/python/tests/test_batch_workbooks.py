@@ -48,6 +48,18 @@ class Lists(DamagedCase):
         wanted = ["0.3", "30015123450000", "2026-01-31", "2026-01-31T09:30:00", "TRUE"]
         self.assertEqual(records(run.stdout)[1][1:6], wanted)
 
+    def test_row_that_is_too_wide_keeps_its_cells(self):
+        day = datetime.date(2026, 1, 31)
+        listed = self.workbook(["id", "description"], [7, "sec. 14", 8.0, day, 'a "b", c'], [9, "sec. 14."])
+        made = self.folder / "answers.xlsx"
+        self.assertEqual(self.run_words("batch", NOTES, listed, "--output", made).returncode, 1)
+        rows = self.rows_of(made)
+        self.assertEqual(rows[1][:3], [7, 'sec. 14,8,2026-01-31,"a ""b"", c"', None])
+        self.assertEqual(rows[1][5], "row 2 has 5 cells, but the heading has 2")
+        self.assertEqual([row[:2] for row in rows[2:]], [[9, "sec. 14."]])
+        run = self.run_words("batch", NOTES, listed)
+        self.assertEqual(records(run.stdout)[1][:2], ["7", 'sec. 14,8,2026-01-31,"a ""b"", c"'])
+
     def test_days_stay_days(self):
         import openpyxl
 

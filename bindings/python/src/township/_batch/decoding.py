@@ -27,8 +27,8 @@ _BLOCK = 1 << 16
 #: What old workbooks (.xls) begin with, and new ones that have a password.
 OLD_WORKBOOK = b"\xd0\xcf\x11\xe0"
 
-#: What other files begin with: new workbooks, which are zip files, and documents.
-_OTHER_FORMATS = (OLD_WORKBOOK, b"PK\x03\x04", b"%PDF")
+#: What other files begin with: new workbooks, which are zip files, documents, and Parquet files.
+_OTHER_FORMATS = (OLD_WORKBOOK, b"PK\x03\x04", b"%PDF", b"PAR1")
 
 _MARKS = (codecs.BOM_UTF8, codecs.BOM_UTF16_LE, codecs.BOM_UTF16_BE)
 

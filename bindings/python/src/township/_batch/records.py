@@ -2,11 +2,13 @@
 from __future__ import annotations
 
 import csv
-from typing import Any, Iterator, List, NamedTuple, Optional
+from typing import Any, Iterator, List, NamedTuple, Optional, Sequence
 
 from .chunks import Chunk, Chunks
 from .lines import lines_in
 from .shape import FIELD_MOST, Shape
+from .written import csv_text
+
 
 class Record(NamedTuple):
     """A record, with as many fields as the heading."""
@@ -126,7 +128,7 @@ class Records:
 def _uneven_record(row: List[str], last_line: str, line: int, shape: Shape) -> Record:
     """Return the record of a row that has not as many fields as the heading. `last_line` is its last line."""
     width, column = shape.width, shape.column
-    fields = (row + [""] * width)[:width]
+    fields = fitted(row, width, shape.separator)
     # In some rows, Excel leaves out the fields at the end that are empty.
     if len(row) < width and _has_whole(row, column, last_line):
         return Record(fields, line)
@@ -137,6 +139,18 @@ def _uneven_record(row: List[str], last_line: str, line: int, shape: Shape) -> R
     elif len(row) == column + 1:
         fault += "; put the description in quotation marks if it is whole"
     return Record(fields, line, fault)
+
+
+def fitted(fields: Sequence[str], width: int, separator: str) -> List[str]:
+    """Return as many fields as the heading has. If there are more, the last one contains the rest, as CSV.
+
+    >>> fitted(["7", "sec. 14", " NE1/4", "Ada"], 3, ","), fitted(["7"], 3, ",")
+    (['7', 'sec. 14', ' NE1/4,Ada'], ['7', '', ''])
+    """
+    if len(fields) <= width:
+        return [*fields, *[""] * (width - len(fields))]
+    rest = csv_text([fields[width - 1 :]], separator).rstrip("\r\n")
+    return [*fields[: width - 1], rest]
 
 
 def _has_whole(row: List[str], column: int, last_line: str) -> bool:

@@ -1,4 +1,4 @@
-"""Opens a list: a CSV file, standard input, or a workbook."""
+"""Opens a list: a CSV file, standard input, a workbook, or a Parquet file."""
 from __future__ import annotations
 
 import io
@@ -11,13 +11,15 @@ from .cells import text_of
 from .chunks import Chunks
 from .columns import column_in
 from .decoding import Counted, Decoded, is_another_format, mark_of
+from .headed import HeadedRows
 from .lines import Lines
 from .options import STANDARD, Options
+from .parquet import is_parquet, parquet_rows
 from .records import Record, Records
 from .separators import headed
 from .shape import Shape
 from .stopped import Stopped, reading
-from .workbook import HeadedRows, is_workbook, workbook_rows
+from .workbook import is_workbook, workbook_rows
 
 #: The file descriptor of standard input.
 _INPUT = 0
@@ -32,7 +34,7 @@ class Source(NamedTuple):
     #: The byte order mark at the beginning, which a file of answers has as well, or nothing.
     mark: str
     records: Iterator[Record]
-    #: The chunks that contain the records. A workbook has none.
+    #: The chunks that contain the records. A workbook and a Parquet file have none.
     chunks: Optional[Chunks]
     #: The file and the line of the heading, for messages.
     place: str
@@ -46,7 +48,11 @@ def source_of(options: Options) -> Iterator[Source]:
     """Open the list, and read its heading."""
     if is_workbook(options.list):
         with workbook_rows(options.list, options.sheet) as rows:
-            yield _workbook(options, rows)
+            yield _table(options, rows)
+        return
+    if is_parquet(options.list):
+        with parquet_rows(options.list) as rows:
+            yield _table(options, rows)
         return
     name = "standard input" if options.list == STANDARD else options.list
     with reading(name):
@@ -56,7 +62,7 @@ def source_of(options: Options) -> Iterator[Source]:
     if is_another_format(counted):
         raise Stopped(
             f"township: {shown(name)}: this is not CSV; save the list as CSV, or as a workbook whose name "
-            "ends in .xlsx"
+            "ends in .xlsx, or as a Parquet file whose name ends in .parquet"
         )
     with closing(counted):
         read = _reader_of(name, Decoded(counted, options.encoding))
@@ -87,8 +93,8 @@ def _opened(name: str) -> io.FileIO:
     return open(name, "rb", buffering=0)
 
 
-def _workbook(options: Options, rows: HeadedRows) -> Source:
-    """Return a workbook as a list. Only in another workbook are cells more than texts."""
+def _table(options: Options, rows: HeadedRows) -> Source:
+    """Return a workbook, or a Parquet file, as a list. Only in a workbook are cells more than texts."""
     heading, place, records = rows
     if options.output is None or not is_workbook(options.output):
         records = (record._replace(fields=list(map(text_of, record.fields))) for record in records)

@@ -44,6 +44,19 @@ def reading(name: str) -> Iterator[None]:
 
 
 @contextmanager
+def decoding(name: str, fault: str) -> Iterator[None]:
+    """Report any failure in the block as one to read a file in a format of its own, with this fault."""
+    try:
+        with reading(name):
+            yield
+    except (Stopped, MemoryError):
+        raise
+    except Exception as error:
+        # A file that is damaged raises more than the packages document: errors of zip, XML, and their own.
+        raise Stopped(f"township: cannot read {shown(name)}: {fault}") from error
+
+
+@contextmanager
 def writing(name: str = "") -> Iterator[None]:
     """Report any `OSError` in the block as a failure to write a file, or standard output.
 

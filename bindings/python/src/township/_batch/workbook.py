@@ -8,8 +8,9 @@ from typing import Any, Iterator, List, NamedTuple, Optional, Sequence
 from .._text import shown
 from .cells import text_of
 from .decoding import OLD_WORKBOOK
-from .records import Record
-from .stopped import Stopped, reading
+from .headed import HeadedRows
+from .records import Record, fitted
+from .stopped import Stopped, decoding, reading
 
 _SUFFIX = ".xlsx"
 
@@ -41,15 +42,6 @@ class Row(NamedTuple):
     number: int
 
 
-class HeadedRows(NamedTuple):
-    """A sheet whose heading has been read."""
-
-    heading: List[str]
-    #: The file, the sheet, and the row of the heading.
-    place: str
-    records: Iterator[Record]
-
-
 @contextmanager
 def workbook_rows(name: str, title: Optional[str] = None) -> Iterator[HeadedRows]:
     """Open a workbook, and read the heading of a sheet.
@@ -61,7 +53,7 @@ def workbook_rows(name: str, title: Optional[str] = None) -> Iterator[HeadedRows
         if file.read(len(OLD_WORKBOOK)) == OLD_WORKBOOK:
             fault = "it has a password, or is an old workbook (.xls); save it as .xlsx without a password"
             raise Stopped(f"township: cannot read {shown(name)}: {fault}")
-    with _reading_workbook(name, "this is not a workbook"):
+    with decoding(name, "this is not a workbook"):
         book = openpyxl.load_workbook(name, read_only=True, data_only=True)
     with closing(book):
         sheet = _sheet_of(book, name, title)
@@ -74,26 +66,13 @@ def workbook_rows(name: str, title: Optional[str] = None) -> Iterator[HeadedRows
 
 def _rows_of(name: str, sheet: Any) -> Iterator[Row]:
     """Yield the rows of a sheet."""
-    with _reading_workbook(name, "the workbook is damaged"):
+    with decoding(name, "the workbook is damaged"):
         # Some programs write a wrong size, outside which cells would not be read.
         sheet.reset_dimensions()
         for number, row in enumerate(sheet.iter_rows(values_only=True), start=1):
             cells = _without_end(row)
             if cells:
                 yield Row(cells, number)
-
-
-@contextmanager
-def _reading_workbook(name: str, fault: str) -> Iterator[None]:
-    """Report any failure in the block as one to read a workbook, with this fault."""
-    try:
-        with reading(name):
-            yield
-    except (Stopped, MemoryError):
-        raise
-    except Exception as error:
-        # A file that is damaged raises more than `openpyxl` documents: errors of zip, XML, and its own.
-        raise Stopped(f"township: cannot read {shown(name)}: {fault}") from error
 
 
 def _sheet_of(book: Any, name: str, title: Optional[str]) -> Any:
@@ -126,5 +105,8 @@ def _without_end(row: Sequence[Any]) -> List[Any]:
 def _record(row: Row, width: int) -> Record:
     """Return the record of a row, whose last cells may be empty."""
     cells, number = row
-    fault = f"row {number} has {len(cells)} cells, but the heading has {width}" if len(cells) > width else ""
-    return Record((cells + [None] * width)[:width], number, fault)
+    if len(cells) <= width:
+        return Record(cells + [None] * (width - len(cells)), number)
+    rest = fitted(list(map(text_of, cells[width - 1 :])), 1, ",")
+    fault = f"row {number} has {len(cells)} cells, but the heading has {width}"
+    return Record(cells[: width - 1] + rest, number, fault)
