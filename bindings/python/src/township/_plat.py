@@ -12,6 +12,7 @@ from ._answering import Answering
 from ._figures import Section, acres_of_hundredths, sections_of
 from ._land import Land
 from ._refused import NOTES, Refused, exception_of, failure_of, hinted
+from ._spelling import Named, township_named
 from ._text import Path, Text, encoded, names_a_file, shown
 from ._township import Township, struct_of, township_of
 from ._written import text_by
@@ -105,8 +106,10 @@ class Plat(Answering):
         return cls._of_struct(parts)
 
     @classmethod
-    def of_parts(cls, township: Tuple[int, str, int, str], closing_quarters: Sequence[int]) -> "Plat":
+    def of_parts(cls, township: Named, closing_quarters: Sequence[int]) -> "Plat":
         """Make a plat from its parts: the township, and the last quarter miles of its 84 section lines.
+
+        The township is given as `T. 2 N., R. 3 W.` or as `(2, "N", 3, "W")`.
 
         The quarter miles are in thousandths of a chain, in the order of the lines' indexes (see the drawing
         in `docs/NOTES-FORMAT.md`). For the closing lines, 0 to 6 and 47, 53, 59, 65, 71, 77, and 83, each
@@ -119,7 +122,7 @@ class Plat(Answering):
         >>> even == township.Plat.open("samples/b0.csv")
         True
         """
-        plat = cls._of_struct(struct_of(township, closing_quarters))
+        plat = cls._of_struct(struct_of(township_named(township), closing_quarters))
         plat._printed_figures()
         return plat
 

@@ -3,6 +3,7 @@ from __future__ import annotations
 
 from ctypes import byref, create_string_buffer
 from decimal import Decimal
+from textwrap import shorten
 from typing import Any, Callable, Iterable, List, NamedTuple, Optional, Sequence, Tuple, Union, overload
 
 from . import _library
@@ -36,6 +37,9 @@ _WHITE, _BETWEEN_WORDS = b" \t\n\r", b" \t\n\r,;:|"
 
 #: How the text of a reading comes of the changed text, by the numbers of manners.
 MANNERS = ("changed", "lots named", "remainder")
+
+#: The most characters of a reading in a representation.
+_SHOWN_MOST = 100
 
 #: The room for changes and for bytes in a first call. It is enough for all but long texts.
 _CHANGES, _BYTES = 64, 2048
@@ -163,7 +167,8 @@ class Readings(Sequence[Reading]):
         return hash((self._readings, self.reason, self.beyond))
 
     def __repr__(self) -> str:
-        return f"<township.Readings: {[reading.text for reading in self._readings]}>"
+        texts = [shorten(reading.text, _SHOWN_MOST, placeholder=" ..") for reading in self._readings]
+        return f"<township.Readings: {texts}>"
 
 
 def suggest(text: Text) -> Readings:

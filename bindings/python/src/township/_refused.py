@@ -1,6 +1,7 @@
 """Refusals, and the other ways a call can fail."""
 from __future__ import annotations
 
+from textwrap import shorten
 from typing import Callable, NamedTuple, Optional, Tuple
 
 from . import _library
@@ -13,6 +14,9 @@ NOTES = b"notes"
 LIST = b"tracts"
 LAND = b"land"
 LOT_TABLE = b"lots"
+
+#: The most characters of a message in a representation.
+_SHOWN_MOST = 200
 
 _REFUSALS = (_library.REFUSED, _library.TRACT_REFUSED)
 
@@ -141,6 +145,9 @@ class Refused(ValueError):
     def repair(self) -> Optional[str]:
         """The only reading of a description, if the explanation ends with it. It names land on the plat."""
         return self._explained.repair
+
+    def __repr__(self) -> str:
+        return f"<township.Refused: {self.number} at {self.at}, {shorten(str(self), _SHOWN_MOST, placeholder=' ..')}>"
 
     def __eq__(self, other: object) -> bool:
         if not isinstance(other, Refused):

@@ -3,7 +3,8 @@ from __future__ import annotations
 
 import functools
 from ctypes import c_uint32
-from typing import Dict, Literal, NamedTuple, Sequence, Tuple, Union, cast
+from operator import index
+from typing import Any, Dict, Iterable, Literal, NamedTuple, Sequence, Tuple, Union, cast
 
 from . import _library
 
@@ -11,6 +12,9 @@ from . import _library
 NorthSouth = Literal["N", "S"]
 #: The side of the principal meridian.
 EastWest = Literal["E", "W"]
+
+#: The largest number of a township, and of a range.
+_MOST = 99
 
 #: A quarter mile, in thousandths of a chain.
 NOMINAL_QUARTER = 20_000
@@ -23,13 +27,7 @@ _NORTH_SOUTH: Dict[int, NorthSouth] = {_library.NORTH: "N", _library.SOUTH: "S"}
 _EAST_WEST: Dict[int, EastWest] = {_library.EAST: "E", _library.WEST: "W"}
 
 
-class Township(NamedTuple):
-    """The designation of a township, without its principal meridian.
-
-    >>> print(plat.township)
-    T. 2 N., R. 3 W.
-    """
-
+class _Designation(NamedTuple):
     #: The township number, 1 to 99.
     number: int
     #: `N` or `S` of the base line.
@@ -38,6 +36,36 @@ class Township(NamedTuple):
     range: int
     #: `E` or `W` of the principal meridian.
     east_west: EastWest
+
+
+class Township(_Designation):
+    """The designation of a township, without its principal meridian.
+
+    Its parts are `number` and `range`, 1 to 99, and `north_south` and `east_west`, the sides of the base line and of
+    the principal meridian. Raise `ValueError` for any other parts.
+
+    >>> print(plat.township)
+    T. 2 N., R. 3 W.
+    >>> township.Township(2, "N", 100, "W")
+    Traceback (most recent call last):
+        ...
+    ValueError: the numbers of a township and of its range are 1 to 99
+    """
+
+    __slots__ = ()
+
+    def __new__(cls, number: int, north_south: NorthSouth, range: int, east_west: EastWest) -> Township:
+        numbers = index(number), index(range)
+        if not all(0 < each <= _MOST for each in numbers):
+            raise ValueError(f"the numbers of a township and of its range are 1 to {_MOST}")
+        if north_south not in _NORTH_SOUTH.values() or east_west not in _EAST_WEST.values():
+            raise ValueError("a township is 'N' or 'S' of its base line, and 'E' or 'W' of its meridian")
+        return super().__new__(cls, numbers[0], north_south, numbers[1], east_west)
+
+    @classmethod
+    def _make(cls, iterable: Iterable[Any], **_: Any) -> Township:
+        # `_replace` calls this.
+        return cls(*iterable)
 
     def __str__(self) -> str:
         return f"T. {self.number} {self.north_south}., R. {self.range} {self.east_west}."
@@ -53,10 +81,6 @@ def township_of(parts: Union[_library.Plat, _library.Designation]) -> Township:
 def checked(township: Tuple[int, str, int, str]) -> Township:
     """Return the designation of a township. Raise `ValueError` if it is not one."""
     number, north_south, range_number, east_west = township
-    if not (0 < number < 100 and 0 < range_number < 100):
-        raise ValueError("the numbers of a township and of its range are 1 to 99")
-    if north_south not in _NORTH_SOUTH.values() or east_west not in _EAST_WEST.values():
-        raise ValueError("a township is 'N' or 'S' of its base line, and 'E' or 'W' of its meridian")
     return Township(number, cast(NorthSouth, north_south), range_number, cast(EastWest, east_west))
 
 
