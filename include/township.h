@@ -39,6 +39,8 @@ extern "C" {
 #define TOWNSHIP_VERSION_MAJOR 1
 #define TOWNSHIP_VERSION_MINOR 0
 #define TOWNSHIP_VERSION_PATCH 0
+/* The same as one number, which can be compared: 1,000,000 * MAJOR + 1,000 * MINOR + PATCH. */
+#define TOWNSHIP_VERSION_NUMBER 1000000
 
 /* The numbers of refusals, which docs/REFUSALS.md and docs/LOTS-FORMAT.md explain. */
 /* Field notes: */
@@ -120,6 +122,15 @@ extern "C" {
 #define TOWNSHIP_NO_OPERATION 11u /* township_land_combine: the operation you passed is not valid */
 #define TOWNSHIP_OTHER_TOWNSHIP 12u /* two arguments are in different townships: land and land, land and a plat,
                                        or land and a lot table */
+
+/*
+ * If several verdicts apply, a call returns the first of these: TOWNSHIP_NO_PLAT, TOWNSHIP_NO_LOTS, or
+ * TOWNSHIP_NO_TOWNSHIP; TOWNSHIP_NO_LAND; TOWNSHIP_NO_ACCOUNT or TOWNSHIP_NO_OPERATION; TOWNSHIP_OTHER_TOWNSHIP;
+ * TOWNSHIP_REFUSED or TOWNSHIP_TRACT_REFUSED; TOWNSHIP_NO_ROOM. There are two exceptions: a function that explains
+ * returns TOWNSHIP_NO_ROOM for a refused input if its buffer is too small for the text, and township_answer_many
+ * checks its buffer first. TOWNSHIP_NO_MEMORY is returned only if the arguments are valid: instead of a refusal, of
+ * TOWNSHIP_NO_ROOM, or of TOWNSHIP_ACCEPTED.
+ */
 
 /* Accounts: how whole lots count. */
 #define TOWNSHIP_EXACT 0u   /* at their exact area */

@@ -72,8 +72,12 @@ def version_lines(version: str) -> Iterator[str]:
     """Yield the version, as a text and as numbers."""
     yield "/* The version of this header. township_version returns that of the library. */"
     yield f'#define TOWNSHIP_VERSION "{version}"'
-    for name, number in zip(("MAJOR", "MINOR", "PATCH"), version.split(".")):
+    numbers = [int(number) for number in version.split(".")]
+    for name, number in zip(("MAJOR", "MINOR", "PATCH"), numbers):
         yield f"#define TOWNSHIP_VERSION_{name} {number}"
+    yield "/* The same as one number, which can be compared: 1,000,000 * MAJOR + 1,000 * MINOR + PATCH. */"
+    major, minor, patch = numbers
+    yield f"#define TOWNSHIP_VERSION_NUMBER {1_000_000 * major + 1_000 * minor + patch}"
 
 
 def refusal_lines() -> Iterator[str]:

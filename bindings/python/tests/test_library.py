@@ -38,12 +38,25 @@ class Found(unittest.TestCase):
         self.assertNotEqual(run.returncode, 0)
         self.assertIn("ImportError: cannot load the township library: /nowhere/libtownship.so", run.stderr)
 
-    @unittest.skipIf(os.path.exists(_loading.BESIDE), "the package has its own library")
     def test_neither_named_nor_beside_the_package(self):
-        for named in (None, ""):
-            run = self.importing(named)
-            self.assertNotEqual(run.returncode, 0)
-            self.assertIn("TOWNSHIP_LIBRARY", run.stderr)
+        with mock.patch.object(_loading, "default", lambda: "/nowhere/libtownship.so"):
+            for named in ("", "/none/libtownship.so"):
+                with mock.patch.dict(os.environ, TOWNSHIP_LIBRARY=named), self.assertRaises(ImportError) as caught:
+                    _loading._load()
+                self.assertIn(named or "/nowhere/libtownship.so", str(caught.exception))
+                self.assertIn("TOWNSHIP_LIBRARY", str(caught.exception))
+
+    def test_in_the_repository(self):
+        made = str(TOP / "lib" / "libtownship.so")
+        for folder, found in (
+            (TOP / "bindings/python/src/township", made), ("/usr/lib/python3/dist-packages/township", ""),
+            ("/xbindings/python/src/township", ""), ("/bindings/python/src/township", "/lib/libtownship.so"),
+        ):
+            with mock.patch.object(_loading, "_FOLDER", str(folder)):
+                self.assertEqual(_loading.in_repository(), found)
+                for there in ([], [found], [_loading.BESIDE], [found, _loading.BESIDE]):
+                    with mock.patch.object(os.path, "exists", there.__contains__):
+                        self.assertEqual(_loading.default(), found if there == [found] and found else _loading.BESIDE)
 
     def test_beside_the_package(self):
         self.assertEqual(Path(_loading.BESIDE), Path(township.__file__).resolve().parent / "libtownship.so")
@@ -87,6 +100,84 @@ class Declared(unittest.TestCase):
         self.assertLessEqual({*some}, {*declared})
         for name, number in declared.items():
             self.assertEqual(getattr(_library, name), int(number), name)
+
+
+class Orders(unittest.TestCase):
+    """If several verdicts apply, it is the first of them in the order that the header gives."""
+
+    NO_PLAT, NO_LOTS, NO_LAND = _library.Plat(), _library.Lots(), _library.Land()
+    NO_ACCOUNT = NO_OPERATION = 9
+    ELSEWHERE = township.Land.of("T. 3 N., R. 3 W.", "sec. 14.")._parts
+
+    def verdict(self, call, *given):
+        by_reference = (ctypes.byref(each) if isinstance(each, ctypes.Structure) else each for each in given)
+        return call(*by_reference).verdict
+
+    def test_land_on_a_plat(self):
+        plat, land = uneven()._parts, LAND._parts
+        for given, verdict in (
+            ((self.NO_PLAT, self.NO_LAND, self.NO_ACCOUNT), _library.NO_PLAT),
+            ((plat, self.NO_LAND, self.NO_ACCOUNT), _library.NO_LAND),
+            ((plat, self.ELSEWHERE, self.NO_ACCOUNT), _library.NO_ACCOUNT),
+            ((plat, self.ELSEWHERE, _library.EXACT), _library.OTHER_TOWNSHIP),
+            ((plat, land, _library.EXACT), _library.ACCEPTED),
+        ):
+            self.assertEqual(self.verdict(_library.land_acres, *given), verdict)
+            self.assertEqual(self.verdict(_library.land_area, *given, _library.Fraction()), verdict)
+
+    def test_land_by_a_table(self):
+        lots, lacking = LOTS._parts, township.Land.of("T. 3 N., R. 3 W.", "sec. 5, lot 1.")._parts
+        for given, verdict in (
+            ((self.NO_LOTS, self.NO_LAND), _library.NO_LOTS),
+            ((lots, self.NO_LAND), _library.NO_LAND),
+            ((lots, lacking), _library.OTHER_TOWNSHIP),
+            ((lots, township.Land.of("T. 2 N., R. 3 W.", "sec. 5, lot 1.")._parts), _library.REFUSED),
+        ):
+            self.assertEqual(self.verdict(_library.lots_land_acres, *given), verdict)
+
+    def test_two_lands(self):
+        land, made = LAND._parts, _library.Land()
+        for given, verdict in (
+            ((land, self.NO_LAND, self.NO_OPERATION), _library.NO_LAND),
+            ((land, self.ELSEWHERE, self.NO_OPERATION), _library.NO_OPERATION),
+            ((land, self.ELSEWHERE, _library.UNION), _library.OTHER_TOWNSHIP),
+        ):
+            self.assertEqual(self.verdict(_library.land_combine, *given, made), verdict)
+
+    def test_descriptions(self):
+        plat, no_text = uneven()._parts, ctypes.create_string_buffer(1)
+        for given, verdict in (
+            ((self.NO_PLAT, b"sec.", 4, self.NO_ACCOUNT), _library.NO_PLAT),
+            ((plat, b"sec.", 4, self.NO_ACCOUNT), _library.NO_ACCOUNT),
+            ((plat, b"sec.", 4, _library.EXACT), _library.REFUSED),
+        ):
+            self.assertEqual(self.verdict(_library.acres, *given), verdict)
+        self.assertEqual(self.verdict(_library.normal, plat, b"sec.", 4, no_text, 0), _library.REFUSED)
+        self.assertEqual(self.verdict(_library.normal, plat, b"sec. 14.", 8, no_text, 0), _library.NO_ROOM)
+        self.assertEqual(self.verdict(_library.land_read, _library.Designation(), b"sec.", 4, _library.Land()),
+                         _library.NO_TOWNSHIP)
+
+    def test_lists(self):
+        plat, tracts = uneven()._parts, (_library.Tract * 1)()
+        wrong, right = b"name,description\nA,sec. 37\n", b"name,description\nA,sec. 14\n"
+        for by, given, verdict in (
+            (self.NO_PLAT, wrong, _library.NO_PLAT),
+            (plat, wrong, _library.TRACT_REFUSED),
+            (plat, right, _library.NO_ROOM),
+        ):
+            found = self.verdict(_library.account, by, given, len(given), tracts, 0, _library.Totals())
+            self.assertEqual(found, verdict)
+
+    def test_the_two_exceptions(self):
+        plat, no_text = uneven()._parts, ctypes.create_string_buffer(1)
+        asked = (b"sec.", 4, b"x", 1, no_text, 0)
+        self.assertEqual(self.verdict(_library.explain_description, plat, *asked), _library.NO_ROOM)
+        self.assertEqual(self.verdict(_library.explain_description, self.NO_PLAT, *asked), _library.NO_PLAT)
+        offsets, none = (ctypes.c_size_t * 2)(0, 8), (_library.FullAnswer * 1)()
+        for call, first in ((_library.acres_many, _library.NO_PLAT), (_library.answer_many, _library.NO_ROOM)):
+            room = none if call is _library.answer_many else (_library.Answer * 1)()
+            given = (self.NO_PLAT, b"sec. 14.", 8, offsets, 2, self.NO_ACCOUNT, room, 0)
+            self.assertEqual(self.verdict(call, *given), first)
 
 
 class Verdicts(unittest.TestCase):
@@ -135,6 +226,28 @@ class Verdicts(unittest.TestCase):
         "lots_land_area": lambda: LOTS.area(LAND),
         "lots_report": lambda: LOTS.report([]),
     }
+
+    #: The calls that answer one of many in turn.
+    CALLS_FOR_MANY = {
+        "lots_acres": lambda: list(LOTS.acres_many(["sec. 14."])),
+        "lots_land_acres": lambda: LOTS.overlaps([("A", "sec. 14."), ("B", LAND)]),
+        "report_each": lambda: LOTS.report_each([]),
+        "overlaps": lambda: LOTS.overlaps([]),
+        "answer_many": lambda: LOTS.normal_many(["sec. 14."]),
+    }
+
+    def test_each_call_for_many_by_a_table(self):
+        for (name, call), (verdict, exception) in itertools.product(self.CALLS_FOR_MANY.items(), self.EXCEPTIONS):
+            answer = _library.Answer(verdict=verdict)
+            with self.subTest(name=name, verdict=verdict):
+                with mock.patch.object(_library, name, lambda *_: answer), self.assertRaises(exception) as caught:
+                    call()
+                self.assertNotIsInstance(caught.exception, township.Refused)
+        for call in (lambda: LOTS._full_answers(["sec. 14."]), lambda: LOTS.report_each([("A", "sec. 14.")]),
+                     lambda: list(LOTS.acres_of(["sec. 14."]))):
+            answer = _library.Answer(verdict=_library.NO_MEMORY)
+            with mock.patch.object(_library, "lots_acres", lambda *_: answer), self.assertRaises(MemoryError):
+                call()
 
     def test_notes(self):
         calls = {"explain_description": "sec. 14.", "explain_description_parts": "sec. 14, NE1/4 SE1/4."}
@@ -192,6 +305,8 @@ class Verdicts(unittest.TestCase):
             *(lambda: no_land.text, lambda: no_land.parts, lambda: no_land | LAND, lambda: LAND <= no_land),
             *(lambda: uneven().acres(no_land), lambda: LOTS.area(no_land)),
             *(lambda: no_lots.acres(LAND), lambda: no_lots.area("sec. 14."), lambda: no_lots.report([])),
+            *(lambda: no_lots.acres_many([]), lambda: no_lots._full_answers([]), lambda: no_lots.report_each([])),
+            *(lambda: no_lots.overlaps([]), lambda: next(no_lots.acres_of(["sec. 14."]))),
         ):
             with self.assertRaises(ValueError) as caught:
                 call()

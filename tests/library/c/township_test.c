@@ -532,6 +532,9 @@ static void has_version(const char *version) {
     snprintf(numbers, sizeof numbers, "%d.%d.%d", TOWNSHIP_VERSION_MAJOR, TOWNSHIP_VERSION_MINOR,
              TOWNSHIP_VERSION_PATCH);
     CHECK(strcmp(numbers, version) == 0);
+    snprintf(numbers, sizeof numbers, "%d.%d.%d", TOWNSHIP_VERSION_NUMBER / 1000000,
+             TOWNSHIP_VERSION_NUMBER / 1000 % 1000, TOWNSHIP_VERSION_NUMBER % 1000);
+    CHECK(strcmp(numbers, version) == 0);
 }
 
 static void refuses_plat(const township_plat *plat) {
