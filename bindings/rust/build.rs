@@ -14,6 +14,11 @@ const VARIABLE: &str = "TOWNSHIP_LIB_DIR";
 const IN_RELEASE: &str = "lib";
 const IN_REPOSITORY: &str = "../../lib";
 
+/// A file that the tests and the examples read. In a release, it is in this package; in the repository, it is where
+/// everyone looks for it, two folders above.
+const HEADER: &str = "include/township.h";
+const REPOSITORY: &str = "../..";
+
 const STATIC: &str = "libtownship.a";
 const SHARED: &str = "libtownship.so";
 
@@ -22,6 +27,9 @@ fn main() {
     println!("cargo:rerun-if-env-changed=PKG_CONFIG_PATH");
     println!("cargo:rerun-if-changed=build.rs");
     let package = PathBuf::from(variable("CARGO_MANIFEST_DIR").expect("cargo names the folder"));
+    let files = files(&package);
+    println!("cargo:rustc-env=TOWNSHIP_FILES={}", files.display());
+    write_readme(&package, &files);
     let usual = [IN_RELEASE, IN_REPOSITORY].map(|folder| package.join(folder));
     // A relative name is relative to this package.
     let folder = variable(VARIABLE)
@@ -46,6 +54,25 @@ fn main() {
     println!("cargo:rerun-if-changed={}", folder.join(file).display());
     println!("cargo:rustc-link-search=native={}", folder.display());
     println!("cargo:rustc-link-lib={kind}=township");
+}
+
+/// Returns the folder of the samples, the header, and the pages that the tests and the examples read.
+fn files(package: &Path) -> PathBuf {
+    if package.join(HEADER).is_file() {
+        package.to_owned()
+    } else {
+        package.join(REPOSITORY)
+    }
+}
+
+/// Writes the README as its examples are run: they read the samples in this folder.
+fn write_readme(package: &Path, files: &Path) {
+    let readme = package.join("README.md");
+    println!("cargo:rerun-if-changed={}", readme.display());
+    let text = std::fs::read_to_string(readme).expect("the package has a README");
+    let run = text.replace("\"samples/", &format!("\"{}/samples/", files.display()));
+    let folder = PathBuf::from(variable("OUT_DIR").expect("cargo names the folder"));
+    std::fs::write(folder.join("README.md"), run).expect("the folder can be written");
 }
 
 /// Returns a variable of the environment, unless it is empty.

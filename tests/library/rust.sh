@@ -113,6 +113,18 @@ without_library() {
 }
 one 'without the library' without_library
 
+# As it is in the repository, the crate reads the samples and the header two folders above it.
+in_repository() {
+    mkdir -p "$work/repository/bindings" && cp -R "$root/bindings/rust" "$work/repository/bindings/rust" || return 1
+    rm -rf "$work/repository/bindings/rust/target" "$work/repository/bindings/rust/Cargo.lock"
+    for folder in docs include samples; do ln -s "$root/$folder" "$work/repository/$folder" || return 1; done
+    cd "$work/repository/bindings/rust" || return 1
+    [ -n "$features" ] || cp "$work/crates/township/Cargo.toml" .
+    cargo test --offline --all-targets $features >&2
+}
+in_repository_alone() { (in_repository); }
+one 'in the repository' in_repository_alone
+
 cargo test --offline --no-fail-fast $features -- $ignored > "$work/tests" 2>&1 || status=$?
 cat "$work/tests"
 # A test that does not compile has no result of its own, and counts as one failure.

@@ -16,7 +16,7 @@ const HUNDREDTHS: u64 = 100;
 /// add exact areas ([`Area`](crate::Area)) to get that. A sum that is too large panics.
 ///
 /// ```
-/// # let notes = include_bytes!(concat!(env!("CARGO_MANIFEST_DIR"), "/samples/b1.csv"));
+/// # let notes = include_bytes!(concat!(env!("TOWNSHIP_FILES"), "/samples/b1.csv"));
 /// # let plat = township::Plat::read(notes)?;
 /// let acres = plat.acres("sec. 5, lots 1 and 2, S1/2NE1/4.")?;
 /// assert_eq!(acres.hundredths(), 16_100);

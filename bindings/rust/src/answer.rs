@@ -29,7 +29,7 @@ pub(crate) enum Verdict {
 ///
 /// ```
 /// let other = township::Land::empty("T. 3 N., R. 3 W.".parse()?);
-/// # let notes = include_bytes!(concat!(env!("CARGO_MANIFEST_DIR"), "/samples/b1.csv"));
+/// # let notes = include_bytes!(concat!(env!("TOWNSHIP_FILES"), "/samples/b1.csv"));
 /// # let plat = township::Plat::read(notes)?;
 /// let error = plat.land_acres(&other).unwrap_err();
 /// assert_eq!(

@@ -19,7 +19,7 @@ const UNITS_IN_ACRE: u128 = 10_000_000;
 /// bits panics.
 ///
 /// ```
-/// # let notes = include_bytes!(concat!(env!("CARGO_MANIFEST_DIR"), "/samples/b1.csv"));
+/// # let notes = include_bytes!(concat!(env!("TOWNSHIP_FILES"), "/samples/b1.csv"));
 /// # let plat = township::Plat::read(notes)?;
 /// let area = plat.area("sec. 5, lot 1.")?;
 /// assert_eq!((area.numerator(), area.denominator()), (809, 20));

@@ -10,7 +10,7 @@ const PROGRAM: &str = "township: ";
 /// Another place that an explanation names: where the same land, name, or line was given before.
 ///
 /// ```
-/// # let notes = include_bytes!(concat!(env!("CARGO_MANIFEST_DIR"), "/samples/b1.csv"));
+/// # let notes = include_bytes!(concat!(env!("TOWNSHIP_FILES"), "/samples/b1.csv"));
 /// # let plat = township::Plat::read(notes)?;
 /// let description = "sec. 14, NE1/4 and N1/2.";
 /// let refused = plat.acres(description).unwrap_err();

@@ -6,7 +6,7 @@ use crate::ffi::{self, SECTIONS};
 /// The figures of a printed plat. Each is an exact area, rounded independently.
 ///
 /// ```
-/// # let notes = include_bytes!(concat!(env!("CARGO_MANIFEST_DIR"), "/samples/b1.csv"));
+/// # let notes = include_bytes!(concat!(env!("TOWNSHIP_FILES"), "/samples/b1.csv"));
 /// # let plat = township::Plat::read(notes)?;
 /// let figures = plat.figures();
 /// let section = figures.section(7).unwrap();

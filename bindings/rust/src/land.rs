@@ -29,7 +29,7 @@ pub type Rows = [[u32; PLACES_ACROSS]; SECTIONS];
 /// `a`. It is displayed as its canonical text, which is empty for empty land, and parsed from it.
 ///
 /// ```
-/// # let notes = include_bytes!(concat!(env!("CARGO_MANIFEST_DIR"), "/samples/b1.csv"));
+/// # let notes = include_bytes!(concat!(env!("TOWNSHIP_FILES"), "/samples/b1.csv"));
 /// # let plat = township::Plat::read(notes)?;
 /// let lease = plat.land("sec. 14, all.")? - plat.land("sec. 14, NE1/4NE1/4.")?;
 /// let deed = plat.land("sec. 14, NE1/4; sec. 15, all.")?;

@@ -6,7 +6,7 @@
 //! crate wraps it in safe functions.
 //!
 //! ```
-//! # let notes = include_bytes!(concat!(env!("CARGO_MANIFEST_DIR"), "/samples/b1.csv"));
+//! # let notes = include_bytes!(concat!(env!("TOWNSHIP_FILES"), "/samples/b1.csv"));
 //! let plat = township::Plat::read(notes)?;
 //! assert_eq!(plat.acres("sec. 5, lots 1 and 2, S1/2NE1/4.")?.to_string(), "161.00");
 //!
@@ -84,5 +84,5 @@ pub fn version() -> String {
 
 /// Runs the README's examples along with those in the documentation.
 #[cfg(doctest)]
-#[doc = include_str!("../README.md")]
+#[doc = include_str!(concat!(env!("OUT_DIR"), "/README.md"))]
 struct Readme;

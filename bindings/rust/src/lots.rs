@@ -11,28 +11,18 @@ use crate::report::{list_of, LotsReport};
 use crate::township::Township;
 use std::error::Error;
 use std::fmt;
-use std::str::FromStr;
 
-/// The number of lots in each section that has any.
-const COUNTS: [(u8, u8); 11] = [
-    (1, 4),
-    (2, 4),
-    (3, 4),
-    (4, 4),
-    (5, 4),
-    (6, 7),
-    (7, 4),
-    (18, 4),
-    (19, 4),
-    (30, 4),
-    (31, 4),
-];
+mod list;
+mod text;
+
+/// The acreage of a quarter-quarter section, in hundredths.
+const STANDARD: u32 = 4_000;
 
 /// A lot table: the acreage that the approved plat returns for the lots of a township.
 ///
 /// By a lot table, each whole lot counts at its returned acreage, and other land at its nominal
 /// area, 40 acres for each quarter-quarter section. No field notes are needed. To make a table, call
-/// [`Lots::read`]. It is displayed as CSV, and parsed from it.
+/// [`Lots::read`] or [`Lots::new`]. It is displayed as CSV, and parsed from it.
 ///
 /// ```
 /// use township::Lots;
@@ -90,6 +80,26 @@ impl Lots {
         }
     }
 
+    /// Makes a lot table to fill in: each lot of the township has 40 acres.
+    ///
+    /// Replace each figure in its text with the one on the approved plat, and leave out the lots whose
+    /// acreage isn't known.
+    ///
+    /// ```
+    /// let text = township::Lots::new("T. 2 N., R. 3 W.".parse()?).to_string();
+    /// assert!(text.starts_with("section,lot,acres\nT,2,N,3,W\n1,1,40.00\n1,2,40.00\n"));
+    /// assert_eq!(text.lines().count(), 2 + 47);
+    /// # Ok::<(), township::ParseError>(())
+    /// ```
+    pub fn new(township: Township) -> Lots {
+        Lots {
+            data: ffi::Lots {
+                figures: [STANDARD; ffi::LOTS],
+                township: township.designation(),
+            },
+        }
+    }
+
     /// Returns the township's designation.
     pub fn township(&self) -> Township {
         Township::from_designation(&self.data.township).expect("a lot table is of a township")
@@ -113,14 +123,12 @@ impl Lots {
     /// # Ok::<(), township::Refused>(())
     /// ```
     pub fn figures(&self) -> impl Iterator<Item = (u8, u8, Option<Acres>)> + '_ {
-        let lots = COUNTS
-            .iter()
-            .flat_map(|&(section, count)| (1..=count).map(move |lot| (section, lot)));
-        lots.zip(&self.data.figures)
-            .map(|((section, lot), &hundredths)| {
+        list::lots_of_township().iter().zip(&self.data.figures).map(
+            |(&(section, lot), &hundredths)| {
                 let acres = (hundredths > 0).then(|| Acres::from_hundredths(hundredths.into()));
                 (section, lot, acres)
-            })
+            },
+        )
     }
 
     /// Returns the acreage of the land described, rounded once to hundredths, half up.
@@ -269,58 +277,6 @@ impl Lots {
         Refused::explained(fault, |room| {
             ffi::explain_description_parts(&plat, description, DESCRIPTION.as_bytes(), room)
         })
-    }
-}
-
-impl TryFrom<&[u8]> for Lots {
-    type Error = Refused;
-
-    /// Reads a lot table: [`Lots::read`].
-    fn try_from(table: &[u8]) -> Result<Lots, Refused> {
-        Lots::read(table)
-    }
-}
-
-impl FromStr for Lots {
-    type Err = Refused;
-
-    /// Reads a lot table: [`Lots::read`].
-    fn from_str(table: &str) -> Result<Lots, Refused> {
-        Lots::read(table.as_bytes())
-    }
-}
-
-impl fmt::Display for Lots {
-    /// Writes the table (CSV), from which [`Lots::read`] makes it again.
-    fn fmt(&self, f: &mut fmt::Formatter<'_>) -> fmt::Result {
-        let township = self.township();
-        let (number, range) = (township.number(), township.range());
-        let (north_south, east_west) = (township.north_south(), township.east_west());
-        writeln!(
-            f,
-            "section,lot,acres\nT,{number},{north_south},{range},{east_west}"
-        )?;
-        for (section, lot, acres) in self.figures() {
-            if let Some(acres) = acres {
-                writeln!(f, "{section},{lot},{acres}")?;
-            }
-        }
-        Ok(())
-    }
-}
-
-impl fmt::Debug for Lots {
-    fn fmt(&self, f: &mut fmt::Formatter<'_>) -> fmt::Result {
-        let has = self
-            .figures()
-            .filter_map(|(section, lot, acres)| Some(((section, lot), acres?.hundredths())));
-        f.debug_struct("Lots")
-            .field("township", &self.township())
-            .field(
-                "hundredths",
-                &has.collect::<std::collections::BTreeMap<_, _>>(),
-            )
-            .finish()
     }
 }
 

@@ -10,7 +10,7 @@ use std::ops::Range;
 /// It is displayed as the place and the sentence of its text, on one line.
 ///
 /// ```
-/// # let notes = include_bytes!(concat!(env!("CARGO_MANIFEST_DIR"), "/samples/b1.csv"));
+/// # let notes = include_bytes!(concat!(env!("TOWNSHIP_FILES"), "/samples/b1.csv"));
 /// # let plat = township::Plat::read(notes)?;
 /// let notes = plat.notes("sec. 14, NE1/4 SE1/4.")?;
 /// assert_eq!(notes.len(), 1);
@@ -59,7 +59,7 @@ impl Note {
     /// Returns both readings of the place, with their acreage, without the location.
     ///
     /// ```
-    /// # let notes = include_bytes!(concat!(env!("CARGO_MANIFEST_DIR"), "/samples/b1.csv"));
+    /// # let notes = include_bytes!(concat!(env!("TOWNSHIP_FILES"), "/samples/b1.csv"));
     /// # let plat = township::Plat::read(notes)?;
     /// let notes = plat.notes("sec. 14, NE1/4 SE1/4.")?;
     /// assert!(notes[0].sentence().starts_with("NE1/4 SE1/4 is read as one part of 40.00 acres"));

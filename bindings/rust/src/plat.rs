@@ -52,7 +52,7 @@ impl Plat {
     /// ```
     /// use township::Plat;
     ///
-    /// let notes = include_bytes!(concat!(env!("CARGO_MANIFEST_DIR"), "/samples/b1.csv"));
+    /// let notes = include_bytes!(concat!(env!("TOWNSHIP_FILES"), "/samples/b1.csv"));
     /// let plat = Plat::read(notes)?;
     /// assert_eq!(plat.township().to_string(), "T. 2 N., R. 3 W.");
     ///
@@ -103,7 +103,7 @@ impl Plat {
     /// Each half mile in them is 40 chains long, except for the second ones of closing lines.
     ///
     /// ```
-    /// # let notes = include_bytes!(concat!(env!("CARGO_MANIFEST_DIR"), "/samples/b1.csv"));
+    /// # let notes = include_bytes!(concat!(env!("TOWNSHIP_FILES"), "/samples/b1.csv"));
     /// # let plat = township::Plat::read(notes)?;
     /// let written = plat.write_notes();
     /// assert!(written.starts_with("line,between,and,quarter,corner\nT,2,N,3,W\n"));
@@ -123,7 +123,7 @@ impl Plat {
     /// chain.
     ///
     /// ```
-    /// # let notes = include_bytes!(concat!(env!("CARGO_MANIFEST_DIR"), "/samples/b1.csv"));
+    /// # let notes = include_bytes!(concat!(env!("TOWNSHIP_FILES"), "/samples/b1.csv"));
     /// # let plat = township::Plat::read(notes)?;
     /// assert_eq!(plat.closing_quarters()[3..7], [20_000, 20_200, 20_400, 20_800]);
     /// # Ok::<(), township::Refused>(())

@@ -88,7 +88,7 @@ pub struct Change {
 /// Suggests how a text would be written as a description, without a plat.
 ///
 /// ```
-/// # let notes = include_bytes!(concat!(env!("CARGO_MANIFEST_DIR"), "/samples/b1.csv"));
+/// # let notes = include_bytes!(concat!(env!("TOWNSHIP_FILES"), "/samples/b1.csv"));
 /// # let plat = township::Plat::read(notes)?;
 /// let found = township::suggest("sec. 14: NE¼NE¼ SW¼SW¼");
 /// assert_eq!(found.readings[0].text, "sec. 14: NE¼NE¼, SW¼SW¼");

@@ -30,7 +30,7 @@ pub struct Refusal {
 /// displayed as the place and the sentence of its explanation, on one line.
 ///
 /// ```
-/// # let notes = include_bytes!(concat!(env!("CARGO_MANIFEST_DIR"), "/samples/b1.csv"));
+/// # let notes = include_bytes!(concat!(env!("TOWNSHIP_FILES"), "/samples/b1.csv"));
 /// # let plat = township::Plat::read(notes)?;
 /// let refused = plat.acres("sec. 14, NE1/4 and N1/2.").unwrap_err();
 /// assert_eq!((refused.number, refused.at), (67, 19));
@@ -126,7 +126,7 @@ impl Refused {
     /// the plat.
     ///
     /// ```
-    /// # let notes = include_bytes!(concat!(env!("CARGO_MANIFEST_DIR"), "/samples/b1.csv"));
+    /// # let notes = include_bytes!(concat!(env!("TOWNSHIP_FILES"), "/samples/b1.csv"));
     /// # let plat = township::Plat::read(notes)?;
     /// let refused = plat.acres("sec. 14, NE/4.").unwrap_err();
     /// assert_eq!(refused.repair(), Some("sec. 14, NE1/4."));
@@ -139,7 +139,7 @@ impl Refused {
     /// Returns what is wrong, without the location.
     ///
     /// ```
-    /// # let notes = include_bytes!(concat!(env!("CARGO_MANIFEST_DIR"), "/samples/b1.csv"));
+    /// # let notes = include_bytes!(concat!(env!("TOWNSHIP_FILES"), "/samples/b1.csv"));
     /// # let plat = township::Plat::read(notes)?;
     /// let refused = plat.acres("sec. 5, lot 5.").unwrap_err();
     /// assert_eq!(refused.to_string(), "description:1:13: section 5 has lots 1 to 4");

@@ -21,7 +21,7 @@ pub struct Tract {
 /// It is displayed as the text that [`Plat::report`](crate::Plat::report) returns.
 ///
 /// ```
-/// # let notes = include_bytes!(concat!(env!("CARGO_MANIFEST_DIR"), "/samples/b1.csv"));
+/// # let notes = include_bytes!(concat!(env!("TOWNSHIP_FILES"), "/samples/b1.csv"));
 /// # let plat = township::Plat::read(notes)?;
 /// let report = plat.report_of([("A", "sec. 7, lot 1."), ("B", "sec. 7, lot 4.")])?;
 /// assert_eq!(report.to_string(), "\

@@ -229,6 +229,12 @@ fn texts() {
     let nothing = Land::empty(even().township());
     assert_eq!(nothing.to_string(), "");
     assert_eq!(format!("{nothing:?}"), "Land(none in T. 2 N., R. 3 W.)");
+    let sections: Vec<String> = (1..=36).map(|number| format!("sec. {number}")).collect();
+    assert_eq!(
+        format!("{:?}", land(&sections.join("; "))),
+        "Land(T. 2 N., R. 3 W., sec. 1, all; sec. 2, all; sec. 3, all; sec. 4, all; sec. 5, all; \
+         sec. 6, all; ..)"
+    );
     for text in [
         "",
         "sec. 14.",

@@ -64,6 +64,43 @@ fn each_lot_has_its_own_figure() {
 }
 
 #[test]
+fn figures_are_in_the_order_of_the_library() {
+    // Each lot alone in a table: the library puts its figure where the crate finds it.
+    for (section, lot, _) in table().figures() {
+        let made: Lots = format!("{HEADING}{section},{lot},12.34\n").parse().unwrap();
+        for (its_section, its_lot, figure) in made.figures() {
+            let wanted = ((its_section, its_lot) == (section, lot)).then(|| acres(1_234));
+            assert_eq!(figure, wanted, "{section} {lot}: {its_section} {its_lot}");
+        }
+    }
+}
+
+#[test]
+fn to_fill_in() {
+    let mut wanted = HEADING.to_owned();
+    for (section, count) in [
+        (1, 4),
+        (2, 4),
+        (3, 4),
+        (4, 4),
+        (5, 4),
+        (6, 7),
+        (7, 4),
+        (18, 4),
+        (19, 4),
+        (30, 4),
+        (31, 4),
+    ] {
+        for lot in 1..=count {
+            wanted += &format!("{section},{lot},40.00\n");
+        }
+    }
+    let made = Lots::new(even().township());
+    assert_eq!(made.to_string(), wanted);
+    assert_eq!(wanted.parse(), Ok(made));
+}
+
+#[test]
 fn written() {
     let sorted = format!("{HEADING}5,1,40.45\n5,2,40.50\n6,7,36.86\n");
     assert_eq!(table().to_string(), sorted);

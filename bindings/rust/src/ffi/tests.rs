@@ -1,6 +1,6 @@
 use super::*;
 
-const HEADER: &str = include_str!(concat!(env!("CARGO_MANIFEST_DIR"), "/include/township.h"));
+const HEADER: &str = include_str!(concat!(env!("TOWNSHIP_FILES"), "/include/township.h"));
 
 /// The even township.
 const EVEN: Plat = Plat {

@@ -6,6 +6,12 @@ use crate::township::Township;
 use std::fmt;
 use std::str::FromStr;
 
+/// The most characters of a canonical text that `Debug` shows.
+const SHOWN_MOST: usize = 100;
+
+/// The end of a text that is longer.
+const MORE: &str = " ..";
+
 impl Land {
     /// Makes the land of a text whose first line is the township, as a heading.
     fn from_text(text: &str) -> Option<Land> {
@@ -48,6 +54,16 @@ impl fmt::Debug for Land {
             return write!(f, "Land(none in {})", self.township());
         }
         let words: Vec<&str> = text.split_whitespace().collect();
-        write!(f, "Land({})", words.join(" "))
+        write!(f, "Land({})", shortened(&words.join(" ")))
     }
+}
+
+/// Returns a text, or as many of its first words as can be shown.
+fn shortened(text: &str) -> String {
+    if text.len() <= SHOWN_MOST {
+        return text.to_owned();
+    }
+    let room = SHOWN_MOST - MORE.len();
+    let end = (0..=room).rev().find(|&at| text[at..].starts_with(' '));
+    format!("{}{MORE}", &text[..end.unwrap_or(room)])
 }

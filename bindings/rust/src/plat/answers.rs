@@ -20,7 +20,7 @@ impl Plat {
     /// Returns [`Refused`], with a number from 41 to 67, if the description is refused.
     ///
     /// ```
-    /// # let notes = include_bytes!(concat!(env!("CARGO_MANIFEST_DIR"), "/samples/b1.csv"));
+    /// # let notes = include_bytes!(concat!(env!("TOWNSHIP_FILES"), "/samples/b1.csv"));
     /// # let plat = township::Plat::read(notes)?;
     /// let acres = plat.acres("sec. 5, lots 1 and 2, S1/2NE1/4.")?;
     /// assert_eq!(acres.to_string(), "161.00");
@@ -40,7 +40,7 @@ impl Plat {
     /// The same as for [`Plat::acres`], with either account.
     ///
     /// ```
-    /// # let notes = include_bytes!(concat!(env!("CARGO_MANIFEST_DIR"), "/samples/b1.csv"));
+    /// # let notes = include_bytes!(concat!(env!("TOWNSHIP_FILES"), "/samples/b1.csv"));
     /// # let plat = township::Plat::read(notes)?;
     /// use township::Account;
     ///
@@ -66,7 +66,7 @@ impl Plat {
     /// The same as for [`Plat::acres`].
     ///
     /// ```
-    /// # let notes = include_bytes!(concat!(env!("CARGO_MANIFEST_DIR"), "/samples/b1.csv"));
+    /// # let notes = include_bytes!(concat!(env!("TOWNSHIP_FILES"), "/samples/b1.csv"));
     /// # let plat = township::Plat::read(notes)?;
     /// assert_eq!(plat.area("sec. 5, lot 1.")?.to_string(), "809/20");
     /// # Ok::<(), township::Refused>(())
@@ -83,7 +83,7 @@ impl Plat {
     /// The same as for [`Plat::acres`].
     ///
     /// ```
-    /// # let notes = include_bytes!(concat!(env!("CARGO_MANIFEST_DIR"), "/samples/b1.csv"));
+    /// # let notes = include_bytes!(concat!(env!("TOWNSHIP_FILES"), "/samples/b1.csv"));
     /// # let plat = township::Plat::read(notes)?;
     /// let area = plat.area_by("sec. 7, lots 1 to 4.", township::Account::Plat)?;
     /// assert_eq!((area.numerator(), area.denominator()), (7_821, 50));
@@ -110,7 +110,7 @@ impl Plat {
     /// The same as for [`Plat::acres`].
     ///
     /// ```
-    /// # let notes = include_bytes!(concat!(env!("CARGO_MANIFEST_DIR"), "/samples/b1.csv"));
+    /// # let notes = include_bytes!(concat!(env!("TOWNSHIP_FILES"), "/samples/b1.csv"));
     /// # let plat = township::Plat::read(notes)?;
     /// let normal = plat.normal("sec. 14, SE1/4, NE1/4, NW1/4.")?;
     /// assert_eq!(normal, "T. 2 N., R. 3 W.,\nsec. 14, N1/2, SE1/4.\n");
@@ -136,7 +136,7 @@ impl Plat {
     /// The same as for [`Plat::acres`].
     ///
     /// ```
-    /// # let notes = include_bytes!(concat!(env!("CARGO_MANIFEST_DIR"), "/samples/b1.csv"));
+    /// # let notes = include_bytes!(concat!(env!("TOWNSHIP_FILES"), "/samples/b1.csv"));
     /// # let plat = township::Plat::read(notes)?;
     /// assert!(plat.notes("sec. 14, NE1/4, SE1/4.")?.is_empty());
     ///
@@ -162,7 +162,7 @@ impl Plat {
     /// of them.
     ///
     /// ```
-    /// # let notes = include_bytes!(concat!(env!("CARGO_MANIFEST_DIR"), "/samples/b1.csv"));
+    /// # let notes = include_bytes!(concat!(env!("TOWNSHIP_FILES"), "/samples/b1.csv"));
     /// # let plat = township::Plat::read(notes)?;
     /// let descriptions = ["sec. 5, lot 1.", "sec. 5, lot 5.", "sec. 36."];
     /// let shown: Vec<String> = plat
@@ -192,7 +192,7 @@ impl Plat {
     /// of [`Plat::acres_by`]. One call of the library answers them all.
     ///
     /// ```
-    /// # let notes = include_bytes!(concat!(env!("CARGO_MANIFEST_DIR"), "/samples/b1.csv"));
+    /// # let notes = include_bytes!(concat!(env!("TOWNSHIP_FILES"), "/samples/b1.csv"));
     /// # let plat = township::Plat::read(notes)?;
     /// let descriptions = ["sec. 5, lot 1.", "sec. 5, lot 5.", "sec. 36."];
     /// let answers = plat.acres_many(&descriptions, township::Account::Exact);
@@ -220,7 +220,7 @@ impl Plat {
     /// one call of the library. This is faster than [`Plat::normal`] for each.
     ///
     /// ```
-    /// # let notes = include_bytes!(concat!(env!("CARGO_MANIFEST_DIR"), "/samples/b1.csv"));
+    /// # let notes = include_bytes!(concat!(env!("TOWNSHIP_FILES"), "/samples/b1.csv"));
     /// # let plat = township::Plat::read(notes)?;
     /// let texts = plat.normal_many(&["sec. 14, SE1/4, NE1/4, NW1/4.", "sec. 5, lot 5."]);
     /// assert_eq!(texts[0].as_ref().unwrap(), "T. 2 N., R. 3 W.,\nsec. 14, N1/2, SE1/4.\n");
@@ -243,7 +243,7 @@ impl Plat {
     /// Returns the printed plat: the acreage of each lot, of each section, and of the township.
     ///
     /// ```
-    /// # let notes = include_bytes!(concat!(env!("CARGO_MANIFEST_DIR"), "/samples/b1.csv"));
+    /// # let notes = include_bytes!(concat!(env!("TOWNSHIP_FILES"), "/samples/b1.csv"));
     /// # let plat = township::Plat::read(notes)?;
     /// assert_eq!(
     ///     plat.print().lines().nth(6),
@@ -258,7 +258,7 @@ impl Plat {
     /// Returns the figures of the printed plat, as data.
     ///
     /// ```
-    /// # let notes = include_bytes!(concat!(env!("CARGO_MANIFEST_DIR"), "/samples/b1.csv"));
+    /// # let notes = include_bytes!(concat!(env!("TOWNSHIP_FILES"), "/samples/b1.csv"));
     /// # let plat = township::Plat::read(notes)?;
     /// let figures = plat.figures();
     /// assert_eq!(figures.section(5).unwrap().total.to_string(), "642.40");

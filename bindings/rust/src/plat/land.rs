@@ -19,7 +19,7 @@ impl Plat {
     /// The same as for [`Plat::acres`].
     ///
     /// ```
-    /// # let notes = include_bytes!(concat!(env!("CARGO_MANIFEST_DIR"), "/samples/b1.csv"));
+    /// # let notes = include_bytes!(concat!(env!("TOWNSHIP_FILES"), "/samples/b1.csv"));
     /// # let plat = township::Plat::read(notes)?;
     /// let rest = plat.land("sec. 5, all.")? - plat.land("sec. 5, lots 1 and 2.")?;
     /// assert_eq!(plat.land_acres(&rest)?.to_string(), "561.40");
@@ -45,7 +45,7 @@ impl Plat {
     /// The same as for [`Plat::land_acres`].
     ///
     /// ```
-    /// # let notes = include_bytes!(concat!(env!("CARGO_MANIFEST_DIR"), "/samples/b1.csv"));
+    /// # let notes = include_bytes!(concat!(env!("TOWNSHIP_FILES"), "/samples/b1.csv"));
     /// # let plat = township::Plat::read(notes)?;
     /// use township::Account;
     ///
@@ -70,7 +70,7 @@ impl Plat {
     /// The same as for [`Plat::land_acres`].
     ///
     /// ```
-    /// # let notes = include_bytes!(concat!(env!("CARGO_MANIFEST_DIR"), "/samples/b1.csv"));
+    /// # let notes = include_bytes!(concat!(env!("TOWNSHIP_FILES"), "/samples/b1.csv"));
     /// # let plat = township::Plat::read(notes)?;
     /// let lot = plat.land("sec. 5, lot 1.")?;
     /// assert_eq!(plat.land_area(&lot)?.to_string(), "809/20");
@@ -102,7 +102,7 @@ impl Plat {
     /// Returns [`OtherTownship`] if the table is for another township.
     ///
     /// ```
-    /// # let notes = include_bytes!(concat!(env!("CARGO_MANIFEST_DIR"), "/samples/b1.csv"));
+    /// # let notes = include_bytes!(concat!(env!("TOWNSHIP_FILES"), "/samples/b1.csv"));
     /// # let plat = township::Plat::read(notes)?;
     /// let lots = "section,lot,acres\nT,2,N,3,W\n5,1,40.45\n5,2,40.50\n".parse()?;
     /// let differences = plat.differences(&lots)?;

@@ -23,7 +23,7 @@ impl Plat {
     /// refusal.
     ///
     /// ```
-    /// # let notes = include_bytes!(concat!(env!("CARGO_MANIFEST_DIR"), "/samples/b1.csv"));
+    /// # let notes = include_bytes!(concat!(env!("TOWNSHIP_FILES"), "/samples/b1.csv"));
     /// # let plat = township::Plat::read(notes)?;
     /// let list = "name,description\nA,\"sec. 7, lot 1.\"\nB,\"sec. 7, lot 4.\"\n";
     /// assert_eq!(plat.report(list)?, "\
@@ -50,7 +50,7 @@ impl Plat {
     /// The same as for [`Plat::report`].
     ///
     /// ```
-    /// # let notes = include_bytes!(concat!(env!("CARGO_MANIFEST_DIR"), "/samples/b1.csv"));
+    /// # let notes = include_bytes!(concat!(env!("TOWNSHIP_FILES"), "/samples/b1.csv"));
     /// # let plat = township::Plat::read(notes)?;
     /// let list = "name,description\nA,\"sec. 7, lot 1.\"\n";
     /// let report = plat.report_csv(list)?;
@@ -79,7 +79,7 @@ impl Plat {
     /// tract with index k is record k + 2.
     ///
     /// ```
-    /// # let notes = include_bytes!(concat!(env!("CARGO_MANIFEST_DIR"), "/samples/b1.csv"));
+    /// # let notes = include_bytes!(concat!(env!("TOWNSHIP_FILES"), "/samples/b1.csv"));
     /// # let plat = township::Plat::read(notes)?;
     /// let report = plat.report_of([("A", "sec. 7, lot 1."), ("B", "sec. 7, lot 4.")])?;
     /// assert_eq!(report.tracts[1].acres.to_string(), "39.03");
@@ -110,7 +110,7 @@ impl Plat {
     /// heading (81), or has too many tracts (85).
     ///
     /// ```
-    /// # let notes = include_bytes!(concat!(env!("CARGO_MANIFEST_DIR"), "/samples/b1.csv"));
+    /// # let notes = include_bytes!(concat!(env!("TOWNSHIP_FILES"), "/samples/b1.csv"));
     /// # let plat = township::Plat::read(notes)?;
     /// let list = "name,description\nA,\"sec. 7, lot 1.\"\nB,\"sec. 7, lot 5.\"\n";
     /// let answers = plat.report_each_csv(list)?;
@@ -139,7 +139,7 @@ impl Plat {
     /// The same as for [`Plat::report_each_csv`].
     ///
     /// ```
-    /// # let notes = include_bytes!(concat!(env!("CARGO_MANIFEST_DIR"), "/samples/b1.csv"));
+    /// # let notes = include_bytes!(concat!(env!("TOWNSHIP_FILES"), "/samples/b1.csv"));
     /// # let plat = township::Plat::read(notes)?;
     /// let answers = plat.report_each([("A", "sec. 14."), ("A", "sec. 15.")])?;
     /// let again = answers[1].answer.unwrap_err().refusal;
@@ -166,7 +166,7 @@ impl Plat {
     /// The same as for [`Plat::report_each_csv`].
     ///
     /// ```
-    /// # let notes = include_bytes!(concat!(env!("CARGO_MANIFEST_DIR"), "/samples/b1.csv"));
+    /// # let notes = include_bytes!(concat!(env!("TOWNSHIP_FILES"), "/samples/b1.csv"));
     /// # let plat = township::Plat::read(notes)?;
     /// let list = "name,description\nA,sec. 14\nB,\"sec. 14, NE1/4\"\n";
     /// let overlaps = plat.overlaps_csv(list)?;
@@ -199,7 +199,7 @@ impl Plat {
     /// The same as for [`Plat::report_each_csv`].
     ///
     /// ```
-    /// # let notes = include_bytes!(concat!(env!("CARGO_MANIFEST_DIR"), "/samples/b1.csv"));
+    /// # let notes = include_bytes!(concat!(env!("TOWNSHIP_FILES"), "/samples/b1.csv"));
     /// # let plat = township::Plat::read(notes)?;
     /// assert!(plat.overlaps([("A", "sec. 14."), ("B", "sec. 15.")])?.is_empty());
     /// # Ok::<(), township::Refused>(())

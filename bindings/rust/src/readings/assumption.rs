@@ -67,7 +67,7 @@ impl fmt::Display for Assumption {
 mod tests {
     use super::*;
 
-    const HEADER: &str = include_str!(concat!(env!("CARGO_MANIFEST_DIR"), "/include/township.h"));
+    const HEADER: &str = include_str!(concat!(env!("TOWNSHIP_FILES"), "/include/township.h"));
 
     /// `TOWNSHIP_ASSUMES_NOT_LAND` of `NotLand`.
     fn name_in_header(assumption: Assumption) -> String {

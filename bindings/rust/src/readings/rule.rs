@@ -104,7 +104,7 @@ impl Rule {
 mod tests {
     use super::*;
 
-    const HEADER: &str = include_str!(concat!(env!("CARGO_MANIFEST_DIR"), "/include/township.h"));
+    const HEADER: &str = include_str!(concat!(env!("TOWNSHIP_FILES"), "/include/township.h"));
 
     /// `TOWNSHIP_RULE_FRACTION_DIGIT` of `FractionDigit`.
     fn name_in_header(rule: Rule) -> String {

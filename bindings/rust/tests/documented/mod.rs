@@ -4,7 +4,7 @@ use crate::samples::{EVEN_NOTES, TRACTS};
 use std::iter;
 use township::Refusal;
 
-const REFUSALS: &str = include_str!(concat!(env!("CARGO_MANIFEST_DIR"), "/docs/REFUSALS.md"));
+const REFUSALS: &str = include_str!(concat!(env!("TOWNSHIP_FILES"), "/docs/REFUSALS.md"));
 
 /// An input with its refusal.
 pub struct Example {

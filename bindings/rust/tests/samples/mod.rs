@@ -6,14 +6,12 @@
 use township::Plat;
 
 /// T. 2 N., R. 3 W.; its west and north lines are uneven.
-pub const NOTES: &[u8] = include_bytes!(concat!(env!("CARGO_MANIFEST_DIR"), "/samples/b1.csv"));
+pub const NOTES: &[u8] = include_bytes!(concat!(env!("TOWNSHIP_FILES"), "/samples/b1.csv"));
 
 /// The same township of exact square miles.
-pub const EVEN_NOTES: &[u8] =
-    include_bytes!(concat!(env!("CARGO_MANIFEST_DIR"), "/samples/b0.csv"));
+pub const EVEN_NOTES: &[u8] = include_bytes!(concat!(env!("TOWNSHIP_FILES"), "/samples/b0.csv"));
 
-pub const TRACTS: &[u8] =
-    include_bytes!(concat!(env!("CARGO_MANIFEST_DIR"), "/samples/tracts.csv"));
+pub const TRACTS: &[u8] = include_bytes!(concat!(env!("TOWNSHIP_FILES"), "/samples/tracts.csv"));
 
 pub fn uneven() -> Plat {
     Plat::read(NOTES).expect("the sample makes a plat")
