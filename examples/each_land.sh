@@ -4,13 +4,13 @@
 #     sh examples/each_land.sh NOTES LIST
 #
 # For each line, in the order of the list, it prints the program's exit status, its answer, and the line,
-# separated by tabs. If the program is not on the path as `township`, set TOWNSHIP to its path. If the list
-# cannot be read or the program is not found, the script prints an error on standard error and exits with
-# status 3.
+# separated by tabs. The program is the one that TOWNSHIP names, or `township` on the path, or ./township, as in
+# the repository. If the list cannot be read or the program is not found, the script prints an error on standard
+# error and exits with status 3.
 set -eu
 notes=$1
 list=$2
-program=$(command -v "${TOWNSHIP:-township}") || {
+program=$(command -v "${TOWNSHIP:-township}" || { [ -z "${TOWNSHIP:-}" ] && command -v ./township; }) || {
     echo "each_land.sh: there is no program ${TOWNSHIP:-township}" >&2
     exit 3
 }

@@ -57,6 +57,24 @@ for document in README.md docs/BATCH.md docs/DESCRIPTIONS.md docs/NOTES-FORMAT.m
     commands "$document" "$root/$document"
 done
 
+# In the repository, the program is not on the path. The first commands of docs/BATCH.md work there nevertheless, and say
+# what is missing without a program, or without the one that TOWNSHIP names.
+commands docs/BATCH.md "$docs/BATCH.md"
+path=$work/bin
+mkdir bin
+for tool in cat mktemp rm sh split xargs; do ln -s "$(command -v "$tool")" "bin/$tool"; done
+cp shown/2.out wanted
+(cd folder && PATH=$path && export PATH && sh ../shown/2) > found 2>&1
+same 'examples/each_land.sh with ./township'
+for named in '' none; do
+    echo "each_land.sh: there is no program ${named:-township}" > wanted
+    [ -n "$named" ] || rm folder/township
+    (cd folder && PATH=$path TOWNSHIP=$named sh examples/each_land.sh samples/b1.csv list.txt) > found 2>&1
+    echo "status $?" >> found
+    echo 'status 3' >> wanted
+    same "examples/each_land.sh without a program ${named:-township}"
+done
+
 # The man page is the one that its template and docs/ make, and is well formed. It contains each refusal of
 # docs/REFUSALS.md once, and its examples are run like the documents' commands.
 page=$root/man/township.1
