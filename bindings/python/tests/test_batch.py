@@ -104,10 +104,10 @@ class Faults(BatchCase):
 
     def test_record_that_is_too_wide_keeps_its_fields(self):
         # The fields after the last of the heading are in it, as they would be in a record.
-        data = 'id,description\n7,sec. 14, NE1/4,"a ""b"", c",\n8,sec. 14.\n9,"sec. 14",",",\n'
+        data = 'id,description\n7,sec. 14, NE1/4,"a ""b"", c",\n8,sec. 14.\n9, sec. 14,",", \n'
         rows = self.faults(data)
         self.assertEqual([row[0] for row in rows], [
-            ["7", 'sec. 14, NE1/4,"a ""b"", c",'], ["8", "sec. 14."], ["9", 'sec. 14,",",'],
+            ["7", 'sec. 14, NE1/4,"a ""b"", c",'], ["8", "sec. 14."], ["9", ' sec. 14,",", '],
         ])
         self.assertEqual([row[1] for row in rows], ["", "640.00", ""])
         for row in rows[::2]:
@@ -148,6 +148,9 @@ class Faults(BatchCase):
         rows = self.faults('id,description\n7,"sec. 14."x\n8,sec. 14.\n')
         self.assertEqual(rows[0], (["", '7,"sec. 14."x'], "", "the quotation marks of line 2 are not well formed"))
         self.assertEqual(rows[1], (["8", "sec. 14."], "640.00", ""))
+        # All of the line is kept, with the spaces around it.
+        rows = self.faults('id,description\n 7,"sec. 14."x \n')
+        self.assertEqual(rows[0][0], ["", ' 7,"sec. 14."x '])
 
     def test_quotation_mark_that_is_not_closed(self):
         rows = self.faults('description\nsec. 13.\n"sec. 14.\nsec. 15.\n\nsec. 16.\nsec. 17.\n')

@@ -50,6 +50,14 @@ class Tables(BatchCase):
         self.assertEqual((run.returncode, run.stderr), (0, b""))
         self.assertEqual([row[2] for row in records(run.stdout)[1:]], ["41.23", "40.00", "39.01"])
 
+    def test_names_of_files_are_quoted(self):
+        name = 'T. 2 N., "R. 3 W.".csv'
+        (self.folder / "plats" / "lots.csv").rename(self.folder / "plats" / name)
+        # A record in whose description a quotation mark is not doubled is read by another module.
+        for data in (self.DATA, self.DATA + 'T2N R3W,"sec. 5"x\n'):
+            found, _ = self.answers(data=data, status=int(data != self.DATA))
+            self.assertEqual(found[:2], [("41.23", name), ("40.00", "south.csv")])
+
     def test_two_tables_of_one_township(self):
         self.put(LOTS, "plats/again.csv")
         self.assertEqual(self.answers()[0][0], ("41.23", "again.csv"))

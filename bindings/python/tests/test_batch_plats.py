@@ -73,6 +73,14 @@ class Folders(BatchCase):
                                missing=[*missing, ".. and so for 2 more: 3 records"])
             self.assertEqual(found, ["missing"] * 14 + ["b1.csv"])
 
+    def test_missing_plats_are_counted_in_several_processes(self):
+        # Each process is given some 65,536 characters at a time.
+        listed = self.put("township,description\n" + "T5N R3W,sec. 14.\n" * 15_000)
+        run = self.run_words("batch", "--plats", self.folder / "plats", listed, "--jobs", "2")
+        self.assertEqual(run.returncode, 1)
+        self.assertTrue(run.stderr.endswith(b": 15,000 records\n"), run.stderr)
+        self.assertEqual(run.stderr.count(b"\n"), 1)
+
     def test_missing_plats_are_counted_in_a_resumed_batch(self):
         listed, made = self.put("township,description\n" + "T5N R3W,sec. 14.\n" * 1500), self.folder / "made.csv"
         words = ("batch", "--plats", self.folder / "plats", listed, "--output", made)

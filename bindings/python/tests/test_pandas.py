@@ -158,11 +158,18 @@ class Columns(unittest.TestCase):
         by_table = column.township.overlaps(Lots.read(TABLE))
         self.assertEqual(by_table["acres"].fillna(-1).tolist(), [160.0, 320.0, -1])
 
+    def test_overlaps_of_several_in_one_section(self):
+        # The second one is in the same section, and apart.
+        column = self.pandas.Series(["sec. 14, N1/2.", "sec. 14, S1/2.", "sec. 14, E1/2.", "sec. 14, NE1/4."])
+        found = column.township.overlaps(uneven())
+        self.assertEqual(found[["first", "second", "acres"]].values.tolist(),
+                         [[0, 2, 160.0], [1, 2, 160.0], [0, 3, 160.0], [2, 3, 160.0]])
+
     def test_overlaps_in_several_townships(self):
-        column = self.pandas.Series(["sec. 14."] * 5)
-        plats = self.pandas.Series([uneven(), even(), uneven(), None, even()])
+        column = self.pandas.Series(["sec. 14."] * 6)
+        plats = self.pandas.Series([uneven(), even(), even(), None, uneven(), even()])
         found = column.township.overlaps(plats)
-        self.assertEqual(found[["first", "second"]].values.tolist(), [[0, 2], [1, 4]])
+        self.assertEqual(found[["first", "second"]].values.tolist(), [[1, 2], [0, 4], [1, 5], [2, 5]])
         found = self.pandas.Series(["sec. 14.", "sec. 15."]).township.overlaps(uneven())
         self.assertEqual([str(dtype) for dtype in found.dtypes], ["int64", "int64", "float64", "string"])
         self.assertEqual(len(found), 0)
