@@ -23,20 +23,25 @@ class LotsFullAnswers(FullAnswers):
         super().__init__(byref(plat), descriptions, _library.EXACT, refuse)
         #: The answers to descriptions of land with a lot that the table lacks.
         self._lacking: Dict[int, _library.Answer] = {}
-        refused = set(self.refused)
-        for index in range(len(descriptions)):
-            if index not in refused:
-                self._take(index, acres(self._description(index)))
-        self.refused = sorted([*refused, *self._lacking])
+        self._take_all(acres)
+        self.refused = sorted([*self.refused, *self._lacking])
         self.noted = [index for index in self.noted if index not in self._lacking]
 
-    def _take(self, index: int, answer: _library.Answer) -> None:
-        """Take the answer by the table to a description that is accepted on the plat."""
-        self.hundredths[index] = answer.hundredths
-        if answer.verdict == _library.REFUSED:
-            self._lacking[index] = answer
-        elif answer.verdict != _library.ACCEPTED:
+    def _take_all(self, acres: Ask) -> None:
+        """Take the answer by the table to each description that is accepted on the plat."""
+        given, hundredths, refused = self._bytes, self.hundredths, set(self.refused)
+        for index, (start, stop) in enumerate(zip(self._offsets, self._offsets[1:])):
+            if index not in refused:
+                answer = acres(given[start:stop])
+                hundredths[index] = answer.hundredths
+                if answer.verdict:
+                    self._take_lacking(index, answer)
+
+    def _take_lacking(self, index: int, answer: _library.Answer) -> None:
+        """Take the refusal of land with a lot that the table lacks, or raise the exception for another verdict."""
+        if answer.verdict != _library.REFUSED:
             raise failure_of(answer.verdict)
+        self._lacking[index] = answer
 
     def refusal(self, index: int) -> Refusal:
         """Return the number and location of the refusal of a description."""
