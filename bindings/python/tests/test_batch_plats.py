@@ -49,6 +49,8 @@ class Folders(BatchCase):
             ("2N3W", "`2N3W` is not a township, such as T. 2 N., R. 3 W.: "),
             ("T. 2 N.", "`T. 2 N.` is not a township, such as T. 2 N., R. 3 W.: "),
             ("sec. 5;", "`sec. 5;` is not a township, such as T. 2 N., R. 3 W."),
+            ("T. 2 N., R. 3 W., sec. 14, NE1/4;", "`T. 2 N., R. 3 W., sec. 14, NE1/4;` is not only a township, such as "),
+            ("T. 5 N., R. 3 W., sec. 14;", "`T. 5 N., R. 3 W., sec. 14;` is not only a township, such as "),
             ("T. 0 N., R. 3 W.", "there are no field notes and no lot table for T. 0 N., R. 3 W. in "),
             ("T2N R3W sec. 37;", "there are no field notes and no lot table for T2N R3W sec. 37; in "),
         ):

@@ -40,7 +40,7 @@ class Townships(unittest.TestCase):
         quarters = even().closing_quarters
         for where in ("T. 2 N., R. 3 W.", "T2N R3W", (2, "N", 3, "W"), even().township):
             self.assertEqual(Plat.of_parts(where, quarters), even())
-        for where in ("sec. 14.", "", (100, "N", 3, "W")):
+        for where in ("sec. 14.", "", "T. 2 N., R. 3 W., sec. 14;", "T99S R99E, sec. 14;", (100, "N", 3, "W")):
             with self.assertRaises(ValueError):
                 Plat.of_parts(where, quarters)
 

@@ -1,14 +1,14 @@
 """Reads a township as a description spells it.
 
-The library decides what a spelling means: `SPELLING sec. 36.` is accepted on the plat of that township, and
-is refused with number 61 on every other plat.
+The library decides what a spelling means: `SPELLING sec. 36.` is accepted on the plat of that township as that section
+alone, and is refused with number 61 on every other plat.
 """
 from __future__ import annotations
 
 import functools
 import re
 from ctypes import byref
-from typing import Iterable, Optional, Tuple, Union, cast
+from typing import Iterable, NamedTuple, Optional, Tuple, Union, cast
 
 from . import _library
 from ._refused import DESCRIPTION, Refused, exception_of
@@ -20,6 +20,9 @@ Named = Union[str, Tuple[int, str, int, str]]
 
 #: The number of the refusal of a description whose heading is for another township.
 _OTHER_TOWNSHIP = 61
+
+#: The hundredths of an acre of section 36 alone.
+_SECTION = 64_000
 
 #: What a spelling usually contains. It is only a guess, which the library confirms.
 _USUAL = re.compile(r"([0-9]{1,4})[^0-9]*?([NS])[^0-9]*([0-9]{1,4})[^0-9]*?([EW])", re.IGNORECASE)
@@ -56,9 +59,9 @@ def township_spelled(spelling: str, townships: Iterable[Township]) -> Optional[T
     """
     _check(spelling)
     guess = _guess(spelling)
-    if guess is not None and _answer(spelling, guess) is None:
+    if guess is not None and _is(spelling, guess):
         return guess
-    return next((each for each in townships if _answer(spelling, each) is None), None)
+    return next((each for each in townships if _is(spelling, each)), None)
 
 
 def _check(spelling: str) -> None:
@@ -68,7 +71,7 @@ def _check(spelling: str) -> None:
     """
     if not spelling:
         raise NotTownship("the township is missing")
-    refused = [_answer(spelling, probe) for probe in _PROBES]
+    refused = [_answer(spelling, probe).refused for probe in _PROBES]
     for each in refused:
         if each is not None and each.number != _OTHER_TOWNSHIP:
             raise NotTownship(f"`{spelling}` is not a township, such as T. 2 N., R. 3 W.: {each.sentence}")
@@ -91,16 +94,31 @@ def _guess(spelling: str) -> Optional[Township]:
     return Township(number, sides[0], range_number, sides[1])
 
 
-def _answer(spelling: str, township: Township) -> Optional[Refused]:
-    """Return the refusal of a description that begins with a spelling, on a plat of a township, if any."""
+class _Answer(NamedTuple):
+    """The answer to a description that begins with a spelling."""
+
+    refused: Optional[Refused]
+    hundredths: int
+
+
+def _is(spelling: str, township: Township) -> bool:
+    """Return whether a text is the spelling of a township. Raise `NotTownship` if it names land, too."""
+    answer = _answer(spelling, township)
+    if answer.refused is None and answer.hundredths != _SECTION:
+        raise NotTownship(f"`{spelling}` is not only a township, such as T. 2 N., R. 3 W.: it names land, too")
+    return answer.refused is None
+
+
+def _answer(spelling: str, township: Township) -> _Answer:
+    """Return the answer to a description of section 36 that begins with a spelling, on a plat of a township."""
     # On the nominal plat, as on any other, section 36 has no lots.
     plat = nominal_plat_of(township)
     given = encoded(f"{spelling} sec. 36.")
     answer = _library.acres(byref(plat), given, len(given), _library.EXACT)
     if answer.verdict == _library.ACCEPTED:
-        return None
+        return _Answer(None, answer.hundredths)
     explain = _library.explain_description_parts
     exception = exception_of(answer, explain, byref(plat), given, len(given), source=DESCRIPTION)
     if not isinstance(exception, Refused):
         raise exception
-    return exception
+    return _Answer(exception, 0)
