@@ -125,7 +125,8 @@ class Tables(BatchCase):
         listed = self.put("description\nsec. 14.\n")
         for name, text, status, said in (
             ("lots.csv", LOTS + "5,1,40.00\n", 1, b"lots.csv: record 4 is for a lot that an earlier record is for\n"),
-            ("notes.csv", NOTES.read_text(), 1, b"1 is not the heading of a lot table, `section,lot,acres`\n"),
+            ("notes.csv", NOTES.read_text(), 1, b"`section,lot,acres`\n  this file contains field notes\n"),
+            ("other.csv", "line,between\n", 1, b"1 is not the heading of a lot table, `section,lot,acres`\n"),
             ("none.csv", None, 3, b"none.csv: No such file or directory\n"),
         ):
             if text:
@@ -133,6 +134,12 @@ class Tables(BatchCase):
             run = self.run_words("batch", "--lots", self.folder / name, listed)
             self.assertEqual((run.returncode, run.stdout), (status, b""))
             self.assertTrue(run.stderr.endswith(said), run.stderr)
+
+    def test_table_in_place_of_field_notes(self):
+        run = self.run_words("batch", self.put(LOTS, "lots.csv"), self.put("description\nsec. 14.\n"))
+        self.assertEqual((run.returncode, run.stdout), (1, b""))
+        self.assertIn(b"/lots.csv:1: the heading must be `line,between,and,quarter,corner`", run.stderr)
+        self.assertTrue(run.stderr.endswith(b"\n  this file is a lot table\n"), run.stderr)
 
     def test_command_lines_that_are_not_valid(self):
         table, listed = self.put(LOTS, "lots.csv"), self.put("description\nsec. 14.\n")

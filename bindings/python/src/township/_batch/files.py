@@ -41,12 +41,12 @@ _NEITHER = (
 
 def plat_in(file: str) -> Plat:
     """Return the plat of the field notes in a file, or stop."""
-    return _made_of(Plat.open, file)
+    return _made_of(Plat.open, file, Lots.open, "this file is a lot table")
 
 
 def lots_in(file: str) -> Lots:
     """Return the lot table in a file, or stop."""
-    return _made_of(Lots.open, file)
+    return _made_of(Lots.open, file, Plat.open, "this file contains field notes")
 
 
 def basis_in(file: str) -> Basis:
@@ -87,12 +87,22 @@ def _explained(notes: object, table: object, text: bytes, file: str) -> str:
     return f"township: {shown(file)}:1: {_NEITHER}"
 
 
-def _made_of(make: Callable[[str], _Made], file: str) -> _Made:
+def _made_of(make: Callable[[str], _Made], file: str, make_other: Callable[[str], Basis], other: str) -> _Made:
+    """Return what is made of a file, or stop. If it is the other kind of file, the message says so."""
     with reading(file):
         try:
             return make(file)
         except Refused as refused:
-            raise _stopped(_message(refused)) from refused
+            hint = f"\n  {other}" if _is_made(make_other, file) else ""
+            raise _stopped(_message(refused) + hint) from refused
+
+
+def _is_made(make: Callable[[str], Basis], file: str) -> bool:
+    try:
+        make(file)
+    except Refused:
+        return False
+    return True
 
 
 def _message(refused: Refused) -> str:
