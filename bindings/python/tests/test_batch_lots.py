@@ -93,6 +93,20 @@ class Tables(BatchCase):
                 self.assertEqual(errors.count("township: "), 1)
                 self.assertTrue(errors.encode().startswith(b"township: " + bytes(bad) + said), errors)
 
+    def test_list_and_answers_in_the_folder(self):
+        folder = self.folder / "plats"
+        words = ("batch", "--plats", folder, self.put(self.DATA, "plats/list.csv"), "--output", folder / "answers.csv")
+        for _ in range(2):
+            run = self.run_words(*words)
+            self.assertEqual((run.returncode, run.stderr), (0, b""))
+            self.assertEqual([row[2] for row in records((folder / "answers.csv").read_bytes())[1:]],
+                             ["41.23", "40.00", "39.01"])
+        # Any other list is a mistake.
+        run = self.run_words(*words[:-1], folder / "again.csv")
+        self.assertEqual(run.returncode, 1)
+        said = rb"\Atownship: \S+/answers.csv:1: this is neither field notes nor a lot table[^\n]*\n\Z"
+        self.assertRegex(run.stderr, said)
+
     def test_folder_of_refused_files_alone(self):
         self.put("section\n", "bad/lots.csv")
         run = self.run_words("batch", "--plats", self.folder / "bad", self.put(self.DATA))

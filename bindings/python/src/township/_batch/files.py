@@ -2,7 +2,7 @@
 from __future__ import annotations
 
 import re
-from typing import Callable, Tuple, TypeVar, Union
+from typing import Callable, Optional, Tuple, TypeVar, Union
 
 from .. import _library
 from .._lots import Lots
@@ -39,6 +39,10 @@ _NEITHER = (
 )
 
 
+class Unrecognized(Stopped):
+    """A file is neither field notes nor a lot table, and does not seem to be meant as one."""
+
+
 def plat_in(file: str) -> Plat:
     """Return the plat of the field notes in a file, or stop."""
     return _made_of(Plat.open, file, Lots.open, "this file is a lot table")
@@ -58,7 +62,10 @@ def basis_in(file: str) -> Basis:
     for made in (notes, table):
         if not isinstance(made, Refused):
             return made
-    raise _stopped(_explained(notes, table, text, file))
+    explained = _explained(notes, table, text)
+    if explained is None:
+        raise Unrecognized(f"township: {shown(file)}:1: {_NEITHER}", Status.REFUSED)
+    raise _stopped(explained)
 
 
 def _tried(text: bytes, file: str) -> Tuple[Union[Plat, Refused], Union[Lots, Refused]]:
@@ -77,14 +84,14 @@ def _tried(text: bytes, file: str) -> Tuple[Union[Plat, Refused], Union[Lots, Re
     return notes, table
 
 
-def _explained(notes: object, table: object, text: bytes, file: str) -> str:
-    """Return why a text is neither: the refusal of what it was meant to be, if that can be seen."""
+def _explained(notes: object, table: object, text: bytes) -> Optional[str]:
+    """Return the refusal of what a text was meant to be, if that can be seen."""
     is_notes = isinstance(notes, Refused) and (notes.number not in _NOT_NOTES or _MEANT_AS_NOTES.match(text))
     is_table = isinstance(table, Refused) and (table.number not in _NOT_LOTS or _MEANT_AS_LOTS.match(text))
     for meant, refused in ((is_notes, notes), (is_table, table)):
         if meant and isinstance(refused, Refused):
             return _message(refused)
-    return f"township: {shown(file)}:1: {_NEITHER}"
+    return None
 
 
 def _made_of(make: Callable[[str], _Made], file: str, make_other: Callable[[str], Basis], other: str) -> _Made:

@@ -3,12 +3,12 @@ from __future__ import annotations
 
 import os
 from dataclasses import dataclass, field
-from typing import Dict, List, NamedTuple, Union
+from typing import Dict, List, NamedTuple, Sequence, Union
 
 from .._lots import Lots
 from .._text import shown
 from .._township import Township
-from .files import Basis, basis_in
+from .files import Basis, Unrecognized, basis_in
 from .stopped import Status, Stopped, reading
 
 _SUFFIX = ".csv"
@@ -59,16 +59,18 @@ Townships = Dict[Township, PlatFiles]
 class Folder:
     """The field notes and lot tables of a folder (`.csv`). A township can have both.
 
-    The folders inside it are for principal meridians, whose names they have.
+    The folders inside it are for principal meridians, whose names they have. The list, and earlier answers, may be in
+    the folder, too.
     """
 
-    def __init__(self, name: str) -> None:
+    def __init__(self, name: str, others: Sequence[str] = ()) -> None:
         self.name = name
+        self._others = others
         #: The townships on each meridian, by its key.
         self.meridians: Dict[str, Townships] = {}
         #: The explanations of the files that are refused.
         self.refused: List[str] = []
-        #: All files that were read.
+        #: The files of field notes and lot tables, also those that are refused.
         self.files: List[str] = []
         with reading(name):
             self._read(name, NO_MERIDIAN)
@@ -88,17 +90,26 @@ class Folder:
 
     def _read_file(self, path: str, meridian: str) -> None:
         """Read a file. One that is refused does not stop the others."""
-        self.files.append(path)
         try:
             by = basis_in(path)
+        except Unrecognized as unrecognized:
+            if not self._is_other(path):
+                self.refused.append(str(unrecognized))
+            return
         except Stopped as stopped:
             if stopped.status != Status.REFUSED:
                 raise
+            self.files.append(path)
             self.refused.append(str(stopped))
             return
+        self.files.append(path)
         townships = self.meridians.setdefault(meridian, {})
         files = townships.setdefault(by.township, PlatFiles(by.township))
         files.add(PlatFile(path, shown(os.path.relpath(path, self.name)), by))
+
+    def _is_other(self, path: str) -> bool:
+        """Return whether a file is the list, or the output."""
+        return any(os.path.exists(other) and os.path.samefile(other, path) for other in self._others)
 
 
 def meridian_key(name: str) -> str:

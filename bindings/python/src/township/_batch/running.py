@@ -62,7 +62,8 @@ class _Plats:
             self._one = plat_in(options.notes)
         elif options.lots is not None:
             self._one = lots_in(options.lots)
-        self._folder = Folder(options.plats) if options.plats is not None else None
+        others = list(filter(None, [options.list, options.output]))
+        self._folder = Folder(options.plats, others) if options.plats is not None else None
 
     @property
     def files(self) -> List[str]:
