@@ -292,6 +292,12 @@ def test_overlaps_have_their_land(server: Interface) -> None:
     assert [each.get("overlaps") for each in answer["tracts"]] == [True, None, True, False]
 
 
+def test_a_long_name_is_cut_visibly(server: Interface) -> None:
+    tracts = [{"name": name, "description": "sec. 14."} for name in ("The heirs of Jeremiah Johnson and his wife", "A")]
+    labels = [server.ask("report", **NOMINAL, tracts=tracts, selected=k, draw=True)["svg"] for k in (0, 1)]
+    assert 'data-label="Tract The heirs of Jeremiah Johnson a .."' in labels[0] and 'data-label="Tract A"' in labels[1]
+
+
 def test_all_overlapping_tracts_are_marked(server: Interface) -> None:
     """More pairs overlap than are named, and each of the tracts is marked."""
     tracts = [{"name": "A", "description": "sec. 14."}] * 60

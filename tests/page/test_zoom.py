@@ -65,3 +65,30 @@ def test_a_wheel_scrolls_the_page_where_all_of_the_drawing_is_in_view(page: Page
         )
 
     assert [takes(by) for by in (100, -100, 100, 100, 100)] == [False, True, True, False, False]
+
+
+#: The boxes of the names of tracts that are shown: left, top, right, and bottom.
+NAMES = """
+return [...document.querySelectorAll('#drawing .names text')].map((each) => each.getBoundingClientRect())
+  .filter(({ width }) => width > 0).map(({ left, top, right, bottom }) => [left, top, right, bottom]);
+"""
+
+
+def test_names_of_tracts_do_not_cover_each_other(page: Page) -> None:
+    """Of tracts that are closer together than the lines of a text, some have no name until the drawing is enlarged."""
+    steps = ("NW1/4", "SW1/4")
+    parts = ["".join(steps[row >> step & 1] for step in range(4)) for row in range(16)]
+    page.tab("tracts")
+    page.put("#tracts", "".join(f'Tract {row},"sec. 14, {part}."\n' for row, part in enumerate(parts)))
+    page.wait_for_text("#tracts-answer", "16 tracts")
+    shown = []
+    for _ in range(5):
+        names = page.driver.execute_script(NAMES)
+        shown.append(len(names))
+        for place, (left, top, right, bottom) in enumerate(names):
+            for other in names[:place]:
+                # Letters leave room for those of other languages above and below.
+                apart = max(left - other[2], other[0] - right, top - other[3], other[1] - bottom)
+                assert apart > -0.35 * (bottom - top), (names, shown)
+        page.one("#zoom-in").click()
+    assert 1 < shown[0] < 16 and shown[0] < max(shown)

@@ -184,5 +184,7 @@ def _shown(
     if shared:
         yield "In several tracts", shared
     if chosen is not None and chosen.land is not None:
-        name = f"Tract {chosen.listed.name}"[:_LABEL_MOST]
+        name = f"Tract {chosen.listed.name}"
+        if len(name) > _LABEL_MOST:
+            name = f"{name[: _LABEL_MOST - 3].rstrip()} .."
         yield f"{name}, {DOUBTFUL}" if selected in doubts else name, chosen.land
