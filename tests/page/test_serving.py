@@ -172,6 +172,44 @@ def test_addresses() -> None:
     assert reached_at("0.0.0.0") not in ("", "0.0.0.0") and reached_at("::") not in ("", "::")
 
 
+class Probe:
+    """A socket of a computer that has one address, or is connected to nothing."""
+
+    def __init__(self, address: str) -> None:
+        self.address = address
+
+    def __enter__(self) -> "Probe":
+        return self
+
+    def __exit__(self, *_: object) -> None:
+        pass
+
+    def connect(self, _: object) -> None:
+        if not self.address:
+            raise OSError
+
+    def getsockname(self) -> "tuple[str, int]":
+        return self.address, 1
+
+
+@pytest.mark.parametrize(
+    "listening, own, shown",
+    [
+        ("0.0.0.0", "192.168.1.5", "192.168.1.5"),
+        ("::", "2001:db8::5", "2001:db8::5"),
+        ("0.0.0.0", "", "127.0.0.1"),
+        ("::", "", "::1"),
+        ("127.0.0.2", "192.168.1.5", "127.0.0.2"),
+    ],
+)
+def test_the_address_for_others(monkeypatch: pytest.MonkeyPatch, listening: str, own: str, shown: str) -> None:
+    """It is the one by which others reach this computer, if it is connected to any."""
+    from township._web import reached
+
+    monkeypatch.setattr(reached.socket, "socket", lambda *_: Probe(own))
+    assert reached.reached_at(listening) == shown
+
+
 def test_a_port_in_use(server: Interface) -> None:
     run = serve("--port", str(server.port))
     assert run.returncode == 3

@@ -99,6 +99,15 @@ def test_what_is_packed(office: Interface) -> None:
         assert gzip.decompress(reply.body) == plain.body
 
 
+def test_how_hard_something_is_packed(office: Interface) -> None:
+    """Files, which are packed once, as hard as possible; and short answers not at all."""
+    for path in ("/", "/static/main.js", "/static/page.css"):
+        packed = office.send("GET", path, Accept_Encoding="gzip").body
+        assert len(packed) <= len(gzip.compress(gzip.decompress(packed), 9))
+    reply = office.post("land", LAND, Accept_Encoding="gzip")
+    assert "content-encoding" not in reply.headers and reply.json["acres"]["exact"] == "160.00"
+
+
 def test_clients_that_take_nothing_packed(office: Interface) -> None:
     for wanted in ("identity", "gzip;q=0", "br"):
         reply = office.send("GET", "/", Accept_Encoding=wanted)
