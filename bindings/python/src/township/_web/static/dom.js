@@ -24,7 +24,7 @@ export function painted() {
   return new Promise((done) => {
     // What is changed before the first of these two calls is in the frame between them.
     requestAnimationFrame(() => requestAnimationFrame(done));
-    setTimeout(done, 200);
+    setTimeout(done, 1_000);
   });
 }
 
