@@ -1,6 +1,7 @@
 """Requests that take long, or never end: nobody waits for them, and they are answered in time."""
 from __future__ import annotations
 
+import functools
 import json
 import os
 import signal
@@ -9,7 +10,7 @@ import sys
 import threading
 import time
 from pathlib import Path
-from typing import List, Tuple
+from typing import IO, Dict, List, Tuple
 
 import pytest
 
@@ -149,13 +150,20 @@ def test_nothing_is_left_of_a_server_that_is_killed(tmp_path: Path) -> None:
             assert not left
 
 
+def interruptible(command: List[str], file: IO[bytes], environment: Dict[str, str]) -> "subprocess.Popen[bytes]":
+    """Start a server in a session of its own, which heeds Ctrl-C even if the tests run in the background, where it is
+    ignored."""
+    heed = functools.partial(signal.signal, signal.SIGINT, signal.SIG_DFL)
+    return subprocess.Popen(command, stderr=file, env=environment, start_new_session=True, preexec_fn=heed)
+
+
 @pytest.mark.parametrize("delay", [0, 0.005, 0.01, 0.02, 0.04, 0.08])
 def test_ctrl_c_at_once(tmp_path: Path, delay: float) -> None:
     """It ends the server with status 0, and without a word, also while its processes begin."""
     command = [sys.executable, "-m", "township", "serve", "--port", "0"]
     environment = {**os.environ, "PYTHONPATH": os.environ.get("PYTHONPATH", str(TOP / "bindings" / "python" / "src"))}
     said = tmp_path / "said"
-    with said.open("wb") as file, subprocess.Popen(command, stderr=file, env=environment, start_new_session=True) as run:
+    with said.open("wb") as file, interruptible(command, file, environment) as run:
         try:
             port_in(said)
             time.sleep(delay)
@@ -171,7 +179,7 @@ def test_ctrl_c(tmp_path: Path) -> None:
     command = [sys.executable, str(Path(__file__).with_name("slow.py")), "serve", "--port", "0"]
     environment = {**os.environ, "PYTHONPATH": os.environ.get("PYTHONPATH", str(TOP / "bindings" / "python" / "src"))}
     said = tmp_path / "said"
-    with said.open("wb") as file, subprocess.Popen(command, stderr=file, env=environment, start_new_session=True) as run:
+    with said.open("wb") as file, interruptible(command, file, environment) as run:
         try:
             server = Interface(port_in(said), run.pid, said)
             with connected(server) as client:
