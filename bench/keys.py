@@ -10,16 +10,19 @@ from typing import Any, List
 from selenium import webdriver
 from selenium.webdriver.chrome.service import Service
 
-#: A description that is typed, of which each key gives another drawing, and the keys before that don't count.
+#: A description, the letter in it that each key replaces, so that each key gives another drawing, and how many keys there
+#: are, of which the first don't count.
 TYPED = "sec. 14, NE1/4; sec. 15, NE1/4, NW1/4; sec. 5, lots 1 and 2, S1/2NE1/4."
+PLACE = TYPED.index("NW1/4")
+KEYS = 60
 WARMING = 10
 
 #: The most milliseconds at the median.
 MEDIAN_MOST = 150
 
-#: Types a character, and waits for the first frame after the drawing was replaced.
+#: Types a text in place of what is between two places, and waits for the first frame after the drawing was replaced.
 KEY = """
-const [character, done] = arguments;
+const [start, end, text, done] = arguments;
 const area = document.querySelector('#description');
 const begun = performance.now();
 const seen = new MutationObserver(() => {
@@ -28,7 +31,8 @@ const seen = new MutationObserver(() => {
 });
 seen.observe(document.querySelector('#drawing'), { childList: true });
 area.focus();
-document.execCommand('insertText', false, character);
+area.setSelectionRange(start, end);
+document.execCommand('insertText', false, text);
 """
 
 
@@ -51,7 +55,9 @@ def main() -> None:
             "const done = arguments[0]; const wait = () => document.querySelector('#drawing svg') ? done() : setTimeout(wait, 50); wait()"
         )
         driver.find_element("css selector", "#tab-land").click()
-        times: List[float] = [driver.execute_async_script(KEY, character) for character in TYPED]
+        driver.execute_async_script(KEY, 0, 0, TYPED)
+        letters = ("SN"[key % 2] for key in range(KEYS))
+        times: List[float] = [driver.execute_async_script(KEY, PLACE, PLACE + 1, letter) for letter in letters]
     finally:
         driver.quit()
     kept = sorted(times[WARMING:])
