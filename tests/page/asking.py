@@ -7,6 +7,11 @@ import os
 from pathlib import Path
 from typing import Any, Dict, List, NamedTuple, Optional
 
+SAMPLES = Path(__file__).resolve().parents[2] / "samples"
+#: The field notes of a township with uneven lines.
+SAMPLE = SAMPLES / "b1.csv"
+NOTES = SAMPLE.read_text()
+
 #: A township in which all lines are regular.
 NOMINAL = {"township": "T. 2 N., R. 3 W."}
 

@@ -6,7 +6,7 @@ import time
 from pathlib import Path
 from typing import Any, Callable, List
 
-from asking import Interface
+from asking import SAMPLE, Interface
 
 #: The seconds that an answer may take. It takes some milliseconds; a machine that builds packages at the same time takes
 #: many times as long. Times that users notice are tested in test_times.py.
@@ -42,6 +42,11 @@ class Page:
     def wait_for_start(self) -> None:
         """Wait until the page that is loaded shows all of its answers."""
         self.wait_for(lambda: self.all("#work[aria-busy=false]"))
+
+    def open_sample(self) -> None:
+        """Open the sample's field notes from their file, in the panel of the plat."""
+        self.one("#open-notes").send_keys(str(SAMPLE))
+        self.wait_for_text("#plat-answer", "23,037.57")
 
     def settle(self) -> None:
         """Wait until all answers are shown."""

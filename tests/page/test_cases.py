@@ -9,11 +9,9 @@ from typing import Iterator
 import pytest
 import township
 
+from asking import SAMPLE
 from casework import choose, describe, link_in, listed, loaded, manage, name_of_case
 from page import Page
-
-TOP = Path(__file__).resolve().parents[2]
-NOTES = TOP / "samples" / "b1.csv"
 
 
 def link_of(**values: object) -> str:
@@ -45,7 +43,7 @@ def test_names_of_cases_that_turn_the_text_round(page: Page) -> None:
 
 
 def test_a_case_is_saved_to_a_file_and_opened_from_it(page: Page, tmp_path: Path) -> None:
-    page.one("#open-notes").send_keys(str(NOTES))
+    page.one("#open-notes").send_keys(str(SAMPLE))
     page.wait_for_text("#plat-answer", "23,037.57")
     page.put("#lots-text", "section,lot,acres\nT,2,N,3,W\n5,1,40.45\n")
     page.tab("compare")
@@ -142,7 +140,7 @@ def test_times_are_those_of_the_user(page: Page) -> None:
 
 
 def test_a_link_carries_the_case(page: Page) -> None:
-    page.one("#open-notes").send_keys(str(NOTES))
+    page.one("#open-notes").send_keys(str(SAMPLE))
     page.wait_for_text("#plat-answer", "23,037.57")
     page.tab("tracts")
     page.put("#tracts", "A,sec. 1.\n")
@@ -159,7 +157,7 @@ def test_a_link_carries_the_case(page: Page) -> None:
     page.open(f"#{link}")
     page.wait_for_text("#land-answer", "Refused")
     assert page.value("#description") == "sec. 7, lots 1 to 4 ½." and page.value("#tracts") == "A,sec. 1.\n"
-    assert township.Plat.read(page.value("#notes")) == township.Plat.open(NOTES) and name_of_case(page) == "Smith"
+    assert township.Plat.read(page.value("#notes")) == township.Plat.open(SAMPLE) and name_of_case(page) == "Smith"
 
 
 def test_a_case_that_is_too_large_for_a_link(page: Page) -> None:

@@ -3,7 +3,6 @@ from __future__ import annotations
 
 import base64
 import json
-import random
 import re
 import xml.etree.ElementTree as ET
 from decimal import Decimal
@@ -12,10 +11,9 @@ from pathlib import Path
 import pytest
 import township
 
-from asking import NOMINAL, Interface
+from asking import NOMINAL, NOTES, Interface
 
-TOP = Path(__file__).resolve().parents[2]
-NOTES = (TOP / "samples" / "b1.csv").read_text()
+DOCUMENTS = Path(__file__).resolve().parents[2] / "docs"
 PLAT = township.Plat.read(NOTES)
 DESCRIPTIONS = ["sec. 5, lots 1 and 2, S1/2NE1/4.", "sec. 7, lots 1 to 4, inclusive.", "secs. 1 to 36, all."]
 
@@ -154,7 +152,8 @@ def test_suggest_says_of_a_manner_what_it_is(server: Interface) -> None:
 
 
 def test_suggest_nothing(server: Interface) -> None:
-    nothing = {"readings": [], "reason": None, "start": None, "end": None}
+    unread = {"start": 4, "end": 12, "ways": None, "sentence": "not understood: `old mill`"}
+    nothing = {"readings": [], "reason": None, "start": None, "end": None, "unread": [unread]}
     assert server.ask("suggest", **NOMINAL, text="the old mill") == nothing
     assert "the field `text` is missing" in server.post("suggest", json.dumps(NOMINAL).encode()).json["error"]
 
@@ -177,147 +176,15 @@ def test_words_that_are_not_understood(server: Interface, text: str, wanted: "st
     assert (answer["readings"] == []) is (text != "sec. 5, N1/2")
 
 
-def test_report(server: Interface) -> None:
-    tracts = [{"name": "A", "description": "sec. 7, lot 1."}, {"name": "B", "description": "sec. 7, lot 4."}]
-    answer = server.ask("report", notes=NOTES, tracts=tracts)
-    report = PLAT.report([("A", "sec. 7, lot 1."), ("B", "sec. 7, lot 4.")])
-    assert [each["acres"]["exact"] for each in answer["tracts"]] == [str(each.acres) for each in report.tracts]
-    assert answer["total"]["acres"]["exact"] == str(report.total) == "78.20"
-    assert answer["remaining"]["acres"]["exact"] == str(report.remaining)
-    assert (answer["refused"], answer["overlapping"]) == (0, 0)
-
-
-def test_report_goes_on_after_refusals_and_overlaps(server: Interface) -> None:
-    descriptions = ["sec. 14, N1/2.", "sec. 14, E1/2.", "sec. 5, N1/2.", "sec. 15.", "sec. 14, NE1/4NE1/4."]
-    tracts = [{"name": str(k), "description": each} for k, each in enumerate(descriptions)]
-    answer = server.ask("report", **NOMINAL, tracts=tracts)
-    assert [each.get("acres", {}).get("exact") for each in answer["tracts"]] == ["320.00", "320.00", None, "640.00", "40.00"]
-    assert answer["tracts"][2]["refused"]["number"] == 66
-    # 0 and 1 share the NE1/4, in which 4 lies.
-    assert [(each["first"], each["second"]) for each in answer["overlaps"]] == [(0, 1), (0, 4), (1, 4)]
-    # Three quarters of section 14, and section 15.
-    assert answer["total"]["acres"]["exact"] == "1120.00"
-    assert answer["remaining"]["acres"]["exact"] == "21920.00"
-
-
-#: A description with two doubtful places, of 2.5 and of 40 acres, and those places.
-DOUBTFUL = "sec. 14: NE¼NE¼ SW¼SW¼;\nsec. 15, NE1/4 SE1/4."
-PLACES = [("SW¼SW¼", 1, 17), ("SE1/4", 2, 16)]
-
-
-def places_of(notes: "list[dict]", text: str) -> "list[tuple]":
-    return [(text[note["start"] : note["end"]], note["line"], note["column"]) for note in notes]
-
-
-def test_each_doubtful_place_has_a_note(server: Interface) -> None:
-    """Wherever a description is answered, and not only at its first doubtful place."""
-    land = server.ask("land", **NOMINAL, description=DOUBTFUL, draw=True)
-    assert land["acres"]["exact"] == "42.50" and places_of(land["notes"], DOUBTFUL) == PLACES
-    assert "can be read in two ways" in land["svg"]
-    compared = server.ask("compare", **NOMINAL, first="sec. 14.", second=DOUBTFUL)["notes"]
-    assert compared["first"] == [] and places_of(compared["second"], DOUBTFUL) == PLACES
-    tracts = [{"name": "A", "description": DOUBTFUL}, {"name": "B", "description": "sec. 16."}]
-    first, second = server.ask("report", **NOMINAL, tracts=tracts)["tracts"]
-    assert places_of(first["notes"], DOUBTFUL) == PLACES and second["notes"] == []
-    assert "if two parts were meant" in first["notes"][0]["sentence"]
-    batch = server.ask("batch", **NOMINAL, descriptions=["sec. 14.", DOUBTFUL])["notes"]
-    assert places_of(batch, DOUBTFUL) == PLACES and [note["index"] for note in batch] == [1, 1]
-    assert batch[0]["sentence"] == PLAT.notes(DOUBTFUL)[0].sentence
-    # A lot table changes nothing about it.
-    table = "section,lot,acres\nT,2,N,3,W\n5,1,40.45\n"
-    assert server.ask("batch", lots=table, descriptions=["sec. 14.", DOUBTFUL])["notes"] == batch
-
-
-def test_parts_of_both_are_doubtful_too(server: Interface) -> None:
-    text = "sec. 14, E1/2 of NE1/4 and SE1/4, NE1/4 SW1/4."
-    notes = server.ask("land", **NOMINAL, description=text)["notes"]
-    assert [place for place, _, _ in places_of(notes, text)] == ["E1/2 of NE1/4 and SE1/4", "SW1/4"]
-
-
-def test_many_doubtful_places(server: Interface) -> None:
-    text = "; ".join(f"sec. {section}, NE1/4SE1/4 SE1/4, SE1/4SE1/4 SE1/4" for section in range(1, 37))
-    notes = server.ask("land", **NOMINAL, description=text)["notes"]
-    assert len(notes) == 64 and notes[-1]["sentence"].endswith("; 8 more such places")
-
-
-def test_many_doubtful_places_of_a_batch_and_of_a_list(server: Interface) -> None:
-    """After 1,000 places, each description has only its first note, which says how many more there are."""
-    text = "sec. 14, NE1/4 SE1/4, NW1/4 SW1/4."
-    batch = server.ask("batch", **NOMINAL, descriptions=[text] * 502)["notes"]
-    assert [note["index"] for note in batch] == [*(index for index in range(500) for _ in range(2)), 500, 501]
-    assert {(note["start"], note["end"]) for note in batch} == {(15, 20), (28, 33)}
-    assert [note["sentence"].endswith("1 more such place") for note in batch[-3:]] == [False, True, True]
-    tracts = server.ask("report", **NOMINAL, tracts=[{"name": "A", "description": text}] * 502)["tracts"]
-    assert [len(each["notes"]) for each in tracts] == [2] * 500 + [1] * 2
-    assert "1 more such place" in tracts[-1]["notes"][0]["sentence"]
-
-
-def test_doubtful_places_of_a_long_description(server: Interface) -> None:
-    """Fewer are looked for, so that the answer does not take long, and the last note says how many more there are."""
-    text = f"sec. 14, NE1/4 SE1/4, NW1/4 SW1/4;{' ' * 50_000}sec. 15, NE1/4 SE1/4, NW1/4 SW1/4, SE1/4 NE1/4, SW1/4 NW1/4."
-    notes = server.ask("land", **NOMINAL, description=text)["notes"]
-    # 262,144 bytes are 5 times this text.
-    assert len(notes) == 5 and notes[-1]["sentence"].endswith("; 1 more such place")
-
-
-#: Lists, and the descriptions in them as they are written: `None` if a record has a fault.
-WRITTEN = [
-    ('A,"sec. 14, NE1/4."\r\n\r\nÑ½,sec. 15.', ['"sec. 14, NE1/4."', "sec. 15."]),
-    ('\ufeffsep=;\nname;description;x\n"A\n;1";"sec. 14;""";y\nB;;\n', ['"sec. 14;"""', ""]),
-    ("A\tsec. 14.\rB\tsec. 15.\r", ["sec. 14.", "sec. 15."]),
-    ("sec. 14.\nsec. 15, NE1/4.\nsec. 16.", ["sec. 14.", None, "sec. 16."]),
-    ('description\n"sec. 14.\nsec. 15.\n', [None, "sec. 15."]),
-]
-
-
-@pytest.mark.parametrize("text, wanted", WRITTEN)
-def test_descriptions_have_their_places_in_a_list(server: Interface, text: str, wanted: "list[str | None]") -> None:
-    tracts = server.ask("report", **NOMINAL, list=text)["tracts"]
-    places = [(each.get("start"), each.get("end")) for each in tracts]
-    assert [None if start is None else text[start:end] for start, end in places] == wanted
-    assert [("fault" in each) for each in tracts] == [each is None for each in wanted]
-
-
-def test_records_have_no_places(server: Interface) -> None:
-    [tract] = server.ask("report", **NOMINAL, tracts=[{"name": "A", "description": "sec. 14."}])["tracts"]
-    assert tract["line"] is None and "start" not in tract and "end" not in tract
-
-
-def test_overlaps_have_their_land(server: Interface) -> None:
-    tracts = [{"name": str(k), "description": each} for k, each in enumerate(["sec. 14, N1/2.", "x", "sec. 14, E1/2.", "sec. 1."])]
-    answer = server.ask("report", **NOMINAL, tracts=tracts)
-    [overlap] = answer["overlaps"]
-    assert (overlap["first"], overlap["second"], overlap["acres"]["exact"]) == (0, 2, "160.00")
-    assert overlap["canonical"].endswith("sec. 14, NE1/4.\n")
-    assert [each.get("overlaps") for each in answer["tracts"]] == [True, None, True, False]
-
-
-def test_a_long_name_is_cut_visibly(server: Interface) -> None:
-    tracts = [{"name": name, "description": "sec. 14."} for name in ("The heirs of Jeremiah Johnson and his wife", "A")]
-    labels = [server.ask("report", **NOMINAL, tracts=tracts, selected=k, draw=True)["svg"] for k in (0, 1)]
-    assert 'data-label="Tract The heirs of Jeremiah Johnson a .."' in labels[0] and 'data-label="Tract A"' in labels[1]
-
-
-def test_all_overlapping_tracts_are_marked(server: Interface) -> None:
-    """More pairs overlap than are named, and each of the tracts is marked."""
-    tracts = [{"name": "A", "description": "sec. 14."}] * 60
-    answer = server.ask("report", **NOMINAL, tracts=tracts)
-    assert (answer["overlapping"], len(answer["overlaps"])) == (1770, 1000)
-    assert all(each["overlaps"] for each in answer["tracts"])
-
-
-def test_report_on_a_list_as_it_is_written(server: Interface) -> None:
-    """The records are those of `batch`; what is wrong with a record has its line, and is never read as other land."""
-    listed = 'name;description;more\r\nA;"sec. 7, lot 1.";x\r\n\r\nB;sec. 7; lot 4.;y\r\n'
-    answer = server.ask("report", notes=NOTES, list=listed)
-    found = [(each["name"], each["line"], each.get("acres", {}).get("exact")) for each in answer["tracts"]]
-    assert found == [("A", 2, "39.18"), ("B", 4, None)] and answer["refused"] == 1
-    assert answer["tracts"][1]["fault"].startswith("line 4 has 4 fields, but the heading has 3; put a description")
-    assert answer["total"]["acres"]["exact"] == "39.18"
-    both = json.dumps({**NOMINAL, "list": "", "tracts": []}).encode()
-    assert server.post("report", both).json == {"error": "give either `tracts` (records) or `list` (a text)"}
-    many = json.dumps({**NOMINAL, "list": "sec. 14.\n" * 1001}).encode()
-    assert server.post("report", many).json == {"error": "the list has more than 1,000 tracts"}
+def test_unread(server: Interface) -> None:
+    """Each run of unread words has a place in code points, and so has a phrase that can be read in two ways."""
+    answer = server.ask("suggest", **NOMINAL, text="½ bläh\nblip Sec. 14 blop")
+    assert [(each["start"], each["end"], each["ways"]) for each in answer["unread"]] == [
+        (0, 6, None), (7, 11, None), (20, 24, None)
+    ]
+    [_, phrase] = server.ask("suggest", **NOMINAL, text="S2, 12, T2N R3W")["unread"]
+    assert phrase["sentence"] == "`S2` can be read in two ways: a section, or a half"
+    assert server.ask("suggest", **NOMINAL, text="NENE Sec 14")["unread"] == []
 
 
 @pytest.mark.parametrize("encoding", ["utf-8", "utf-8-sig", "utf-16", "utf-16-be", "cp1252"])
@@ -414,32 +281,11 @@ def _resolved(described: dict, schema: dict) -> dict:
     return described["components"]["schemas"][name.rpartition("/")[2]] if name else schema
 
 
-def test_overlaps_are_those_of_the_library(server: Interface) -> None:
-    """Which tracts overlap is found by their places: the library finds the same pairs, with the same acreage."""
-    random.seed(36)
-    lands = ["all", "N1/2", "S1/2NE1/4", "SE1/4SE1/4", "NE1/4NE1/4SW1/4"]
-    for count in (0, 1, 2, 12, 60):
-        texts = []
-        for _ in range(count):
-            sections = sorted(random.sample(range(8, 14), random.randrange(1, 4)))
-            texts.append("; ".join(f"sec. {section}, {random.choice(lands)}" for section in sections))
-        # Some are refused, and some are the same.
-        texts += ["sec. 8, N1/3", *texts[:3]]
-        tracts = [(f"Tract {index}", text) for index, text in enumerate(texts)]
-        answer = server.ask("report", notes=NOTES, tracts=[{"name": name, "description": text} for name, text in tracts])
-        expected = PLAT.overlaps(tracts)
-        found = [(each["first"], each["second"], Decimal(each["acres"]["exact"])) for each in answer["overlaps"]]
-        assert found == [(each.first, each.second, each.acres) for each in expected][:1000]
-        assert answer["overlapping"] == len(expected)
-        named = {index for each in expected for index in (each.first, each.second)}
-        assert named == {index for index, tract in enumerate(answer["tracts"]) if tract.get("overlaps")}
-
-
 def test_the_document(server: Interface) -> None:
     """docs/HTTP.md names each route, its example works, and its limits are those of the code."""
     from township._web import app, limits
 
-    text = (TOP / "docs" / "HTTP.md").read_text()
+    text = (DOCUMENTS / "HTTP.md").read_text()
     assert {f"`{app.PREFIX}{name}`" for name in app.ANSWERS} == set(re.findall(r"^\| (`/api/v1/[a-z]+`) \|", text, re.MULTILINE))
     rows = dict(re.findall(r"^\| ([a-z ]+) \| ([0-9,]+)", text[text.index("## Limits") :], re.MULTILINE))
     assert {name: int(number.replace(",", "")) for name, number in rows.items()} == {
@@ -458,6 +304,6 @@ def test_the_document(server: Interface) -> None:
     assert f"longer than {limits.IN_MEMORY >> 10} KiB in temporary files" in told
     assert f"exceed {limits.HEAD_MOST >> 10} KiB" in told and f"do nothing for {limits.IDLE_MOST} seconds" in told
     assert f"and {limits.IDLE_MOST} seconds without a byte" in told
-    assert f"more than {limits.SMALL_MOST >> 10} KiB" in " ".join((TOP / "docs" / "SERVING.md").read_text().split())
+    assert f"more than {limits.SMALL_MOST >> 10} KiB" in " ".join((DOCUMENTS / "SERVING.md").read_text().split())
     [command] = re.findall(r"curl -s http://127.0.0.1:8036(\S+) .*?-d '(.*?)'", text, re.DOTALL)
     assert server.post(command[0].rpartition("/")[2], command[1].encode()).json["acres"]["exact"] == "160.00"

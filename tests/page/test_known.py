@@ -5,7 +5,6 @@ import json
 import random
 import re
 import tracemalloc
-from pathlib import Path
 from typing import Any, Dict, List
 
 from township import Township
@@ -13,8 +12,8 @@ from township._drawing import tracts_drawn
 from township._web import known
 from township._web.tracts import report_answer
 
-NOTES = (Path(__file__).resolve().parents[2] / "samples" / "b1.csv").read_text()
-NOMINAL = {"township": "T. 2 N., R. 3 W."}
+from asking import NOMINAL, NOTES
+
 HERE = Township(2, "N", 3, "W")
 CORNERS = ("NE1/4", "NW1/4", "SW1/4", "SE1/4")
 PARTS = ["".join(CORNERS[k >> 2 * step & 3] for step in range(5)) for k in range(1024)]

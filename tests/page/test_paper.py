@@ -3,14 +3,11 @@ from __future__ import annotations
 
 import base64
 import re
-from pathlib import Path
 from typing import Iterator, List
 
 import pytest
 
 from page import Page
-
-TOP = Path(__file__).resolve().parents[2]
 
 #: Pixels of a millimeter, of which 25.4 are an inch of 96 pixels, and of 6 points, of which 72 are an inch.
 MILLIMETER = 96 / 25.4
@@ -28,8 +25,7 @@ return [...document.querySelectorAll('#printed svg text')].filter((each) => each
 @pytest.fixture
 def paper(page: Page) -> Iterator[Page]:
     """The page, whose media tests change to paper."""
-    page.one("#open-notes").send_keys(str(TOP / "samples" / "b1.csv"))
-    page.wait_for_text("#plat-answer", "23,037.57")
+    page.open_sample()
     try:
         yield page
     finally:

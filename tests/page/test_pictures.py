@@ -13,7 +13,6 @@ import pytest
 
 from page import Page
 
-TOP = Path(__file__).resolve().parents[2]
 PICTURES = Path(__file__).parent / "pictures"
 
 #: The windows, each with the size of the kept pictures of it.
@@ -23,11 +22,6 @@ WINDOWS = {"": ((1200, 960), (400, 320)), "phone-": ((390, 844), (195, 422))}
 #: Fonts are drawn a little differently by other versions of the browser.
 MEAN_MOST = 3.0
 THOUSANDTHS_MOST = 8
-
-
-def open_sample(page: Page) -> None:
-    page.one("#open-notes").send_keys(str(TOP / "samples" / "b1.csv"))
-    page.wait_for_text("#plat-answer", "23,037.57")
 
 
 def the_plat(page: Page) -> None:
@@ -114,7 +108,7 @@ def window(page: Page, size: str) -> Iterator[Page]:
     metrics = {"width": width, "height": height, "deviceScaleFactor": 1, "mobile": False}
     page.driver.execute_cdp_cmd("Emulation.setDeviceMetricsOverride", metrics)
     try:
-        open_sample(page)
+        page.open_sample()
         yield page
     finally:
         page.driver.execute_cdp_cmd("Emulation.setEmulatedMedia", {"features": []})

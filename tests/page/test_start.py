@@ -7,11 +7,11 @@ from typing import Dict, Tuple
 import pytest
 import township
 
+from asking import SAMPLE
 from page import Page
 
 TOP = Path(__file__).resolve().parents[2]
 STATIC = TOP / "bindings" / "python" / "src" / "township" / "_web" / "static"
-SAMPLE = TOP / "samples" / "b1.csv"
 TABLE = "section,lot,acres\nT,2,N,3,W\n5,1,40.45\n"
 
 
@@ -88,7 +88,7 @@ def test_the_choice_of_a_nominal_township(first: Page) -> None:
     """It is the one that is named, and says wherever it is shown that it is nominal."""
     first.type("#start-township", "the old mill")
     first.press(first.ENTER)
-    first.wait_for_text("#said", "`the old mill` is not a township, such as T. 2 N., R. 3 W.")
+    first.wait_for_text("#said", "unexpected `the old mill`; expected the township number, 1 to 99")
     assert first.one("#start").is_displayed()
     first.start_nominal("T14S R7E")
     first.wait_for_text("#drawing", "TOWNSHIP 14 SOUTH, RANGE 7 EAST")
