@@ -6,6 +6,7 @@ use Rattle.std.proofs.lemmas.Slice.Eq.{bytes_eq-Decides}
 use Rattle.twp_grid.specs.Places.{PLACE_DIGITS}
 use Rattle.twp_grid.specs.Townships.{Designation}
 use Rattle.twp_grid.specs.Lands.{no_places, union, HasWholeLots, SharePlace}
+use Rattle.twp_grid.specs.Lands.{STANDARD_LOTS}
 use Rattle.twp_notes.specs.Records.{Fields, record_at}
 use Rattle.twp_answers.specs.Answers.{Describe}
 use Rattle.twp_answers.specs.EarlierTracts.{AreEarlier, TractsSoFar, TakesLand, IsTractRefused, IsUnread}
@@ -139,7 +140,7 @@ module _ (township : Designation) (rows : List Fields) (count : ℕ) (old new : 
       subst (IsLandOfTracts township rows (count + 1)) (sym places_are)
       (land_next township rows count old.places more before.land takes.reads.land)
 
-  whole : HasWholeLots PLACE_DIGITS new.places
+  whole : HasWholeLots STANDARD_LOTS new.places
   whole = rw places_are (λ section lot range. record {
     alike = λ column row column' row' lies lies' i.
         (before.whole section lot range).alike column row column' row' lies lies' i

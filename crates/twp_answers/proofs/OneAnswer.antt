@@ -15,6 +15,7 @@ use Rattle.twp_resolve.specs.declared.place_fault.PlaceFault.{PlaceFault}
 use Rattle.twp_read.proofs.OneAnswer as texts
 use Rattle.twp_resolve.proofs.PlaceAnswers as lands
 use Rattle.twp_answers.specs.Answers.{ArePlatted, Describe, AreRefused, IsNoDescription, IsNoPlat, IsRefusal}
+use Rattle.twp_grid.specs.Lands.{STANDARD_LOTS}
 
 -- the plat of notes, or their fault
 abbrev made : TownshipPlat → Result TownshipPlat PlatFault
@@ -46,9 +47,9 @@ pub one_land : (township : Designation) (description : List ℕ) (places places'
     → Describe township description places' → places ≡ places'
 one_land township description places places' is is' =
     let same : is.items ≡ is'.items = texts.one_reading description is.items is'.items is.read is'.read in
-    let land : place_faults.IsLandOfItems PLACE_DIGITS township is'.items places = rw same at is.land in
+    let land : place_faults.IsLandOfItems STANDARD_LOTS township is'.items places = rw same at is.land in
     let both : found places ≡ found places' =
-    lands.one_answer PLACE_DIGITS township is'.items (Ok places) (Ok places') land is'.land in
+    lands.one_answer STANDARD_LOTS township is'.items (Ok places) (Ok places') land is'.land in
     cc both
 
 -- bytes that are refused as notes are not notes
@@ -76,8 +77,8 @@ not_described township d refusal places (inl is) land =
 not_described township d refusal places (inr is) land =
     let same : is.items ≡ land.items = texts.one_reading d is.items land.items is.read land.read in
     let both : found places ≡ unfound is.fault =
-    lands.one_answer PLACE_DIGITS township land.items (Ok places) (Err is.fault) land.land
-    (subst (λ i. place_faults.IsFirstPlaceFault PLACE_DIGITS township i is.fault) same is.first) in
+    lands.one_answer STANDARD_LOTS township land.items (Ok places) (Err is.fault) land.land
+    (subst (λ i. place_faults.IsFirstPlaceFault STANDARD_LOTS township i is.fault) same is.first) in
     cc both
 
 -- only one refusal of notes or plat is the first
@@ -111,8 +112,8 @@ one_description_refusal township d r r' (inr is) (inl is') =
 one_description_refusal township d r r' (inr is) (inr is') =
     let same : is.items ≡ is'.items = texts.one_reading d is.items is'.items is.read is'.read in
     let both : unfound is.fault ≡ unfound is'.fault =
-    lands.one_answer PLACE_DIGITS township is'.items (Err is.fault) (Err is'.fault)
-    (subst (λ i. place_faults.IsFirstPlaceFault PLACE_DIGITS township i is.fault) same is.first) is'.first in
+    lands.one_answer STANDARD_LOTS township is'.items (Err is.fault) (Err is'.fault)
+    (subst (λ i. place_faults.IsFirstPlaceFault STANDARD_LOTS township i is.fault) same is.first) is'.first in
     let fault : is.fault ≡ is'.fault = cc both in
     let refusals : Some r ≡ Some r' = sym is.refusal_is ∙ rw fault is'.refusal_is in
     cc refusals

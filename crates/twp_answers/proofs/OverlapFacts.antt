@@ -8,6 +8,7 @@ use Rattle.std.proofs.Math.Seq.{get_or-append_seam}
 use Rattle.twp_grid.specs.Places.{PLACE_DIGITS}
 use Rattle.twp_grid.specs.Townships.{Designation}
 use Rattle.twp_grid.specs.Lands.{HasWholeLots, SharePlace, intersection}
+use Rattle.twp_grid.specs.Lands.{STANDARD_LOTS}
 use Rattle.twp_notes.specs.Records.{Fields, record_at}
 use Rattle.twp_plat.specs.Plats.{TownshipPlat}
 use Rattle.twp_answers.specs.Answers.{AreHundredthsOf, IsNoDescription}
@@ -45,8 +46,8 @@ lands_next places township rows count lands land before here = record {
 }
 
 -- the places in both of two lands with whole lots
-pub whole_in_both : (places more : ℕ → ℕ → ℕ → Bool) → HasWholeLots PLACE_DIGITS places
-    → HasWholeLots PLACE_DIGITS more → HasWholeLots PLACE_DIGITS (intersection places more)
+pub whole_in_both : (places more : ℕ → ℕ → ℕ → Bool) → HasWholeLots STANDARD_LOTS places
+    → HasWholeLots STANDARD_LOTS more → HasWholeLots STANDARD_LOTS (intersection places more)
 whole_in_both places more whole other = λ section lot range. record {
   alike = λ column row column' row' lies lies' i.
       (whole section lot range).alike column row column' row' lies lies' i

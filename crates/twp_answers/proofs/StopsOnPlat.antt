@@ -18,12 +18,13 @@ use Rattle.twp_answers.specs.declared.stop.Stop.{Stop}
 use Rattle.twp_answers.specs.declared.stop.Stop.TheVariants as stop
 use Rattle.twp_answers.specs.declared.stop.RunFault.{RunFault}
 use Rattle.twp_answers.specs.declared.stop.RunFault.TheVariants.{Memory, Read, Write}
+use Rattle.twp_grid.specs.Lands.{STANDARD_LOTS}
 
 -- items that do not lie on the plat stop the run with their refusal
 pub stopped_by_places : (township : Designation) (d : List ℕ) (is : List Item) (fault : PlaceFault)
     (stopped : Stop)
     → IsReadAs d is
-    → IsFirstPlaceFault PLACE_DIGITS township is fault → IsStopOfPlaces fault stopped
+    → IsFirstPlaceFault STANDARD_LOTS township is fault → IsStopOfPlaces fault stopped
     → IfRefused stopped (IsNoDescription township d)
 stopped_by_places township d is fault (stop.Refused refusal) read first by =
     inr (record { items = is; read = read; fault = fault; first = first; refusal_is = by })
@@ -44,7 +45,7 @@ text_stops_on township d fault (stop.Failed Write) first by = absurd by
 pub places_stop_on : (township : Designation) (d : List ℕ) (is : List Item) (fault : PlaceFault)
     (stopped : Stop)
     → IsReadAs d is
-    → IsFirstPlaceFault PLACE_DIGITS township is fault → IsStopOfPlaces fault stopped
+    → IsFirstPlaceFault STANDARD_LOTS township is fault → IsStopOfPlaces fault stopped
     → StopsOn township d stopped
 places_stop_on township d is fault (stop.Refused refusal) read first by =
     inr (record { items = is; read = read; fault = fault; first = first; refusal_is = by })

@@ -6,6 +6,7 @@ use Rattle.twp_grid.specs.Lots.{lot, lot_at_position}
 use Rattle.twp_grid.specs.Places.{PLACE_DIGITS}
 use Rattle.twp_grid.specs.Spans.{position_block}
 use Rattle.twp_grid.specs.Lands.{HasWholeLots, count_held, no_places, union}
+use Rattle.twp_grid.specs.Lands.{STANDARD_LOTS}
 use Rattle.twp_land.proofs.CombinedLots.{combined_lots_are_whole}
 use Rattle.twp_land.proofs.LotFacts.{has_lot}
 use Rattle.twp_plat.specs.LandAreas.{places_of_position}
@@ -22,7 +23,7 @@ abbrev first_place : (ℕ → ℕ → ℕ → Bool) → ℕ → ℕ → ℕ → 
 first_place places section column row = places section (column * TO_POSITION) (row * TO_POSITION)
 
 -- land with whole lots contains a lot exactly if it contains the lot's first place
-module _ (places : ℕ → ℕ → ℕ → Bool) (whole : HasWholeLots PLACE_DIGITS places)
+module _ (places : ℕ → ℕ → ℕ → Bool) (whole : HasWholeLots STANDARD_LOTS places)
     (section number column row : ℕ)
     (range : IsSection section) (at_position : lot_at_position section column row ≡ Some number) where
   counted : count_held (places section) (position_block PLACE_DIGITS column row)
@@ -58,7 +59,7 @@ none_lacking table section number lacks =
     number_within section number (lacks.column, lacks.row) lacks.section_is lacks.position_is in
     let at_position =
     has_lot section number lacks.column lacks.row lacks.section_is within.1 lacks.position_is in
-    let whole : HasWholeLots PLACE_DIGITS no_places =
+    let whole : HasWholeLots STANDARD_LOTS no_places =
     λ section lot range. record { alike = λ column row column' row' lies lies'. refl } in
     let first : false ≡ true =
     first_held no_places whole section number lacks.column lacks.row lacks.section_is at_position
@@ -66,8 +67,8 @@ none_lacking table section number lacks =
     cc first
 
 pub united_figures : (table : ReturnedLots) (places more : ℕ → ℕ → ℕ → Bool)
-    → HasWholeLots PLACE_DIGITS places
-    → HasWholeLots PLACE_DIGITS more → HasFigures PLACE_DIGITS table places
+    → HasWholeLots STANDARD_LOTS places
+    → HasWholeLots STANDARD_LOTS more → HasFigures PLACE_DIGITS table places
     → HasFigures PLACE_DIGITS table more → HasFigures PLACE_DIGITS table (union places more)
 united_figures table places more whole whole' has has' section number lacks =
     let within =
@@ -75,7 +76,7 @@ united_figures table places more whole whole' has has' section number lacks =
     let at_position =
     has_lot section number lacks.column lacks.row lacks.section_is within.1 lacks.position_is in
     let first =
-    first_held (union places more) (combined_lots_are_whole PLACE_DIGITS places more whole whole').0 section
+    first_held (union places more) (combined_lots_are_whole STANDARD_LOTS places more whole whole').0 section
     number
     lacks.column lacks.row lacks.section_is at_position lacks.is_held in
     elim

@@ -20,6 +20,7 @@ use Rattle.twp_notes.specs.NotesFaults as notes_faults
 use Rattle.twp_plat.specs.PlatFaults as plat_faults
 use Rattle.twp_read.specs.TextFaults as text_faults
 use Rattle.twp_resolve.specs.PlaceFaults as place_faults
+use Rattle.twp_grid.specs.Lands.{STANDARD_LOTS}
 
 -- the bytes are field notes that make this plat
 pub record ArePlatted (bytes : List ℕ) (plat : TownshipPlat) : Type 0 where
@@ -36,7 +37,7 @@ MakePlat bytes = (plat : TownshipPlat) × ArePlatted bytes plat
 pub record Describe (township : Designation) (bytes : List ℕ) (places : ℕ → ℕ → ℕ → Bool) : Type 0 where
   pub items : List Item
   pub read : IsReadAs bytes items
-  pub land : place_faults.IsLandOfItems PLACE_DIGITS township items places
+  pub land : place_faults.IsLandOfItems STANDARD_LOTS township items places
 
 -- the notes make the plat, and the description names this land on it
 pub record IsLandOnPlat (notes description : List ℕ) (plat : TownshipPlat)
@@ -71,7 +72,7 @@ pub record DescribeNoLand (township : Designation) (bytes : List ℕ) (refusal :
   pub items : List Item
   pub read : IsReadAs bytes items
   pub fault : PlaceFault
-  pub first : place_faults.IsFirstPlaceFault PLACE_DIGITS township items fault
+  pub first : place_faults.IsFirstPlaceFault STANDARD_LOTS township items fault
   pub refusal_is : place_faults.refusal_of fault ≡ Some refusal
 
 -- the bytes are not a description of land on the plat: for the first fault of the text, or

@@ -5,6 +5,7 @@ use Rattle.std.specs.Str.{bytes_eq}
 use Rattle.twp_grid.specs.Places.{PLACE_DIGITS}
 use Rattle.twp_grid.specs.Townships.{Designation}
 use Rattle.twp_grid.specs.Lands.{union, HasWholeLots, SharePlace}
+use Rattle.twp_grid.specs.Lands.{STANDARD_LOTS}
 use Rattle.twp_notes.specs.Records.{Fields, record_at}
 use Rattle.twp_answers.specs.Answers.{Describe, IsNoDescription}
 use Rattle.twp_answers.specs.Names.{has_name}
@@ -32,7 +33,7 @@ pub record AreEarlier (township : Designation) (rows : List Fields) (count : ℕ
   pub names : (name : List ℕ) → has_name earlier.names name ≡ true
       → (index : ℕ) × (index < count) × (name_in (record_at rows index) ≡ name)
   pub land : IsLandOfTracts township rows count earlier.places
-  pub whole : HasWholeLots PLACE_DIGITS earlier.places
+  pub whole : HasWholeLots STANDARD_LOTS earlier.places
 
 -- The record is a tract's with a new name, which was added, and its description names this land.
 pub record ReadsTract (township : Designation) (fields : Fields) (old new : TractsSoFar)
@@ -43,7 +44,7 @@ pub record ReadsTract (township : Designation) (fields : Fields) (old new : Trac
       → has_name new.names other ≡ (bytes_eq (name_in fields) other || has_name old.names other)
   pub places_are : new.places ≡ old.places
   pub land : Describe township (description_in fields) more
-  pub whole : HasWholeLots PLACE_DIGITS more
+  pub whole : HasWholeLots STANDARD_LOTS more
 
 -- this land, which shares no place with the tracts so far, was added
 pub record AddsTract (old new : TractsSoFar) (more : ℕ → ℕ → ℕ → Bool) : Type 0 where

@@ -13,6 +13,7 @@ use Rattle.twp_plat.specs.PlatAccounts.{IsNominalShare, IsPlatArea}
 use Rattle.twp_grammar.specs.declared.item.Item.{Item}
 use Rattle.twp_grammar.specs.OnPlat.{AreOnPlat, IsLandOfItems}
 use Rattle.twp_spell.specs.CanonicalText.{IsCanonicalText}
+use Rattle.twp_grid.specs.Lands.{standard_lots}
 
 -- From one number of digits to one more: items that lie on the plat without overlapping still do,
 -- and their land is the same, with each place divided into four. The sum over the smaller places is
@@ -21,18 +22,18 @@ use Rattle.twp_spell.specs.CanonicalText.{IsCanonicalText}
 -- the same bytes.
 pub record StaysTheSame (g finer : ℕ) : Type 0 where
   pub on_plat : (township : Designation) (items : List Item)
-      → AreOnPlat g township items → AreOnPlat finer township items
+      → AreOnPlat (standard_lots g) township items → AreOnPlat (standard_lots finer) township items
   pub land : (township : Designation) (items : List Item) (places : ℕ → ℕ → ℕ → Bool)
-      → IsLandOfItems g township items places
-      → IsLandOfItems finer township items (finer_land places)
+      → IsLandOfItems (standard_lots g) township items places
+      → IsLandOfItems (standard_lots finer) township items (finer_land places)
   pub sums : (pieces : ℕ → ℕ → ℕ → ℕ) (places : ℕ → ℕ → ℕ → Bool)
       → township_sum finer pieces (finer_land places) ≡ 4 * township_sum g pieces places
   pub places_are_four : places_of_position finer ≡ 4 * places_of_position g
   pub area : (plat : TownshipPlat) (places : ℕ → ℕ → ℕ → Bool) (area : Fraction)
       → IsLandArea g plat places area ↔ IsLandArea finer plat (finer_land places) area
   pub text : (township : Designation) (places : ℕ → ℕ → ℕ → Bool) (text : List ℕ)
-      → IsCanonicalText g township places text
-      ↔ IsCanonicalText finer township (finer_land places) text
+      → IsCanonicalText (standard_lots g) township places text
+      ↔ IsCanonicalText (standard_lots finer) township (finer_land places) text
 
 -- the land's plat area is also the same
 abbrev pub KeepsPlatAreas : ℕ → ℕ → Type 0

@@ -3,6 +3,7 @@ use Rattle.std.specs.Prelude.{◌≢◌, ◌≤◌, ◌↔◌, ℕ, List, Bool, 
 use Rattle.twp_grid.specs.Places.{PLACE_DIGITS}
 use Rattle.twp_grid.specs.Townships.{Designation}
 use Rattle.twp_grid.specs.Lands.{no_places}
+use Rattle.twp_grid.specs.Lands.{STANDARD_LOTS}
 use Rattle.twp_plat.specs.Plats.{TownshipPlat}
 use Rattle.twp_plat.specs.declared.land_area.Account.{Account}
 use Rattle.twp_read.specs.TextFaults.{TEXT_LIMIT}
@@ -22,6 +23,6 @@ AcresOnAreOfLand = (plat : TownshipPlat) (description : List ℕ) (account : Acc
 -- can be, is a description of that land
 abbrev pub TextOfLandIsItsDescription : Type 0
 TextOfLandIsItsDescription = (township : Designation) (places : ℕ → ℕ → ℕ → Bool)
-    (text : List ℕ) → HasTownshipNumbers township → IsTownshipLand PLACE_DIGITS places
-    → places ≢ no_places → IsCanonicalText PLACE_DIGITS township places text
+    (text : List ℕ) → HasTownshipNumbers township → IsTownshipLand STANDARD_LOTS places
+    → places ≢ no_places → IsCanonicalText STANDARD_LOTS township places text
     → length text ≤ TEXT_LIMIT → IsLandOf township text places

@@ -5,6 +5,7 @@ use Rattle.twp_measure.specs.Areas.{Fraction, IsRounded}
 use Rattle.twp_grid.specs.Places.{PLACE_DIGITS}
 use Rattle.twp_grid.specs.Townships.{Designation}
 use Rattle.twp_grid.specs.Lands.{HasWholeLots}
+use Rattle.twp_grid.specs.Lands.{STANDARD_LOTS}
 use Rattle.twp_plat.specs.Plats.{TownshipPlat}
 use Rattle.twp_plat.specs.PlatAccounts.{IsAreaBy}
 use Rattle.twp_plat.specs.declared.land_area.Account.{Account}
@@ -16,7 +17,7 @@ use Rattle.twp_answers.specs.declared.stop.Stop.{Stop}
 pub record IsLandOf (township : Designation) (description : List ℕ)
     (places : ℕ → ℕ → ℕ → Bool) : Type 0 where
   pub described : Describe township description places
-  pub whole : HasWholeLots PLACE_DIGITS places
+  pub whole : HasWholeLots STANDARD_LOTS places
 
 -- the answer for the bytes in the township, or why there is none
 abbrev pub AnswersIn : {T : Type 0} → (T → Type 0) → Designation → List ℕ → Result T Stop

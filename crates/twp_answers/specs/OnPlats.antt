@@ -14,6 +14,7 @@ use Rattle.twp_answers.specs.PlatAnswers.{plat_text}
 use Rattle.twp_answers.specs.declared.stop.Stop.{Stop}
 use Rattle.twp_answers.specs.declared.stop.Stop.TheVariants as stop
 use Rattle.twp_answers.specs.declared.stop.RunFault.TheVariants as run
+use Rattle.twp_grid.specs.Lands.{STANDARD_LOTS}
 
 -- the bytes describe land on the plat, and this is its area by the account
 pub record HasAreaOn (plat : TownshipPlat) (description : List ℕ) (account : Account)
@@ -34,7 +35,7 @@ pub record HasAcresOn (plat : TownshipPlat) (description : List ℕ) (account : 
 pub record HasNormalOn (plat : TownshipPlat) (description text : List ℕ) : Type 0 where
   pub places : ℕ → ℕ → ℕ → Bool
   pub described : Describe plat.township description places
-  pub text_is : IsCanonicalText PLACE_DIGITS plat.township places text
+  pub text_is : IsCanonicalText STANDARD_LOTS plat.township places text
 
 -- this is the text of the plat
 pub record IsTextOfPlat (plat : TownshipPlat) (text : List ℕ) : Type 0 where

@@ -11,6 +11,7 @@ ghost use Rattle.twp_answers.specs.TractFaults.{AnswersFault};
 ghost use Rattle.twp_answers.specs.Answers.{acres_line};
 ghost use Rattle.twp_grid.specs.Places.{PLACE_DIGITS};
 ghost use Rattle.twp_grid.specs.Lands.{HasWholeLots};
+ghost use Rattle.twp_grid.specs.Lands.{STANDARD_LOTS};
 ghost use Rattle.twp_answers.specs.OnLands.{IsLandOf, AnswersIn, AreAcresOf};
 ghost use Rattle.twp_notes.specs.FieldNotes.{NOTES_MOST};
 ghost use Rattle.twp_answers.specs.PlatReading.{IsPlatted, ReadsUpTo};
@@ -24,7 +25,7 @@ use crate::tract_fault::{TRACTS_LIMIT, TractFault};
 use crate::tracts::account_of;
 use std::alloc::{AllocError, Global};
 use twp_grid::{Source, Township};
-use twp_land::{Land, Lanes, OneLanes, PlaceSet};
+use twp_land::{Land, Lanes, OneLanes, PlaceSet, StandardLots};
 use twp_measure::{Area, write_acres};
 use twp_notes::Notes;
 use twp_plat::{Account, Plat, area_by};
@@ -95,7 +96,7 @@ pub fn area_described(
         return area_in_all(plat, description, account);
     }
     let mut land = OneLanes::empty();
-    if !resolve_if_room(&mut land, description, plat.township())? {
+    if !resolve_if_room(&mut land, description, plat.township(), &StandardLots)? {
         return area_in_all(plat, description, account);
     }
     Ok(area_by(account, plat, &land))
@@ -109,7 +110,7 @@ fn area_in_all(plat: &Plat, description: &Description, account: Account) -> Resu
         → AnswersOn (HasAreaOn plat.now text account) plat.now text result }
 {
     let mut lanes = Lanes::empty();
-    resolve_into(&mut lanes, description, plat.township())?;
+    resolve_into(&mut lanes, description, plat.township(), &StandardLots)?;
     Ok(area_by(account, plat, &lanes))
 }
 
@@ -126,10 +127,10 @@ pub fn normal_described(
         return normal_in_all(alloc, plat, description);
     }
     let mut land = OneLanes::empty();
-    if !resolve_if_room(&mut land, description, plat.township())? {
+    if !resolve_if_room(&mut land, description, plat.township(), &StandardLots)? {
         return normal_in_all(alloc, plat, description);
     }
-    Ok(spell_set(alloc, &land, plat.township())?)
+    Ok(spell_set(alloc, &land, plat.township(), &StandardLots)?)
 }
 
 /// The same in however many sections it names land, as for its area.
@@ -139,8 +140,8 @@ fn normal_in_all(alloc: Global, plat: &Plat, description: &Description) -> Resul
         → AnswersOn (λ written. HasNormalOn plat.now text written.items) plat.now text result }
 {
     let mut lanes = Lanes::empty();
-    resolve_into(&mut lanes, description, plat.township())?;
-    Ok(spell(alloc, &lanes, plat.township())?)
+    resolve_into(&mut lanes, description, plat.township(), &StandardLots)?;
+    Ok(spell(alloc, &lanes, plat.township(), &StandardLots)?)
 }
 
 /// The text of the account of a list of tracts on a plat, or the list's first fault.
@@ -176,7 +177,7 @@ pub fn land_of(alloc: Global, township: Township, description: &[u8]) -> Result<
 
 /// The hundredths of an acre of land on a plat, by an account.
 pub fn acres_of<L: Land>(plat: &Plat, land: &L, account: Account) -> u64
-    requires whole { HasWholeLots PLACE_DIGITS (L.places land.now) }
+    requires whole { HasWholeLots STANDARD_LOTS (L.places land.now) }
     ensures { AreAcresOf plat.now account (L.places land.now) result }
 {
     area_by(account, plat, land).hundredths()
@@ -205,11 +206,11 @@ pub fn describe_into<L: Land>(
 ) -> Result<Clarity, Stop>
     ensures memory { IfErr result (λ stop. IfFailed stop (λ fault. fault ≡ RunFault.Memory)) }
     ensures land { IsLandOrRefusal (λ _. L.places land.new) township text.now result }
-    ensures whole_lots { OnOk result (HasWholeLots PLACE_DIGITS (L.places land.new)) }
+    ensures whole_lots { OnOk result (HasWholeLots STANDARD_LOTS (L.places land.new)) }
     ensures clear { IfOk result (λ clarity.
         clarity ≡ Clarity.Clear → HasNoDoubtfulPlace text.now) }
 {
     let noted = Description::read_noting(alloc, text)?;
-    resolve_into(land, &noted.description, township)?;
+    resolve_into(land, &noted.description, township, &StandardLots)?;
     Ok(noted.clarity)
 }

@@ -11,6 +11,7 @@ ghost use Rattle.twp_answers.specs.steps.OverlapTaking.{HasSharedPlaces, HasWhol
 ghost use Rattle.std.specs.List.{All};
 ghost use Rattle.twp_grid.specs.Places.{PLACE_DIGITS};
 ghost use Rattle.twp_grid.specs.Lands.{HasWholeLots, SharePlace};
+ghost use Rattle.twp_grid.specs.Lands.{STANDARD_LOTS};
 
 use crate::each_tract::pass_heading;
 use crate::on_plat::describe_into;
@@ -185,8 +186,8 @@ fn shared_hundredths<L: Land>(plat: &Plat, one: &Option<L>, other: &Option<L>) -
 
 /// The hundredths of an acre of the places that are in both lands, if there are any.
 fn common_hundredths<L: Land>(plat: &Plat, one: &L, other: &L) -> Option<u64>
-    requires one { HasWholeLots PLACE_DIGITS (L.places one.now) }
-    requires other { HasWholeLots PLACE_DIGITS (L.places other.now) }
+    requires one { HasWholeLots STANDARD_LOTS (L.places one.now) }
+    requires other { HasWholeLots STANDARD_LOTS (L.places other.now) }
     ensures { MatchOption result (¬ SharePlace (L.places one.now) (L.places other.now))
         (HasSharedPlaces plat.now (L.places one.now) (L.places other.now)) }
 {

@@ -11,15 +11,16 @@ use Rattle.twp_grid.specs.Places.{PLACE_DIGITS, is_place, position_along}
 use Rattle.twp_grid.specs.Spans.{Rectangle, in_rectangle}
 use Rattle.twp_grid.specs.Lands.{no_places, union, difference, block_places}
 use Rattle.twp_grid.specs.Lands.{lot_of_place}
+use Rattle.twp_grid.specs.Lands.{STANDARD_LOTS}
 use Rattle.twp_land.proofs.LotFacts.{fills, block_of}
 use Rattle.twp_land.proofs.LotBlocks.{lot_is_place}
 use Rattle.twp_resolve.specs.steps.ResolvingSteps.{lots_from}
-use Rattle.twp_resolve.proofs.RangeFacts.{no_lots, next_lot}
+use Rattle.twp_resolve.proofs.RangeFacts.{no_lots, next_standard_lot}
 use Rattle.twp_grid.specs.Cuts.{AreWithin, reached}
 use Rattle.twp_grid.specs.Townships.{Designation}
 use Rattle.twp_grammar.specs.declared.item.Step.{Step}
 use Rattle.twp_grammar.specs.ItemPlaces.{cuts_of}
-use Rattle.twp_spell.specs.Listing.{AreListed}
+use Rattle.twp_grid.specs.Listing.{AreListed}
 use Rattle.twp_spell.specs.CanonicalText.{IsLotHeld, IsCanonicalText}
 use Rattle.twp_diagnose.specs.declared.finding.PartOfLots.{PartOfLots}
 use Rattle.twp_diagnose.specs.PartOfLots.{places_off_lots, IsPartOfLots}
@@ -34,10 +35,10 @@ without_none true = refl
 without_none false = refl
 
 pub none_taken : (s : ℕ) (places : ℕ → ℕ → ℕ → Bool)
-    → places ≡ difference places (lots_from PLACE_DIGITS s 1 0)
+    → places ≡ difference places (lots_from STANDARD_LOTS s 1 0)
 none_taken s places =
     fun_ext (λ o. fun_ext (λ c. fun_ext (λ r. sym (without_none (places o c r)))))
-    ∙ ap (λ less. difference places less) (sym (no_lots PLACE_DIGITS s 1 0 (omega arith)))
+    ∙ ap (λ less. difference places less) (sym (no_lots STANDARD_LOTS s 1 0 (omega arith)))
 
 without_both : (a x y : Bool) → (a && not (x || y)) ≡ ((a && not x) && not y)
 without_both true true y = refl
@@ -46,21 +47,21 @@ without_both false x y = refl
 
 pub one_more_taken : (s n : ℕ) (block : Rectangle) (places before after : ℕ → ℕ → ℕ → Bool) → IsSection s
     → 1 ≤ n → n ≤ number_of_lots s → block_of (position_of_lot s n) ≡ Some block
-    → before ≡ difference places (lots_from PLACE_DIGITS s 1 (n - 1))
+    → before ≡ difference places (lots_from STANDARD_LOTS s 1 (n - 1))
     → after ≡ difference before (block_places s block)
-    → after ≡ difference places (lots_from PLACE_DIGITS s 1 n)
+    → after ≡ difference places (lots_from STANDARD_LOTS s 1 n)
 one_more_taken s n block places before after range least most is was step =
     step
     ∙ ap (λ p. difference p (block_places s block)) was
     ∙ fun_ext (λ o. fun_ext (λ c. fun_ext (λ r.
     sym
-    (without_both (places o c r) (lots_from PLACE_DIGITS s 1 (n - 1) o c r) (block_places s block o c r)))))
-    ∙ ap (λ less. difference places less) (sym (next_lot s 1 n block range least least most is))
+    (without_both (places o c r) (lots_from STANDARD_LOTS s 1 (n - 1) o c r) (block_places s block o c r)))))
+    ∙ ap (λ less. difference places less) (sym (next_standard_lot s 1 n block range least least most is))
 
 at_place : (s o c r : ℕ) (block : Rectangle) → IsSection s → (lot : Option ℕ)
     → lot_of_place PLACE_DIGITS s c r ≡ lot
     → difference (union no_places (block_places s block))
-    (lots_from PLACE_DIGITS s 1 (number_of_lots s)) o c r
+    (lots_from STANDARD_LOTS s 1 (number_of_lots s)) o c r
     ≡ places_off_lots PLACE_DIGITS s block o c r
 at_place s o c r block range None at =
     rw at (none (s == o) (in_rectangle block c r) (is_place PLACE_DIGITS c r))
@@ -83,7 +84,7 @@ at_place s o c r block range (Some n) at =
     some false y = refl
 
 pub off_lots_left : (s : ℕ) (block : Rectangle) → IsSection s
-    → difference (union no_places (block_places s block)) (lots_from PLACE_DIGITS s 1 (number_of_lots s))
+    → difference (union no_places (block_places s block)) (lots_from STANDARD_LOTS s 1 (number_of_lots s))
     ≡ places_off_lots PLACE_DIGITS s block
 off_lots_left s block range =
     fun_ext
@@ -93,10 +94,10 @@ pub part_found : (township : Designation) (section : ℕ) (steps : List Step) (p
     (block : Rectangle) (empty with left : ℕ → ℕ → ℕ → Bool) → IsSection section
     → AreWithin PLACE_DIGITS (cuts_of steps) → block ≡ reached PLACE_DIGITS (cuts_of steps)
     → empty ≡ no_places → with ≡ union empty (block_places section block)
-    → left ≡ difference with (lots_from PLACE_DIGITS section 1 (number_of_lots section))
+    → left ≡ difference with (lots_from STANDARD_LOTS section 1 (number_of_lots section))
     → part.section ≡ section
-    → AreListed (IsLotHeld PLACE_DIGITS section (with section)) ◌<◌ part.lots.items
-    → IsCanonicalText PLACE_DIGITS township left part.rest.items
+    → AreListed (IsLotHeld STANDARD_LOTS section (with section)) ◌<◌ part.lots.items
+    → IsCanonicalText STANDARD_LOTS township left part.rest.items
     → IsPartOfLots PLACE_DIGITS township section steps part
 part_found township section steps part block empty with left range within is none added taken same lots rest =
     let reach : Rectangle = reached PLACE_DIGITS (cuts_of steps) in
@@ -107,14 +108,14 @@ part_found township section steps part block empty with left range within is non
     ap (λ p. p section) whole ∙ added_here section reach in
     let off : left ≡ places_off_lots PLACE_DIGITS section reach =
     taken
-    ∙ ap (λ p. difference p (lots_from PLACE_DIGITS section 1 (number_of_lots section))) whole
+    ∙ ap (λ p. difference p (lots_from STANDARD_LOTS section 1 (number_of_lots section))) whole
     ∙ off_lots_left section reach range in
     record {
       within = within;
       of_section = same;
       lots_are = subst
-          (λ (held : ℕ → ℕ → Bool). AreListed (IsLotHeld PLACE_DIGITS section held) ◌<◌ part.lots.items) here
+          (λ (held : ℕ → ℕ → Bool). AreListed (IsLotHeld STANDARD_LOTS section held) ◌<◌ part.lots.items) here
           lots;
       rest_is = subst
-          (λ (p : ℕ → ℕ → ℕ → Bool). IsCanonicalText PLACE_DIGITS township p part.rest.items) off rest;
+          (λ (p : ℕ → ℕ → ℕ → Bool). IsCanonicalText STANDARD_LOTS township p part.rest.items) off rest;
     }

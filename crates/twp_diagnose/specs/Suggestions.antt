@@ -7,12 +7,13 @@ use Rattle.twp_grammar.specs.OnPlat.{AreOnPlat}
 use Rattle.twp_grammar.specs.Sentences.{IsReadAs}
 use Rattle.twp_diagnose.specs.declared.suggests.Suggestion.{Suggestion}
 use Rattle.twp_diagnose.specs.declared.suggests.Suggestion.TheVariants.{Nothing, Beyond, Several, Only}
+use Rattle.twp_grid.specs.Lands.{STANDARD_LOTS}
 
 -- the text is a description of land on the plat of the township
 pub record NamesLandOf (township : Designation) (text : List ℕ) : Type 0 where
   pub items : List Item
   pub read : IsReadAs text items
-  pub on_plat : AreOnPlat PLACE_DIGITS township items
+  pub on_plat : AreOnPlat STANDARD_LOTS township items
 
 -- a reading that is suggested is such a description
 abbrev pub IsOfTownship : Designation → Suggestion → Type 0

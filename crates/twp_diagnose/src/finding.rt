@@ -9,6 +9,7 @@ ghost use Rattle.twp_grid.specs.Cuts.{AreWithin};
 ghost use Rattle.twp_grid.specs.Lots.{number_of_lots};
 ghost use Rattle.twp_grid.specs.Winding.{IsSection};
 ghost use Rattle.twp_grid.specs.Lands.{difference};
+ghost use Rattle.twp_grid.specs.Lands.{STANDARD_LOTS};
 ghost use Rattle.twp_grammar.specs.ItemPlaces.{cuts_of};
 ghost use Rattle.twp_resolve.specs.steps.ResolvingSteps.{lots_from};
 ghost use Rattle.twp_diagnose.specs.PartOfLots.{IsPartOfLots};
@@ -18,7 +19,7 @@ use crate::location::{Given, Located, Location, message_at};
 use std::alloc::{AllocError, Global};
 use twp_grammar::Steps;
 use twp_grid::{Block, Refusal, Section, Township, lot_count};
-use twp_land::{Land, Lanes};
+use twp_land::{Land, Lanes, StandardLots};
 use twp_resolve::chain_block;
 use twp_spell::{held_lots, spell};
 
@@ -142,9 +143,9 @@ pub fn part_of_lots(
     };
     let mut land = Lanes::empty();
     land.add(section, block);
-    let lots = held_lots(alloc, &land, section)?;
+    let lots = held_lots(alloc, &land, section, &StandardLots)?;
     remove_lots(&mut land, section);
-    let rest = spell(alloc, &land, township)?;
+    let rest = spell(alloc, &land, township, &StandardLots)?;
     Ok(Some(PartOfLots {
         section,
         lots,
@@ -155,7 +156,7 @@ pub fn part_of_lots(
 /// Takes away the places of a section's lots.
 fn remove_lots<L: Land>(land: &mut L, section: Section)
     ensures left { L.places land.new ≡ difference (L.places land.old)
-        (lots_from PLACE_DIGITS section 1 (number_of_lots section)) }
+        (lots_from STANDARD_LOTS section 1 (number_of_lots section)) }
     ensures section { IsSection section }
 {
     for lot in 1..lot_count(section) + 1 {

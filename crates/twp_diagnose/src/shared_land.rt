@@ -3,10 +3,11 @@ ghost use Rattle.std.specs.Prelude.{IfOk, MatchOption};
 ghost use Rattle.twp_grid.specs.Places.{PLACE_DIGITS};
 ghost use Rattle.twp_resolve.specs.SharedLand.{AreRefusedForOverlap};
 ghost use Rattle.twp_diagnose.specs.SharedText.{TellsShared};
+ghost use Rattle.twp_grid.specs.Lands.{STANDARD_LOTS};
 
 use std::alloc::{AllocError, Global};
 use twp_grid::Township;
-use twp_land::{Land, Lanes};
+use twp_land::{Land, Lanes, StandardLots};
 use twp_read::Description;
 use twp_resolve::{SharingItems, shared_into};
 use twp_spell::spell;
@@ -29,13 +30,13 @@ pub fn shared_land_text(
     township: Township,
 ) -> Result<Option<SharedLand>, AllocError>
     ensures { IfOk result (λ explained. MatchOption explained
-        (¬ AreRefusedForOverlap PLACE_DIGITS township description.now)
+        (¬ AreRefusedForOverlap STANDARD_LOTS township description.now)
         (TellsShared PLACE_DIGITS township description.now)) }
 {
     let mut land = Lanes::empty();
-    let Some(items) = shared_into(&mut land, description, township) else {
+    let Some(items) = shared_into(&mut land, description, township, &StandardLots) else {
         return Ok(None);
     };
-    let text = spell(alloc, &land, township)?;
+    let text = spell(alloc, &land, township, &StandardLots)?;
     Ok(Some(SharedLand { items, text }))
 }

@@ -31,6 +31,7 @@ use Rattle.twp_diagnose.specs.declared.location.Origin.{Origin}
 use Rattle.twp_diagnose.specs.declared.explanation.Explanation.{Explanation}
 use Rattle.twp_diagnose.specs.declared.finding.SearchStop.{SearchStop}
 use Rattle.twp_diagnose.specs.declared.finding.SearchStop.TheVariants as stop
+use Rattle.twp_grid.specs.Lands.{STANDARD_LOTS}
 
 -- what holds where there is a refusal, of one that there is
 pub held : (answered : Option Refusal) (refusal : Refusal) (Held : Type 0)
@@ -78,7 +79,7 @@ text_refused stop.Memory township bytes fault first is = tt
 -- items that don't lie on the plat are no description of land on it
 pub items_refused : (stopped : SearchStop) (township : Designation) (bytes : List ℕ) (items : List Item)
     (fault : PlaceFault)
-    → IsReadAs bytes items → place_faults.IsFirstPlaceFault PLACE_DIGITS township items fault
+    → IsReadAs bytes items → place_faults.IsFirstPlaceFault STANDARD_LOTS township items fault
     → IfFound stopped (λ found. place_faults.refusal_of fault ≡ Some found)
     → IfFound stopped (IsNoDescription township bytes)
 items_refused (stop.Found finding) township bytes items fault read first is =
@@ -170,7 +171,7 @@ text_shows stop.Memory origin township bytes fault first is begins ends none = t
 -- items that name no land on the plat are shown up to the end of what is at fault
 pub items_show : (stopped : SearchStop) (origin : Origin) (township : Designation) (bytes : List ℕ)
     (items : List Item) (fault : PlaceFault)
-    → IsReadAs bytes items → place_faults.IsFirstPlaceFault PLACE_DIGITS township items fault
+    → IsReadAs bytes items → place_faults.IsFirstPlaceFault STANDARD_LOTS township items fault
     → IfFound stopped (λ found. place_faults.refusal_of fault ≡ Some found) → IfShown origin bytes stopped
     → IfFinds stopped (λ finding. EndsWithFault origin bytes items fault finding.place)
     → IfFinds stopped (λ finding. IsOtherPlace origin bytes township items fault finding.other)

@@ -23,6 +23,7 @@ use Rattle.twp_diagnose.specs.declared.location.Origin.{Origin}
 use Rattle.twp_sentences.specs.OtherPlaces.{IsOtherPlace}
 use Rattle.twp_sentences.specs.ShownPlaces.{ShowsRefused}
 use Rattle.twp_sentences.specs.Underlined.{EndsWithFault, EndsWithSign}
+use Rattle.twp_grid.specs.Lands.{STANDARD_LOTS}
 
 -- of a text that isn't read, the sign at fault is underlined, and there is no other place
 pub record IsOfText (origin : Origin) (text : List ℕ) (refusal : Refusal) (place : Location)
@@ -40,7 +41,7 @@ pub record IsOfItems (origin : Origin) (township : Designation) (text : List ℕ
   pub items : List Item
   pub read : IsReadAs text items
   pub fault : PlaceFault
-  pub first : place_faults.IsFirstPlaceFault PLACE_DIGITS township items fault
+  pub first : place_faults.IsFirstPlaceFault STANDARD_LOTS township items fault
   pub refusal_is : place_faults.refusal_of fault ≡ Some refusal
   pub ends : EndsWithFault origin text items fault place
   pub other_is : IsOtherPlace origin text township items fault other

@@ -14,7 +14,7 @@ use std::alloc::{AllocError, Global};
 use twp_answers::Verdict;
 use twp_diagnose::{Explanation, Given, Origin, SearchStop, Suggests};
 use twp_grid::{Bytes, Township};
-use twp_land::Lanes;
+use twp_land::{Lanes, StandardLots};
 use twp_notes::Notes;
 use twp_plat::Plat;
 use twp_read::Description;
@@ -129,7 +129,7 @@ pub(crate) fn describe<S: Suggests>(
         Ok(description) => description,
         Err(fault) => return Err(stop_of_text::<S>(alloc, origin, bytes, township, fault)),
     };
-    match resolve::<Lanes>(&description, township) {
+    match resolve::<Lanes, StandardLots>(&description, township, &StandardLots) {
         Ok(_) => Ok(()),
         Err(fault) => Err(stop_of_places(alloc, origin, bytes, &description, township, fault)),
     }

@@ -53,7 +53,7 @@ pub fn explain_description<S: Suggests>(
 
 /// The fault of a list of tracts, and its explanation.
 #[derive(Drop)]
-pub struct ToldFault {
+pub struct ExplainedFault {
     /// The list's first fault.
     pub fault: TractFault,
     /// Its explanation.
@@ -65,7 +65,7 @@ pub fn explain_tracts<S: Suggests>(
     alloc: Global,
     plat: &Plat,
     tracts: &Given<'_>,
-) -> Result<Option<ToldFault>, AllocError>
+) -> Result<Option<ExplainedFault>, AllocError>
     ensures first { IfOk result (λ explained. IfSome explained (λ it.
         IsFirstTractFault plat.now.township tracts.now.bytes.now it.fault)) }
     ensures refusal { IfOk result (λ explained. IfSome explained (λ it.
@@ -80,7 +80,7 @@ pub fn explain_tracts<S: Suggests>(
         return Err(AllocError);
     };
     let explanation = explain_fault::<S>(alloc, tracts, plat.township(), fault, refusal)?;
-    Ok(Some(ToldFault { fault, explanation }))
+    Ok(Some(ExplainedFault { fault, explanation }))
 }
 
 /// The message of a stop, where memory didn't run out.

@@ -11,7 +11,7 @@ use csv::ByteRecord;
 use std::alloc::{AllocError, Global};
 use twp_diagnose::Listed;
 use twp_grid::Township;
-use twp_land::Land;
+use twp_land::{Land, StandardLots};
 use twp_notes::{Records, field};
 use twp_read::{Description, TextFault};
 use twp_resolve::resolve_into;
@@ -151,7 +151,7 @@ fn land_into<L: Land>(
         Err(TextFault::Memory) => return Err(AllocError),
         Err(_) => return Ok(false),
     };
-    let Ok(()) = resolve_into(land, &description, township) else {
+    let Ok(()) = resolve_into(land, &description, township, &StandardLots) else {
         return Ok(false);
     };
     Ok(true)

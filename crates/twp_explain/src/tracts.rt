@@ -25,7 +25,7 @@ use twp_diagnose::{
 };
 use twp_excerpt::write_escaped;
 use twp_grid::{Refusal, Township};
-use twp_land::{Land, Lanes};
+use twp_land::{Land, Lanes, StandardLots};
 use twp_notes::Records;
 use twp_sentences::write_land;
 use twp_spell::spell;
@@ -269,7 +269,7 @@ fn explain_overlap(
     finding.other = Some(other_place(&earlier, 1));
     let number = earlier.number();
     write!(finding.sentence, " (record {number}); both include ")?;
-    let land = spell(alloc, &common, township)?;
+    let land = spell(alloc, &common, township, &StandardLots)?;
     write_land(land.as_slice(), &mut finding.sentence)
 }
 

@@ -44,17 +44,3 @@ outside g cuts column row within not = elim (cases_Bool (nat_lt column (2 ^ g)))
       outside_span g (reached g cuts).columns column (rw (columns_reached g cuts within.columns) ends) out in
       rw columns_out refl
 ]
-
-pub inside : (g column row : ℕ) → is_place g column row ≡ true → IsPlace g column row
-inside g column row place =
-    let parts = and_parts (nat_lt column (2 ^ g)) (nat_lt row (2 ^ g)) place in
-    (grind (arith, nat_tests, parts.0), grind (arith, nat_tests, parts.1))
-
--- a whole section contains all its places
-pub whole_is_place : (column row : ℕ)
-    → in_rectangle (whole_block PLACE_DIGITS) column row ≡ is_place PLACE_DIGITS column row
-whole_is_place column row = rw (along column, along row) refl
-  where
-    along : (n : ℕ)
-        → (nat_le 0 n && nat_lt n (0 + places_across PLACE_DIGITS)) ≡ nat_lt n (places_across PLACE_DIGITS)
-    along n = grind (arith, nat_tests)

@@ -9,6 +9,7 @@ use Rattle.twp_grid.proofs.FinerPlaces.{same_position, whole_finer, position_fin
 use Rattle.twp_grid.specs.Lands.{count_held}
 use Rattle.twp_grid.specs.FinerLands.{cut_in_four}
 use Rattle.twp_grid.specs.Lands.{lot_of_place, off_lots}
+use Rattle.twp_grid.specs.Lands.{standard_lots}
 
 -- a place lies in the same lot as the larger place that contains it
 pub same_lot : (g section column row : ℕ) → POSITIONS_ACROSS ≤ places_across g
@@ -18,7 +19,8 @@ same_lot g section column row fits =
     ∙ ap (λ r. lot_at_position section (position_along g (column / 2)) r) (same_position g row fits)
 
 pub same_off_lots : (g section : ℕ) (held : ℕ → ℕ → Bool) → POSITIONS_ACROSS ≤ places_across g
-    → off_lots (suc g) section (cut_in_four held) ≡ cut_in_four (off_lots g section held)
+    → off_lots (standard_lots (suc g)) section (cut_in_four held)
+    ≡ cut_in_four (off_lots (standard_lots g) section held)
 same_off_lots g section held fits =
     fun_ext (λ column. fun_ext (λ row.
     ap (λ lot. held (column / 2) (row / 2) && is_none lot) (same_lot g section column row fits)))

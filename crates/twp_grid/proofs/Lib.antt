@@ -2,6 +2,7 @@ pub mod WindingFacts
 pub mod LineFacts
 pub mod LotFacts
 pub mod SpanFacts
+pub mod PlaceTests
 pub mod CutFacts
 pub mod TotalFacts
 pub mod TilingFacts

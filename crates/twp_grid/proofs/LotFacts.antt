@@ -1,10 +1,11 @@
 -- The lots that the code computes are those in the table. The cases are finitely many and are
 -- computed.
+use Rattle.std.proofs.Common.{◌≤◌, option_map}
 use Rattle.std.proofs.Common.{◌≡◌, ◌==◌, ℕ, zero, suc, ◌+◌, ◌-◌, ◌<◌, ◌&&◌, ◌||◌, ◌⊎◌, ◌↔◌, Bool}
 use Rattle.std.proofs.Common.{true, false, List, [], ◌∷◌, Option, Some, None, refl, ap, inl, inr}
 use Rattle.std.proofs.Common.{arith, if◌then◌else◌, find, nat_le, nat_lt}
 use Rattle.std.specs.List.{list_all}
-use Rattle.std.proofs.lemmas.Bool.{cases_lt, eqb-true, ne_eqb, and_parts}
+use Rattle.std.proofs.lemmas.Bool.{cases_Bool, cases_lt, eqb-true, ne_eqb, and_parts}
 use Rattle.std.proofs.lemmas.Bool.Decides.{nat_tests}
 use Rattle.twp_grid.specs.Winding.{IsSection}
 use Rattle.twp_grid.specs.Lots.{Lot, lots, lot_at_position, position_of_lot, number_of_lots}
@@ -148,6 +149,33 @@ none_over s n (l ∷ ls) all out =
     let parts = and_parts (within l) (list_all within ls) all in
     let fails : ((l.section == s) && (l.number == n)) ≡ false = grind (arith, nat_tests) in
     rw fails (none_over s n ls parts.1 out)
+
+-- each lot of the table has a number from 1 to 7
+abbrev is_numbered : Lot → Bool
+is_numbered l = nat_le 1 l.number && nat_le l.number 7
+
+lots_numbered : list_all is_numbered lots ≡ true
+unfolding lots
+lots_numbered = refl
+
+found_numbered : (s c r n : ℕ) (ls : List Lot) → list_all is_numbered ls ≡ true
+    → option_map (λ (l : Lot). l.number)
+    (find (λ (l : Lot). (l.section == s) && (l.column == c) && (l.row == r)) ls) ≡ Some n
+    → (1 ≤ n) × (n ≤ 7)
+found_numbered s c r n [] all is = cc is
+found_numbered s c r n (l ∷ ls) all is =
+    let parts = and_parts (is_numbered l) (list_all is_numbered ls) all in
+    elim (cases_Bool ((l.section == s) && (l.column == c) && (l.row == r))) [
+      | inr other ↦ found_numbered s c r n ls parts.1 (rw other at is)
+      | inl here ↦
+          let found : Some l.number ≡ Some n = rw here at is in
+          let same : l.number ≡ n = cc found in
+          (grind (arith, nat_tests, parts.0), grind (arith, nat_tests, parts.0))
+    ]
+
+pub lot_numbered : (s c r n : ℕ) → lot_at_position s c r ≡ Some n → (1 ≤ n) × (n ≤ 7)
+unfolding lot_at_position
+lot_numbered s c r n is = found_numbered s c r n lots lots_numbered is
 
 pub lot_outside : (s c r : ℕ) → (3 < c) ⊎ (3 < r) → lot_at_position s c r ≡ None
 unfolding lot_at_position

@@ -7,6 +7,7 @@ pub mod Spans
 pub mod Blocks
 pub mod Cuts
 pub mod Lands
+pub mod Listing
 pub mod FinerLands
 pub mod Tiling
 pub mod Townships

@@ -3,7 +3,7 @@ use Rattle.std.proofs.Common.{◌&&◌, ◌||◌, not}
 use Rattle.twp_land.specs.Laws.{CombinedLotsAreWhole}
 
 pub combined_lots_are_whole : CombinedLotsAreWhole
-combined_lots_are_whole g places more first second = (
+combined_lots_are_whole lots places more first second = (
   λ section lot range. record {
     alike = λ column row column' row' lot_is lot_is' i.
         (first section lot range).alike column row column' row' lot_is lot_is' i

@@ -9,6 +9,7 @@ pub mod JoinFacts
 pub mod LaneFacts
 pub mod LotBlocks
 pub mod LotFacts
+pub mod LottingFacts
 pub mod RemovalFacts
 pub mod RowFacts
 pub mod LowLaneFacts

@@ -5,7 +5,7 @@ use Rattle.std.proofs.Common.{Option, None, refl, sym, ap, inl, inr, nat_le, nat
 use Rattle.std.proofs.lemmas.Bool.Decides.{nat_tests}
 use Rattle.twp_grid.specs.Winding.{IsSection}
 use Rattle.twp_grid.specs.Places.{PLACE_DIGITS, places_across, places_to_position, is_place, position_along}
-use Rattle.twp_grid.specs.Lands.{lot_of_place, HoldsLotPlace}
+use Rattle.twp_grid.specs.Lands.{lot_of_place, HoldsLotPlace, IsOfLots}
 use Rattle.twp_land.specs.steps.Crossing.{Cross}
 use Rattle.twp_land.proofs.LotFacts.{fills, block_of, in_lot, lot_inside}
 use Rattle.std.proofs.lemmas.Bool.{cases_lt, and_parts, eqb-true, eq-eqb}
@@ -15,6 +15,7 @@ use Rattle.twp_grid.proofs.LotFacts.{each, each_of_three}
 use Rattle.std.proofs.lemmas.Nat.{div-add-mod', mul-le}
 use Rattle.std.proofs.Math.Nat.{mul_assoc}
 use Rattle.twp_grid.specs.Lands.{Meets, block_places, SharePlace}
+use Rattle.twp_grid.specs.Lands.{STANDARD_LOTS}
 
 -- the places along a side of a position
 abbrev POSITION : ℕ
@@ -113,7 +114,7 @@ meets_of_share places section block shared =
 -- a block that shares a place with a lot's block contains a place of the lot
 pub lot_place_of : (s n : ℕ) (lot_block block : Rectangle) → IsSection s → n ≤ number_of_lots s
     → block_of (position_of_lot s n) ≡ Some lot_block
-    → Meets (in_rectangle lot_block) block → HoldsLotPlace PLACE_DIGITS s block
+    → Meets (in_rectangle lot_block) block → HoldsLotPlace STANDARD_LOTS s block
 lot_place_of s n lot_block block range most is meets =
     let lot = (in_lot_block s n lot_block range most is meets.column meets.row).0 meets.is_held in
     record { column = meets.column; row = meets.row; inside = meets.inside; of_lot = rw lot refl }
@@ -122,7 +123,7 @@ lot_place_of s n lot_block block range most is meets =
 pub lot_is_below : (s end : ℕ) (block : Rectangle) → IsSection s → number_of_lots s < end
     → ((lot column row : ℕ) → 1 ≤ lot → lot < end → in_rectangle block column row ≡ true
     → lot_of_place PLACE_DIGITS s column row ≡ Some lot → ⊥)
-    → HoldsLotPlace PLACE_DIGITS s block → ⊥
+    → HoldsLotPlace STANDARD_LOTS s block → ⊥
 lot_is_below s end block range all none held =
     go (lot_of_place PLACE_DIGITS s held.column held.row) refl held.of_lot
   where
@@ -183,7 +184,7 @@ pub small_holds : (section : ℕ) (block : Rectangle) → IsDyadic PLACE_DIGITS 
     → IsDyadic PLACE_DIGITS block.rows → block.columns.len ≤ POSITION → block.rows.len ≤ POSITION
     → IsTrue
     (is_some (lot_at_position section (block.columns.start / POSITION) (block.rows.start / POSITION)))
-    ↔ HoldsLotPlace PLACE_DIGITS section block
+    ↔ HoldsLotPlace STANDARD_LOTS section block
 small_holds section block columns rows wide high = (
   λ is. record {
     column = block.columns.start;
@@ -201,3 +202,18 @@ small_holds section block columns rows wide high = (
       (along_position block.rows held.row rows high both.1) in
       ap is_some (sym there) ∙ held.of_lot,
 )
+
+-- and is made up of lots if it contains a place of one
+pub small_of_lots : (section : ℕ) (block : Rectangle) → IsDyadic PLACE_DIGITS block.columns
+    → IsDyadic PLACE_DIGITS block.rows → block.columns.len ≤ POSITION → block.rows.len ≤ POSITION
+    → HoldsLotPlace STANDARD_LOTS section block → IsOfLots STANDARD_LOTS section block
+small_of_lots section block columns rows wide high held column row inside =
+    let both = and_parts (in_span block.columns column) (in_span block.rows row) inside in
+    let there = and_parts (in_span block.columns held.column) (in_span block.rows held.row) held.inside in
+    let across : position_along PLACE_DIGITS held.column ≡ position_along PLACE_DIGITS column =
+    along_position block.columns held.column columns wide there.0
+    ∙ sym (along_position block.columns column columns wide both.0) in
+    let upward : position_along PLACE_DIGITS held.row ≡ position_along PLACE_DIGITS row =
+    along_position block.rows held.row rows high there.1
+    ∙ sym (along_position block.rows row rows high both.1) in
+    rw (sym across, sym upward) held.of_lot

@@ -12,6 +12,7 @@ use Rattle.twp_grid.specs.Spans.{Rectangle, in_span, in_rectangle, position_span
 use Rattle.twp_grid.proofs.LotFacts.{each, each_of_three, either, a_section, lot_count_is, lot_outside}
 use Rattle.twp_grid.specs.Lands.{Meets, HoldsAll}
 use Rattle.twp_grid.specs.Lands.{lot_of_place, IsWholeOrNot}
+use Rattle.twp_grid.specs.Lands.{STANDARD_LOTS}
 
 both : (x y : Bool) → (x && y) ≡ true → (x ≡ true) × (y ≡ true)
 both true y h = (refl, h)
@@ -169,7 +170,7 @@ in_lot s n column row block range is lot =
 -- a lot's block that the land contains wholly, or does not meet
 pub whole_of_block : (s n : ℕ) (held : ℕ → ℕ → Bool) (block : Rectangle) → IsSection s
     → block_of (position_of_lot s n) ≡ Some block
-    → (Meets held block → HoldsAll held block) → IsWholeOrNot PLACE_DIGITS s n held
+    → (Meets held block → HoldsAll held block) → IsWholeOrNot STANDARD_LOTS s n held
 whole_of_block s n held block range is whole = record {
   alike = λ column row column' row' lot lot'.
       go column row column' row' lot lot' (cases_bool (held column row)) (cases_bool (held column' row'));
@@ -210,7 +211,7 @@ lot_inside s n c r column row range most position inside =
 -- the block of a lot that the land contains wholly or not at all
 pub block_of_whole : (s n : ℕ) (held : ℕ → ℕ → Bool) (block : Rectangle) (position : Option (ℕ × ℕ))
     → IsSection s → n ≤ number_of_lots s
-    → position_of_lot s n ≡ position → block_of position ≡ Some block → IsWholeOrNot PLACE_DIGITS s n held
+    → position_of_lot s n ≡ position → block_of position ≡ Some block → IsWholeOrNot STANDARD_LOTS s n held
     → Meets held block → HoldsAll held block
 block_of_whole s n held block None range most is there whole meets = cc there
 block_of_whole s n held block (Some (c, r)) range most is there whole meets =
@@ -226,7 +227,7 @@ block_of_whole s n held block (Some (c, r)) range most is there whole meets =
 
 -- no lot has number 0, or a number above the count of lots
 pub no_such_lot : (s n : ℕ) (held : ℕ → ℕ → Bool) → IsSection s → (n < 1) ⊎ (number_of_lots s < n)
-    → IsWholeOrNot PLACE_DIGITS s n held
+    → IsWholeOrNot STANDARD_LOTS s n held
 no_such_lot s n held range out =
     record { alike = λ column row column' row' lot lot'. absurd (none column row lot out) }
   where

@@ -11,6 +11,7 @@ use Rattle.twp_grid.specs.Places.{PLACE_DIGITS, position_along}
 use Rattle.twp_grid.specs.Spans.{in_rectangle, whole_block}
 use Rattle.twp_grid.proofs.LotFacts.{each, each_of_three, either, a_section}
 use Rattle.twp_grid.specs.Lands.{HoldsAll, lot_of_place, IsWholeOrNot, HasWholeLots}
+use Rattle.twp_grid.specs.Lands.{STANDARD_LOTS}
 use Rattle.twp_land.specs.Storage.{SameHeld, nothing_held}
 use Rattle.twp_land.proofs.LotFacts.{inside as lies_inside, no_such_lot}
 
@@ -55,9 +56,9 @@ listed_test = refl
 
 -- a set that contains the lots of each of these sections wholly or not at all does so everywhere
 pub whole_if_in_each : (places : ℕ → ℕ → ℕ → Bool)
-    → ((at lot : ℕ) → at < 11 → IsWholeOrNot PLACE_DIGITS (get_or lot_sections at 0) lot
+    → ((at lot : ℕ) → at < 11 → IsWholeOrNot STANDARD_LOTS (get_or lot_sections at 0) lot
     (places (get_or lot_sections at 0)))
-    → HasWholeLots PLACE_DIGITS places
+    → HasWholeLots STANDARD_LOTS places
 whole_if_in_each places whole section lot range =
     let listed : is_listed section ≡ true =
     either (section == 0) _
@@ -73,7 +74,7 @@ whole_if_in_each places whole section lot range =
           rw at at here
     ]
   where
-    without : number_of_lots section ≡ 0 → IsWholeOrNot PLACE_DIGITS section lot (places section)
+    without : number_of_lots section ≡ 0 → IsWholeOrNot STANDARD_LOTS section lot (places section)
     without none = no_such_lot section lot (places section) range (elim (below lot) [
       | inl nought ↦ inl nought
       | inr above ↦ inr (omega (arith, above, none))
@@ -85,14 +86,14 @@ whole_if_in_each places whole section lot range =
 
 -- the empty set contains no lot
 pub whole_of_none : (s n : ℕ) (held : ℕ → ℕ → Bool) → SameHeld held nothing_held
-    → IsWholeOrNot PLACE_DIGITS s n held
+    → IsWholeOrNot STANDARD_LOTS s n held
 whole_of_none s n held none = record {
   alike = λ column row column' row' lot lot'. none column row ∙ sym (none column' row');
 }
 
 -- the whole section contains each lot wholly
 pub whole_of_all : (s n : ℕ) (held : ℕ → ℕ → Bool) → HoldsAll held (whole_block PLACE_DIGITS)
-    → IsWholeOrNot PLACE_DIGITS s n held
+    → IsWholeOrNot STANDARD_LOTS s n held
 whole_of_all s n held all = record {
   alike = λ column row column' row' lot lot'.
       all column row (inside column row lot) ∙ sym (all column' row' (inside column' row' lot'));
@@ -110,10 +111,10 @@ whole_of_all s n held all = record {
 -- the lots of one more section
 pub whole_next : (places : ℕ → ℕ → ℕ → Bool) (most : ℕ)
     → ((section lot : ℕ) → 1 ≤ section → section ≤ most
-    → IsWholeOrNot PLACE_DIGITS section lot (places section))
-    → ((lot : ℕ) → IsWholeOrNot PLACE_DIGITS (most + 1) lot (places (most + 1)))
+    → IsWholeOrNot STANDARD_LOTS section lot (places section))
+    → ((lot : ℕ) → IsWholeOrNot STANDARD_LOTS (most + 1) lot (places (most + 1)))
     → (section lot : ℕ) → 1 ≤ section → section ≤ most + 1
-    → IsWholeOrNot PLACE_DIGITS section lot (places section)
+    → IsWholeOrNot STANDARD_LOTS section lot (places section)
 whole_next places most before here section lot least below = elim (cases_eq section (most + 1)) [
   | inl last ↦ rw last (here lot)
   | inr earlier ↦ before section lot least (omega arith)
@@ -121,6 +122,6 @@ whole_next places most before here section lot least below = elim (cases_eq sect
 
 -- the lots of a section's part, which is stored elsewhere
 pub whole_part : (section section' : ℕ) (held held' : ℕ → ℕ → Bool) → section ≡ section' → held ≡ held'
-    → ((lot : ℕ) → IsWholeOrNot PLACE_DIGITS section lot held) → (lot : ℕ)
-    → IsWholeOrNot PLACE_DIGITS section' lot held'
+    → ((lot : ℕ) → IsWholeOrNot STANDARD_LOTS section lot held) → (lot : ℕ)
+    → IsWholeOrNot STANDARD_LOTS section' lot held'
 whole_part section section' held held' same part whole lot = rw (← same, ← part) (whole lot)

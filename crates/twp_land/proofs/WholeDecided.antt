@@ -5,6 +5,7 @@ use Rattle.std.proofs.lemmas.Bool.{cases_Bool, cases_lt, eq-eqb}
 use Rattle.twp_grid.specs.Winding.{IsSection}
 use Rattle.twp_grid.specs.Places.{PLACE_DIGITS, places_across, position_along}
 use Rattle.twp_grid.specs.Lands.{lot_of_place, IsWholeOrNot, HasWholeLots}
+use Rattle.twp_grid.specs.Lands.{STANDARD_LOTS}
 use Rattle.twp_land.proofs.LotFacts.{fills, few_lots, no_such_lot, is_lot, is_lot_tells}
 
 abbrev Decided : Type 0 → Type 0
@@ -67,7 +68,7 @@ in_section s n column row range lot =
     (grind arith, grind arith)
 
 lot_whole_decided : (s n : ℕ) (held : ℕ → ℕ → Bool) → IsSection s
-    → Decided (IsWholeOrNot PLACE_DIGITS s n held)
+    → Decided (IsWholeOrNot STANDARD_LOTS s n held)
 lot_whole_decided s n held range = go (
     decide_below most _ (λ column _. decide_below most _ (λ row _. decide_below most _ (λ column' _.
     decide_below most _ (λ row' _. alike_decided s n held column row column' row'))))
@@ -78,7 +79,7 @@ lot_whole_decided s n held range = go (
 
     go : Decided ((column : ℕ) → column < most → (row : ℕ) → row < most → (column' : ℕ) → column' < most
         → (row' : ℕ) → row' < most → Alike s n held column row column' row')
-        → Decided (IsWholeOrNot PLACE_DIGITS s n held)
+        → Decided (IsWholeOrNot STANDARD_LOTS s n held)
     go (inl all) = inl (record {
       alike = λ column row column' row' lot lot'.
           let first = in_section s n column row range lot in
@@ -88,13 +89,13 @@ lot_whole_decided s n held range = go (
     go (inr not) = inr (λ whole. not (λ column _ row _ column' _ row' _. whole.alike column row column' row'))
 
 section_whole_decided : (s : ℕ) (held : ℕ → ℕ → Bool) → IsSection s
-    → Decided ((lot : ℕ) → IsWholeOrNot PLACE_DIGITS s lot held)
+    → Decided ((lot : ℕ) → IsWholeOrNot STANDARD_LOTS s lot held)
 section_whole_decided s held range =
-    go (decide_below 8 (λ lot. IsWholeOrNot PLACE_DIGITS s lot held)
+    go (decide_below 8 (λ lot. IsWholeOrNot STANDARD_LOTS s lot held)
     (λ lot _. lot_whole_decided s lot held range))
   where
-    go : Decided ((lot : ℕ) → lot < 8 → IsWholeOrNot PLACE_DIGITS s lot held)
-        → Decided ((lot : ℕ) → IsWholeOrNot PLACE_DIGITS s lot held)
+    go : Decided ((lot : ℕ) → lot < 8 → IsWholeOrNot STANDARD_LOTS s lot held)
+        → Decided ((lot : ℕ) → IsWholeOrNot STANDARD_LOTS s lot held)
     go (inl all) = inl (λ lot. elim (cases_lt lot 8) [
       | inl below ↦ all lot below
       | inr above ↦
@@ -103,19 +104,20 @@ section_whole_decided s held range =
     go (inr not) = inr (λ every. not (λ lot _. every lot))
 
 pub whole_lots_decided : (places : ℕ → ℕ → ℕ → Bool)
-    → HasWholeLots PLACE_DIGITS places ⊎ (HasWholeLots PLACE_DIGITS places → ⊥)
+    → HasWholeLots STANDARD_LOTS places ⊎ (HasWholeLots STANDARD_LOTS places → ⊥)
 whole_lots_decided places =
-    go (decide_below 37 (λ s. IsSection s → ((lot : ℕ) → IsWholeOrNot PLACE_DIGITS s lot (places s))) section)
+    go
+    (decide_below 37 (λ s. IsSection s → ((lot : ℕ) → IsWholeOrNot STANDARD_LOTS s lot (places s))) section)
   where
     section : (s : ℕ) → s < 37
-        → Decided (IsSection s → ((lot : ℕ) → IsWholeOrNot PLACE_DIGITS s lot (places s)))
+        → Decided (IsSection s → ((lot : ℕ) → IsWholeOrNot STANDARD_LOTS s lot (places s)))
     section zero below = inl (λ range. absurd (omega (arith, range.0)))
     section (suc s) below = elim (section_whole_decided (suc s) (places (suc s)) (omega arith, omega arith)) [
       | inl whole ↦ inl (λ _. whole)
       | inr not ↦ inr (λ all. not (all (omega arith, omega arith)))
     ]
 
-    go : Decided ((s : ℕ) → s < 37 → IsSection s → ((lot : ℕ) → IsWholeOrNot PLACE_DIGITS s lot (places s)))
-        → HasWholeLots PLACE_DIGITS places ⊎ (HasWholeLots PLACE_DIGITS places → ⊥)
+    go : Decided ((s : ℕ) → s < 37 → IsSection s → ((lot : ℕ) → IsWholeOrNot STANDARD_LOTS s lot (places s)))
+        → HasWholeLots STANDARD_LOTS places ⊎ (HasWholeLots STANDARD_LOTS places → ⊥)
     go (inl all) = inl (λ s lot range. all s (omega (arith, range.1)) range lot)
     go (inr not) = inr (λ whole. not (λ s _ range lot. whole s lot range))

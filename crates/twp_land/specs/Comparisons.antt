@@ -1,6 +1,6 @@
 -- How two sets of places relate, and whether both contain each lot wholly or not at all.
 use Rattle.std.specs.Prelude.{ℕ, Bool}
-use Rattle.twp_grid.specs.Lands.{SharePlace, SamePlaces, ContainsAll, HasWholeLots}
+use Rattle.twp_grid.specs.Lands.{Lotting, SharePlace, SamePlaces, ContainsAll, HasWholeLots}
 use Rattle.twp_land.specs.declared.comparing.Comparison.{Comparison}
 use Rattle.twp_land.specs.declared.comparing.Comparison.TheVariants.{Same, Contains, IsContained}
 use Rattle.twp_land.specs.declared.comparing.Comparison.TheVariants.{Overlaps, Disjoint}
@@ -17,5 +17,5 @@ Compares Disjoint places more =
     (¬ SharePlace places more) × (¬ ContainsAll places more) × (¬ ContainsAll more places)
 
 -- each of the two sets contains each lot wholly or not at all
-abbrev pub HaveWholeLots : ℕ → (ℕ → ℕ → ℕ → Bool) → (ℕ → ℕ → ℕ → Bool) → Type 0
-HaveWholeLots g places more = HasWholeLots g places × HasWholeLots g more
+abbrev pub HaveWholeLots : Lotting → (ℕ → ℕ → ℕ → Bool) → (ℕ → ℕ → ℕ → Bool) → Type 0
+HaveWholeLots lots places more = HasWholeLots lots places × HasWholeLots lots more

@@ -4,3 +4,4 @@ pub mod BitLanes
 pub mod Crossing
 pub mod Exchanges
 pub mod Relating
+pub mod StandardLots

@@ -2,6 +2,7 @@ ghost use Rattle.std.specs.Prelude.{◌≡◌, MatchOption};
 ghost use Rattle.twp_grid.specs.Places.{PLACE_DIGITS};
 ghost use Rattle.twp_land.specs.Storage.{land_of_rows};
 ghost use Rattle.twp_grid.specs.Lands.{HasWholeLots};
+ghost use Rattle.twp_grid.specs.Lands.{STANDARD_LOTS};
 
 use crate::land::Land;
 use crate::lanes::{LaneRows, Lanes};
@@ -30,8 +31,8 @@ impl Sections<LaneRows> {
 
     /// The set of these places. `None` if it would contain part of a lot.
     pub fn from_rows(rows: &LandRows) -> Option<Lanes>
-        ensures { MatchOption result (¬ HasWholeLots PLACE_DIGITS (land_of_rows rows.now)) (λ land.
-            HasWholeLots PLACE_DIGITS (land_of_rows rows.now)
+        ensures { MatchOption result (¬ HasWholeLots STANDARD_LOTS (land_of_rows rows.now)) (λ land.
+            HasWholeLots STANDARD_LOTS (land_of_rows rows.now)
             × (⟦<Lanes as PlaceSet>⟧.places land ≡ land_of_rows rows.now)) }
     {
         if !lots_whole(rows) {

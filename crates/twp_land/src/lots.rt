@@ -1,6 +1,7 @@
 ghost use Rattle.std.specs.Prelude.{ℕ, ◌↔◌, IsTrue, ◌+◌, ◌≤◌};
 ghost use Rattle.twp_grid.specs.Places.{PLACE_DIGITS, places_across};
 ghost use Rattle.twp_grid.specs.Lands.{IsWholeOrNot, HasWholeLots, Meets, HoldsLotPlace};
+ghost use Rattle.twp_grid.specs.Lands.{STANDARD_LOTS};
 ghost use Rattle.twp_land.specs.Storage.{land_of_rows, held_by_lane};
 ghost use Rattle.twp_land.specs.steps.Relating.{HoldsWholeLots};
 ghost use Rattle.twp_grid.specs.Spans.{span_from, in_rectangle};
@@ -21,7 +22,7 @@ const LOT_SECTIONS: [u8; SECTIONS_WITH_LOTS] = [1, 2, 3, 4, 5, 6, 7, 18, 19, 30,
 /// Whether the set contains each lot wholly or not at all (a lot is taken whole: Specifications for
 /// Descriptions of Land).
 pub fn lots_whole(rows: &LandRows) -> bool
-    ensures { IsTrue result ↔ HasWholeLots PLACE_DIGITS (land_of_rows rows.now) }
+    ensures { IsTrue result ↔ HasWholeLots STANDARD_LOTS (land_of_rows rows.now) }
 {
     for at in 0..SECTIONS_WITH_LOTS {
         let number = LOT_SECTIONS[at];
@@ -37,7 +38,7 @@ pub fn lots_whole(rows: &LandRows) -> bool
 /// are empty, which is seen at once.
 #[inline(always)]
 fn holds_whole_lots(lanes: &[Lane; PLACES_ACROSS], section: Section) -> bool
-    ensures { IsTrue result ↔ HoldsWholeLots PLACE_DIGITS section (held_by_lane lanes.now) }
+    ensures { IsTrue result ↔ HoldsWholeLots STANDARD_LOTS section (held_by_lane lanes.now) }
 {
     if LaneRows::of_lanes(lanes).same_plot(&LaneRows::empty()) {
         return true;
@@ -48,7 +49,7 @@ fn holds_whole_lots(lanes: &[Lane; PLACES_ACROSS], section: Section) -> bool
 /// The same, for places of which there are some.
 #[inline(never)]
 fn some_hold_whole_lots(lanes: &[Lane; PLACES_ACROSS], section: Section) -> bool
-    ensures { IsTrue result ↔ HoldsWholeLots PLACE_DIGITS section (held_by_lane lanes.now) }
+    ensures { IsTrue result ↔ HoldsWholeLots STANDARD_LOTS section (held_by_lane lanes.now) }
 {
     has_whole_lots(&LaneRows::of_lanes(lanes), section)
 }
@@ -57,7 +58,7 @@ fn some_hold_whole_lots(lanes: &[Lane; PLACES_ACROSS], section: Section) -> bool
 /// That is so at once if it is empty, or the whole section.
 pub(crate) fn has_whole_lots<P: Plot>(plot: &P, section: Section) -> bool
     ensures { IsTrue result
-        ↔ ((lot : ℕ) → IsWholeOrNot PLACE_DIGITS section lot (P.held plot.now)) }
+        ↔ ((lot : ℕ) → IsWholeOrNot STANDARD_LOTS section lot (P.held plot.now)) }
 {
     if plot.same_plot(&P::empty()) {
         return true;
@@ -78,7 +79,7 @@ pub(crate) fn has_whole_lots<P: Plot>(plot: &P, section: Section) -> bool
 /// no larger than a position lies within one, so one lookup is enough.
 #[inline(always)]
 pub fn holds_of_lot(section: Section, block: Block) -> bool
-    ensures { IsTrue result ↔ HoldsLotPlace PLACE_DIGITS section block }
+    ensures { IsTrue result ↔ HoldsLotPlace STANDARD_LOTS section block }
 {
     if lot_count(section) == 0 {
         return false;
@@ -93,7 +94,7 @@ pub fn holds_of_lot(section: Section, block: Block) -> bool
 
 /// Whether a block of a section shares a place with one of the section's lots.
 fn shares_lot(section: Section, block: Block) -> bool
-    ensures { IsTrue result ↔ HoldsLotPlace PLACE_DIGITS section block }
+    ensures { IsTrue result ↔ HoldsLotPlace STANDARD_LOTS section block }
 {
     for lot in 1..lot_count(section) + 1 {
         let lot_block = Block::of_lot(section, lot).unwrap();

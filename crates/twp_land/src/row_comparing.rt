@@ -4,6 +4,7 @@ ghost use Rattle.twp_land.specs.Comparisons.{Compares, HaveWholeLots};
 ghost use Rattle.twp_land.specs.steps.Relating.{HoldsWholeLots};
 ghost use Rattle.twp_land.specs.Storage.{land_of_rows, held_by_lane, held_by_either, nothing_held};
 ghost use Rattle.twp_land.specs.Storage.{SameHeld, ContainsHeld, ShareHeld};
+ghost use Rattle.twp_grid.specs.Lands.{STANDARD_LOTS};
 
 use crate::comparing::Comparison;
 use crate::land_rows::LandRows;
@@ -20,9 +21,9 @@ use twp_grid::{PLACES_ACROSS, SECTIONS, Section};
 /// place, and only in these it looks at the lots and compares the sets.
 pub fn compare_rows(rows: &LandRows, other: &LandRows) -> Option<Comparison>
     ensures { MatchOption result
-        (¬ HaveWholeLots PLACE_DIGITS (land_of_rows rows.now) (land_of_rows other.now))
+        (¬ HaveWholeLots STANDARD_LOTS (land_of_rows rows.now) (land_of_rows other.now))
         (λ comparison.
-        HaveWholeLots PLACE_DIGITS (land_of_rows rows.now) (land_of_rows other.now)
+        HaveWholeLots STANDARD_LOTS (land_of_rows rows.now) (land_of_rows other.now)
         × Compares comparison (land_of_rows rows.now) (land_of_rows other.now)) }
 {
     let mut relation = Relation {
@@ -51,8 +52,8 @@ fn take_section(
     lanes: &[Lane; PLACES_ACROSS],
     other: &[Lane; PLACES_ACROSS],
 ) -> bool
-    ensures whole { IsTrue result ↔ (HoldsWholeLots PLACE_DIGITS section (held_by_lane lanes.now)
-        × HoldsWholeLots PLACE_DIGITS section (held_by_lane other.now)) }
+    ensures whole { IsTrue result ↔ (HoldsWholeLots STANDARD_LOTS section (held_by_lane lanes.now)
+        × HoldsWholeLots STANDARD_LOTS section (held_by_lane other.now)) }
     ensures contains { IsTrue relation.new.contains ↔ (IsTrue relation.old.contains
         × ContainsHeld (held_by_lane lanes.now) (held_by_lane other.now)) }
     ensures is_contained { IsTrue relation.new.is_contained ↔ (IsTrue relation.old.is_contained

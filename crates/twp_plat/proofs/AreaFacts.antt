@@ -12,6 +12,7 @@ use Rattle.twp_grid.specs.Spans.{total}
 use Rattle.twp_grid.proofs.TotalFacts.{total-next, total-zero}
 use Rattle.twp_grid.specs.Lands.{no_places, Meets, LieWithin}
 use Rattle.twp_grid.specs.Lands.{HasWholeLots}
+use Rattle.twp_grid.specs.Lands.{STANDARD_LOTS}
 use Rattle.twp_land.proofs.LandRanges.{nothing_within}
 use Rattle.twp_plat.specs.Plats.{TownshipPlat, IsPlat}
 use Rattle.twp_plat.specs.LandAreas.{section_sum, township_sum}
@@ -148,7 +149,7 @@ area_is units over found area is there = (rw there at is).1
 -- the sum over all sections is the land's area
 pub land_area : (account : Account) (plat : TownshipPlat) (places : ℕ → ℕ → ℕ → Bool) (number units over : ℕ)
     (area : Fraction)
-    → IsPlat plat → HasWholeLots PLACE_DIGITS places
+    → IsPlat plat → HasWholeLots STANDARD_LOTS places
     → over ≡ over_by account plat → number ≡ 37 → IsSumOf account plat places (number - 1) units
     → area ≡ record { units = units; over = over } → IsAreaBy account PLACE_DIGITS plat places area
 land_area Exact plat places number units over area is whole over_is all sum area_is =

@@ -7,6 +7,7 @@ use Rattle.twp_measure.specs.Areas.{Fraction}
 use Rattle.twp_grid.specs.Places.{position_along}
 use Rattle.twp_grid.specs.Lands.{union, intersection, difference}
 use Rattle.twp_grid.specs.Lands.{HasWholeLots}
+use Rattle.twp_grid.specs.Lands.{standard_lots}
 use Rattle.twp_land.proofs.CombinedLots.{combined_lots_are_whole}
 use Rattle.twp_plat.specs.Plats.{TownshipPlat}
 use Rattle.twp_plat.proofs.RatioFacts.{cancelled}
@@ -160,11 +161,11 @@ rest_is g plat places more first is = record {
 
 -- with any plat area of the rest
 shared_and_rest : (g : ℕ) (plat : TownshipPlat) (places more : ℕ → ℕ → ℕ → Bool) (first rest both : Fraction)
-    → HasWholeLots g places → HasWholeLots g more
+    → HasWholeLots (standard_lots g) places → HasWholeLots (standard_lots g) more
     → IsPlatArea g plat places first → IsPlatArea g plat (difference places more) rest
     → IsPlatArea g plat (intersection places more) both → rest.units + both.units ≡ first.units
 shared_and_rest g plat places more first rest both whole whole' is is-rest is-both =
-    let wholes = combined_lots_are_whole g places more whole whole' in
+    let wholes = combined_lots_are_whole (standard_lots g) places more whole whole' in
     let added =
     disjoint_plat_areas_add g plat (difference places more) (intersection places more) rest both wholes.2
     wholes.1 (apart_from_shared places more) is-rest is-both in
@@ -180,7 +181,7 @@ plat_difference_and_intersection_add g plat places more first rest both whole wh
 pub plat_union_and_intersection_add : PlatUnionAndIntersectionAdd
 plat_union_and_intersection_add g plat places more first second either both whole whole' is is' is-either
     is-both =
-    let wholes = combined_lots_are_whole g places more whole whole' in
+    let wholes = combined_lots_are_whole (standard_lots g) places more whole whole' in
     let rest = rest_by g plat places more first is in
     let of_rest = rest_is g plat places more first is in
     let added =

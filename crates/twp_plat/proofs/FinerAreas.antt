@@ -14,6 +14,7 @@ use Rattle.twp_grid.proofs.FinerPlaces.{position_twice, same_position, whole_fin
 use Rattle.twp_grid.specs.Lands.{count_held}
 use Rattle.twp_grid.specs.FinerLands.{cut_in_four, finer_land}
 use Rattle.twp_grid.specs.Lands.{off_lots}
+use Rattle.twp_grid.specs.Lands.{standard_lots}
 use Rattle.twp_grid.proofs.FinerLands.{same_off_lots, count_of_section, count_of_position}
 use Rattle.twp_plat.specs.Plats.{TownshipPlat}
 use Rattle.twp_plat.proofs.RatioFacts.{cancelled}
@@ -113,14 +114,14 @@ off_lots_of_four : (g : ℕ) (places : ℕ → ℕ → ℕ → Bool) → POSITIO
     → places_off_lots (suc g) (finer_land places) ≡ 4 * places_off_lots g places
 off_lots_of_four g places fits =
     total-ext SECTION_COUNT
-    (λ before. count_held (off_lots (suc g) (before + 1) (finer_land places (before + 1)))
+    (λ before. count_held (off_lots (standard_lots (suc g)) (before + 1) (finer_land places (before + 1)))
     (whole_block (suc g)))
-    (λ before. 4 * count_held (off_lots g (before + 1) (places (before + 1))) (whole_block g))
+    (λ before. 4 * count_held (off_lots (standard_lots g) (before + 1) (places (before + 1))) (whole_block g))
     (λ before _.
     ap (λ off. count_held off (whole_block (suc g))) (same_off_lots g (before + 1) (places (before + 1)) fits)
-    ∙ count_of_section g (off_lots g (before + 1) (places (before + 1))))
+    ∙ count_of_section g (off_lots (standard_lots g) (before + 1) (places (before + 1))))
     ∙ total-scale SECTION_COUNT 4
-    (λ before. count_held (off_lots g (before + 1) (places (before + 1))) (whole_block g))
+    (λ before. count_held (off_lots (standard_lots g) (before + 1) (places (before + 1))) (whole_block g))
 
 -- the plat area
 pub same_plat_area : (g share : ℕ) (plat : TownshipPlat) (places : ℕ → ℕ → ℕ → Bool) (area : Fraction)

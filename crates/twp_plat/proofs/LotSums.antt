@@ -18,6 +18,7 @@ use Rattle.twp_grid.proofs.TilingFacts.{position_has_places}
 use Rattle.twp_grid.specs.Lands.{count_held}
 use Rattle.twp_grid.specs.Lands.{lot_of_place, IsWholeOrNot, HasWholeLots}
 use Rattle.twp_grid.specs.Lands.{off_lots}
+use Rattle.twp_grid.specs.Lands.{standard_lots}
 use Rattle.twp_plat.specs.LandAreas.{places_of_position, piece_where_held, section_sum}
 use Rattle.twp_plat.specs.LandAreas.{township_sum}
 use Rattle.twp_plat.specs.PlatAccounts.{holds_lot, lots_held, places_off_lots}
@@ -84,16 +85,17 @@ position_sum g units held column row =
 
 -- the places of a position are all off the lots, or none are
 off_of : (g section column row : ℕ) (held : ℕ → ℕ → Bool)
-    → held_of g (off_lots g section held) column row
+    → held_of g (off_lots (standard_lots g) section held) column row
     ≡ (if is_none (lot_at_position section column row) then held_of g held column row else 0)
 off_of g section column row held =
     let p : ℕ = places_to_position g in
     total-ext p (λ up. total p
-    (λ along. one_where (off_lots g section held (column * p + along) (row * p + up))))
+    (λ along. one_where (off_lots (standard_lots g) section held (column * p + along) (row * p + up))))
     (λ up. total p (λ along.
     one_where (held (column * p + along) (row * p + up) && is_none
     (lot_at_position section column row)))) (λ up in_up.
-    total-ext p (λ along. one_where (off_lots g section held (column * p + along) (row * p + up)))
+    total-ext p
+    (λ along. one_where (off_lots (standard_lots g) section held (column * p + along) (row * p + up)))
     (λ along. one_where (held (column * p + along) (row * p + up) && is_none
     (lot_at_position section column row))) (λ along in_along.
     rw (div-mul-add column p along in_along, div-mul-add row p up in_up) refl))
@@ -122,7 +124,7 @@ off_of g section column row held =
 
 -- a lot is contained wholly or not at all
 all_or_none : (g section number column row : ℕ) (held : ℕ → ℕ → Bool) → 0 < places_to_position g
-    → IsWholeOrNot g section number held → lot_at_position section column row ≡ Some number
+    → IsWholeOrNot (standard_lots g) section number held → lot_at_position section column row ≡ Some number
     → held_of g held column row
     ≡ places_of_position g * one_where
     (held (column * places_to_position g) (row * places_to_position g))
@@ -165,10 +167,11 @@ lot_value g lot_units section held column row =
 -- the amount for a position: its lot, if the set contains it, and its places off the lots
 at_position : (g : ℕ) (lot_units : ℕ → ℕ → ℕ) (regular section : ℕ) (held : ℕ → ℕ → Bool) (column row : ℕ)
     (found : Option ℕ) → 0 < places_to_position g
-    → ((number : ℕ) → IsWholeOrNot g section number held) → lot_at_position section column row ≡ found
+    → ((number : ℕ) → IsWholeOrNot (standard_lots g) section number held)
+    → lot_at_position section column row ≡ found
     → position_units lot_units regular section column row * held_of g held column row
     ≡ places_of_position g * lot_value g lot_units section held column row + regular * held_of g
-    (off_lots g section held) column row
+    (off_lots (standard_lots g) section held) column row
 at_position g lot_units regular section held column row None some whole there =
     let off = off_of g section column row held in
     rw (off, there) (none regular (held_of g held column row) (places_of_position g))
@@ -197,14 +200,14 @@ at_position g lot_units regular section held column row (Some number) some whole
 -- the amount for a section
 of_section : (g : ℕ) → POSITIONS_ACROSS ≤ places_across g
     → (lot_units : ℕ → ℕ → ℕ) (regular section : ℕ) (held : ℕ → ℕ → Bool)
-    → ((number : ℕ) → IsWholeOrNot g section number held)
+    → ((number : ℕ) → IsWholeOrNot (standard_lots g) section number held)
     → section_sum g (position_units lot_units regular section) held
     ≡ places_of_position g * over_positions (lot_value g lot_units section held) + regular * count_held
-    (off_lots g section held) (whole_block g)
+    (off_lots (standard_lots g) section held) (whole_block g)
 of_section g fits lot_units regular section held whole =
     let units : ℕ → ℕ → ℕ = position_units lot_units regular section in
     let value : ℕ → ℕ → ℕ = lot_value g lot_units section held in
-    let off : ℕ → ℕ → ℕ = held_of g (off_lots g section held) in
+    let off : ℕ → ℕ → ℕ = held_of g (off_lots (standard_lots g) section held) in
     let n : ℕ = places_of_position g in
     let some = (position_has_places g fits).0 in
     by_position g fits (piece_where_held g units held)
@@ -217,7 +220,7 @@ of_section g fits lot_units regular section held whole =
     ∙ ap (λ t. t + over_positions (λ column row. regular * off column row)) (positions-scale n value)
     ∙ ap (λ t. n * over_positions value + t) (positions-scale regular off)
     ∙ ap (λ t. n * over_positions value + regular * t)
-    (sym (by_position g fits (λ column row. one_where (off_lots g section held column row))))
+    (sym (by_position g fits (λ column row. one_where (off_lots (standard_lots g) section held column row))))
 
 -- a function's value at the lot that fills a position, or 0 if none does
 abbrev pub at_lot : (Lot → ℕ) → ℕ → ℕ → ℕ → ℕ
@@ -255,7 +258,8 @@ filtered test f (l ∷ table) = by_test (test l) refl (filtered test f table)
 
 -- the sum over all places is the sum over the lots and the places off the lots
 pub sum_by_lots : (g : ℕ) → POSITIONS_ACROSS ≤ places_across g
-    → (lot_units : ℕ → ℕ → ℕ) (regular : ℕ) (places : ℕ → ℕ → ℕ → Bool) → HasWholeLots g places
+    → (lot_units : ℕ → ℕ → ℕ) (regular : ℕ) (places : ℕ → ℕ → ℕ → Bool)
+    → HasWholeLots (standard_lots g) places
     → places_of_position g * sum_by (λ l. lot_units l.section l.number)
     (lots_held g places) + regular * places_off_lots g places
     ≡ township_sum g (position_units lot_units regular) places
@@ -263,7 +267,7 @@ sum_by_lots g fits lot_units regular places whole =
     let n : ℕ = places_of_position g in
     let value : ℕ → ℕ = λ before. over_positions
     (lot_value g lot_units (before + 1) (places (before + 1))) in
-    let off : ℕ → ℕ = λ before. count_held (off_lots g (before + 1) (places (before + 1)))
+    let off : ℕ → ℕ = λ before. count_held (off_lots (standard_lots g) (before + 1) (places (before + 1)))
     (whole_block g) in
     let lots_are : sum_by (λ l. lot_units l.section l.number) (lots_held g places) ≡ total 36 value =
     filtered (holds_lot g places) (λ l. lot_units l.section l.number) lots

@@ -17,6 +17,7 @@ use Rattle.twp_grid.proofs.TotalFacts.{total-ext, total-le, total-scale}
 use Rattle.twp_grid.proofs.TilingFacts.{one_position}
 use Rattle.twp_grid.specs.Lands.{union}
 use Rattle.twp_grid.specs.Lands.{HasWholeLots}
+use Rattle.twp_grid.specs.Lands.{standard_lots}
 use Rattle.twp_land.proofs.LotFacts.{fills}
 use Rattle.twp_plat.specs.Plats.{TownshipPlat, IsPlat}
 use Rattle.twp_plat.specs.Pieces.{over_of}
@@ -127,7 +128,7 @@ one_plat_area g plat places area area' is is' =
 
 -- a plat area is a sum over places
 place_sum : (g : ℕ) (plat : TownshipPlat) (places : ℕ → ℕ → ℕ → Bool) (area : Fraction)
-    → HasWholeLots g places → (is : IsPlatArea g plat places area)
+    → HasWholeLots (standard_lots g) places → (is : IsPlatArea g plat places area)
     → places_of_position g * area.units
     ≡ township_sum g (position_units (units_of is.figures) 400000000) places
 place_sum g plat places area whole is =
@@ -143,8 +144,9 @@ place_sum g plat places area whole is =
         rw is' at all
 
 -- if two sets contain lots wholly or not at all, so does their union
-both_whole : (g : ℕ) (places more : ℕ → ℕ → ℕ → Bool) → HasWholeLots g places → HasWholeLots g more
-    → HasWholeLots g (union places more)
+both_whole : (g : ℕ) (places more : ℕ → ℕ → ℕ → Bool) → HasWholeLots (standard_lots g) places
+    → HasWholeLots (standard_lots g) more
+    → HasWholeLots (standard_lots g) (union places more)
 both_whole g places more whole whole' section number range = record {
   alike = λ column row column' row' is is'.
       rw (

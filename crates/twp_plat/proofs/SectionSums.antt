@@ -10,6 +10,7 @@ use Rattle.twp_grid.specs.Spans.{total, total_over, one_where, over_positions}
 use Rattle.twp_grid.proofs.TotalFacts.{total-ext, total-same, total-scale, total-le, total-all_zero}
 use Rattle.twp_grid.specs.Lands.{count_held, Meets}
 use Rattle.twp_grid.specs.Lands.{lot_of_place, IsWholeOrNot}
+use Rattle.twp_grid.specs.Lands.{STANDARD_LOTS}
 use Rattle.twp_land.proofs.LotFacts.{fills, has_lot}
 use Rattle.twp_plat.specs.LandAreas.{piece_where_held, section_sum}
 use Rattle.twp_plat.specs.steps.Bounds.{ACROSS, TO_POSITION, OF_POSITION, SECTION_PLACES_MOST}
@@ -142,7 +143,7 @@ along_position position k below = omega arith
 
 -- a lot is contained wholly or not at all, as its first place shows
 pub held_of_lot : (section lot column row : ℕ) (held : ℕ → ℕ → Bool)
-    → IsWholeOrNot PLACE_DIGITS section lot held → lot_at_position section column row ≡ Some lot
+    → IsWholeOrNot STANDARD_LOTS section lot held → lot_at_position section column row ≡ Some lot
     → held_of held column row ≡ places_where held column row
 held_of_lot section lot column row held whole is =
     total-ext TO_POSITION (λ up. total TO_POSITION (λ along.
@@ -209,7 +210,7 @@ position_sum held pieces column row =
 
 -- the places that are subtracted with lots are no more than all places in the set
 pub lots_within : (section n : ℕ) (held : ℕ → ℕ → Bool) → IsSection section
-    → ((lot : ℕ) → IsWholeOrNot PLACE_DIGITS section lot held)
+    → ((lot : ℕ) → IsWholeOrNot STANDARD_LOTS section lot held)
     → over_positions (of_lots section n (places_where held)) ≤ count_held held (whole_block PLACE_DIGITS)
 lots_within section n held range whole =
     rw (held_by_position held)
@@ -245,7 +246,7 @@ AreRegular over section pieces =
 at_position : (over section last : ℕ) (held : ℕ → ℕ → Bool) (pieces : ℕ → ℕ → ℕ) (column row : ℕ)
     (lot : Option ℕ)
     → AreRegular over section pieces
-    → IsSection section → ((lot : ℕ) → IsWholeOrNot PLACE_DIGITS section lot held)
+    → IsSection section → ((lot : ℕ) → IsWholeOrNot STANDARD_LOTS section lot held)
     → number_of_lots section < last → IsPosition column row
     → lot_at_position section column row ≡ lot → AtPosition over section last held pieces column row
 at_position over section last held pieces column row None are range whole most position there =
@@ -273,7 +274,7 @@ at_position over section last held pieces column row (Some lot) are range whole 
 
 pub sum_of_section : (over section last count units : ℕ) (held : ℕ → ℕ → Bool) (pieces : ℕ → ℕ → ℕ)
     → AreRegular over section pieces
-    → IsSection section → ((lot : ℕ) → IsWholeOrNot PLACE_DIGITS section lot held)
+    → IsSection section → ((lot : ℕ) → IsWholeOrNot STANDARD_LOTS section lot held)
     → number_of_lots section < last
     → count + over_positions (of_lots section last (places_where held))
     ≡ count_held held (whole_block PLACE_DIGITS)

@@ -5,6 +5,7 @@ use Rattle.twp_grid.specs.Winding.{IsSection}
 use Rattle.twp_grid.specs.Lots.{position_of_lot}
 use Rattle.twp_grid.specs.Lands.{union, intersection, difference}
 use Rattle.twp_grid.specs.Lands.{HasWholeLots}
+use Rattle.twp_grid.specs.Lands.{standard_lots}
 use Rattle.twp_plat.specs.Plats.{TownshipPlat}
 use Rattle.twp_plat.specs.PlatFigures.{PlatFigures, AreFigures}
 use Rattle.twp_plat.specs.PlatAccounts.{IsPlatArea}
@@ -34,7 +35,8 @@ LotAreaIsPlatArea = (g : ℕ) (plat : TownshipPlat) (figures : PlatFigures) (tab
 -- of the first.
 abbrev pub LotAreasAdd : Type 0
 LotAreasAdd = (g : ℕ) (table : ReturnedLots) (places more : ℕ → ℕ → ℕ → Bool)
-    (first second either both rest : Fraction) → HasWholeLots g places → HasWholeLots g more
+    (first second either both rest : Fraction) → HasWholeLots (standard_lots g) places
+    → HasWholeLots (standard_lots g) more
     → IsLotArea g table places first → IsLotArea g table more second
     → IsLotArea g table (union places more) either
     → IsLotArea g table (intersection places more) both

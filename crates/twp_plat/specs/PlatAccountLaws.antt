@@ -3,6 +3,7 @@ use Rattle.std.specs.Prelude.{◌≡◌, ℕ, ◌+◌, ◌*◌, ◌/◌, ◌≤�
 use Rattle.twp_measure.specs.Areas.{Fraction, HUNDREDTH_OF_AN_ACRE}
 use Rattle.twp_grid.specs.Lands.{union, intersection, difference}
 use Rattle.twp_grid.specs.Lands.{HasWholeLots}
+use Rattle.twp_grid.specs.Lands.{standard_lots}
 use Rattle.twp_plat.specs.Plats.{TownshipPlat, IsPlat}
 use Rattle.twp_plat.specs.LandAreas.{IsLandArea}
 use Rattle.twp_plat.specs.LandAreaLaws.{AreDisjoint}
@@ -16,7 +17,7 @@ OnePlatArea = (g : ℕ) (plat : TownshipPlat) (places : ℕ → ℕ → ℕ → 
 -- the plat area of two disjoint sets with whole lots together is the sum of their plat areas
 abbrev pub DisjointPlatAreasAdd : Type 0
 DisjointPlatAreasAdd = (g : ℕ) (plat : TownshipPlat) (places more : ℕ → ℕ → ℕ → Bool)
-    (area other : Fraction) → HasWholeLots g places → HasWholeLots g more
+    (area other : Fraction) → HasWholeLots (standard_lots g) places → HasWholeLots (standard_lots g) more
     → AreDisjoint places more
     → IsPlatArea g plat places area → IsPlatArea g plat more other
     → IsPlatArea g plat (union places more)
@@ -26,7 +27,8 @@ DisjointPlatAreasAdd = (g : ℕ) (plat : TownshipPlat) (places more : ℕ → �
 -- the plat areas of the two
 abbrev pub PlatUnionAndIntersectionAdd : Type 0
 PlatUnionAndIntersectionAdd = (g : ℕ) (plat : TownshipPlat) (places more : ℕ → ℕ → ℕ → Bool)
-    (first second either both : Fraction) → HasWholeLots g places → HasWholeLots g more
+    (first second either both : Fraction) → HasWholeLots (standard_lots g) places
+    → HasWholeLots (standard_lots g) more
     → IsPlatArea g plat places first → IsPlatArea g plat more second
     → IsPlatArea g plat (union places more) either
     → IsPlatArea g plat (intersection places more) both
@@ -36,7 +38,7 @@ PlatUnionAndIntersectionAdd = (g : ℕ) (plat : TownshipPlat) (places more : ℕ
 -- to the plat area of the first
 abbrev pub PlatDifferenceAndIntersectionAdd : Type 0
 PlatDifferenceAndIntersectionAdd = (g : ℕ) (plat : TownshipPlat) (places more : ℕ → ℕ → ℕ → Bool)
-    (first rest both : Fraction) → HasWholeLots g places → HasWholeLots g more
+    (first rest both : Fraction) → HasWholeLots (standard_lots g) places → HasWholeLots (standard_lots g) more
     → IsPlatArea g plat places first → IsPlatArea g plat (difference places more) rest
     → IsPlatArea g plat (intersection places more) both
     → rest.units + both.units ≡ first.units
@@ -56,6 +58,6 @@ pub record DifferByAtMost (area other : Fraction) (units : ℕ) : Type 0 where
 -- for each lot that it contains
 abbrev pub PlatAreaIsNear : Type 0
 PlatAreaIsNear = (g : ℕ) (plat : TownshipPlat) (places : ℕ → ℕ → ℕ → Bool)
-    (exact printed : Fraction) → IsPlat plat → HasWholeLots g places
+    (exact printed : Fraction) → IsPlat plat → HasWholeLots (standard_lots g) places
     → IsLandArea g plat places exact → IsPlatArea g plat places printed
     → DifferByAtMost exact printed (HALF_A_HUNDREDTH * length (lots_held g places))

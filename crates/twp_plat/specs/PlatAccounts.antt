@@ -8,6 +8,7 @@ use Rattle.twp_grid.specs.Spans.{whole_block, position_block}
 use Rattle.twp_grid.specs.Spans.{total}
 use Rattle.twp_grid.specs.Lands.{count_held}
 use Rattle.twp_grid.specs.Lands.{off_lots}
+use Rattle.twp_grid.specs.Lands.{standard_lots}
 use Rattle.twp_plat.specs.Closing.{QUARTER_MILE}
 use Rattle.twp_plat.specs.Plats.{TownshipPlat}
 use Rattle.twp_plat.specs.LandAreas.{places_of_position, IsLandArea}
@@ -27,7 +28,7 @@ lots_held g places = filter (holds_lot g places) lots
 -- how many places off the lots the set contains
 abbrev pub places_off_lots : ℕ → (ℕ → ℕ → ℕ → Bool) → ℕ
 places_off_lots g places = total SECTION_COUNT (λ before.
-    count_held (off_lots g (before + 1) (places (before + 1))) (whole_block g))
+    count_held (off_lots (standard_lots g) (before + 1) (places (before + 1))) (whole_block g))
 
 -- a lot's units: 100,000 for each hundredth of an acre that the plat shows for it
 abbrev pub printed_units : PlatFigures → Lot → ℕ

@@ -3,6 +3,7 @@
 ghost use Rattle.std.specs.Prelude.{◌≡◌, ℕ, ◌*◌, ◌≤◌, ◌<◌, Some};
 ghost use Rattle.twp_grid.specs.Places.{PLACE_DIGITS};
 ghost use Rattle.twp_grid.specs.Lands.{HasWholeLots};
+ghost use Rattle.twp_grid.specs.Lands.{STANDARD_LOTS};
 ghost use Rattle.twp_plat.specs.Pieces.{OVER_MOST, over_of, ArePieces, IsSectionArea};
 ghost use Rattle.twp_plat.specs.Pieces.{IsTownshipArea};
 ghost use Rattle.twp_plat.specs.LandAreas.{places_of_position, section_sum, IsLandArea};
@@ -35,7 +36,7 @@ const REGULAR_PLACE: u128 = REGULAR_POSITION / PLACES_OF_POSITION as u128;
 /// which is the same for all places of the position, and nothing is rounded (this project's rule; a
 /// lot is taken whole: Specifications for Descriptions of Land).
 pub fn area_of<L: Land>(plat: &Plat, land: &L) -> Area
-    requires whole { HasWholeLots PLACE_DIGITS (L.places land.now) }
+    requires whole { HasWholeLots STANDARD_LOTS (L.places land.now) }
     ensures { IsLandArea PLACE_DIGITS plat.now (L.places land.now) result }
 {
     area_by(Account::Exact, plat, land)
@@ -44,7 +45,7 @@ pub fn area_of<L: Land>(plat: &Plat, land: &L) -> Area
 /// The plat area of land: each lot counts for its acreage as the plat shows it, and each place off
 /// the lots for its share of 40 acres (this project's rule).
 pub fn plat_area_of<L: Land>(plat: &Plat, land: &L) -> Area
-    requires whole { HasWholeLots PLACE_DIGITS (L.places land.now) }
+    requires whole { HasWholeLots STANDARD_LOTS (L.places land.now) }
     ensures { IsPlatArea PLACE_DIGITS plat.now (L.places land.now) result }
 {
     area_by(Account::Plat, plat, land)
@@ -52,7 +53,7 @@ pub fn plat_area_of<L: Land>(plat: &Plat, land: &L) -> Area
 
 /// The area of land by an account: `area_of` or `plat_area_of`.
 pub fn area_by<L: PlaceSet>(account: Account, plat: &Plat, land: &L) -> Area
-    requires whole { HasWholeLots PLACE_DIGITS (L.places land.now) }
+    requires whole { HasWholeLots STANDARD_LOTS (L.places land.now) }
     ensures { IsAreaBy account PLACE_DIGITS plat.now (L.places land.now) result }
 {
     let over = account.over(plat);
@@ -74,7 +75,7 @@ pub fn area_by<L: PlaceSet>(account: Account, plat: &Plat, land: &L) -> Area
 /// lot wholly or not at all, so one place of a lot decides whether its units are added; the places
 /// off the lots are counted.
 fn units_in_section<L: PlaceSet>(account: Account, plat: &Plat, land: &L, section: Section) -> u128
-    requires whole { HasWholeLots PLACE_DIGITS (L.places land.now) }
+    requires whole { HasWholeLots STANDARD_LOTS (L.places land.now) }
     ensures sum { (units : ℕ → ℕ → ℕ → ℕ) → AreUnitsBy account plat.now units
         → places_of_position PLACE_DIGITS * result
         ≡ section_sum PLACE_DIGITS (units section) (L.places land.now section) }

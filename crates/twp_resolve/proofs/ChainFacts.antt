@@ -16,12 +16,14 @@ use Rattle.twp_grid.specs.Places.{is_place}
 use Rattle.twp_grid.specs.Spans.{Rectangle, whole_block}
 use Rattle.twp_grid.proofs.CutFacts.{held_as_asked, sides_as_asked}
 use Rattle.twp_grid.specs.Lands.{block_places}
+use Rattle.twp_grid.specs.Lands.{Lotting}
 use Rattle.twp_grammar.specs.declared.item.Step.{Step}
 use Rattle.twp_grammar.specs.declared.item.Item.TheVariants.{Chain}
 use Rattle.twp_grammar.specs.ItemPlaces.{cut_of, cuts_of, item_places}
 use Rattle.twp_grammar.specs.ItemPlaces.{item_of}
 use Rattle.twp_resolve.specs.steps.ResolvingSteps.{CanCut, IsCutTo}
-use Rattle.twp_grammar.proofs.CutPlaces.{more_left, more_than_one, outside, inside}
+use Rattle.twp_grammar.proofs.CutPlaces.{more_left, more_than_one, outside}
+use Rattle.twp_grid.proofs.PlaceTests.{place_of_test}
 
 axis_more : (g : ℕ) (asked more : List ℕ) (len : ℕ) → length asked ≤ g → len ≡ 2 ^ (g - length asked)
     → 1 < len → length more ≡ 1 → length (asked ++ more) ≤ g
@@ -180,11 +182,21 @@ and_false true = refl
 and_false false = refl
 
 -- the places of an aliquot part that is not too small are those of the block
-pub chain_places : (g section : ℕ) (steps : List Step) (at : ℕ) → AreWithin g (cuts_of steps)
-    → item_places g (item_of section (Chain steps at)) ≡ block_places section (reached g (cuts_of steps))
-chain_places g section steps at within =
-    fun_ext (λ other. fun_ext (λ column. fun_ext (λ row. elim (cases_Bool (is_place g column row)) [
+pub chain_places : (lots : Lotting) (section : ℕ) (steps : List Step) (at : ℕ)
+    → AreWithin lots.digits (cuts_of steps)
+    → item_places lots (item_of section (Chain steps at))
+    ≡ block_places section (reached lots.digits (cuts_of steps))
+chain_places lots section steps at within =
+    fun_ext (λ other. fun_ext (λ column. fun_ext (λ row. elim (cases_Bool (is_place lots.digits column row)) [
       | inl place ↦
-          rw (place, held_as_asked g (cuts_of steps) within column row (inside g column row place)) refl
-      | inr not ↦ rw (not, outside g (cuts_of steps) column row within not, and_false (section == other)) refl
+          rw (
+            place,
+            held_as_asked lots.digits (cuts_of steps) within column row
+                (place_of_test lots.digits column row place),
+          ) refl
+      | inr not ↦ rw (
+        not,
+        outside lots.digits (cuts_of steps) column row within not,
+        and_false (section == other),
+      ) refl
     ])))

@@ -12,6 +12,7 @@ use Rattle.twp_grid.specs.Townships.{Designation}
 use Rattle.twp_grid.specs.declared.township.NorthSouth.{NorthSouth}
 use Rattle.twp_grid.specs.declared.township.EastWest.{EastWest}
 use Rattle.twp_grid.specs.Lands.{no_places, SharePlace}
+use Rattle.twp_grid.specs.Lands.{Lotting}
 use Rattle.twp_grammar.specs.declared.item.Item.{Item}
 use Rattle.twp_grammar.specs.declared.item.Item.TheVariants as item
 use Rattle.twp_resolve.specs.declared.place_fault.PlaceFault.{PlaceFault}
@@ -26,18 +27,18 @@ use Rattle.twp_resolve.specs.steps.ResolvingSteps.{number_of_section}
 use Rattle.twp_resolve.proofs.PlaceAnswers.{none_of_item, pairs_of_apart}
 
 -- the items before an index lie on the plat, no place is named by two of them, and this is their land
-pub record AreTaken (g : ℕ) (township : Designation) (items : List Item) (index section : ℕ)
+pub record AreTaken (lots : Lotting) (township : Designation) (items : List Item) (index section : ℕ)
     (places : ℕ → ℕ → ℕ → Bool) : Type 0 where
   pub left : drop index (parts_of items) ≡ with_sections section (drop index items)
   pub each : (i : ℕ) (d : ItemOfSection) → i < index → i < length (parts_of items)
-      → LiesOnPlat g township (get_or (parts_of items) i d).section (get_or (parts_of items) i d).item
+      → LiesOnPlat lots township (get_or (parts_of items) i d).section (get_or (parts_of items) i d).item
   pub apart : (i : ℕ) (d : ItemOfSection) → i < index → i < length (parts_of items)
-      → ¬ SharePlace (land_of g (take i (parts_of items))) (item_places g (get_or (parts_of items) i d))
-  pub land : places ≡ land_of g (take index (parts_of items))
+      → ¬ SharePlace (land_of lots (take i (parts_of items))) (item_places lots (get_or (parts_of items) i d))
+  pub land : places ≡ land_of lots (take index (parts_of items))
 
-pub taken_none : (g : ℕ) (township : Designation) (items : List Item) (places : ℕ → ℕ → ℕ → Bool)
-    → places ≡ no_places → AreTaken g township items 0 0 places
-taken_none g township items places none = record {
+pub taken_none : (lots : Lotting) (township : Designation) (items : List Item) (places : ℕ → ℕ → ℕ → Bool)
+    → places ≡ no_places → AreTaken lots township items 0 0 places
+taken_none lots township items places none = record {
   left = refl;
   each = λ i d before within. absurd (omega arith);
   apart = λ i d before within. absurd (omega arith);
@@ -83,12 +84,12 @@ next_is items index section it inside at left = record {
         (sym (drop_more (parts_of items) index d within) ∙ left ∙ ap (λ xs. with_sections section xs) there)
 
 -- one more item
-pub taken_next : (g : ℕ) (township : Designation) (items : List Item) (index section : ℕ) (it : Item)
+pub taken_next : (lots : Lotting) (township : Designation) (items : List Item) (index section : ℕ) (it : Item)
     (places new : ℕ → ℕ → ℕ → Bool)
     → index < length items → get_or items index it ≡ it
-    → AreTaken g township items index section places → IsItemTaken g township section it places new
-    → AreTaken g township items (index + 1) (section_after section it) new
-taken_next g township items index section it places new inside at so_far taken =
+    → AreTaken lots township items index section places → IsItemTaken lots township section it places new
+    → AreTaken lots township items (index + 1) (section_after section it) new
+taken_next lots township items index section it places new inside at so_far taken =
     let next : IsNext items index section it = next_is items index section it inside at so_far.left in
     record {
       left = next.after;
@@ -97,9 +98,9 @@ taken_next g township items index section it places new inside at so_far taken =
         | inr here ↦
             let same : index ≡ i = omega arith in
             subst (λ n.
-            LiesOnPlat g township (get_or (parts_of items) n d).section (get_or (parts_of items) n d).item)
+            LiesOnPlat lots township (get_or (parts_of items) n d).section (get_or (parts_of items) n d).item)
             same
-            (subst (λ (p : ItemOfSection). LiesOnPlat g township p.section p.item) (sym (next.here d))
+            (subst (λ (p : ItemOfSection). LiesOnPlat lots township p.section p.item) (sym (next.here d))
             taken.lies)
       ];
       apart = λ i d before within. elim (cases_lt i index) [
@@ -107,19 +108,23 @@ taken_next g township items index section it places new inside at so_far taken =
         | inr here ↦
             let same : index ≡ i = omega arith in
             subst (λ n.
-            ¬ SharePlace (land_of g (take n (parts_of items))) (item_places g (get_or (parts_of items) n d)))
+            ¬ SharePlace (land_of lots (take n (parts_of items)))
+            (item_places lots (get_or (parts_of items) n d)))
             same
             (subst
-            (λ (p : ItemOfSection). ¬ SharePlace (land_of g (take index (parts_of items))) (item_places g p))
+            (λ (p : ItemOfSection).
+            ¬ SharePlace (land_of lots (take index (parts_of items))) (item_places lots p))
             (sym (next.here d))
-            (subst (λ land. ¬ SharePlace land (item_places g (item_of section it))) so_far.land taken.apart))
+            (subst (λ land. ¬ SharePlace land (item_places lots (item_of section it))) so_far.land
+            taken.apart))
       ];
       land = taken.added ∙ fun_ext (λ s. fun_ext (λ c. fun_ext (λ r.
           let d = item_of section it in
-          ap (λ land. land s c r || item_places g (item_of section it) s c r) so_far.land
-          ∙ ap (λ (p : ItemOfSection). land_of g (take index (parts_of items)) s c r || item_places g p s c r)
+          ap (λ land. land s c r || item_places lots (item_of section it) s c r) so_far.land
+          ∙ ap (λ (p : ItemOfSection).
+          land_of lots (take index (parts_of items)) s c r || item_places lots p s c r)
           (sym (next.here d))
-          ∙ sym (list_any_more (λ p. item_places g p s c r) (parts_of items) index d next.within))));
+          ∙ sym (list_any_more (λ p. item_places lots p s c r) (parts_of items) index d next.within))));
     }
 
 -- the item at an index, as a part of the description
@@ -130,25 +135,27 @@ part_is items index section it next =
     slice_get-get_or (parts_of items) index part next.within ∙ ap (λ p. Some p) (next.here part)
 
 -- a fault of the item at an index is a fault there
-pub fault_here : (g : ℕ) (township : Designation) (items : List Item) (index section : ℕ) (it : Item)
+pub fault_here : (lots : Lotting) (township : Designation) (items : List Item) (index section : ℕ) (it : Item)
     (places : ℕ → ℕ → ℕ → Bool) (fault : PlaceFault)
     → index < length items → get_or items index it ≡ it
-    → AreTaken g township items index section places → IsItemsFirstFault g township section it places fault
-    → HasFaultAt g township items index fault
-fault_here g township items index section it places fault inside at so_far refused = record {
+    → AreTaken lots township items index section places
+    → IsItemsFirstFault lots township section it places fault
+    → HasFaultAt lots township items index fault
+fault_here lots township items index section it places fault inside at so_far refused = record {
   part = item_of section it;
   part_is = part_is items index section it (next_is items index section it inside at so_far.left);
-  has = subst (λ land. HasFault g township land section it fault) so_far.land refused.is;
+  has = subst (λ land. HasFault lots township land section it fault) so_far.land refused.is;
 }
 
 -- the first fault of the item at an index comes before all others, if the items before it have none
-pub first_here : (g : ℕ) (township : Designation) (items : List Item) (index section : ℕ) (it : Item)
+pub first_here : (lots : Lotting) (township : Designation) (items : List Item) (index section : ℕ) (it : Item)
     (places : ℕ → ℕ → ℕ → Bool) (fault : PlaceFault)
     → index < length items → get_or items index it ≡ it
-    → AreTaken g township items index section places → IsItemsFirstFault g township section it places fault
-    → (index' : ℕ) (fault' : PlaceFault) → HasFaultAt g township items index' fault'
+    → AreTaken lots township items index section places
+    → IsItemsFirstFault lots township section it places fault
+    → (index' : ℕ) (fault' : PlaceFault) → HasFaultAt lots township items index' fault'
     → IsFrom index fault index' fault'
-first_here g township items index section it places fault inside at so_far refused index' fault' other =
+first_here lots township items index section it places fault inside at so_far refused index' fault' other =
     elim (cases_lt index' index) [
       | inl earlier ↦
           let p = other.part in
@@ -158,14 +165,15 @@ first_here g township items index section it places fault inside at so_far refus
           some_part (get_or (parts_of items) index' p) p
           (sym (slice_get-get_or (parts_of items) index' p within) ∙ other.part_is) in
           let lies =
-          subst (λ (q : ItemOfSection). LiesOnPlat g township q.section q.item) same
+          subst (λ (q : ItemOfSection). LiesOnPlat lots township q.section q.item) same
           (so_far.each index' p earlier within) in
           let apart =
           subst (λ (q : ItemOfSection).
-          ¬ SharePlace (land_of g (take index' (parts_of items))) (item_places g q)) same
+          ¬ SharePlace (land_of lots (take index' (parts_of items))) (item_places lots q)) same
           (so_far.apart index' p earlier within) in
           absurd
-          (none_of_item g township (land_of g (take index' (parts_of items))) p.section p.item fault' lies
+          (none_of_item lots township (land_of lots (take index' (parts_of items))) p.section p.item fault'
+          lies
           apart
           other.has)
       | inr not_earlier ↦ elim (cases_lt index index') [
@@ -179,11 +187,11 @@ first_here g township items index section it places fault inside at so_far refus
             some_part p part
             (sym other.part_is ∙ ap (λ n. slice_get (parts_of items) n) same
             ∙ part_is items index section it next) in
-            let land_is : land_of g (take index' (parts_of items)) ≡ places =
-            ap (λ n. land_of g (take n (parts_of items))) same ∙ sym so_far.land in
-            let has : HasFault g township places part.section part.item fault' =
-            subst (λ (q : ItemOfSection). HasFault g township places q.section q.item fault') it_is
-            (subst (λ land. HasFault g township land p.section p.item fault') land_is other.has) in
+            let land_is : land_of lots (take index' (parts_of items)) ≡ places =
+            ap (λ n. land_of lots (take n (parts_of items))) same ∙ sym so_far.land in
+            let has : HasFault lots township places part.section part.item fault' =
+            subst (λ (q : ItemOfSection). HasFault lots township places q.section q.item fault') it_is
+            (subst (λ land. HasFault lots township land p.section p.item fault') land_is other.has) in
             inr (sym same, refused.first fault' has)
       ]
     ]
@@ -192,30 +200,32 @@ first_here g township items index section it places fault inside at so_far refus
     some_part a b e = cc e
 
 -- the first fault of the item at an index is the first of all, if the items before it have none
-pub refused_here : (g : ℕ) (township : Designation) (items : List Item) (index section : ℕ) (it : Item)
+pub refused_here : (lots : Lotting) (township : Designation) (items : List Item) (index section : ℕ)
+    (it : Item)
     (places : ℕ → ℕ → ℕ → Bool) (fault : PlaceFault)
     → index < length items → get_or items index it ≡ it
-    → AreTaken g township items index section places → IsItemsFirstFault g township section it places fault
-    → IsFirstPlaceFault g township items fault
-refused_here g township items index section it places fault inside at so_far refused = record {
+    → AreTaken lots township items index section places
+    → IsItemsFirstFault lots township section it places fault
+    → IsFirstPlaceFault lots township items fault
+refused_here lots township items index section it places fault inside at so_far refused = record {
   index = index;
-  is = fault_here g township items index section it places fault inside at so_far refused;
-  first = first_here g township items index section it places fault inside at so_far refused;
+  is = fault_here lots township items index section it places fault inside at so_far refused;
+  first = first_here lots township items index section it places fault inside at so_far refused;
 }
 
 -- all items were added
-pub taken_all : (g : ℕ) (township : Designation) (items : List Item) (index section : ℕ)
+pub taken_all : (lots : Lotting) (township : Designation) (items : List Item) (index section : ℕ)
     (places : ℕ → ℕ → ℕ → Bool)
     → length items ≤ index
-    → AreTaken g township items index section places → IsLandOfItems g township items places
-taken_all g township items index section places end taken =
+    → AreTaken lots township items index section places → IsLandOfItems lots township items places
+taken_all lots township items index section places end taken =
     let count = parts_count 0 items in
     record {
       on_plat = record {
         each = λ i d within. taken.each i d (omega arith) within;
-        apart = pairs_of_apart g (parts_of items) (λ i d within. taken.apart i d (omega arith) within);
+        apart = pairs_of_apart lots (parts_of items) (λ i d within. taken.apart i d (omega arith) within);
       };
-      land_is = taken.land ∙ ap (λ ps. land_of g ps) (take_all index (parts_of items) (omega arith));
+      land_is = taken.land ∙ ap (λ ps. land_of lots ps) (take_all index (parts_of items) (omega arith));
     }
 
 -- Until sections are named, the remaining items begin with them, or with a heading and then them.
@@ -252,19 +262,19 @@ may_be_taken section items index it inside at (inr begin) =
     go (item.All at) more begin = begin
 
 -- so does the next one
-pub known_next : (g : ℕ) (township : Designation) (section section' : Option ℕ) (items : List Item)
+pub known_next : (lots : Lotting) (township : Designation) (section section' : Option ℕ) (items : List Item)
     (index : ℕ) (it : Item)
     → index < length items → get_or items index it ≡ it
-    → SectionKnown section (drop index items) → LiesOnPlat g township (number_of_section section) it
+    → SectionKnown section (drop index items) → LiesOnPlat lots township (number_of_section section) it
     → number_of_section section' ≡ section_after (number_of_section section) it
     → SectionKnown section' (drop (index + 1) items)
 unfolding SectionKnown
-known_next g township section section' items index it inside at known lies is = elim known [
+known_next lots township section section' items index it inside at known lies is = elim known [
   | inl some ↦ inl (go it lies some is)
   | inr begin ↦ rest it (drop (index + 1) items) lies (begins items index it inside at begin) is
 ]
   where
-    go : (it : Item) → LiesOnPlat g township (number_of_section section) it → 1 ≤ number_of_section section
+    go : (it : Item) → LiesOnPlat lots township (number_of_section section) it → 1 ≤ number_of_section section
         → number_of_section section' ≡ section_after (number_of_section section) it
         → 1 ≤ number_of_section section'
     go (item.Heading number north_south range east_west at) lies some is = omega arith
@@ -284,7 +294,7 @@ known_next g township section section' items index it inside at known lies is = 
     after number north_south range east_west at (item.Chain steps a ∷ more) begin = absurd begin
     after number north_south range east_west at (item.All a ∷ more) begin = absurd begin
 
-    rest : (it : Item) (more : List Item) → LiesOnPlat g township (number_of_section section) it
+    rest : (it : Item) (more : List Item) → LiesOnPlat lots township (number_of_section section) it
         → BeginWithSections (it ∷ more)
         → number_of_section section' ≡ section_after (number_of_section section) it
         → (1 ≤ number_of_section section') ⊎ BeginWithSections more

@@ -1,19 +1,19 @@
 -- The first fault of items that do not lie on the plat without overlapping.
-use Rattle.std.specs.Prelude.{◌≡◌, ◌≢◌, ◌⊎◌, ℕ, ◌≤◌, ◌<◌, Bool, List, Option, Some}
+use Rattle.std.specs.Prelude.{◌≡◌, ◌≢◌, ◌⊎◌, ℕ, ◌≤◌, ◌<◌, Bool, IsTrue, List, Option, Some}
 use Rattle.std.specs.Prelude.{Result, Ok, Err, slice_get, take}
 use Rattle.std.specs.Option.{option_map_or}
 use Rattle.twp_grid.specs.Winding.{IsSection}
 use Rattle.twp_grid.specs.Cuts.{AreWithin}
 use Rattle.twp_grid.specs.Townships.{Designation, designation}
 use Rattle.twp_grid.specs.declared.refusal.Refusal.{Refusal}
-use Rattle.twp_grid.specs.Lands.{SharePlace}
+use Rattle.twp_grid.specs.Lands.{SharePlace, Lotting, HasLot, HasLand}
 use Rattle.twp_grammar.specs.declared.item.Item.{Item}
 use Rattle.twp_grammar.specs.declared.item.Item.TheVariants as item
 use Rattle.twp_grammar.specs.declared.item.Numeral.{Numeral}
 use Rattle.twp_resolve.specs.declared.place_fault.PlaceFault.{PlaceFault}
 use Rattle.twp_resolve.specs.declared.place_fault.PlaceFault.TheVariants as fault
 use Rattle.twp_grammar.specs.ItemPlaces.{cuts_of, ItemOfSection, item_places, parts_of, land_of}
-use Rattle.twp_grammar.specs.OnPlat.{HasLot, HoldsOfLot}
+use Rattle.twp_grammar.specs.OnPlat.{HoldsOfLot, NamesNoLand, HaveLand}
 pub use Rattle.twp_grammar.specs.OnPlat.{AreOnPlat, IsLandOfItems}
 
 -- the number and the place of each fault
@@ -25,10 +25,12 @@ refusal_of (fault.NoLot at) = Some (record { number = 64; at = at })
 refusal_of (fault.TooFine at) = Some (record { number = 65; at = at })
 refusal_of (fault.OnLot at) = Some (record { number = 66; at = at })
 refusal_of (fault.Overlap at) = Some (record { number = 67; at = at })
+refusal_of (fault.NoLand at) = Some (record { number = 68; at = at })
 
--- the number of a fault's refusal
-abbrev pub number_of : PlaceFault → ℕ
-number_of place_fault = option_map_or (λ (refusal : Refusal). refusal.number) (refusal_of place_fault) 0
+-- the turn in which an item's faults are reported: by the numbers of their refusals, an overlap last
+abbrev pub turn_of : PlaceFault → ℕ
+turn_of (fault.Overlap at) = 69
+turn_of place_fault = option_map_or (λ (refusal : Refusal). refusal.number) (refusal_of place_fault) 0
 
 -- the place in the text of the first of two numbers that lacks a property
 abbrev pub IsFirstUnlike : (ℕ → Type 0) → Numeral → Numeral → ℕ → Type 0
@@ -45,51 +47,58 @@ start_of (item.Chain steps at) = at
 start_of (item.All at) = at
 
 -- the item, after items with this land, has the fault, which is reported at this place in the text
-abbrev pub HasFault : ℕ → Designation → (ℕ → ℕ → ℕ → Bool) → ℕ → Item → PlaceFault → Type 0
-HasFault g township earlier section (item.Heading number north_south range east_west start)
+abbrev pub HasFault : Lotting → Designation → (ℕ → ℕ → ℕ → Bool) → ℕ → Item → PlaceFault → Type 0
+HasFault lots township earlier section (item.Heading number north_south range east_west start)
     (fault.OtherTownship at) =
     (at ≡ start) × (designation number north_south range east_west ≢ township)
-HasFault g township earlier section (item.Sections first last whole) (fault.NoSection at) =
+HasFault lots township earlier section (item.Sections first last whole) (fault.NoSection at) =
     IsFirstUnlike IsSection first last at
-HasFault g township earlier section (item.Sections first last whole) (fault.Backward at) =
+HasFault lots township earlier section (item.Sections first last whole) (fault.Backward at) =
     (at ≡ last.at) × (last.value < first.value)
-HasFault g township earlier section (item.Lots first last) (fault.Backward at) =
+HasFault lots township earlier section (item.Lots first last) (fault.Backward at) =
     (at ≡ last.at) × (last.value < first.value)
-HasFault g township earlier section (item.Lots first last) (fault.NoLot at) =
-    IsFirstUnlike (HasLot section) first last at
-HasFault g township earlier section (item.Chain steps start) (fault.TooFine at) =
-    (at ≡ start) × ¬ AreWithin g (cuts_of steps)
-HasFault g township earlier section (item.Chain steps start) (fault.OnLot at) =
-    (at ≡ start) × HoldsOfLot g (record { section = section; item = item.Chain steps start })
-HasFault g township earlier section some (fault.Overlap at) =
+HasFault lots township earlier section (item.Lots first last) (fault.NoLot at) =
+    IsFirstUnlike (λ number. (lot : ℕ) → first.value ≤ lot → lot ≤ number → HasLot lots section lot)
+    first last at
+HasFault lots township earlier section (item.Chain steps start) (fault.TooFine at) =
+    (at ≡ start) × ¬ AreWithin lots.digits (cuts_of steps)
+HasFault lots township earlier section (item.Chain steps start) (fault.OnLot at) =
+    (at ≡ start) × HoldsOfLot lots (record { section = section; item = item.Chain steps start })
+HasFault lots township earlier section (item.Sections first last whole) (fault.NoLand at) =
+    IsTrue whole × IsFirstUnlike (HaveLand lots first.value) first last at
+HasFault lots township earlier section (item.Chain steps start) (fault.NoLand at) =
+    (at ≡ start) × NamesNoLand lots (record { section = section; item = item.Chain steps start })
+HasFault lots township earlier section (item.All start) (fault.NoLand at) =
+    (at ≡ start) × ¬ HasLand lots section
+HasFault lots township earlier section some (fault.Overlap at) =
     (at ≡ start_of some)
-    × SharePlace earlier (item_places g (record { section = section; item = some }))
-HasFault g township earlier section some other = ⊥
+    × SharePlace earlier (item_places lots (record { section = section; item = some }))
+HasFault lots township earlier section some other = ⊥
 
 -- the item at an index has the fault
-pub record HasFaultAt (g : ℕ) (township : Designation) (items : List Item) (index : ℕ)
+pub record HasFaultAt (lots : Lotting) (township : Designation) (items : List Item) (index : ℕ)
     (place_fault : PlaceFault) : Type 0 where
   pub part : ItemOfSection
   pub part_is : slice_get (parts_of items) index ≡ Some part
-  pub has : HasFault g township (land_of g (take index (parts_of items))) part.section part.item
+  pub has : HasFault lots township (land_of lots (take index (parts_of items))) part.section part.item
       place_fault
 
--- an index and a fault that do not come before these; of the faults of one item, the one with the
--- smallest number comes first
+-- an index and a fault that do not come before these; of the faults of one item, the one whose
+-- turn is first
 abbrev pub IsFrom : ℕ → PlaceFault → ℕ → PlaceFault → Type 0
 IsFrom index place_fault index' other =
-    (index < index') ⊎ ((index ≡ index') × (number_of place_fault ≤ number_of other))
+    (index < index') ⊎ ((index ≡ index') × (turn_of place_fault ≤ turn_of other))
 
 -- the fault of the first item that has one, and the first of that item's faults
-pub record IsFirstPlaceFault (g : ℕ) (township : Designation) (items : List Item)
+pub record IsFirstPlaceFault (lots : Lotting) (township : Designation) (items : List Item)
     (place_fault : PlaceFault) : Type 0 where
   pub index : ℕ
-  pub is : HasFaultAt g township items index place_fault
-  pub first : (index' : ℕ) (other : PlaceFault) → HasFaultAt g township items index' other
+  pub is : HasFaultAt lots township items index place_fault
+  pub first : (index' : ℕ) (other : PlaceFault) → HasFaultAt lots township items index' other
       → IsFrom index place_fault index' other
 
 -- the land of items that lie on the plat without overlapping, or their first fault
-abbrev pub AnswersPlaces : ℕ → Designation → List Item
+abbrev pub AnswersPlaces : Lotting → Designation → List Item
     → Result (ℕ → ℕ → ℕ → Bool) PlaceFault → Type 0
-AnswersPlaces g township items (Ok places) = IsLandOfItems g township items places
-AnswersPlaces g township items (Err place_fault) = IsFirstPlaceFault g township items place_fault
+AnswersPlaces lots township items (Ok places) = IsLandOfItems lots township items places
+AnswersPlaces lots township items (Err place_fault) = IsFirstPlaceFault lots township items place_fault

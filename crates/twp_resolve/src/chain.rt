@@ -9,12 +9,13 @@ ghost use Rattle.twp_grammar.specs.ItemPlaces.{cut_of, cuts_of};
 ghost use Rattle.twp_resolve.specs.steps.ResolvingSteps.{CanCut, IsCutTo, IsItemTaken, IsItemsFirstFault};
 ghost use Rattle.twp_grammar.specs.declared.item.Item.TheVariants.{Chain};
 ghost use Rattle.twp_grammar.specs.declared.item.Step.{Step as TakenStep};
+ghost use Rattle.twp_grid.specs.Lands.{lotting};
 
 use crate::place_fault::PlaceFault;
 use crate::ranges::add_block;
 use twp_grammar::{Step, Steps};
 use twp_grid::{Block, PLACE_DIGITS, Section};
-use twp_land::{PlaceSet, holds_of_lot};
+use twp_land::{Lotting, PlaceSet};
 
 /// The number of quarters that reach a place of a section, and the number that reach a square of
 /// four places.
@@ -23,47 +24,52 @@ const TO_A_PLACE: usize = PLACE_DIGITS;
 const TO_FOUR_PLACES: usize = PLACE_DIGITS - 1;
 
 /// Resolves an aliquot part of a section.
-pub(crate) fn resolve_chain<L: PlaceSet>(
+pub(crate) fn resolve_chain<L: PlaceSet, P: Lotting>(
     land: &mut L,
     section: Section,
     steps: &Steps,
     at: u32,
+    lots: &P,
 ) -> Result<(), PlaceFault>
     requires { IsTrue (L.has_room land.old section) }
     ensures taken { IfOk result (λ _. (township : Designation)
-        → IsItemTaken PLACE_DIGITS township section (Chain steps.now at)
+        → IsItemTaken (lotting (P.layout lots.now)) township section (Chain steps.now at)
         (L.places land.old) (L.places land.new)) }
     ensures refused { IfErr result (λ fault. (township : Designation)
-        → IsItemsFirstFault PLACE_DIGITS township section (Chain steps.now at) (L.places land.old) fault) }
+        → IsItemsFirstFault (lotting (P.layout lots.now)) township section (Chain steps.now at) (L.places land.old) fault) }
 {
     if let Some(square) = small_square_of(steps) {
-        return resolve_block(land, section, square, at);
+        return resolve_block(land, section, square, at, lots);
     }
     let Some(block) = chain_block(steps) else {
         return Err(PlaceFault::TooFine { at });
     };
-    resolve_block(land, section, block, at)
+    resolve_block(land, section, block, at, lots)
 }
 
 /// Adds the block that an aliquot part's steps reach in a section.
 #[inline(always)]
-fn resolve_block<L: PlaceSet>(
+fn resolve_block<L: PlaceSet, P: Lotting>(
     land: &mut L,
     section: Section,
     block: Block,
     at: u32,
+    lots: &P,
 ) -> Result<(), PlaceFault>
     requires { IsTrue (L.has_room land.old section) }
     ensures taken { (steps : List TakenStep) → IsCutTo PLACE_DIGITS steps 0 block
         → IfOk result (λ _. (township : Designation)
-        → IsItemTaken PLACE_DIGITS township section (Chain steps at)
+        → IsItemTaken (lotting (P.layout lots.now)) township section (Chain steps at)
         (L.places land.old) (L.places land.new)) }
     ensures refused { (steps : List TakenStep) → IsCutTo PLACE_DIGITS steps 0 block
         → IfErr result (λ fault. (township : Designation)
-        → IsItemsFirstFault PLACE_DIGITS township section (Chain steps at) (L.places land.old) fault) }
+        → IsItemsFirstFault (lotting (P.layout lots.now)) township section (Chain steps at) (L.places land.old) fault) }
 {
-    if holds_of_lot(section, block) {
+    if lots.holds_of_lot(section, block) {
         return Err(PlaceFault::OnLot { at });
+    }
+    if lots.lacks_land(section, block) {
+        return Err(PlaceFault::NoLand { at });
     }
     add_block(land, section, block, at)
 }

@@ -6,8 +6,8 @@ use twp_grid::Refusal;
 
 /// Why a description names no land on the plat (this project's rules; lots and aliquot parts as in
 /// the Specifications for Descriptions of Land). Places are offsets in the text. The first item
-/// with a fault is reported; of one item's faults, the one with the smallest number; and of the two
-/// numbers of a range, the first before the second.
+/// with a fault is reported; of one item's faults, the one with the smallest number, but an overlap
+/// last; and of the two numbers of a range, the first before the second.
 #[derive(Clone, Copy, Debug, PartialEq, Eq, Error)]
 pub enum PlaceFault {
     /// 61, at the heading: it is for another township than the plat.
@@ -32,10 +32,14 @@ pub enum PlaceFault {
     /// earlier item named.
     #[error("at {at} land is named that was named before")]
     Overlap { at: u32 },
+    /// 68, at the number of a section that is named whole, or at the aliquot part or the word: the
+    /// plat has no land there.
+    #[error("at {at} land is named that the plat doesn't have")]
+    NoLand { at: u32 },
 }
 
 impl PlaceFault {
-    /// The number of the refusal, 61 to 67, and its place, an offset in the text.
+    /// The number of the refusal, 61 to 68, and its place, an offset in the text.
     pub fn refusal(&self) -> Option<Refusal>
         ensures { result ≡ refusal_of self.now }
     {
@@ -47,6 +51,7 @@ impl PlaceFault {
             PlaceFault::TooFine { at } => (65, at),
             PlaceFault::OnLot { at } => (66, at),
             PlaceFault::Overlap { at } => (67, at),
+            PlaceFault::NoLand { at } => (68, at),
         };
         Some(Refusal { number, at })
     }

@@ -4,6 +4,7 @@ ghost use Rattle.std.specs.Prelude.{is_ok, MatchResult};
 ghost use Rattle.twp_grid.specs.Places.{PLACE_DIGITS};
 ghost use Rattle.twp_grid.specs.Townships.{Designation, designation};
 ghost use Rattle.twp_grid.specs.Lands.{HasWholeLots};
+ghost use Rattle.twp_grid.specs.Lands.{lotting};
 ghost use Rattle.twp_grammar.specs.ItemPlaces.{section_after};
 ghost use Rattle.twp_grammar.specs.OnPlat.{AreOnPlat, IsLandOfItems};
 ghost use Rattle.twp_resolve.specs.PlaceFaults.{IsFirstPlaceFault};
@@ -14,62 +15,68 @@ ghost use Rattle.twp_grid.specs.Winding.{IsSection};
 
 use crate::chain::resolve_chain;
 use crate::place_fault::PlaceFault;
-use crate::ranges::{add_block, resolve_lots, resolve_sections};
+use crate::ranges::{resolve_all, resolve_lots, resolve_sections};
 use twp_grammar::Item;
-use twp_grid::{Block, EastWest, NorthSouth, SECTIONS, Section, Township};
-use twp_land::{Land, PlaceSet};
+use twp_grid::{EastWest, NorthSouth, SECTIONS, Section, Township};
+use twp_land::{Land, Lotting, PlaceSet};
 use twp_read::Description;
 
-/// The land that a description names on a township's plat: all places of its items, none of which
+/// The land that a description names on a plat with these lots: all places of its items, none of which
 /// is named twice. A lot is taken whole, and an aliquot part that contains land of a lot is not on
 /// the plat (Specifications for Descriptions of Land). The first fault is that of the first item
 /// that has one.
-pub fn resolve<L: Land>(description: &Description, township: Township) -> Result<L, PlaceFault>
+pub fn resolve<L: Land, P: Lotting>(
+    description: &Description,
+    township: Township,
+    lots: &P,
+) -> Result<L, PlaceFault>
     ensures land { IfOk result
-        (λ land. IsLandOfItems PLACE_DIGITS township description.now (L.places land)) }
-    ensures whole_lots { IfOk result (λ land. HasWholeLots PLACE_DIGITS (L.places land)) }
-    ensures refused { IfErr result (IsFirstPlaceFault PLACE_DIGITS township description.now) }
-    ensures on_plat { IsTrue (is_ok result) ↔ AreOnPlat PLACE_DIGITS township description.now }
+        (λ land. IsLandOfItems (lotting (P.layout lots.now)) township description.now (L.places land)) }
+    ensures whole_lots { IfOk result (λ land. HasWholeLots (lotting (P.layout lots.now)) (L.places land)) }
+    ensures refused { IfErr result (IsFirstPlaceFault (lotting (P.layout lots.now)) township description.now) }
+    ensures on_plat { IsTrue (is_ok result) ↔ AreOnPlat (lotting (P.layout lots.now)) township description.now }
 {
     let mut land = L::empty();
-    resolve_into(&mut land, description, township)?;
+    resolve_into(&mut land, description, township, lots)?;
     Ok(land)
 }
 
 /// Sets `land` to the result of `resolve`. Its previous content is lost; after a fault, its content
 /// has no meaning.
-pub fn resolve_into<L: Land>(
+pub fn resolve_into<L: Land, P: Lotting>(
     land: &mut L,
     description: &Description,
     township: Township,
+    lots: &P,
 ) -> Result<(), PlaceFault>
     ensures land { OnOk result
-        (IsLandOfItems PLACE_DIGITS township description.now (L.places land.new)) }
-    ensures whole_lots { OnOk result (HasWholeLots PLACE_DIGITS (L.places land.new)) }
-    ensures refused { IfErr result (IsFirstPlaceFault PLACE_DIGITS township description.now) }
-    ensures on_plat { IsTrue (is_ok result) ↔ AreOnPlat PLACE_DIGITS township description.now }
+        (IsLandOfItems (lotting (P.layout lots.now)) township description.now (L.places land.new)) }
+    ensures whole_lots { OnOk result (HasWholeLots (lotting (P.layout lots.now)) (L.places land.new)) }
+    ensures refused { IfErr result (IsFirstPlaceFault (lotting (P.layout lots.now)) township description.now) }
+    ensures on_plat { IsTrue (is_ok result) ↔ AreOnPlat (lotting (P.layout lots.now)) township description.now }
 {
     let items = description.items();
     let mut section = None;
     PlaceSet::clear(land);
     for item in items {
-        section = resolve_item(land, section, item, township)?;
+        section = resolve_item(land, section, item, township, lots)?;
     }
     Ok(())
 }
 
 /// Sets a set of places to the result of `resolve`, if it has room for it. If it has not, the result is
 /// `false`, and its content has no meaning, as after a fault.
-pub fn resolve_if_room<L: PlaceSet>(
+pub fn resolve_if_room<L: PlaceSet, P: Lotting>(
     land: &mut L,
     description: &Description,
     township: Township,
+    lots: &P,
 ) -> Result<bool, PlaceFault>
     ensures land { IfOk result (λ has_room. IsTrue has_room
-        → IsLandOfItems PLACE_DIGITS township description.now (L.places land.new)) }
+        → IsLandOfItems (lotting (P.layout lots.now)) township description.now (L.places land.new)) }
     ensures whole_lots { IfOk result (λ has_room. IsTrue has_room
-        → HasWholeLots PLACE_DIGITS (L.places land.new)) }
-    ensures refused { IfErr result (IsFirstPlaceFault PLACE_DIGITS township description.now) }
+        → HasWholeLots (lotting (P.layout lots.now)) (L.places land.new)) }
+    ensures refused { IfErr result (IsFirstPlaceFault (lotting (P.layout lots.now)) township description.now) }
 {
     let items = description.items();
     let mut section = None;
@@ -78,26 +85,27 @@ pub fn resolve_if_room<L: PlaceSet>(
         if !make_room_for(land, &section, item) {
             return Ok(false);
         }
-        section = resolve_item(land, section, item, township)?;
+        section = resolve_item(land, section, item, township, lots)?;
     }
     Ok(true)
 }
 
 /// Adds an item to the land of the items before it, which has room for it, and returns the section
 /// of the next item.
-pub(crate) fn resolve_item<L: PlaceSet>(
+pub(crate) fn resolve_item<L: PlaceSet, P: Lotting>(
     land: &mut L,
     section: Option<Section>,
     item: &Item,
     township: Township,
+    lots: &P,
 ) -> Result<Option<Section>, PlaceFault>
     requires known { IsSome section ⊎ IsBeforeParts item.now }
     requires room { HasRoomFor (L.has_room land.old) (number_of_section section) item.now }
-    ensures taken { IfOk result (λ after. IsItemTaken PLACE_DIGITS township (number_of_section section)
+    ensures taken { IfOk result (λ after. IsItemTaken (lotting (P.layout lots.now)) township (number_of_section section)
         item.now (L.places land.old) (L.places land.new)) }
     ensures after { IfOk result (λ after. number_of_section after
         ≡ section_after (number_of_section section) item.now) }
-    ensures refused { IfErr result (IsItemsFirstFault PLACE_DIGITS township (number_of_section section)
+    ensures refused { IfErr result (IsItemsFirstFault (lotting (P.layout lots.now)) township (number_of_section section)
         item.now (L.places land.old)) }
 {
     match item {
@@ -109,11 +117,11 @@ pub(crate) fn resolve_item<L: PlaceSet>(
             at,
         } => resolve_heading(*number, *north_south, *range, *east_west, *at, township)?,
         Item::Sections { first, last, whole } => {
-            return Ok(Some(resolve_sections(land, *first, *last, *whole)?));
+            return Ok(Some(resolve_sections(land, *first, *last, *whole, lots)?));
         }
-        Item::Lots { first, last } => resolve_lots(land, section.unwrap(), *first, *last)?,
-        Item::Chain { steps, at } => resolve_chain(land, section.unwrap(), steps, *at)?,
-        Item::All { at } => add_block(land, section.unwrap(), Block::whole(), *at)?,
+        Item::Lots { first, last } => resolve_lots(land, section.unwrap(), *first, *last, lots)?,
+        Item::Chain { steps, at } => resolve_chain(land, section.unwrap(), steps, *at, lots)?,
+        Item::All { at } => resolve_all(land, section.unwrap(), *at, lots)?,
     }
     Ok(section)
 }

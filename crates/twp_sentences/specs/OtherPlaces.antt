@@ -12,6 +12,7 @@ use Rattle.twp_diagnose.specs.Origins.{place_of}
 use Rattle.twp_diagnose.specs.declared.explanation.OtherPlace.{OtherPlace}
 use Rattle.twp_diagnose.specs.declared.location.Origin.{Origin}
 use Rattle.twp_sentences.specs.Underlined.{IsItemSpan}
+use Rattle.twp_grid.specs.Lands.{STANDARD_LOTS}
 
 -- the other place is where these bytes of a text are in its file; it is in no record of its own
 pub record IsSpanInFile (origin : Origin) (span : Span) (other : OtherPlace) : Type 0 where
@@ -36,10 +37,10 @@ pub record IsAtItem (origin : Origin) (text : List ℕ) (items : List Item) (ind
 -- share land: the first that does.
 pub data IsEarlierPlace (origin : Origin) (text : List ℕ) (township : Designation) (items : List Item)
     (other : Option OtherPlace) : Type 0 where
-  no_overlap : ¬ AreRefusedForOverlap PLACE_DIGITS township items → other ≡ None
+  no_overlap : ¬ AreRefusedForOverlap STANDARD_LOTS township items → other ≡ None
       → IsEarlierPlace origin text township items other
   overlap : (pair : SharingItems) (places : ℕ → ℕ → ℕ → Bool)
-      → AreFirstSharing PLACE_DIGITS township items pair places
+      → AreFirstSharing STANDARD_LOTS township items pair places
       → MatchOption other (slice_get items pair.earlier ≡ None) (IsAtItem origin text items pair.earlier)
       → IsEarlierPlace origin text township items other
 
@@ -51,5 +52,6 @@ IsOtherPlace origin text township items (fault.Backward at) other = other ≡ No
 IsOtherPlace origin text township items (fault.NoLot at) other = other ≡ None
 IsOtherPlace origin text township items (fault.TooFine at) other = other ≡ None
 IsOtherPlace origin text township items (fault.OnLot at) other = other ≡ None
+IsOtherPlace origin text township items (fault.NoLand at) other = other ≡ None
 IsOtherPlace origin text township items (fault.Overlap at) other =
     IsEarlierPlace origin text township items other

@@ -50,7 +50,7 @@ pub data IsSpanAt (text : List ℕ) (items : List Item) (at : ℕ) (span : Span)
   of_token : NoneAt at items → IsTokenSpan text at span → IsSpanAt text items at span
 
 -- the bytes of what is at fault: the heading, the number, the aliquot part, or the item that names land
--- again
+-- again or land that the plat doesn't have
 abbrev pub IsFaultSpan : List ℕ → List Item → PlaceFault → Span → Type 0
 IsFaultSpan text items (fault.OtherTownship at) span = IsHeadingSpan text at span
 IsFaultSpan text items (fault.NoSection at) span = IsTokenSpan text at span
@@ -59,6 +59,7 @@ IsFaultSpan text items (fault.NoLot at) span = IsTokenSpan text at span
 IsFaultSpan text items (fault.TooFine at) span = IsChainSpan text at span
 IsFaultSpan text items (fault.OnLot at) span = IsChainSpan text at span
 IsFaultSpan text items (fault.Overlap at) span = IsSpanAt text items at span
+IsFaultSpan text items (fault.NoLand at) span = IsSpanAt text items at span
 
 -- some bytes that are of this kind end here
 pub record EndsLike (IsOfKind : Span → Type 0) (end : ℕ) : Type 0 where

@@ -1,14 +1,18 @@
 -- If each place is divided into four, the canonical text of land is the same.
 use Rattle.std.proofs.Common.{◌≡◌, ℕ, suc, ◌*◌, ◌/◌, ◌≤◌, ◌<◌, ◌↔◌, Bool, List, [], ◌∷◌}
 use Rattle.std.proofs.Common.{sym, ap, subst, ◌∙◌}
+use Rattle.std.proofs.Common.{arith}
+use Rattle.std.proofs.Math.Nat.{pow-succ'}
 use Rattle.std.specs.List.{AllZip}
 use Rattle.twp_grid.specs.Lots.{POSITIONS_ACROSS}
 use Rattle.twp_grid.specs.Places.{places_across}
 use Rattle.twp_grid.specs.Townships.{Designation}
 use Rattle.twp_grid.specs.FinerLands.{cut_in_four, finer_land}
 use Rattle.twp_grid.specs.Lands.{lot_of_place, off_lots}
+use Rattle.twp_grid.specs.Lands.{standard_lots, HoldsEach}
 use Rattle.twp_grid.proofs.FinerLands.{same_lot, same_off_lots}
-use Rattle.twp_spell.specs.CanonicalText.{HoldsSome, HoldsEach, IsLotHeld, IsSectionList, IsSectionText}
+use Rattle.twp_land.specs.steps.StandardLots.{are_standard_lots}
+use Rattle.twp_spell.specs.CanonicalText.{HoldsSome, IsLotHeld, IsSectionList, IsSectionText}
 use Rattle.twp_spell.specs.CanonicalText.{IsSectionOfLand, IsCanonicalText}
 use Rattle.twp_spell.specs.CanonicalText.IsSectionList.{all, by_parts}
 use Rattle.twp_spell.specs.WrittenParts.{AreWrittenParts}
@@ -38,16 +42,20 @@ some_coarser g held some = record {
   is_held = some.is_held;
 }
 
-each_finer : (g : ℕ) (held : ℕ → ℕ → Bool) → HoldsEach g held → HoldsEach (suc g) (cut_in_four held)
-each_finer g held each column row place = each (column / 2) (row / 2) (place_coarser g column row place)
+each_finer : (g section : ℕ) (held : ℕ → ℕ → Bool) → HoldsEach (standard_lots g) section held
+    → HoldsEach (standard_lots (suc g)) section (cut_in_four held)
+each_finer g section held each column row place land =
+    each (column / 2) (row / 2) (place_coarser g column row place) land
 
-each_coarser : (g : ℕ) (held : ℕ → ℕ → Bool) → HoldsEach (suc g) (cut_in_four held) → HoldsEach g held
-each_coarser g held each column row place =
-    sym (held_at_twice held column row) ∙ each (2 * column) (2 * row) (place_finer g column row place)
+each_coarser : (g section : ℕ) (held : ℕ → ℕ → Bool)
+    → HoldsEach (standard_lots (suc g)) section (cut_in_four held) → HoldsEach (standard_lots g) section held
+each_coarser g section held each column row place land =
+    sym (held_at_twice held column row) ∙ each (2 * column) (2 * row) (place_finer g column row place) land
 
 -- the lots in the land
 lot_finer : (g section : ℕ) (held : ℕ → ℕ → Bool) (lot : ℕ) → POSITIONS_ACROSS ≤ places_across g
-    → IsLotHeld g section held lot → IsLotHeld (suc g) section (cut_in_four held) lot
+    → IsLotHeld (standard_lots g) section held lot
+    → IsLotHeld (standard_lots (suc g)) section (cut_in_four held) lot
 lot_finer g section held lot fits is = record {
   column = 2 * is.column;
   row = 2 * is.row;
@@ -61,7 +69,8 @@ lot_finer g section held lot fits is = record {
 }
 
 lot_coarser : (g section : ℕ) (held : ℕ → ℕ → Bool) (lot : ℕ) → POSITIONS_ACROSS ≤ places_across g
-    → IsLotHeld (suc g) section (cut_in_four held) lot → IsLotHeld g section held lot
+    → IsLotHeld (standard_lots (suc g)) section (cut_in_four held) lot
+    → IsLotHeld (standard_lots g) section held lot
 lot_coarser g section held lot fits is = record {
   column = is.column / 2;
   row = is.row / 2;
@@ -72,20 +81,23 @@ lot_coarser g section held lot fits is = record {
 
 -- a section's list and text
 list_finer : (g section : ℕ) (held : ℕ → ℕ → Bool) (text : List ℕ) → POSITIONS_ACROSS ≤ places_across g
-    → IsSectionList g section held text → IsSectionList (suc g) section (cut_in_four held) text
-list_finer g section held text fits (all each is) = all (each_finer g held each) is
+    → IsSectionList (standard_lots g) section held text
+    → IsSectionList (standard_lots (suc g)) section (cut_in_four held) text
+list_finer g section held text fits (all each is) = all (each_finer g section held each) is
 list_finer g section held text fits (by_parts short lots parts lots_are parts_are is) =
-    by_parts (λ each. short (each_coarser g held each)) lots parts
-    (listed_as (IsLotHeld g section held) (IsLotHeld (suc g) section (cut_in_four held)) ◌<◌ lots
+    by_parts (λ each. short (each_coarser g section held each)) lots parts
+    (listed_as (IsLotHeld (standard_lots g) section held)
+    (IsLotHeld (standard_lots (suc g)) section (cut_in_four held)) ◌<◌ lots
     (λ lot held_lot. lot_finer g section held lot fits held_lot)
     (λ lot held_lot. lot_coarser g section held lot fits held_lot) lots_are)
     (subst (λ off. AreWrittenParts (suc g) off parts) (sym (same_off_lots g section held fits))
-    ((same_parts g (off_lots g section held) parts).0 parts_are))
+    ((same_parts g (off_lots (standard_lots g) section held) parts).0 parts_are))
     is
 
 section_finer : (g : ℕ) (places : ℕ → ℕ → ℕ → Bool) (section : ℕ) (text : List ℕ)
     → POSITIONS_ACROSS ≤ places_across g
-    → IsSectionText g places section text → IsSectionText (suc g) (finer_land places) section text
+    → IsSectionText (standard_lots g) places section text
+    → IsSectionText (standard_lots (suc g)) (finer_land places) section text
 section_finer g places section text fits is = record {
   list = is.list;
   list_is = list_finer g section (places section) is.list fits is.list_is;
@@ -94,8 +106,8 @@ section_finer g places section text fits is = record {
 
 lines_finer : (g : ℕ) (places : ℕ → ℕ → ℕ → Bool) (sections : List ℕ) (lines : List (List ℕ))
     → POSITIONS_ACROSS ≤ places_across g
-    → AllZip (IsSectionText g places) sections lines
-    → AllZip (IsSectionText (suc g) (finer_land places)) sections lines
+    → AllZip (IsSectionText (standard_lots g) places) sections lines
+    → AllZip (IsSectionText (standard_lots (suc g)) (finer_land places)) sections lines
 lines_finer g places [] [] fits are = tt
 lines_finer g places [] (line ∷ lines) fits are = absurd are
 lines_finer g places (section ∷ sections) [] fits are = absurd are
@@ -104,7 +116,8 @@ lines_finer g places (section ∷ sections) (line ∷ lines) fits are =
 
 text_finer : (g : ℕ) (township : Designation) (places : ℕ → ℕ → ℕ → Bool) (text : List ℕ)
     → POSITIONS_ACROSS ≤ places_across g
-    → IsCanonicalText g township places text → IsCanonicalText (suc g) township (finer_land places) text
+    → IsCanonicalText (standard_lots g) township places text
+    → IsCanonicalText (standard_lots (suc g)) township (finer_land places) text
 text_finer g township places text fits is = record {
   sections = is.sections;
   lines = is.lines;
@@ -116,15 +129,21 @@ text_finer g township places text fits is = record {
   text_is = is.text_is;
 }
 
+finer_fits : (g : ℕ) → POSITIONS_ACROSS ≤ places_across g → POSITIONS_ACROSS ≤ places_across (suc g)
+finer_fits g fits = let power = pow-succ' 2 g in omega arith
+
 pub same_text : (g : ℕ) (township : Designation) (places : ℕ → ℕ → ℕ → Bool) (text : List ℕ)
     → POSITIONS_ACROSS ≤ places_across g
-    → IsCanonicalText g township places text ↔ IsCanonicalText (suc g) township (finer_land places) text
+    → IsCanonicalText (standard_lots g) township places text
+    ↔ IsCanonicalText (standard_lots (suc g)) township (finer_land places) text
 same_text g township places text fits = (text_finer g township places text fits, back)
   where
-    back : IsCanonicalText (suc g) township (finer_land places) text → IsCanonicalText g township places text
+    back : IsCanonicalText (standard_lots (suc g)) township (finer_land places) text
+        → IsCanonicalText (standard_lots g) township places text
     back is =
-        let found = one_text g township places in
-        let only = one_text (suc g) township (finer_land places) in
+        let found = one_text (standard_lots g) (are_standard_lots g fits) township places in
+        let only = one_text (standard_lots (suc g)) (are_standard_lots (suc g) (finer_fits g fits)) township
+        (finer_land places) in
         let same : found.0 ≡ text =
         only.2 found.0 (text_finer g township places found.0 fits found.1) ∙ sym (only.2 text is) in
-        subst (λ t. IsCanonicalText g township places t) same found.1
+        subst (λ t. IsCanonicalText (standard_lots g) township places t) same found.1

@@ -3,7 +3,7 @@ use Rattle.std.proofs.Common.{◌≡◌, ℕ, zero, suc, ◌<◌, ◌⊎◌, Lis
 use Rattle.std.proofs.Common.{inl, inr, arith}
 use Rattle.std.specs.List.{Contains, AllPairs}
 use Rattle.std.proofs.Math.ListN.{get_or}
-use Rattle.twp_spell.specs.Listing.{AreListed}
+use Rattle.twp_grid.specs.Listing.{AreListed}
 use Rattle.twp_grammar.proofs.Membership.{Among, among_contains, contains_among, among_either, among_left}
 use Rattle.twp_grammar.proofs.Membership.{among_right}
 

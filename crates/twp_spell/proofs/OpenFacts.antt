@@ -9,6 +9,7 @@ use Rattle.twp_grid.specs.declared.block.Side.TheVariants.{N, S, E, W}
 use Rattle.twp_grid.specs.declared.block.Corner.{Corner}
 use Rattle.twp_grid.specs.declared.block.Corner.TheVariants.{NE, NW, SW, SE}
 use Rattle.twp_grid.specs.Lands.{Meets, off_lots}
+use Rattle.twp_grid.specs.Lands.{Lotting}
 use Rattle.twp_spell.specs.WrittenParts.{IsInPart, IsFull, IsOnSide}
 use Rattle.twp_spell.specs.WrittenParts.Part.{square, half_of_square}
 use Rattle.twp_spell.specs.steps.Spelling.{IsBlockOf, AreOfSquare}
@@ -31,13 +32,14 @@ half_block g side quarters block fits of_square = record {
 }
 
 -- a half that the land does not meet has no land
-pub half_closed : (g section : ℕ) (held : ℕ → ℕ → Bool) (side : Side) (quarters : List Corner)
-    (block half : Rectangle) (meets : Bool) → length quarters < g → IsBlockOf g (square quarters) block
+pub half_closed : (plan : Lotting) (section : ℕ) (held : ℕ → ℕ → Bool) (side : Side) (quarters : List Corner)
+    (block half : Rectangle) (meets : Bool) → length quarters < plan.digits
+    → IsBlockOf plan.digits (square quarters) block
     → half ≡ half_of block side → IsTrue meets ↔ Meets held half → meets ≡ false
-    → IsHalfEmpty g (off_lots g section held) quarters side
-half_closed g section held side quarters block half meets fits of_square is judged none =
-    empty_block g section held (half_of_square side quarters) half
-    (rw is (half_block g side quarters block fits of_square))
+    → IsHalfEmpty plan.digits (off_lots plan section held) quarters side
+half_closed plan section held side quarters block half meets fits of_square is judged none =
+    empty_block plan section held (half_of_square side quarters) half
+    (rw is (half_block plan.digits side quarters block fits of_square))
     (λ some. false≢true (sym none ∙ judged.1 some))
 
 -- so has each quarter in it

@@ -1,17 +1,15 @@
 -- Squares of four places: which of their quarters are full.
 use Rattle.std.proofs.Common.{◌≡◌, ◌↔◌, ℕ, zero, suc, ◌+◌, ◌-◌, ◌/◌, ◌^◌, nat_le, nat_lt, Bool, true, List}
 use Rattle.std.proofs.Common.{◌∷◌, length, IsTrue, refl, sym, ap, ◌∙◌, arith, ◌%◌, ◌≤◌, ◌<◌, ◌&&◌, Option}
-use Rattle.std.proofs.Common.{is_none, false, is_some, Some, None}
+use Rattle.std.proofs.Common.{is_none, false, Some, None, IsSome}
 use Rattle.std.proofs.Math.Nat.{pow-succ'}
 use Rattle.std.proofs.lemmas.Bool.{and_parts}
 use Rattle.std.proofs.lemmas.Bool.Decides.{nat_tests}
 use Rattle.twp_grid.specs.declared.block.Corner.{Corner}
 use Rattle.twp_grid.specs.declared.block.Corner.TheVariants.{NE, NW, SW, SE}
 use Rattle.twp_grid.specs.Blocks.{quarter_of}
-use Rattle.twp_grid.specs.Lots.{lot_at_position}
 use Rattle.twp_grid.specs.Places.{PLACE_DIGITS, places_to_position, position_along}
-use Rattle.twp_grid.specs.Lands.{lot_of_place}
-use Rattle.twp_grid.specs.Lands.{off_lots}
+use Rattle.twp_grid.specs.Lands.{Lotting, HoldsLotPlace, IsOfLots, off_lots}
 use Rattle.twp_grid.specs.Spans.{Interval, in_span, Rectangle}
 use Rattle.twp_grid.proofs.CutFacts.{sides_as_asked}
 use Rattle.twp_grammar.specs.ItemPlaces.{cuts_of}
@@ -223,62 +221,37 @@ along_position : (start place : ℕ) → start % FINE_SIDE ≡ 0 → start ≤ p
     → position_along PLACE_DIGITS place ≡ start / POSITION
 along_position start place aligned least most = omega arith
 
-pub lot_of_fine : (section column row place place' : ℕ) → column % FINE_SIDE ≡ 0 → row % FINE_SIDE ≡ 0
-    → column ≤ place
-    → place < column + FINE_SIDE → row ≤ place' → place' < row + FINE_SIDE
-    → lot_of_place PLACE_DIGITS section place place'
-    ≡ lot_at_position section (column / POSITION) (row / POSITION)
-lot_of_fine section column row place place' a b least most least' most' =
-    ap (λ n. lot_at_position section n (position_along PLACE_DIGITS place'))
-    (along_position column place a least most)
-    ∙ ap (λ n. lot_at_position section (column / POSITION) n) (along_position row place' b least' most')
+off_free : (held : Bool) (lot : Option ℕ) → ¬ IsSome lot → (held && is_none lot) ≡ held
+off_free true None none = refl
+off_free true (Some lot) none = absurd (none refl)
+off_free false lot none = refl
 
-off_free : (held : Bool) (lot : Option ℕ) → is_none lot ≡ true → (held && is_none lot) ≡ held
-off_free true lot is = is
-off_free false lot is = refl
-
--- in a fine square that lies in no lot, the land off the lots is all of the land
-pub fine_free : (section column row : ℕ) (held : ℕ → ℕ → Bool) → column % FINE_SIDE ≡ 0 → row % FINE_SIDE ≡ 0
-    → is_none (lot_at_position section (column / POSITION) (row / POSITION)) ≡ true
+-- in a fine square that contains no place of a lot, the land off the lots is all of the land
+pub fine_free : (plan : Lotting) (section column row : ℕ) (held : ℕ → ℕ → Bool) (block : Rectangle)
+    → block.columns.len ≡ FINE_SIDE → block.rows.len ≡ FINE_SIDE → column ≡ block.columns.start
+    → row ≡ block.rows.start → ¬ HoldsLotPlace plan section block
     → (place place' : ℕ) → column ≤ place → place < column + FINE_SIDE → row ≤ place'
     → place' < row + FINE_SIDE
-    → held place place' ≡ off_lots PLACE_DIGITS section held place place'
-fine_free section column row held a b none place place' least most least' most' =
-    sym
-    (off_free (held place place') (lot_of_place PLACE_DIGITS section place place')
-    (rw (lot_of_fine section column row place place' a b least most least' most') none))
+    → held place place' ≡ off_lots plan section held place place'
+fine_free plan section column row held block wide high column_is row_is none place place' least most least'
+    most' =
+    let across : in_span block.columns place ≡ true = grind (arith, nat_tests) in
+    let upward : in_span block.rows place' ≡ true = grind (arith, nat_tests) in
+    sym (off_free (held place place') (plan.lot_of section place place') (λ some.
+    none (record { column = place; row = place'; inside = rw (across, upward) refl; of_lot = some })))
 
--- no part is written in a lot's fine squares
-bounds : (span : Interval) (place : ℕ) → span.len ≡ FINE_SIDE → in_span span place ≡ true
-    → (span.start ≤ place) × (place < span.start + FINE_SIDE)
-bounds span place four is =
-    let both = and_parts (nat_le span.start place) (nat_lt place (span.start + span.len)) is in
-    (grind (arith, nat_tests), grind (arith, nat_tests))
-
-some_not_none : (lot : Option ℕ) (held : Bool) → is_some lot ≡ true → (held && is_none lot) ≡ true → ⊥
+-- a block that is made up of lots contains no land off the lots
+some_not_none : (lot : Option ℕ) (held : Bool) → IsSome lot → (held && is_none lot) ≡ true → ⊥
 some_not_none None held some is = cc some
 some_not_none (Some n) true some is = cc is
 some_not_none (Some n) false some is = cc is
 
-pub fine_lot : (section column row : ℕ) (held : ℕ → ℕ → Bool) (quarters : List Corner) (block : Rectangle)
-    → IsBlockOf PLACE_DIGITS (square quarters) block → block.columns.len ≡ FINE_SIDE
-    → block.rows.len ≡ FINE_SIDE
-    → column ≡ block.columns.start → row ≡ block.rows.start → column % FINE_SIDE ≡ 0 → row % FINE_SIDE ≡ 0
-    → is_some (lot_at_position section (column / POSITION) (row / POSITION)) ≡ true
-    → (place place' : ℕ) → IsInPart PLACE_DIGITS (square quarters) place place'
-    → ¬ (off_lots PLACE_DIGITS section held place place' ≡ true)
-fine_lot section column row held quarters block of_square wide high column_is row_is a b some place
-    place' inside is =
-    let both =
-    and_parts (in_span block.columns place) (in_span block.rows place')
-    (block_places_of PLACE_DIGITS (square quarters) block place place' of_square inside) in
-    let across = bounds block.columns place wide both.0 in
-    let upward = bounds block.rows place' high both.1 in
-    let lot_is =
-    lot_of_fine section column row place place' a b (rw column_is across.0) (rw column_is across.1)
-    (rw row_is upward.0) (rw row_is upward.1) in
-    some_not_none (lot_of_place PLACE_DIGITS section place place') (held place place') (rw lot_is some) is
-
-pub not_some : (lot : Option ℕ) → is_some lot ≡ false → is_none lot ≡ true
-not_some None none = refl
-not_some (Some n) none = cc none
+pub none_off_lots : (plan : Lotting) (section : ℕ) (held : ℕ → ℕ → Bool) (quarters : List Corner)
+    (block : Rectangle)
+    → IsBlockOf plan.digits (square quarters) block → IsOfLots plan section block
+    → (place place' : ℕ) → IsInPart plan.digits (square quarters) place place'
+    → ¬ (off_lots plan section held place place' ≡ true)
+none_off_lots plan section held quarters block of_square of_lots place place' inside is =
+    some_not_none (plan.lot_of section place place') (held place place')
+    (of_lots place place'
+    (block_places_of plan.digits (square quarters) block place place' of_square inside)) is

@@ -1,5 +1,6 @@
 -- The lines of the canonical text: a section's text as a line, and the land that the lines name.
-use Rattle.std.proofs.Common.{◌≡◌, ℕ, ◌<◌, Bool, List, [], ◌∷◌, ◌++◌, map, codes, decimal, refl, sym, ap}
+use Rattle.std.proofs.Common.{true, ◌≡◌, ℕ, ◌<◌, Bool, List, [], ◌∷◌, ◌++◌, map, codes, decimal, refl, sym}
+use Rattle.std.proofs.Common.{ap}
 use Rattle.std.proofs.Common.{subst, ◌∙◌, inl, inr, arith}
 use Rattle.std.specs.List.{flat_map}
 use Rattle.twp_grid.specs.Townships.{Designation}
@@ -9,10 +10,13 @@ use Rattle.twp_grammar.specs.ItemPlaces.{ItemOfSection}
 use Rattle.twp_grammar.specs.ItemPlaces.{item_of}
 use Rattle.twp_spell.specs.WrittenParts.{Part, square, half_of_square, IsFull}
 use Rattle.twp_grid.specs.Lands.{off_lots}
-use Rattle.twp_spell.specs.CanonicalText.{part_text, with_commas, lots_entry, HoldsEach}
+use Rattle.twp_grammar.specs.OnPlat.{IsTownshipLand}
+use Rattle.twp_grid.specs.Lands.{HasLand, HoldsEach}
+use Rattle.twp_spell.specs.CanonicalText.{part_text, with_commas, lots_entry}
 use Rattle.twp_spell.specs.CanonicalText.{IsSectionList, all, by_parts, IsSectionText, IsSectionOfLand}
 use Rattle.std.proofs.lemmas.Bool.{and_parts}
 use Rattle.twp_grid.specs.Lands.{lot_of_place}
+use Rattle.twp_grid.specs.Lands.{Lotting, AreLots}
 use Rattle.std.specs.Prelude.{is_none}
 use Rattle.twp_grammar.proofs.Membership.{Among, among_contains}
 use Rattle.twp_spell.proofs.PartOrder.{full_part}
@@ -79,13 +83,14 @@ lots_parts section [] = refl
 lots_parts section (n ∷ ns) = ap (λ ps. lot_part section n ∷ ps) (lots_parts section ns)
 
 -- a section's text is that of a line whose parts name the land in the section
-pub record IsLineOf (g : ℕ) (township : Designation) (places : ℕ → ℕ → ℕ → Bool) (section : ℕ) (text : List ℕ)
+pub record IsLineOf (plan : Lotting) (township : Designation) (places : ℕ → ℕ → ℕ → Bool) (section : ℕ)
+    (text : List ℕ)
     : Type 0 where
   pub line : SectionLine
   pub section_is : line.section ≡ section
   pub text_is : line_text line ≡ text
   pub small : IsSmallLine line
-  pub names : NameHeld g township places line.section (list_parts line)
+  pub names : NameHeld plan township places line.section (list_parts line)
 
 abbrev line_of : ℕ → ListEntry → List ListEntry → SectionLine
 line_of section first more = record { section = section; first = first; more = more }
@@ -94,31 +99,31 @@ abbrev text_with : ℕ → List ℕ → List ℕ
 text_with section list = codes "sec. " ++ decimal section ++ codes ", " ++ list
 
 -- the line of lots and parts
-of_lots_and_parts : (g : ℕ) (township : Designation) (places : ℕ → ℕ → ℕ → Bool) (section : ℕ)
+of_lots_and_parts : (plan : Lotting) (township : Designation) (places : ℕ → ℕ → ℕ → Bool) (section : ℕ)
     (lot_list : List ℕ) (parts : List Part)
     → section < 10000 → ((n : ℕ) → Among n lot_list → n < 10000) → ((p : Part) → Among p parts → NotWhole p)
     → (thing : ItemOfSection) → Among thing (of_lists section lot_list parts)
-    → NameHeld g township places section (of_lists section lot_list parts)
-    → IsLineOf g township places section
+    → NameHeld plan township places section (of_lists section lot_list parts)
+    → IsLineOf plan township places section
     (text_with section (with_commas (lots_entry lot_list ++ map part_text parts)))
-of_lots_and_parts g township places section [] [] small few each thing there names = absurd there
-of_lots_and_parts g township places section [] (part ∷ parts) small few each thing there names = record {
+of_lots_and_parts plan township places section [] [] small few each thing there names = absurd there
+of_lots_and_parts plan township places section [] (part ∷ parts) small few each thing there names = record {
   line = line_of section (entry_of part) (map entry_of parts);
   section_is = refl;
   text_is = ap (λ ts. text_with section (with_commas ts)) (entries_texts (part ∷ parts) each);
   small = (small, small_entries (part ∷ parts) each);
   names =
-      subst (λ ps. NameHeld g township places section ps) (sym (entries_parts section (part ∷ parts) each))
+      subst (λ ps. NameHeld plan township places section ps) (sym (entries_parts section (part ∷ parts) each))
       names;
 }
-of_lots_and_parts g township places section (n ∷ ns) parts small few each thing there names = record {
+of_lots_and_parts plan township places section (n ∷ ns) parts small few each thing there names = record {
   line = line_of section (lot_entry n ns) (map entry_of parts);
   section_is = refl;
   text_is =
       lots_first ns
       ∙ ap (λ ts. text_with section (with_commas (lots_entry (n ∷ ns) ++ ts))) (entries_texts parts each);
   small = (small, (small_numbers (n ∷ ns) few, small_entries parts each));
-  names = subst (λ ps. NameHeld g township places section ps)
+  names = subst (λ ps. NameHeld plan township places section ps)
       (sym (ap (λ ps. ps ++ flat_map (entry_parts section) (map entry_of parts)) (lots_parts section (n ∷ ns))
       ∙ ap (λ ps. map (lot_part section) (n ∷ ns) ++ ps) (entries_parts section parts each))) names;
 }
@@ -130,50 +135,70 @@ of_lots_and_parts g township places section (n ∷ ns) parts small few each thin
     lots_first (m ∷ ms) = refl
 
 -- a section that is not wholly in the land has no part that is the section
-not_whole : (g section : ℕ) (held : ℕ → ℕ → Bool) → ¬ HoldsEach g held → (part : Part)
-    → IsFull g (off_lots g section held) part → NotWhole part
-not_whole g section held partial_held (square []) full =
+not_whole : (plan : Lotting) (section : ℕ) (held : ℕ → ℕ → Bool) → ¬ HoldsEach plan section held
+    → (part : Part)
+    → IsFull plan.digits (off_lots plan section held) part → NotWhole part
+not_whole plan section held partial_held (square []) full =
     partial_held
-    (λ column row place.
-    (and_parts (held column row) (is_none (lot_of_place g section column row))
+    (λ column row place land.
+    (and_parts (held column row) (is_none (plan.lot_of section column row))
     (full.each column row (record { place = place; asked = refl }))).0)
-not_whole g section held partial_held (square (q ∷ qs)) full = tt
-not_whole g section held partial_held (half_of_square side qs) full = tt
+not_whole plan section held partial_held (square (q ∷ qs)) full = tt
+not_whole plan section held partial_held (half_of_square side qs) full = tt
 
-pub line_of_section : (g : ℕ) (township : Designation) (places : ℕ → ℕ → ℕ → Bool) (section : ℕ)
+pub line_of_section : (plan : Lotting) (fine : AreLots plan) (township : Designation)
+    (places : ℕ → ℕ → ℕ → Bool) (section : ℕ)
     (text : List ℕ)
-    → HasWholeLots g places
-    → IsSectionOfLand g places section → IsSectionText g places section text
-    → IsLineOf g township places section text
-line_of_section g township places section text whole of_land spelled =
-    subst (λ t. IsLineOf g township places section t) (sym spelled.text_is)
+    → IsTownshipLand plan places
+    → IsSectionOfLand plan.digits places section → IsSectionText plan places section text
+    → IsLineOf plan township places section text
+line_of_section plan fine township places section text land of_land spelled =
+    subst (λ t. IsLineOf plan township places section t) (sym spelled.text_is)
     (by_list spelled.list spelled.list_is)
   where
     small : section < 10000
     small = omega (arith, of_land.0.1)
 
-    by_list : (list : List ℕ) → IsSectionList g section (places section) list
-        → IsLineOf g township places section (text_with section list)
+    on_land : (c r : ℕ) → places section c r ≡ true → plan.has_land section c r ≡ true
+    on_land c r held = (land.within section c r held).2
+
+    has : HasLand plan section
+    has = record {
+      column = of_land.1.column;
+      row = of_land.1.row;
+      place = of_land.1.place;
+      is_land = on_land of_land.1.column of_land.1.row of_land.1.is_held;
+    }
+
+    by_list : (list : List ℕ) → IsSectionList plan section (places section) list
+        → IsLineOf plan township places section (text_with section list)
     by_list list (all each is) =
-        subst (λ l. IsLineOf g township places section (text_with section l)) (sym is) (record {
+        subst (λ l. IsLineOf plan township places section (text_with section l)) (sym is) (record {
           line = line_of section all_entry [];
           section_is = refl;
           text_is = refl;
           small = (small, (tt, tt));
-          names = all_named g township places section each;
+          names = all_named plan township places section has on_land each;
         })
     by_list list (by_parts partial_held lot_list parts lots_are parts_are is) =
-        let lists : IsInLists g places section lot_list parts =
-        record { range = of_land.0; whole = whole; lots_are = lots_are; parts_are = parts_are } in
-        let names = lists_named g township places section lot_list parts lists in
+        let lists : IsInLists plan places section lot_list parts =
+        record {
+          range = of_land.0;
+          whole = land.whole_lots;
+          on_land = on_land;
+          lots_are = lots_are;
+          parts_are = parts_are;
+        } in
+        let names = lists_named plan township places section lot_list parts lists in
         let some = of_land.1 in
         let passes = names.named some.column some.row some.place some.is_held in
-        subst (λ l. IsLineOf g township places section (text_with section l)) (sym is)
-        (of_lots_and_parts g township places section lot_list parts small
+        subst (λ l. IsLineOf plan township places section (text_with section l)) (sym is)
+        (of_lots_and_parts plan township places section lot_list parts small
         (λ n there.
-        small_lot g places section n of_land.0 ((lots_are.listed n).1 (among_contains n lot_list there)))
+        small_lot plan fine places section n of_land.0
+        ((lots_are.listed n).1 (among_contains n lot_list there)))
         (λ p there.
-        not_whole g section (places section) partial_held p
-        (full_part g (off_lots g section (places section)) p
-        (part_written g places section lot_list parts lists p there)))
+        not_whole plan section (places section) partial_held p
+        (full_part plan.digits (off_lots plan section (places section)) p
+        (part_written plan places section lot_list parts lists p there)))
         passes.thing passes.there names)

@@ -11,6 +11,7 @@ use Rattle.twp_grammar.specs.declared.item.Item.TheVariants.{Heading, Sections, 
 use Rattle.twp_grammar.specs.ItemPlaces.{ItemOfSection, item_places, section_after, with_sections, parts_of}
 use Rattle.twp_grammar.specs.ItemPlaces.{land_of}
 use Rattle.twp_grid.specs.Lands.{SharePlace}
+use Rattle.twp_grid.specs.Lands.{Lotting}
 use Rattle.twp_grammar.specs.OnPlat.{LiesOnPlat, AreOnPlat}
 use Rattle.twp_grammar.specs.ItemPlaces.{item_of}
 use Rattle.twp_grammar.proofs.Membership.{Among}
@@ -59,13 +60,13 @@ order_weaker before other (first ∷ list) to order = (
 )
 
 -- no place is named by both
-abbrev pub AreApart : ℕ → ItemOfSection → ItemOfSection → Type 0
-AreApart g p q = ¬ SharePlace (item_places g p) (item_places g q)
+abbrev pub AreApart : Lotting → ItemOfSection → ItemOfSection → Type 0
+AreApart plan p q = ¬ SharePlace (item_places plan p) (item_places plan q)
 
 -- each lies on the plat, and no place is named by two of them
-pub record AreFine (g : ℕ) (township : Designation) (parts : List ItemOfSection) : Type 0 where
-  pub each : (p : ItemOfSection) → Among p parts → LiesOnPlat g township p.section p.item
-  pub apart : InOrder (AreApart g) parts
+pub record AreFine (plan : Lotting) (township : Designation) (parts : List ItemOfSection) : Type 0 where
+  pub each : (p : ItemOfSection) → Among p parts → LiesOnPlat plan township p.section p.item
+  pub apart : InOrder (AreApart plan) parts
 
 -- the same item without its places in the text
 abbrev unplaced_part : ItemOfSection → ItemOfSection
@@ -86,24 +87,24 @@ unplaced_parts (it ∷ items) section =
     (ap (λ s. with_sections s (map unplaced items)) (same_section section it)
     ∙ unplaced_parts items (section_after section it))
 
-places_at : (g section : ℕ) (it : Item) (s c r : ℕ)
-    → item_places g (item_of section (unplaced it)) s c r ≡ item_places g (item_of section it) s c r
-places_at g section (Heading n side range way at) s c r = refl
-places_at g section (Sections first last true) s c r = refl
-places_at g section (Sections first last false) s c r = refl
-places_at g section (Lots first last) s c r = refl
-places_at g section (Chain steps at) s c r = refl
-places_at g section (All at) s c r = refl
+places_at : (plan : Lotting) (section : ℕ) (it : Item) (s c r : ℕ)
+    → item_places plan (item_of section (unplaced it)) s c r ≡ item_places plan (item_of section it) s c r
+places_at plan section (Heading n side range way at) s c r = refl
+places_at plan section (Sections first last true) s c r = refl
+places_at plan section (Sections first last false) s c r = refl
+places_at plan section (Lots first last) s c r = refl
+places_at plan section (Chain steps at) s c r = refl
+places_at plan section (All at) s c r = refl
 
-same_places : (g : ℕ) (p : ItemOfSection) → item_places g (unplaced_part p) ≡ item_places g p
-same_places g p = fun_ext (λ s. fun_ext (λ c. fun_ext (λ r. places_at g p.section p.item s c r)))
+same_places : (plan : Lotting) (p : ItemOfSection) → item_places plan (unplaced_part p) ≡ item_places plan p
+same_places plan p = fun_ext (λ s. fun_ext (λ c. fun_ext (λ r. places_at plan p.section p.item s c r)))
 
-lies_also : (g : ℕ) (township : Designation) (section : ℕ) (it : Item)
-    → LiesOnPlat g township section (unplaced it) → LiesOnPlat g township section it
-lies_also g township section (Heading n side range way at) lies = lies
-lies_also g township section (Sections first last whole) lies = lies
-lies_also g township section (Lots first last) lies = lies
-lies_also g township section (Chain steps at) lies = (
+lies_also : (plan : Lotting) (township : Designation) (section : ℕ) (it : Item)
+    → LiesOnPlat plan township section (unplaced it) → LiesOnPlat plan township section it
+lies_also plan township section (Heading n side range way at) lies = lies
+lies_also plan township section (Sections first last whole) lies = lies
+lies_also plan township section (Lots first last) lies = lies
+lies_also plan township section (Chain steps at) lies = (
   lies.0,
   λ of_lot. lies.1 (record {
     column = of_lot.column;
@@ -111,8 +112,14 @@ lies_also g township section (Chain steps at) lies = (
     named = of_lot.named;
     of_lot = of_lot.of_lot;
   }),
+  λ no_land. lies.2 (record {
+    column = no_land.column;
+    row = no_land.row;
+    named = no_land.named;
+    none = no_land.none;
+  }),
 )
-lies_also g township section (All at) lies = lies
+lies_also plan township section (All at) lies = lies
 
 any_mapped : {T : Type 0} (f : T → T) (test : T → Bool) (list : List T) → ((x : T) → test (f x) ≡ test x)
     → list_any test (map f list) ≡ list_any test list
@@ -122,33 +129,34 @@ any_mapped f test (first ∷ list) same =
     ∙ ap (λ b. test first || b) (any_mapped f test list same)
 
 -- items that are valid except for their places in the text lie on the plat
-pub fine_on_plat : (g : ℕ) (township : Designation) (items : List Item)
-    → AreFine g township (parts_of (map unplaced items)) → AreOnPlat g township items
-fine_on_plat g township items fine =
+pub fine_on_plat : (plan : Lotting) (township : Designation) (items : List Item)
+    → AreFine plan township (parts_of (map unplaced items)) → AreOnPlat plan township items
+fine_on_plat plan township items fine =
     let same = unplaced_parts items 0 in
-    let here : AreFine g township (map unplaced_part (parts_of items)) =
-    subst (λ ps. AreFine g township ps) same fine in
+    let here : AreFine plan township (map unplaced_part (parts_of items)) =
+    subst (λ ps. AreFine plan township ps) same fine in
     record {
       each = λ k d below.
           let p = get_or (parts_of items) k d in
-          lies_also g township p.section p.item
+          lies_also plan township p.section p.item
           (here.each (unplaced_part p)
           (among_map unplaced_part p (parts_of items) (among_at (parts_of items) k d below)));
-      apart = order_pairs (AreApart g) (parts_of items)
-          (order_weaker (λ x y. AreApart g (unplaced_part x) (unplaced_part y)) (AreApart g) (parts_of items)
+      apart = order_pairs (AreApart plan) (parts_of items)
+          (order_weaker (λ x y. AreApart plan (unplaced_part x) (unplaced_part y)) (AreApart plan)
+          (parts_of items)
           (λ x y there there' apart.
-          subst (λ q. ¬ SharePlace (item_places g x) q) (same_places g y)
-          (subst (λ q. ¬ SharePlace q (item_places g (unplaced_part y))) (same_places g x) apart))
-          (order_of_map unplaced_part (AreApart g) (parts_of items) here.apart));
+          subst (λ q. ¬ SharePlace (item_places plan x) q) (same_places plan y)
+          (subst (λ q. ¬ SharePlace q (item_places plan (unplaced_part y))) (same_places plan x) apart))
+          (order_of_map unplaced_part (AreApart plan) (parts_of items) here.apart));
     }
 
 -- and their land is the same
-pub same_land : (g : ℕ) (items : List Item)
-    → land_of g (parts_of (map unplaced items)) ≡ land_of g (parts_of items)
-same_land g items = fun_ext (λ s. fun_ext (λ c. fun_ext (λ r.
-    ap (λ ps. land_of g ps s c r) (unplaced_parts items 0)
-    ∙ any_mapped unplaced_part (λ p. item_places g p s c r) (parts_of items)
-    (λ p. places_at g p.section p.item s c r))))
+pub same_land : (plan : Lotting) (items : List Item)
+    → land_of plan (parts_of (map unplaced items)) ≡ land_of plan (parts_of items)
+same_land plan items = fun_ext (λ s. fun_ext (λ c. fun_ext (λ r.
+    ap (λ ps. land_of plan ps s c r) (unplaced_parts items 0)
+    ∙ any_mapped unplaced_part (λ p. item_places plan p s c r) (parts_of items)
+    (λ p. places_at plan p.section p.item s c r))))
 
 -- the items of a section's list, each with its section
 abbrev pub entry_parts : ℕ → ListEntry → List ItemOfSection

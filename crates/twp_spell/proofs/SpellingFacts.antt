@@ -11,10 +11,12 @@ use Rattle.std.proofs.lemmas.List.Folds.{flat_map-map}
 use Rattle.twp_grid.specs.Townships.{Designation}
 use Rattle.twp_grid.specs.Winding.{IsSection}
 use Rattle.twp_grid.specs.Lands.{lot_of_place, LieWithin}
-use Rattle.twp_spell.specs.Listing.{AreListed}
+use Rattle.twp_grid.specs.Listing.{AreListed}
 use Rattle.twp_spell.specs.WrittenParts.{Part, AreWrittenParts}
 use Rattle.twp_grid.specs.Lands.{off_lots}
-use Rattle.twp_spell.specs.CanonicalText.{part_text, with_commas, lots_entry, HoldsSome, HoldsEach}
+use Rattle.twp_grid.specs.Lands.{Lotting}
+use Rattle.twp_grid.specs.Lands.{HoldsEach}
+use Rattle.twp_spell.specs.CanonicalText.{part_text, with_commas, lots_entry, HoldsSome}
 use Rattle.twp_spell.specs.CanonicalText.{IsLotHeld, IsSectionText, heading_line, line_end, land_lines}
 use Rattle.twp_spell.specs.CanonicalText.{IsSectionOfLand, IsCanonicalText}
 use Rattle.twp_spell.specs.CanonicalText.IsSectionList.{all, by_parts}
@@ -122,11 +124,11 @@ lots_end old new lots i first count is =
     (is ∙ ap (λ t. old ++ (lead_of (length lots) ++ numbers_text t)) (take_all i lots (omega arith)))
 
 -- a section that the land contains wholly
-pub all_done : (g : ℕ) (places : ℕ → ℕ → ℕ → Bool) (section : ℕ) (old named new : List ℕ)
-    → HoldsEach g (places section)
+pub all_done : (plan : Lotting) (places : ℕ → ℕ → ℕ → Bool) (section : ℕ) (old named new : List ℕ)
+    → HoldsEach plan section (places section)
     → named ≡ old ++ (codes "sec. " ++ decimal section) → new ≡ named ++ codes ", all"
-    → HasSection g places section old new
-all_done g places section old named new each is is' = record {
+    → HasSection plan places section old new
+all_done plan places section old named new each is is' = record {
   line = codes "sec. " ++ decimal section ++ codes ", " ++ codes "all";
   is = record { list = codes "all"; list_is = all each refl; text_is = refl };
   text_is =
@@ -144,13 +146,15 @@ no_entry [] (part ∷ parts) is = cc is
 no_entry (lot ∷ []) parts is = cc is
 no_entry (lot ∷ next ∷ lots) parts is = cc is
 
-some_entry : (g section : ℕ) (held : ℕ → ℕ → Bool) (lots : List ℕ) (parts : List Part) → HoldsSome g held
-    → AreListed (IsLotHeld g section held) ◌<◌ lots
-    → AreWrittenParts g (off_lots g section held) parts → ¬ ((lots_entry lots ++ map part_text parts) ≡ [])
-some_entry g section held lots parts some lots_are parts_are none =
-    go (lot_of_place g section some.column some.row) refl
+some_entry : (plan : Lotting) (section : ℕ) (held : ℕ → ℕ → Bool) (lots : List ℕ) (parts : List Part)
+    → HoldsSome plan.digits held
+    → AreListed (IsLotHeld plan section held) ◌<◌ lots
+    → AreWrittenParts plan.digits (off_lots plan section held) parts
+    → ¬ ((lots_entry lots ++ map part_text parts) ≡ [])
+some_entry plan section held lots parts some lots_are parts_are none =
+    go (plan.lot_of section some.column some.row) refl
   where
-    go : (lot : Option ℕ) → lot_of_place g section some.column some.row ≡ lot → ⊥
+    go : (lot : Option ℕ) → plan.lot_of section some.column some.row ≡ lot → ⊥
     go (Some lot) is =
         let there = (lots_are.listed lot).0 (record {
           column = some.column;
@@ -161,9 +165,10 @@ some_entry g section held lots parts some lots_are parts_are none =
         }) in
         contains_among lot [] (subst (λ l. Contains l lot) (no_entry lots parts none).0 there)
     go None is =
-        let off : off_lots g section held some.column some.row ≡ true = rw (some.is_held, is) refl in
+        let off : off_lots plan section held some.column some.row ≡ true = rw (some.is_held, is) refl in
         let found =
-        (hold_all g (off_lots g section held) parts parts_are some.column some.row some.place).0 off in
+        (hold_all plan.digits (off_lots plan section held) parts parts_are some.column some.row some.place).0
+        off in
         contains_among found.0 [] (subst (λ l. Contains l found.0) (no_entry lots parts none).1 found.1)
 
 entries_after : (entries : List (List ℕ)) → ¬ (entries ≡ [])
@@ -172,13 +177,13 @@ entries_after [] some = absurd (some refl)
 entries_after (first ∷ entries) some = refl
 
 -- a section that the land does not contain wholly
-pub parts_done : (g : ℕ) (places : ℕ → ℕ → ℕ → Bool) (section : ℕ) (old named lotted new : List ℕ)
-    → ¬ HoldsEach g (places section) → HoldsSome g (places section)
+pub parts_done : (plan : Lotting) (places : ℕ → ℕ → ℕ → Bool) (section : ℕ) (old named lotted new : List ℕ)
+    → ¬ HoldsEach plan section (places section) → HoldsSome plan.digits (places section)
     → named ≡ old ++ (codes "sec. " ++ decimal section)
-    → HasLots g section (places section) named lotted
-    → AreWritten (AreWrittenParts g (off_lots g section (places section))) lotted new
-    → HasSection g places section old new
-parts_done g places section old named lotted new short some is has_lots has_parts =
+    → HasLots plan section (places section) named lotted
+    → AreWritten (AreWrittenParts plan.digits (off_lots plan section (places section))) lotted new
+    → HasSection plan places section old new
+parts_done plan places section old named lotted new short some is has_lots has_parts =
     let entries = lots_entry has_lots.lots ++ map part_text has_parts.parts in
     let name = codes "sec. " ++ decimal section in
     let texts : entries_text entries ≡ entries_text (lots_entry has_lots.lots) ++ parts_text has_parts.parts =
@@ -187,7 +192,8 @@ parts_done g places section old named lotted new short some is has_lots has_part
     (flat_map-map (λ entry. codes ", " ++ entry) part_text has_parts.parts) in
     let after =
     entries_after entries
-    (some_entry g section (places section) has_lots.lots has_parts.parts some has_lots.are has_parts.are) in
+    (some_entry plan section (places section) has_lots.lots has_parts.parts some has_lots.are
+    has_parts.are) in
     record {
       line = name ++ codes ", " ++ with_commas entries;
       is = record {
@@ -278,40 +284,45 @@ zip_more R (x' ∷ xs) (y' ∷ ys) x y are is = (are.0, zip_more R xs ys x y are
 
 -- the sections below a number
 -- the land lies in the sections from a number on, none of which was written
-pub begun_from : (g : ℕ) (township : Designation) (places : ℕ → ℕ → ℕ → Bool) (first last : ℕ) (text : List ℕ)
-    → LieWithin places first last → text ≡ [] → AreBegun g township places first text
-begun_from g township places first last text lie none = record {
+pub begun_from : (plan : Lotting) (township : Designation) (places : ℕ → ℕ → ℕ → Bool) (first last : ℕ)
+    (text : List ℕ)
+    → LieWithin places first last → text ≡ [] → AreBegun plan township places first text
+begun_from plan township places first last text lie none = record {
   sections = [];
   lines = [];
-  sections_are = below_none (IsSectionOfLand g places) first (λ n it.
+  sections_are = below_none (IsSectionOfLand plan.digits places) first (λ n it.
       (lie n it.1.column it.1.row it.1.is_held).0);
   lines_are = tt;
   text_is = none;
 }
 
-pub begun_skip : (g : ℕ) (township : Designation) (places : ℕ → ℕ → ℕ → Bool) (number : ℕ) (text : List ℕ)
-    → AreBegun g township places number text
-    → ¬ HoldsSome g (places number) → AreBegun g township places (number + 1) text
-begun_skip g township places number text begun none = record {
+pub begun_skip : (plan : Lotting) (township : Designation) (places : ℕ → ℕ → ℕ → Bool) (number : ℕ)
+    (text : List ℕ)
+    → AreBegun plan township places number text
+    → ¬ HoldsSome plan.digits (places number) → AreBegun plan township places (number + 1) text
+begun_skip plan township places number text begun none = record {
   sections = begun.sections;
   lines = begun.lines;
   sections_are =
-      below_skip (IsSectionOfLand g places) number begun.sections begun.sections_are (λ it. none it.1);
+      below_skip (IsSectionOfLand plan.digits places) number begun.sections begun.sections_are
+      (λ it. none it.1);
   lines_are = begun.lines_are;
   text_is = begun.text_is;
 }
 
-pub begun_next : (g : ℕ) (township : Designation) (places : ℕ → ℕ → ℕ → Bool) (number : ℕ)
+pub begun_next : (plan : Lotting) (township : Designation) (places : ℕ → ℕ → ℕ → Bool) (number : ℕ)
     (old new : List ℕ)
-    → AreBegun g township places number old → IsSection number
-    → HoldsSome g (places number) → HasSection g places number (text_before township old) new
-    → AreBegun g township places (number + 1) new
-begun_next g township places number old new begun range some last = record {
+    → AreBegun plan township places number old → IsSection number
+    → HoldsSome plan.digits (places number) → HasSection plan places number (text_before township old) new
+    → AreBegun plan township places (number + 1) new
+begun_next plan township places number old new begun range some last = record {
   sections = begun.sections ++ number ∷ [];
   lines = begun.lines ++ last.line ∷ [];
-  sections_are = below_more (IsSectionOfLand g places) number begun.sections begun.sections_are (range, some);
+  sections_are =
+      below_more (IsSectionOfLand plan.digits places) number begun.sections begun.sections_are (range, some);
   lines_are =
-      zip_more (IsSectionText g places) begun.sections begun.lines number last.line begun.lines_are last.is;
+      zip_more (IsSectionText plan places) begun.sections begun.lines number last.line begun.lines_are
+      last.is;
   text_is = line_more township begun.lines last.line old new begun.text_is last.text_is;
 }
 
@@ -323,15 +334,16 @@ lines_end township (line ∷ lines) old new begun none some =
     some (begun_more township line lines old begun) ∙ ap (λ t. t ++ (codes "." ++ line_end)) begun
     ∙ sym (append_assoc (lines_begun township (line ∷ lines)) (codes ".") line_end)
 
-pub begun_all : (g : ℕ) (township : Designation) (places : ℕ → ℕ → ℕ → Bool) (first last number : ℕ)
+pub begun_all : (plan : Lotting) (township : Designation) (places : ℕ → ℕ → ℕ → Bool) (first last number : ℕ)
     (old new : List ℕ)
-    → LieWithin places first last → AreBegun g township places number old → last < number
+    → LieWithin places first last → AreBegun plan township places number old → last < number
     → (old ≡ [] → new ≡ []) → (¬ (old ≡ []) → new ≡ old ++ (codes "." ++ line_end))
-    → IsCanonicalText g township places new
-begun_all g township places first last number old new lie begun all_below none some = record {
+    → IsCanonicalText plan township places new
+begun_all plan township places first last number old new lie begun all_below none some = record {
   sections = begun.sections;
   lines = begun.lines;
-  sections_are = below_all (IsSectionOfLand g places) number begun.sections begun.sections_are (λ n it.
+  sections_are =
+      below_all (IsSectionOfLand plan.digits places) number begun.sections begun.sections_are (λ n it.
       let most = (lie n it.1.column it.1.row it.1.is_held).1 in omega arith);
   lines_are = begun.lines_are;
   text_is = lines_end township begun.lines old new begun.text_is none some;

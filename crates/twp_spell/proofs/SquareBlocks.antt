@@ -17,8 +17,10 @@ use Rattle.twp_grid.specs.Lands.{HoldsLotPlace}
 use Rattle.twp_spell.specs.WrittenParts.{Part, steps_of_part, IsInPart, IsFull}
 use Rattle.twp_spell.specs.WrittenParts.Part.{square}
 use Rattle.twp_grid.specs.Lands.{off_lots}
+use Rattle.twp_grid.specs.Lands.{Lotting}
 use Rattle.twp_spell.specs.steps.Spelling.{IsBlockOf}
-use Rattle.twp_grammar.proofs.CutPlaces.{outside, inside, more_left, more_than_one}
+use Rattle.twp_grammar.proofs.CutPlaces.{outside, more_left, more_than_one}
+use Rattle.twp_grid.proofs.PlaceTests.{place_of_test}
 use Rattle.twp_spell.proofs.SquareFacts.{quarter_steps, columns_long, rows_long, square_within, square_fits}
 use Rattle.twp_spell.proofs.SquarePlaces.{path, up, up_all, in_square, one_place}
 
@@ -33,7 +35,7 @@ pub in_block : (g : ℕ) (part : Part) (block : Rectangle) (column row : ℕ) �
     → in_rectangle block column row ≡ true → IsInPart g part column row
 in_block g part block column row of_part is = elim (cases_Bool (is_place g column row)) [
   | inl place ↦
-      let there = inside g column row place in
+      let there = place_of_test g column row place in
       record {
         place = there;
         asked =
@@ -60,41 +62,44 @@ off_held true None is none = refl
 off_held true (Some lot) is none = absurd (none refl)
 off_held false lot is none = cc is
 
-pub full_block : (g section : ℕ) (held : ℕ → ℕ → Bool) (part : Part) (block : Rectangle)
-    → IsBlockOf g part block
-    → HoldsAll held block → ¬ HoldsLotPlace g section block → IsFull g (off_lots g section held) part
-full_block g section held part block of_part all none = record {
+pub full_block : (plan : Lotting) (section : ℕ) (held : ℕ → ℕ → Bool) (part : Part) (block : Rectangle)
+    → IsBlockOf plan.digits part block
+    → HoldsAll held block → ¬ HoldsLotPlace plan section block
+    → IsFull plan.digits (off_lots plan section held) part
+full_block plan section held part block of_part all none = record {
   within = of_part.within;
   each = λ column row there.
-      let is = block_places_of g part block column row of_part there in
-      off_held (held column row) (lot_of_place g section column row) (all column row is)
+      let is = block_places_of plan.digits part block column row of_part there in
+      off_held (held column row) (plan.lot_of section column row) (all column row is)
       (λ some. none (record { column = column; row = row; inside = is; of_lot = some }));
 }
 
-pub block_full : (g section : ℕ) (held : ℕ → ℕ → Bool) (part : Part) (block : Rectangle)
-    → IsBlockOf g part block
-    → IsFull g (off_lots g section held) part → HoldsAll held block × ¬ HoldsLotPlace g section block
-block_full g section held part block of_part full = (
+pub block_full : (plan : Lotting) (section : ℕ) (held : ℕ → ℕ → Bool) (part : Part) (block : Rectangle)
+    → IsBlockOf plan.digits part block
+    → IsFull plan.digits (off_lots plan section held) part
+    → HoldsAll held block × ¬ HoldsLotPlace plan section block
+block_full plan section held part block of_part full = (
   (λ column row is.
-      (held_off (held column row) (lot_of_place g section column row)
-      (full.each column row (in_block g part block column row of_part is))).0),
+      (held_off (held column row) (plan.lot_of section column row)
+      (full.each column row (in_block plan.digits part block column row of_part is))).0),
   (λ place.
-      (held_off (held place.column place.row) (lot_of_place g section place.column place.row)
+      (held_off (held place.column place.row) (plan.lot_of section place.column place.row)
       (full.each place.column place.row
-      (in_block g part block place.column place.row of_part place.inside))).1
+      (in_block plan.digits part block place.column place.row of_part place.inside))).1
       place.of_lot),
 )
 
 -- if the land contains no place of the block, it contains none of the part
-pub empty_block : (g section : ℕ) (held : ℕ → ℕ → Bool) (part : Part) (block : Rectangle)
-    → IsBlockOf g part block → ¬ Meets held block
-    → (column row : ℕ) → IsInPart g part column row → ¬ (off_lots g section held column row ≡ true)
-empty_block g section held part block of_part none column row there is =
+pub empty_block : (plan : Lotting) (section : ℕ) (held : ℕ → ℕ → Bool) (part : Part) (block : Rectangle)
+    → IsBlockOf plan.digits part block → ¬ Meets held block
+    → (column row : ℕ) → IsInPart plan.digits part column row
+    → ¬ (off_lots plan section held column row ≡ true)
+empty_block plan section held part block of_part none column row there is =
     none (record {
       column = column;
       row = row;
-      inside = block_places_of g part block column row of_part there;
-      is_held = (held_off (held column row) (lot_of_place g section column row) is).0;
+      inside = block_places_of plan.digits part block column row of_part there;
+      is_held = (held_off (held column row) (plan.lot_of section column row) is).0;
     })
 
 -- the block of a quarter
@@ -107,13 +112,14 @@ quarter_block g corner quarters block fits of_square = record {
 }
 
 -- the tests in the code
-pub judged_off : (g section : ℕ) (held : ℕ → ℕ → Bool) (block : Rectangle) (full lot : Bool)
-    → (IsTrue full ↔ HoldsAll held block) → (IsTrue lot ↔ HoldsLotPlace g section block) → full ≡ true
-    → (part : Part) → IsBlockOf g part block → IsTrue (not lot) ↔ IsFull g (off_lots g section held) part
-judged_off g section held block full lot full_is lot_is is part of_part = (
-  (λ no_lot. full_block g section held part block of_part (full_is.0 is) (λ place.
+pub judged_off : (plan : Lotting) (section : ℕ) (held : ℕ → ℕ → Bool) (block : Rectangle) (full lot : Bool)
+    → (IsTrue full ↔ HoldsAll held block) → (IsTrue lot ↔ HoldsLotPlace plan section block) → full ≡ true
+    → (part : Part) → IsBlockOf plan.digits part block
+    → IsTrue (not lot) ↔ IsFull plan.digits (off_lots plan section held) part
+judged_off plan section held block full lot full_is lot_is is part of_part = (
+  (λ no_lot. full_block plan section held part block of_part (full_is.0 is) (λ place.
       both lot (lot_is.1 place) no_lot)),
-  (λ all. by_lot lot (λ there. (block_full g section held part block of_part all).1 (lot_is.0 there))),
+  (λ all. by_lot lot (λ there. (block_full plan section held part block of_part all).1 (lot_is.0 there))),
 )
   where
     both : (b : Bool) → b ≡ true → not b ≡ true → ⊥
@@ -124,12 +130,13 @@ judged_off g section held block full lot full_is lot_is is part of_part = (
     by_lot true none = absurd (none refl)
     by_lot false none = refl
 
-pub judged_short : (g section : ℕ) (held : ℕ → ℕ → Bool) (block : Rectangle) (full : Bool)
+pub judged_short : (plan : Lotting) (section : ℕ) (held : ℕ → ℕ → Bool) (block : Rectangle) (full : Bool)
     → (IsTrue full ↔ HoldsAll held block) → full ≡ false
-    → (part : Part) → IsBlockOf g part block → IsTrue full ↔ IsFull g (off_lots g section held) part
-judged_short g section held block full full_is is part of_part = (
+    → (part : Part) → IsBlockOf plan.digits part block
+    → IsTrue full ↔ IsFull plan.digits (off_lots plan section held) part
+judged_short plan section held block full full_is is part of_part = (
   (λ all. absurd (false≢true (sym is ∙ all))),
-  (λ all. full_is.1 (block_full g section held part block of_part all).0),
+  (λ all. full_is.1 (block_full plan section held part block of_part all).0),
 )
 
 -- blocks that can be divided further

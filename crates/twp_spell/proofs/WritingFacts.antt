@@ -13,11 +13,13 @@ use Rattle.twp_spell.specs.WrittenParts.{Part, IsFull, IsChosenHalf, IsOnSide, t
 use Rattle.twp_spell.specs.WrittenParts.{AreWrittenParts}
 use Rattle.twp_spell.specs.WrittenParts.Part.{square, half_of_square}
 use Rattle.twp_grid.specs.Lands.{off_lots}
-use Rattle.twp_spell.specs.CanonicalText.{step_text, part_text, HoldsEach}
+use Rattle.twp_grid.specs.Lands.{HoldsEach}
+use Rattle.twp_spell.specs.CanonicalText.{step_text, part_text}
 use Rattle.twp_spell.specs.steps.Spelling.{quarter_on, AreOfSquare, AreOfQuarter, IsChoice, IsOffChosen}
 use Rattle.twp_spell.specs.steps.Spelling.{quarters_text, parts_text, AreWritten, IsBlockOf}
 use Rattle.twp_grid.specs.Spans.{Rectangle, whole_block}
 use Rattle.twp_grid.specs.Lands.{lot_of_place}
+use Rattle.twp_grid.specs.Lands.{Lotting}
 use Rattle.twp_spell.proofs.SquareFacts.{square_within}
 use Rattle.twp_spell.proofs.SquarePlaces.{same_quarter}
 use Rattle.twp_spell.proofs.FullParts.{one_chosen}
@@ -221,24 +223,26 @@ buffer_appended result these old none buffer new empty written ok =
     })
 
 -- the section
-pub section_written : {T E : Type 0} (result : Result T E) (g section : ℕ) (held : ℕ → ℕ → Bool)
+pub section_written : {T E : Type 0} (result : Result T E) (plan : Lotting) (section : ℕ)
+    (held : ℕ → ℕ → Bool)
     (old new : List ℕ)
-    → OnOk result (AreWritten (AreOfSquare g (off_lots g section held) []) old new)
-    → OnOk result (AreWritten (AreWrittenParts g (off_lots g section held)) old new)
-section_written result g section held old new ok =
-    on_ok result (AreWritten (AreOfSquare g (off_lots g section held) []) old new)
-    (AreWritten (AreWrittenParts g (off_lots g section held)) old new) ok (λ is.
+    → OnOk result (AreWritten (AreOfSquare plan.digits (off_lots plan section held) []) old new)
+    → OnOk result (AreWritten (AreWrittenParts plan.digits (off_lots plan section held)) old new)
+section_written result plan section held old new ok =
+    on_ok result (AreWritten (AreOfSquare plan.digits (off_lots plan section held) []) old new)
+    (AreWritten (AreWrittenParts plan.digits (off_lots plan section held)) old new) ok (λ is.
     record {
       parts = is.parts;
-      are = of_section g (off_lots g section held) is.parts is.are;
+      are = of_section plan.digits (off_lots plan section held) is.parts is.are;
       text_is = is.text_is;
     })
 
 -- if the section is full off its lots, the land contains it wholly
-pub whole_held : (g section : ℕ) (held : ℕ → ℕ → Bool) → IsFull g (off_lots g section held) (square [])
-    → HoldsEach g held
-whole_held g section held full column row place =
-    first (held column row) (is_none (lot_of_place g section column row))
+pub whole_held : (plan : Lotting) (section : ℕ) (held : ℕ → ℕ → Bool)
+    → IsFull plan.digits (off_lots plan section held) (square [])
+    → HoldsEach plan section held
+whole_held plan section held full column row place land =
+    first (held column row) (is_none (plan.lot_of section column row))
     (full.each column row (record { place = place; asked = refl }))
   where
     first : (a b : Bool) → (a && b) ≡ true → a ≡ true

@@ -11,10 +11,11 @@ use Rattle.twp_grid.specs.declared.block.Side.{Side}
 use Rattle.twp_grid.specs.declared.block.Side.TheVariants.{N, S, E, W}
 use Rattle.twp_grid.specs.declared.block.Corner.{Corner}
 use Rattle.twp_grid.specs.declared.block.Corner.TheVariants.{NE, NW, SW, SE}
-use Rattle.twp_grid.specs.Lands.{lot_of_place, off_lots}
+use Rattle.twp_grid.specs.Lands.{Lotting, off_lots, HoldsEach}
+pub use Rattle.twp_grid.specs.Lands.{IsLotHeld}
 use Rattle.twp_grammar.specs.declared.item.Step.{Step}
 use Rattle.twp_grammar.specs.declared.item.Step.TheVariants.{Half, Quarter}
-use Rattle.twp_spell.specs.Listing.{AreListed}
+use Rattle.twp_grid.specs.Listing.{AreListed}
 use Rattle.twp_spell.specs.WrittenParts.{Part, steps_of_part, AreWrittenParts}
 
 -- the letter of a side
@@ -57,33 +58,21 @@ pub record HoldsSome (g : ℕ) (held : ℕ → ℕ → Bool) : Type 0 where
   pub place : IsPlace g column row
   pub is_held : held column row ≡ true
 
--- the land contains every place of the section
-abbrev pub HoldsEach : ℕ → (ℕ → ℕ → Bool) → Type 0
-HoldsEach g held = (column row : ℕ) → IsPlace g column row → held column row ≡ true
-
--- the land contains some place of the section's lot with this number
-pub record IsLotHeld (g section : ℕ) (held : ℕ → ℕ → Bool) (lot : ℕ) : Type 0 where
-  pub column : ℕ
-  pub row : ℕ
-  pub place : IsPlace g column row
-  pub of_lot : lot_of_place g section column row ≡ Some lot
-  pub is_held : held column row ≡ true
-
--- A section's list: `all` if the land contains every place; otherwise the lots in the land, by
--- ascending number, and then the written parts of the land off the lots.
-pub data IsSectionList (g section : ℕ) (held : ℕ → ℕ → Bool) (text : List ℕ) : Type 0 where
-  all : HoldsEach g held → text ≡ codes "all" → IsSectionList g section held text
-  by_parts : ¬ HoldsEach g held → (lots : List ℕ) (parts : List Part)
-      → AreListed (IsLotHeld g section held) ◌<◌ lots
-      → AreWrittenParts g (off_lots g section held) parts
+-- A section's list: `all` if the land contains every place at which the plat has land; otherwise the
+-- lots in the land, by ascending number, and then the written parts of the land off the lots.
+pub data IsSectionList (plan : Lotting) (section : ℕ) (held : ℕ → ℕ → Bool) (text : List ℕ) : Type 0 where
+  all : HoldsEach plan section held → text ≡ codes "all" → IsSectionList plan section held text
+  by_parts : ¬ HoldsEach plan section held → (lots : List ℕ) (parts : List Part)
+      → AreListed (IsLotHeld plan section held) ◌<◌ lots
+      → AreWrittenParts plan.digits (off_lots plan section held) parts
       → text ≡ with_commas (lots_entry lots ++ map part_text parts)
-      → IsSectionList g section held text
+      → IsSectionList plan section held text
 
 -- a section with its list, such as sec. 5, lots 1, 2, S1/2
-pub record IsSectionText (g : ℕ) (places : ℕ → ℕ → ℕ → Bool) (section : ℕ) (text : List ℕ)
+pub record IsSectionText (plan : Lotting) (places : ℕ → ℕ → ℕ → Bool) (section : ℕ) (text : List ℕ)
     : Type 0 where
   pub list : List ℕ
-  pub list_is : IsSectionList g section (places section) list
+  pub list_is : IsSectionList plan section (places section) list
   pub text_is : text ≡ codes "sec. " ++ decimal section ++ codes ", " ++ list
 
 -- the end of a line
@@ -109,11 +98,12 @@ land_lines township (text ∷ more) =
 abbrev pub IsSectionOfLand : ℕ → (ℕ → ℕ → ℕ → Bool) → ℕ → Type 0
 IsSectionOfLand g places section = IsSection section × HoldsSome g (places section)
 
--- the canonical text of land in a township: its sections, by ascending number, each with its list
-pub record IsCanonicalText (g : ℕ) (township : Designation) (places : ℕ → ℕ → ℕ → Bool)
+-- the canonical text of land on a plat with these lots: its sections, by ascending number, each with
+-- its list
+pub record IsCanonicalText (plan : Lotting) (township : Designation) (places : ℕ → ℕ → ℕ → Bool)
     (text : List ℕ) : Type 0 where
   pub sections : List ℕ
   pub lines : List (List ℕ)
-  pub sections_are : AreListed (IsSectionOfLand g places) ◌<◌ sections
-  pub lines_are : AllZip (IsSectionText g places) sections lines
+  pub sections_are : AreListed (IsSectionOfLand plan.digits places) ◌<◌ sections
+  pub lines_are : AllZip (IsSectionText plan places) sections lines
   pub text_is : text ≡ land_lines township lines

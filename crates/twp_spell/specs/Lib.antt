@@ -1,4 +1,3 @@
-pub mod Listing
 pub mod WrittenParts
 pub mod CanonicalText
 pub mod SpellingLaws

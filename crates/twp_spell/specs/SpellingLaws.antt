@@ -3,7 +3,7 @@ use Rattle.std.specs.Prelude.{◌≡◌, ◌↔◌, ℕ, suc, Bool, true, List, 
 use Rattle.std.specs.List.{Contains, AllPairs}
 use Rattle.twp_grid.specs.Places.{IsPlace}
 use Rattle.twp_grid.specs.Townships.{Designation}
-use Rattle.twp_grid.specs.Lands.{no_places}
+use Rattle.twp_grid.specs.Lands.{Lotting, AreLots, no_places}
 use Rattle.twp_grid.specs.FinerLands.{cut_in_four}
 use Rattle.twp_spell.specs.CanonicalText.{IsCanonicalText}
 use Rattle.twp_spell.specs.WrittenParts.{Part, IsInPart, AreWrittenParts}
@@ -35,10 +35,11 @@ FinerPlacesSameParts = (g : ℕ) (held : ℕ → ℕ → Bool) (parts : List Par
 
 -- land in a township has exactly one canonical text
 abbrev pub OneCanonicalText : Type 0
-OneCanonicalText = (g : ℕ) (township : Designation) (places : ℕ → ℕ → ℕ → Bool)
-    → (text : List ℕ) × IsCanonicalText g township places text
-    × ((other : List ℕ) → IsCanonicalText g township places other → other ≡ text)
+OneCanonicalText = (plan : Lotting) → AreLots plan → (township : Designation)
+    (places : ℕ → ℕ → ℕ → Bool) → (text : List ℕ) × IsCanonicalText plan township places text
+    × ((other : List ℕ) → IsCanonicalText plan township places other → other ≡ text)
 
 -- the canonical text of empty land is empty
 abbrev pub EmptyLandHasEmptyText : Type 0
-EmptyLandHasEmptyText = (g : ℕ) (township : Designation) → IsCanonicalText g township no_places []
+EmptyLandHasEmptyText =
+    (plan : Lotting) (township : Designation) → IsCanonicalText plan township no_places []

@@ -12,7 +12,7 @@ use Rattle.twp_grid.specs.declared.block.Corner.TheVariants.{NE, NW, SW, SE}
 use Rattle.twp_grammar.specs.declared.item.Step.{Step}
 use Rattle.twp_grammar.specs.declared.item.Step.TheVariants.{Half, Quarter}
 use Rattle.twp_grammar.specs.ItemPlaces.{cuts_of, in_chain}
-use Rattle.twp_spell.specs.Listing.{AreListed}
+use Rattle.twp_grid.specs.Listing.{AreListed}
 
 -- A square, or a half of one. A square's quarters are listed as they are written, smallest first;
 -- those after the first reach its parent. The list without quarters is the whole section.

@@ -4,6 +4,7 @@ ghost use Rattle.twp_grid.specs.Blocks.{CanQuarter, half_of};
 ghost use Rattle.twp_grid.specs.Places.{PLACE_DIGITS};
 ghost use Rattle.twp_grid.specs.declared.block.Corner.{Corner};
 ghost use Rattle.twp_grid.specs.Lands.{off_lots};
+ghost use Rattle.twp_grid.specs.Lands.{lotting};
 ghost use Rattle.twp_spell.specs.PartBlocks.{AreWrittenBlocks};
 ghost use Rattle.twp_spell.specs.WrittenParts.{IsFull};
 ghost use Rattle.twp_spell.specs.WrittenParts.Part.{square};
@@ -16,71 +17,74 @@ use crate::part_text::{first_quarter, half_at};
 use crate::written_parts::{full_quarters, is_full};
 use std::alloc::{AllocError, Global};
 use twp_grid::{Block, Corner, Section, Side};
-use twp_land::PlaceSet;
+use twp_land::{Lotting, PlaceSet};
 
 /// The blocks of the parts that the land in a section off its lots is written as, in their order.
-pub fn part_blocks<L: PlaceSet>(
+pub fn part_blocks<L: PlaceSet, P: Lotting>(
     alloc: Global,
     land: &L,
     section: Section,
+    lots: &P,
 ) -> Result<Vec<Block>, AllocError>
     ensures { IfOk result (λ blocks. AreWrittenBlocks PLACE_DIGITS
-        (off_lots PLACE_DIGITS section (L.places land.now section)) blocks.items) }
+        (off_lots (lotting (P.layout lots.now)) section (L.places land.now section)) blocks.items) }
 {
     let mut blocks = Vec::new(alloc);
     let whole = Block::whole();
-    if is_full(land, section, whole) {
+    if is_full(land, section, whole, lots) {
         gather(whole, &mut blocks)?;
         return Ok(blocks);
     }
-    gather_square(land, section, whole, &mut blocks)?;
+    gather_square(land, section, whole, lots, &mut blocks)?;
     Ok(blocks)
 }
 
 /// Appends the blocks of the written parts of a square that is not full.
 #[cycle(descent)]
-fn gather_square<L: PlaceSet>(
+fn gather_square<L: PlaceSet, P: Lotting>(
     land: &L,
     section: Section,
     block: Block,
+    lots: &P,
     blocks: &mut Vec<Block>,
 ) -> Result<(), AllocError>
     requires { CanQuarter block }
     ensures { (quarters : List Corner) → IsBlockOf PLACE_DIGITS (square quarters) block
-        → ¬ IsFull PLACE_DIGITS (off_lots PLACE_DIGITS section (L.places land.now section))
+        → ¬ IsFull PLACE_DIGITS (off_lots (lotting (P.layout lots.now)) section (L.places land.now section))
         (square quarters)
         → OnOk result (AreGathered PLACE_DIGITS (AreOfSquare PLACE_DIGITS
-        (off_lots PLACE_DIGITS section (L.places land.now section)) quarters)
+        (off_lots (lotting (P.layout lots.now)) section (L.places land.now section)) quarters)
         blocks.old.items blocks.new.items) }
 {
     if !land.meets(section, block) {
         return Ok(());
     }
-    let full = full_quarters(land, section, block);
-    gather_quarter(land, section, block, full, Corner::NE, blocks)?;
-    gather_quarter(land, section, block, full, Corner::NW, blocks)?;
-    gather_quarter(land, section, block, full, Corner::SW, blocks)?;
-    gather_quarter(land, section, block, full, Corner::SE, blocks)
+    let full = full_quarters(land, section, block, lots);
+    gather_quarter(land, section, block, full, Corner::NE, lots, blocks)?;
+    gather_quarter(land, section, block, full, Corner::NW, lots, blocks)?;
+    gather_quarter(land, section, block, full, Corner::SW, lots, blocks)?;
+    gather_quarter(land, section, block, full, Corner::SE, lots, blocks)
 }
 
 /// Appends the blocks of the written parts that begin in a quarter of a square that is not full.
 #[cycle(descent)]
-fn gather_quarter<L: PlaceSet>(
+fn gather_quarter<L: PlaceSet, P: Lotting>(
     land: &L,
     section: Section,
     block: Block,
     full: FullQuarters,
     corner: Corner,
+    lots: &P,
     blocks: &mut Vec<Block>,
 ) -> Result<(), AllocError>
     requires { CanQuarter block }
     ensures { (quarters : List Corner) → IsBlockOf PLACE_DIGITS (square quarters) block
-        → ¬ IsFull PLACE_DIGITS (off_lots PLACE_DIGITS section (L.places land.now section))
+        → ¬ IsFull PLACE_DIGITS (off_lots (lotting (P.layout lots.now)) section (L.places land.now section))
         (square quarters)
-        → AreFull PLACE_DIGITS (off_lots PLACE_DIGITS section (L.places land.now section))
+        → AreFull PLACE_DIGITS (off_lots (lotting (P.layout lots.now)) section (L.places land.now section))
         quarters full
         → OnOk result (AreGathered PLACE_DIGITS (AreOfQuarter PLACE_DIGITS
-        (off_lots PLACE_DIGITS section (L.places land.now section)) quarters corner)
+        (off_lots (lotting (P.layout lots.now)) section (L.places land.now section)) quarters corner)
         blocks.old.items blocks.new.items) }
 {
     if let Some(side) = half_at(full.chosen_half(), corner) {
@@ -96,7 +100,7 @@ fn gather_quarter<L: PlaceSet>(
     if quarter.height() == 1 {
         return Ok(());
     }
-    gather_square(land, section, quarter, blocks)
+    gather_square(land, section, quarter, lots, blocks)
 }
 
 /// Appends a half of a block, if this is the first of its quarters.

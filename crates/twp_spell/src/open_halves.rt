@@ -1,6 +1,6 @@
 //! The halves of a square that may have land. Most land in a section lies in one quarter of a square
 //! or in one half, so a test or two of halves take the place of tests of each quarter.
-ghost use Rattle.std.specs.Prelude.{◌≡◌, ◌↔◌, ◌∷◌, ℕ, Bool, false, List, IsTrue};
+ghost use Rattle.std.specs.Prelude.{◌≡◌, ◌↔◌, ◌∷◌, ℕ, Bool, false, List, Option, IsTrue};
 ghost use Rattle.twp_grid.specs.Places.{PLACE_DIGITS};
 ghost use Rattle.twp_grid.specs.Blocks.{CanQuarter};
 ghost use Rattle.twp_grid.specs.declared.block.Side.TheVariants.{N, S, E, W};
@@ -8,6 +8,7 @@ ghost use Rattle.twp_grid.specs.declared.block.Corner.{Corner};
 ghost use Rattle.twp_spell.specs.WrittenParts.{IsFull};
 ghost use Rattle.twp_spell.specs.WrittenParts.Part.{square};
 ghost use Rattle.twp_grid.specs.Lands.{off_lots};
+ghost use Rattle.twp_grid.specs.Lands.{Layout, lotting};
 ghost use Rattle.twp_spell.specs.steps.Spelling.{IsBlockOf, AreFull};
 ghost use Rattle.twp_spell.specs.steps.OpenHalves.{open_at, IsHalfEmpty, AreOpen};
 
@@ -15,7 +16,7 @@ use crate::blocks::half_toward;
 use crate::full_quarters::FullQuarters;
 use crate::written_parts::quarter_is_full;
 use twp_grid::{Block, Corner, Section, Side};
-use twp_land::PlaceSet;
+use twp_land::{Lotting, PlaceSet};
 
 /// The halves of a square that may have land that belongs to no lot. The others have none.
 #[derive(Clone, Copy)]
@@ -54,8 +55,8 @@ impl OpenHalves {
 #[inline(always)]
 pub(crate) fn open_halves<L: PlaceSet>(land: &L, section: Section, block: Block) -> OpenHalves
     requires { CanQuarter block }
-    ensures { (quarters : List Corner) → IsBlockOf PLACE_DIGITS (square quarters) block
-        → AreOpen PLACE_DIGITS (off_lots PLACE_DIGITS section (L.places land.now section))
+    ensures { (layout : Layout) (quarters : List Corner) → IsBlockOf PLACE_DIGITS (square quarters) block
+        → AreOpen PLACE_DIGITS (off_lots (lotting layout) section (L.places land.now section))
         quarters result }
 {
     if !half_meets(land, section, block, Side::S) {
@@ -77,12 +78,12 @@ fn open_across<L: PlaceSet>(
     south: bool,
 ) -> OpenHalves
     requires { CanQuarter block }
-    ensures { (quarters : List Corner) → IsBlockOf PLACE_DIGITS (square quarters) block
+    ensures { (layout : Layout) (quarters : List Corner) → IsBlockOf PLACE_DIGITS (square quarters) block
         → (north ≡ false → IsHalfEmpty PLACE_DIGITS
-        (off_lots PLACE_DIGITS section (L.places land.now section)) quarters N)
+        (off_lots (lotting layout) section (L.places land.now section)) quarters N)
         → (south ≡ false → IsHalfEmpty PLACE_DIGITS
-        (off_lots PLACE_DIGITS section (L.places land.now section)) quarters S)
-        → AreOpen PLACE_DIGITS (off_lots PLACE_DIGITS section (L.places land.now section))
+        (off_lots (lotting layout) section (L.places land.now section)) quarters S)
+        → AreOpen PLACE_DIGITS (off_lots (lotting layout) section (L.places land.now section))
         quarters result }
 {
     if !half_meets(land, section, block, Side::W) {
@@ -106,55 +107,57 @@ fn open_across<L: PlaceSet>(
 #[inline(always)]
 fn half_meets<L: PlaceSet>(land: &L, section: Section, block: Block, side: Side) -> bool
     requires { CanQuarter block }
-    ensures { (quarters : List Corner) → IsBlockOf PLACE_DIGITS (square quarters) block
+    ensures { (layout : Layout) (quarters : List Corner) → IsBlockOf PLACE_DIGITS (square quarters) block
         → result ≡ false → IsHalfEmpty PLACE_DIGITS
-        (off_lots PLACE_DIGITS section (L.places land.now section)) quarters side }
+        (off_lots (lotting layout) section (L.places land.now section)) quarters side }
 {
     land.meets(section, half_toward(block, side))
 }
 
 /// Which quarters of a square are full, given which halves may have land.
 #[inline(always)]
-pub(crate) fn full_open_quarters<L: PlaceSet>(
+pub(crate) fn full_open_quarters<L: PlaceSet, P: Lotting>(
     land: &L,
     section: Section,
     block: Block,
     halves: OpenHalves,
+    lots: &P,
 ) -> FullQuarters
     requires { CanQuarter block }
     ensures { (quarters : List Corner) → IsBlockOf PLACE_DIGITS (square quarters) block
-        → AreOpen PLACE_DIGITS (off_lots PLACE_DIGITS section (L.places land.now section))
+        → AreOpen PLACE_DIGITS (off_lots (lotting (P.layout lots.now)) section (L.places land.now section))
         quarters halves
-        → AreFull PLACE_DIGITS (off_lots PLACE_DIGITS section (L.places land.now section))
+        → AreFull PLACE_DIGITS (off_lots (lotting (P.layout lots.now)) section (L.places land.now section))
         quarters result }
 {
     FullQuarters {
-        ne: open_quarter_is_full(land, section, block, halves, Corner::NE),
-        nw: open_quarter_is_full(land, section, block, halves, Corner::NW),
-        sw: open_quarter_is_full(land, section, block, halves, Corner::SW),
-        se: open_quarter_is_full(land, section, block, halves, Corner::SE),
+        ne: open_quarter_is_full(land, section, block, halves, Corner::NE, lots),
+        nw: open_quarter_is_full(land, section, block, halves, Corner::NW, lots),
+        sw: open_quarter_is_full(land, section, block, halves, Corner::SW, lots),
+        se: open_quarter_is_full(land, section, block, halves, Corner::SE, lots),
     }
 }
 
 /// Whether a quarter of a square is full, given which halves may have land.
 #[inline(always)]
-fn open_quarter_is_full<L: PlaceSet>(
+fn open_quarter_is_full<L: PlaceSet, P: Lotting>(
     land: &L,
     section: Section,
     block: Block,
     halves: OpenHalves,
     corner: Corner,
+    lots: &P,
 ) -> bool
     requires { CanQuarter block }
     ensures { (quarters : List Corner) → IsBlockOf PLACE_DIGITS (square quarters) block
-        → AreOpen PLACE_DIGITS (off_lots PLACE_DIGITS section (L.places land.now section))
+        → AreOpen PLACE_DIGITS (off_lots (lotting (P.layout lots.now)) section (L.places land.now section))
         quarters halves
         → (IsTrue result ↔ IsFull PLACE_DIGITS
-        (off_lots PLACE_DIGITS section (L.places land.now section))
+        (off_lots (lotting (P.layout lots.now)) section (L.places land.now section))
         (square (corner ∷ quarters))) }
 {
     if !halves.at(corner) {
         return false;
     }
-    quarter_is_full(land, section, block, corner)
+    quarter_is_full(land, section, block, corner, lots)
 }

@@ -2,17 +2,18 @@
 ghost use Rattle.std.specs.Prelude.{◌≡◌, ◌+◌, ◌++◌, ◌∷◌, ◌<◌, ◌≤◌, [], ℕ, List, OnOk, IfOk};
 ghost use Rattle.std.specs.Prelude.{codes, decimal};
 ghost use Rattle.twp_grid.specs.Places.{PLACE_DIGITS};
-ghost use Rattle.twp_spell.specs.Listing.{AreListed};
+ghost use Rattle.twp_grid.specs.Listing.{AreListed};
 ghost use Rattle.twp_spell.specs.CanonicalText.{lots_entry, heading_line, line_end};
 ghost use Rattle.twp_spell.specs.CanonicalText.{HoldsSome, IsLotHeld, IsCanonicalText};
 ghost use Rattle.twp_spell.specs.steps.SpellingSteps.{entries_text, HasLots, HasSection, AreBegun};
+ghost use Rattle.twp_grid.specs.Lands.{lotting};
 
 use crate::line_start::LineStart;
 use crate::written_parts::write_parts;
 use itoa::Buffer;
 use std::alloc::{AllocError, Global};
-use twp_grid::{Block, Section, Township, lot_count};
-use twp_land::{Land, PlaceSet};
+use twp_grid::{Block, Section, Township};
+use twp_land::{Land, Lotting, PlaceSet};
 
 /// There is room from the start for the text of some ten parts, in bytes.
 const ROOM: usize = 256;
@@ -21,21 +22,27 @@ const ROOM: usize = 256;
 /// `sec. 14, N1/2, SE1/4.`: its sections by ascending number, each with `all` or with the lots and
 /// aliquot parts in the land. The text of empty land is empty. A lot is named if the land contains
 /// some place of it.
-pub fn spell<L: Land>(alloc: Global, land: &L, township: Township) -> Result<Vec<u8>, AllocError>
-    ensures text { IfOk result
-        (λ text. IsCanonicalText PLACE_DIGITS township (L.places land.now) text.items) }
-{
-    spell_set(alloc, land, township)
-}
-
-/// The same, of any set of places.
-pub fn spell_set<L: PlaceSet>(
+pub fn spell<L: Land, P: Lotting>(
     alloc: Global,
     land: &L,
     township: Township,
+    lots: &P,
 ) -> Result<Vec<u8>, AllocError>
     ensures text { IfOk result
-        (λ text. IsCanonicalText PLACE_DIGITS township (L.places land.now) text.items) }
+        (λ text. IsCanonicalText (lotting (P.layout lots.now)) township (L.places land.now) text.items) }
+{
+    spell_set(alloc, land, township, lots)
+}
+
+/// The same, of any set of places.
+pub fn spell_set<L: PlaceSet, P: Lotting>(
+    alloc: Global,
+    land: &L,
+    township: Township,
+    lots: &P,
+) -> Result<Vec<u8>, AllocError>
+    ensures text { IfOk result
+        (λ text. IsCanonicalText (lotting (P.layout lots.now)) township (L.places land.now) text.items) }
 {
     let Some((first, last)) = land.sections() else {
         return Ok(Vec::new(alloc));
@@ -43,23 +50,24 @@ pub fn spell_set<L: PlaceSet>(
     let mut text = Vec::with_capacity(alloc, ROOM)?;
     for number in first.number()..last.number() + 1 {
         let section = Section::new(number).unwrap();
-        write_if_held(alloc, land, township, section, &mut text)?;
+        write_if_held(alloc, land, township, section, lots, &mut text)?;
     }
     write_end(&mut text)?;
     Ok(text)
 }
 
 /// Appends a section after those before it, if the land contains some place of it.
-fn write_if_held<L: PlaceSet>(
+fn write_if_held<L: PlaceSet, P: Lotting>(
     alloc: Global,
     land: &L,
     township: Township,
     section: Section,
+    lots: &P,
     text: &mut Vec<u8>,
 ) -> Result<(), AllocError>
-    ensures { AreBegun PLACE_DIGITS township (L.places land.now) section text.old.items
+    ensures { AreBegun (lotting (P.layout lots.now)) township (L.places land.now) section text.old.items
         → OnOk result
-        (AreBegun PLACE_DIGITS township (L.places land.now) (section + 1) text.new.items) }
+        (AreBegun (lotting (P.layout lots.now)) township (L.places land.now) (section + 1) text.new.items) }
 {
     if land.is_untouched(section) {
         return Ok(());
@@ -68,7 +76,7 @@ fn write_if_held<L: PlaceSet>(
         return Ok(());
     }
     write_lead(township, section, text)?;
-    write_section(alloc, land, section, text)
+    write_section(alloc, land, section, lots, text)
 }
 
 /// Appends the text before a section's list: the heading's line, or the end of the previous line,
@@ -99,21 +107,22 @@ fn write_end(text: &mut Vec<u8>) -> Result<(), AllocError>
 /// Appends the list of a section that the land meets, after the section's number. Inlined, it would
 /// make the masks of its blocks before the first section, whether or not they are needed.
 #[inline(never)]
-fn write_section<L: PlaceSet>(
+fn write_section<L: PlaceSet, P: Lotting>(
     alloc: Global,
     land: &L,
     section: Section,
+    lots: &P,
     text: &mut Vec<u8>,
 ) -> Result<(), AllocError>
     ensures { (before : List ℕ) → text.old.items ≡ before ++ (codes "sec. " ++ decimal section)
         → HoldsSome PLACE_DIGITS (L.places land.now section) → OnOk result
-        (HasSection PLACE_DIGITS (L.places land.now) section before text.new.items) }
+        (HasSection (lotting (P.layout lots.now)) (L.places land.now) section before text.new.items) }
 {
-    if land.full(section, Block::whole()) {
+    if lots.holds_section(land, section) {
         return write_all(text);
     }
-    write_held_lots(alloc, land, section, text)?;
-    write_parts(land, section, text)
+    write_held_lots(alloc, land, section, lots, text)?;
+    write_parts(land, section, lots, text)
 }
 
 /// Appends the list of a section that the land contains wholly, after a comma.
@@ -124,35 +133,39 @@ fn write_all(text: &mut Vec<u8>) -> Result<(), AllocError>
 }
 
 /// Appends the lots of a section that are in the land, such as `, lot 3` or `, lots 1, 2, 4`.
-fn write_held_lots<L: PlaceSet>(
+fn write_held_lots<L: PlaceSet, P: Lotting>(
     alloc: Global,
     land: &L,
     section: Section,
+    lots: &P,
     text: &mut Vec<u8>,
 ) -> Result<(), AllocError>
-    ensures { OnOk result (HasLots PLACE_DIGITS section (L.places land.now section)
+    ensures { OnOk result (HasLots (lotting (P.layout lots.now)) section (L.places land.now section)
         text.old.items text.new.items) }
 {
-    let lots = held_lots(alloc, land, section)?;
-    write_lots(&lots, text)
+    let held = held_lots(alloc, land, section, lots)?;
+    write_lots(&held, text)
 }
 
 /// The lots of a section that the land meets, by ascending number.
-pub fn held_lots<L: PlaceSet>(
+pub fn held_lots<L: PlaceSet, P: Lotting>(
     alloc: Global,
     land: &L,
     section: Section,
+    lots: &P,
 ) -> Result<Vec<u8>, AllocError>
-    ensures { IfOk result (λ lots.
-        AreListed (IsLotHeld PLACE_DIGITS section (L.places land.now section)) ◌<◌ lots.items) }
+    ensures { IfOk result (λ held.
+        AreListed (IsLotHeld (lotting (P.layout lots.now)) section (L.places land.now section)) ◌<◌ held.items) }
 {
-    let mut lots = Vec::new(alloc);
-    for lot in 1..lot_count(section) + 1 {
-        if land.meets(section, Block::of_lot(section, lot).unwrap()) {
-            lots.push(lot)?;
+    let numbers = lots.lot_numbers(section);
+    let mut held = Vec::new(alloc);
+    for index in 0..numbers.len() {
+        let number = numbers[index];
+        if lots.meets_lot(land, section, number) {
+            held.push(number)?;
         }
     }
-    Ok(lots)
+    Ok(held)
 }
 
 /// Appends lots as one entry after a comma.

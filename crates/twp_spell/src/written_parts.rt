@@ -6,8 +6,7 @@ ghost use Rattle.twp_grid.specs.Spans.{whole_block};
 ghost use Rattle.twp_grid.specs.declared.block.Corner.{Corner};
 ghost use Rattle.twp_spell.specs.WrittenParts.{Part, IsFull, AreWrittenParts};
 ghost use Rattle.twp_spell.specs.WrittenParts.Part.{square};
-ghost use Rattle.twp_grid.specs.Lands.{off_lots};
-ghost use Rattle.twp_spell.specs.CanonicalText.{HoldsEach};
+ghost use Rattle.twp_grid.specs.Lands.{Layout, off_lots, lotting, HoldsEach, HoldsLotPlace};
 ghost use Rattle.twp_spell.specs.steps.Spelling.{IsBlockOf, AreOfSquare, AreOfQuarter};
 ghost use Rattle.twp_spell.specs.steps.OpenHalves.{AreOpen};
 ghost use Rattle.twp_spell.specs.steps.Spelling.{AreWritten, AreFull, FINE_SIDE, quarters_text};
@@ -17,27 +16,28 @@ use crate::full_quarters::{FullQuarters, Path};
 use crate::open_halves::{OpenHalves, full_open_quarters, open_halves};
 use crate::part_text::{FINE_SIDE, PartBuffer, half_at, write_full_quarter, write_half_if_first};
 use std::alloc::AllocError;
-use twp_grid::{Block, Corner, PLACES_TO_POSITION, Section, lot_at};
-use twp_land::{PlaceSet, holds_of_lot};
+use twp_grid::{Block, Corner, Section};
+use twp_land::{Lotting, PlaceSet};
 
 /// Appends the written parts of the land in a section off its lots, each after a comma. The land
 /// does not contain the whole section.
-pub(crate) fn write_parts<L: PlaceSet>(
+pub(crate) fn write_parts<L: PlaceSet, P: Lotting>(
     land: &L,
     section: Section,
+    lots: &P,
     text: &mut Vec<u8>,
 ) -> Result<(), AllocError>
-    ensures { ¬ HoldsEach PLACE_DIGITS (L.places land.now section)
+    ensures { ¬ HoldsEach (lotting (P.layout lots.now)) section (L.places land.now section)
         → OnOk result (AreWritten (AreWrittenParts PLACE_DIGITS
-        (off_lots PLACE_DIGITS section (L.places land.now section)))
+        (off_lots (lotting (P.layout lots.now)) section (L.places land.now section)))
         text.old.items text.new.items) }
 {
     let halves = open_halves(land, section, Block::whole());
-    let full = full_open_quarters(land, section, Block::whole(), halves);
-    write_quarter_of_section(land, section, halves, full, Corner::NE, text)?;
-    write_quarter_of_section(land, section, halves, full, Corner::NW, text)?;
-    write_quarter_of_section(land, section, halves, full, Corner::SW, text)?;
-    write_quarter_of_section(land, section, halves, full, Corner::SE, text)
+    let full = full_open_quarters(land, section, Block::whole(), halves, lots);
+    write_quarter_of_section(land, section, halves, full, Corner::NE, lots, text)?;
+    write_quarter_of_section(land, section, halves, full, Corner::NW, lots, text)?;
+    write_quarter_of_section(land, section, halves, full, Corner::SW, lots, text)?;
+    write_quarter_of_section(land, section, halves, full, Corner::SE, lots, text)
 }
 
 /// Appends the written parts that begin in a quarter of a section that is not full. It is inlined,
@@ -45,20 +45,21 @@ pub(crate) fn write_parts<L: PlaceSet>(
 /// compiled: most parts are no smaller than these, and a test of a known block takes half of the
 /// instructions.
 #[inline(always)]
-fn write_quarter_of_section<L: PlaceSet>(
+fn write_quarter_of_section<L: PlaceSet, P: Lotting>(
     land: &L,
     section: Section,
     halves: OpenHalves,
     full: FullQuarters,
     corner: Corner,
+    lots: &P,
     text: &mut Vec<u8>,
 ) -> Result<(), AllocError>
-    ensures { ¬ IsFull PLACE_DIGITS (off_lots PLACE_DIGITS section (L.places land.now section))
+    ensures { ¬ IsFull PLACE_DIGITS (off_lots (lotting (P.layout lots.now)) section (L.places land.now section))
         (square [])
-        → AreOpen PLACE_DIGITS (off_lots PLACE_DIGITS section (L.places land.now section)) [] halves
-        → AreFull PLACE_DIGITS (off_lots PLACE_DIGITS section (L.places land.now section)) [] full
+        → AreOpen PLACE_DIGITS (off_lots (lotting (P.layout lots.now)) section (L.places land.now section)) [] halves
+        → AreFull PLACE_DIGITS (off_lots (lotting (P.layout lots.now)) section (L.places land.now section)) [] full
         → OnOk result (AreWritten (AreOfQuarter PLACE_DIGITS
-        (off_lots PLACE_DIGITS section (L.places land.now section)) [] corner)
+        (off_lots (lotting (P.layout lots.now)) section (L.places land.now section)) [] corner)
         text.old.items text.new.items) }
 {
     let path = Path::whole();
@@ -75,7 +76,7 @@ fn write_quarter_of_section<L: PlaceSet>(
     if !land.meets(section, quarter) {
         return Ok(());
     }
-    write_coarse_square(land, section, quarter, &path.quarter(corner), text)
+    write_coarse_square(land, section, quarter, &path.quarter(corner), lots, text)
 }
 
 /// The quarter of a section at a corner.
@@ -89,62 +90,109 @@ fn quarter_of_section(corner: Corner) -> Block
 
 /// Appends the written parts of a square that is not full, each after a comma.
 #[cycle(descent)]
-fn write_square<L: PlaceSet>(
+fn write_square<L: PlaceSet, P: Lotting>(
     land: &L,
     section: Section,
     block: Block,
     path: &Path,
+    lots: &P,
     text: &mut Vec<u8>,
 ) -> Result<(), AllocError>
     requires { CanQuarter block }
     ensures { (quarters : List Corner) → IsBlockOf PLACE_DIGITS (square quarters) block
         → path.now ≡ quarters_text quarters
-        → ¬ IsFull PLACE_DIGITS (off_lots PLACE_DIGITS section (L.places land.now section))
+        → ¬ IsFull PLACE_DIGITS (off_lots (lotting (P.layout lots.now)) section (L.places land.now section))
         (square quarters)
         → OnOk result (AreWritten (AreOfSquare PLACE_DIGITS
-        (off_lots PLACE_DIGITS section (L.places land.now section)) quarters)
+        (off_lots (lotting (P.layout lots.now)) section (L.places land.now section)) quarters)
         text.old.items text.new.items) }
 {
     if block.width() == FINE_SIDE && block.height() == FINE_SIDE {
-        return write_fine_square(land, section, block, path, text);
+        if !lots.holds_of_lot(section, block) {
+            return write_fine_square(land, section, block, path, text);
+        }
+        if lots.is_of_lots(section, block) {
+            return Ok(());
+        }
     }
     if !land.meets(section, block) {
         return Ok(());
     }
-    write_coarse_square(land, section, block, path, text)
+    write_coarse_square(land, section, block, path, lots, text)
 }
 
 /// Appends the written parts of a square that is not full, quarter by quarter.
 #[cycle(descent)]
 #[inline(always)]
-fn write_coarse_square<L: PlaceSet>(
+fn write_coarse_square<L: PlaceSet, P: Lotting>(
     land: &L,
     section: Section,
     block: Block,
     path: &Path,
+    lots: &P,
     text: &mut Vec<u8>,
 ) -> Result<(), AllocError>
     requires { CanQuarter block }
     ensures { (quarters : List Corner) → IsBlockOf PLACE_DIGITS (square quarters) block
         → path.now ≡ quarters_text quarters
-        → ¬ IsFull PLACE_DIGITS (off_lots PLACE_DIGITS section (L.places land.now section))
+        → ¬ IsFull PLACE_DIGITS (off_lots (lotting (P.layout lots.now)) section (L.places land.now section))
         (square quarters)
         → OnOk result (AreWritten (AreOfSquare PLACE_DIGITS
-        (off_lots PLACE_DIGITS section (L.places land.now section)) quarters)
+        (off_lots (lotting (P.layout lots.now)) section (L.places land.now section)) quarters)
         text.old.items text.new.items) }
 {
     let halves = open_halves(land, section, block);
-    let full = full_open_quarters(land, section, block, halves);
-    write_quarter(land, section, block, halves, full, Corner::NE, path, text)?;
-    write_quarter(land, section, block, halves, full, Corner::NW, path, text)?;
-    write_quarter(land, section, block, halves, full, Corner::SW, path, text)?;
-    write_quarter(land, section, block, halves, full, Corner::SE, path, text)
+    let full = full_open_quarters(land, section, block, halves, lots);
+    write_quarter(
+        land,
+        section,
+        block,
+        halves,
+        full,
+        Corner::NE,
+        path,
+        lots,
+        text,
+    )?;
+    write_quarter(
+        land,
+        section,
+        block,
+        halves,
+        full,
+        Corner::NW,
+        path,
+        lots,
+        text,
+    )?;
+    write_quarter(
+        land,
+        section,
+        block,
+        halves,
+        full,
+        Corner::SW,
+        path,
+        lots,
+        text,
+    )?;
+    write_quarter(
+        land,
+        section,
+        block,
+        halves,
+        full,
+        Corner::SE,
+        path,
+        lots,
+        text,
+    )
 }
 
 /// Appends the written parts that begin in a quarter of a square that is not full.
 #[cycle(descent)]
 #[inline(always)]
-fn write_quarter<L: PlaceSet>(
+fn write_quarter<L: PlaceSet, P: Lotting>(
     land: &L,
     section: Section,
     block: Block,
@@ -152,19 +200,20 @@ fn write_quarter<L: PlaceSet>(
     full: FullQuarters,
     corner: Corner,
     path: &Path,
+    lots: &P,
     text: &mut Vec<u8>,
 ) -> Result<(), AllocError>
     requires { CanQuarter block }
     ensures { (quarters : List Corner) → IsBlockOf PLACE_DIGITS (square quarters) block
         → path.now ≡ quarters_text quarters
-        → ¬ IsFull PLACE_DIGITS (off_lots PLACE_DIGITS section (L.places land.now section))
+        → ¬ IsFull PLACE_DIGITS (off_lots (lotting (P.layout lots.now)) section (L.places land.now section))
         (square quarters)
-        → AreOpen PLACE_DIGITS (off_lots PLACE_DIGITS section (L.places land.now section))
+        → AreOpen PLACE_DIGITS (off_lots (lotting (P.layout lots.now)) section (L.places land.now section))
         quarters halves
-        → AreFull PLACE_DIGITS (off_lots PLACE_DIGITS section (L.places land.now section))
+        → AreFull PLACE_DIGITS (off_lots (lotting (P.layout lots.now)) section (L.places land.now section))
         quarters full
         → OnOk result (AreWritten (AreOfQuarter PLACE_DIGITS
-        (off_lots PLACE_DIGITS section (L.places land.now section)) quarters corner)
+        (off_lots (lotting (P.layout lots.now)) section (L.places land.now section)) quarters corner)
         text.old.items text.new.items) }
 {
     if let Some(side) = half_at(full.chosen_half(), corner) {
@@ -177,19 +226,18 @@ fn write_quarter<L: PlaceSet>(
         return Ok(());
     }
     let quarter = block.quarter(corner).unwrap();
-    // A place cannot be divided further. None gets here, because fine squares are written
-    // separately; the tests show that on fine squares this descent ends and writes nothing.
+    // A place cannot be divided further.
     if quarter.width() == 1 {
         return Ok(());
     }
     if quarter.height() == 1 {
         return Ok(());
     }
-    write_square(land, section, quarter, &path.quarter(corner), text)
+    write_square(land, section, quarter, &path.quarter(corner), lots, text)
 }
 
-/// Appends the written parts of a fine square that is not full, testing each of its places. It lies
-/// in one position.
+/// Appends the written parts of a fine square that is not full and contains no land of a lot, testing
+/// each of its places.
 #[inline(never)]
 fn write_fine_square<L: PlaceSet>(
     land: &L,
@@ -200,24 +248,16 @@ fn write_fine_square<L: PlaceSet>(
 ) -> Result<(), AllocError>
     requires width { block.columns.len ≡ FINE_SIDE }
     requires height { block.rows.len ≡ FINE_SIDE }
-    ensures { (quarters : List Corner) → IsBlockOf PLACE_DIGITS (square quarters) block
-        → path.now ≡ quarters_text quarters
-        → ¬ IsFull PLACE_DIGITS (off_lots PLACE_DIGITS section (L.places land.now section))
+    ensures { (layout : Layout) (quarters : List Corner) → ¬ HoldsLotPlace (lotting layout) section block
+        → IsBlockOf PLACE_DIGITS (square quarters) block → path.now ≡ quarters_text quarters
+        → ¬ IsFull PLACE_DIGITS (off_lots (lotting layout) section (L.places land.now section))
         (square quarters)
         → OnOk result (AreWritten (AreOfSquare PLACE_DIGITS
-        (off_lots PLACE_DIGITS section (L.places land.now section)) quarters)
+        (off_lots (lotting layout) section (L.places land.now section)) quarters)
         text.old.items text.new.items) }
 {
     let column = block.column();
     let row = block.row();
-    let lot = lot_at(
-        section,
-        column / PLACES_TO_POSITION,
-        row / PLACES_TO_POSITION,
-    );
-    if lot.is_some() {
-        return Ok(());
-    }
     let ne = held_places(land, section, column, row + 2);
     let nw = held_places(land, section, column + 2, row + 2);
     let sw = held_places(land, section, column + 2, row);
@@ -235,17 +275,22 @@ fn write_fine_square<L: PlaceSet>(
 
 /// Which quarters of a square are full.
 #[inline(always)]
-pub(crate) fn full_quarters<L: PlaceSet>(land: &L, section: Section, block: Block) -> FullQuarters
+pub(crate) fn full_quarters<L: PlaceSet, P: Lotting>(
+    land: &L,
+    section: Section,
+    block: Block,
+    lots: &P,
+) -> FullQuarters
     requires { CanQuarter block }
     ensures { (quarters : List Corner) → IsBlockOf PLACE_DIGITS (square quarters) block
-        → AreFull PLACE_DIGITS (off_lots PLACE_DIGITS section (L.places land.now section))
+        → AreFull PLACE_DIGITS (off_lots (lotting (P.layout lots.now)) section (L.places land.now section))
         quarters result }
 {
     FullQuarters {
-        ne: quarter_is_full(land, section, block, Corner::NE),
-        nw: quarter_is_full(land, section, block, Corner::NW),
-        sw: quarter_is_full(land, section, block, Corner::SW),
-        se: quarter_is_full(land, section, block, Corner::SE),
+        ne: quarter_is_full(land, section, block, Corner::NE, lots),
+        nw: quarter_is_full(land, section, block, Corner::NW, lots),
+        sw: quarter_is_full(land, section, block, Corner::SW, lots),
+        se: quarter_is_full(land, section, block, Corner::SE, lots),
     }
 }
 
@@ -269,27 +314,33 @@ fn held_places<L: PlaceSet>(land: &L, section: Section, column: u8, row: u8) -> 
 
 /// Whether a quarter of a block consists of places in the land that belong to no lot.
 #[inline(always)]
-pub(crate) fn quarter_is_full<L: PlaceSet>(
+pub(crate) fn quarter_is_full<L: PlaceSet, P: Lotting>(
     land: &L,
     section: Section,
     block: Block,
     corner: Corner,
+    lots: &P,
 ) -> bool
     requires { CanQuarter block }
     ensures { (quarters : List Corner) → IsBlockOf PLACE_DIGITS (square quarters) block
         → (IsTrue result ↔ IsFull PLACE_DIGITS
-        (off_lots PLACE_DIGITS section (L.places land.now section))
+        (off_lots (lotting (P.layout lots.now)) section (L.places land.now section))
         (square (corner ∷ quarters))) }
 {
-    is_full(land, section, block.quarter(corner).unwrap())
+    is_full(land, section, block.quarter(corner).unwrap(), lots)
 }
 
 /// Whether a block consists of places in the land that belong to no lot.
 #[inline(always)]
-pub(crate) fn is_full<L: PlaceSet>(land: &L, section: Section, block: Block) -> bool
+pub(crate) fn is_full<L: PlaceSet, P: Lotting>(
+    land: &L,
+    section: Section,
+    block: Block,
+    lots: &P,
+) -> bool
     ensures { (part : Part) → IsBlockOf PLACE_DIGITS part block
         → (IsTrue result ↔ IsFull PLACE_DIGITS
-        (off_lots PLACE_DIGITS section (L.places land.now section)) part) }
+        (off_lots (lotting (P.layout lots.now)) section (L.places land.now section)) part) }
 {
-    land.full(section, block) && !holds_of_lot(section, block)
+    land.full(section, block) && !lots.holds_of_lot(section, block)
 }

@@ -1,6 +1,8 @@
 -- The laws of land that callers keep.
 use Rattle.std.proofs.Common.{◌≡◌, subst}
 use Rattle.twp_grid.specs.Places.{PLACE_DIGITS}
+use Rattle.twp_grid.specs.Lands.{STANDARD_LOTS}
+use Rattle.twp_land.specs.steps.StandardLots.{standard_are_lots}
 use Rattle.twp_plat.specs.PlatAccounts.{IsAreaBy}
 use Rattle.twp_spell.proofs.ReadBack.{read_back}
 use Rattle.twp_answers.specs.OnLandLaws.{AcresOnAreOfLand, TextOfLandIsItsDescription}
@@ -26,7 +28,7 @@ acres_on_are_of_land plat description account places hundredths is = (
 
 pub text_of_land_is_its_description : TextOfLandIsItsDescription
 text_of_land_is_its_description township places text numbers land some is within =
-    let again = read_back PLACE_DIGITS township places text numbers land some is within in
+    let again = read_back STANDARD_LOTS standard_are_lots township places text numbers land some is within in
     record {
       described = record { items = again.0; read = again.1; land = again.2 };
       whole = land.whole_lots;

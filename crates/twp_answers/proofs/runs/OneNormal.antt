@@ -12,6 +12,8 @@ use Rattle.twp_answers.specs.declared.stop.Verdict.{Verdict}
 use Rattle.twp_answers.specs.declared.stop.Verdict.TheVariants.{Accepted, Refused, TractRefused}
 use Rattle.twp_answers.proofs.OneAnswer.{one_plat, one_land, one_refusal}
 use Rattle.twp_answers.proofs.runs.OneAnswer.{not_land}
+use Rattle.twp_grid.specs.Lands.{STANDARD_LOTS}
+use Rattle.twp_land.specs.steps.StandardLots.{standard_are_lots}
 
 one_form : (notes d text text' : List ℕ) → IsNormalForm notes d text → IsNormalForm notes d text'
     → text ≡ text'
@@ -21,11 +23,11 @@ one_form notes d text text' is is' =
     subst (λ (q : TownshipPlat). Describe q.township d is.places) p is.land.described in
     let l : is.places ≡ is'.places =
     one_land is'.plat.township d is.places is'.places described is'.land.described in
-    let spelled : IsCanonicalText PLACE_DIGITS is'.plat.township is.places text =
-    subst (λ (q : TownshipPlat). IsCanonicalText PLACE_DIGITS q.township is.places text) p is.text_is in
-    let spelled' : IsCanonicalText PLACE_DIGITS is'.plat.township is'.places text =
-    subst (λ q. IsCanonicalText PLACE_DIGITS is'.plat.township q text) l spelled in
-    let one = one_text PLACE_DIGITS is'.plat.township is'.places in
+    let spelled : IsCanonicalText STANDARD_LOTS is'.plat.township is.places text =
+    subst (λ (q : TownshipPlat). IsCanonicalText STANDARD_LOTS q.township is.places text) p is.text_is in
+    let spelled' : IsCanonicalText STANDARD_LOTS is'.plat.township is'.places text =
+    subst (λ q. IsCanonicalText STANDARD_LOTS is'.plat.township q text) l spelled in
+    let one = one_text STANDARD_LOTS standard_are_lots is'.plat.township is'.places in
     one.2 text spelled' ∙ sym (one.2 text' is'.text_is)
 
 -- texts with a canonical text are not refused

@@ -1,8 +1,10 @@
 -- A canonical text that is used as a description is its own canonical text, or is too long to be a
 -- description.
 use Rattle.std.proofs.Common.{ℕ, ◌<◌, ◌≤◌, ◌≢◌, List, length, refl, subst, sym, inl, inr}
-use Rattle.twp_grid.specs.Places.{PLACE_DIGITS}
 use Rattle.twp_grid.specs.Lands.{no_places}
+use Rattle.twp_grid.specs.Lands.{STANDARD_LOTS}
+use Rattle.twp_grid.specs.Lands.{STANDARD_LAYOUT}
+use Rattle.twp_land.specs.steps.StandardLots.{standard_are_lots}
 use Rattle.twp_plat.specs.Plats.{TownshipPlat}
 use Rattle.twp_read.specs.TextFaults.{TEXT_LIMIT}
 use Rattle.twp_read.specs.declared.fault.TextFault.TheVariants as text_fault
@@ -29,13 +31,15 @@ own_form notes d text form within =
     let township = form.plat.township in
     let described = form.land.described in
     let some : form.places ≢ no_places =
-    names_some_place township described.read.tokens described.items form.places described.read.named
-    described.land in
-    let land : IsTownshipLand PLACE_DIGITS form.places =
-    is_of_township township described.read.tokens described.items form.places described.read.named
-    described.land in
+    names_some_place STANDARD_LAYOUT township described.read.tokens described.items form.places
+    described.read.named
+    standard_are_lots described.land in
+    let land : IsTownshipLand STANDARD_LOTS form.places =
+    is_of_township STANDARD_LAYOUT township described.read.tokens described.items form.places
+    described.read.named standard_are_lots described.land in
     let again =
-    read_back PLACE_DIGITS township form.places text (township_numbers notes form.plat form.land.platted)
+    read_back STANDARD_LOTS standard_are_lots township form.places text
+    (township_numbers notes form.plat form.land.platted)
     land some form.text_is within in
     record {
       plat = form.plat;

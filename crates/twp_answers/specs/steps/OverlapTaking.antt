@@ -5,6 +5,7 @@ use Rattle.std.specs.List.{All}
 use Rattle.twp_grid.specs.Places.{PLACE_DIGITS}
 use Rattle.twp_grid.specs.Townships.{Designation}
 use Rattle.twp_grid.specs.Lands.{HasWholeLots, SharePlace, intersection}
+use Rattle.twp_grid.specs.Lands.{STANDARD_LOTS}
 use Rattle.twp_notes.specs.Records.{Fields, record_at}
 use Rattle.twp_plat.specs.Plats.{TownshipPlat}
 use Rattle.twp_answers.specs.Answers.{AreHundredthsOf, Describe}
@@ -16,7 +17,7 @@ use Rattle.twp_answers.specs.declared.overlaps.TractOverlap.{TractOverlap}
 pub record IsTractLand (township : Designation) (fields : Fields) (places : ℕ → ℕ → ℕ → Bool) : Type 0 where
   pub is_record : IsTractRecord fields
   pub land : Describe township (description_in fields) places
-  pub whole : HasWholeLots PLACE_DIGITS places
+  pub whole : HasWholeLots STANDARD_LOTS places
 
 -- the record is a tract with this land, or no tract
 abbrev pub IsLandOfRecord : {L : Type 0} → (L → ℕ → ℕ → ℕ → Bool) → Designation → Fields → Option L → Type 0
@@ -33,7 +34,7 @@ pub record AreLandsTo {L : Type 0} (places : L → ℕ → ℕ → ℕ → Bool)
 
 -- the land, if there is one, has whole lots
 abbrev pub HasWholeLand : {L : Type 0} → (L → ℕ → ℕ → ℕ → Bool) → Option L → Type 0
-HasWholeLand places (Some land) = HasWholeLots PLACE_DIGITS (places land)
+HasWholeLand places (Some land) = HasWholeLots STANDARD_LOTS (places land)
 HasWholeLand places None = ⊤
 
 -- two sets share a place, and these are the hundredths of an acre of the places in both

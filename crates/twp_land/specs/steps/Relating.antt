@@ -1,6 +1,6 @@
 -- Three tests of how two sets of places relate, and whether one section's lots are whole.
 use Rattle.std.specs.Prelude.{◌↔◌, ℕ, Bool, IsTrue}
-use Rattle.twp_grid.specs.Lands.{SharePlace, ContainsAll, IsWholeOrNot}
+use Rattle.twp_grid.specs.Lands.{Lotting, SharePlace, ContainsAll, IsWholeOrNot}
 use Rattle.twp_land.specs.declared.relation.Relation.{Relation}
 
 -- the tests are those of these two sets
@@ -10,5 +10,5 @@ pub record Relates (relation : Relation) (places more : ℕ → ℕ → ℕ → 
   pub shares : IsTrue relation.shares ↔ SharePlace places more
 
 -- a set in one section contains each of its lots wholly or not at all
-abbrev pub HoldsWholeLots : ℕ → ℕ → (ℕ → ℕ → Bool) → Type 0
-HoldsWholeLots g section held = (lot : ℕ) → IsWholeOrNot g section lot held
+abbrev pub HoldsWholeLots : Lotting → ℕ → (ℕ → ℕ → Bool) → Type 0
+HoldsWholeLots lots section held = (lot : ℕ) → IsWholeOrNot lots section lot held

@@ -5,6 +5,7 @@ use Rattle.twp_measure.specs.Areas.{Fraction}
 use Rattle.twp_grid.specs.Lots.{lot, lots}
 use Rattle.twp_grid.specs.Lands.{union, intersection, difference}
 use Rattle.twp_grid.specs.Lands.{HasWholeLots}
+use Rattle.twp_grid.specs.Lands.{standard_lots}
 use Rattle.twp_land.proofs.LotFacts.{fills}
 use Rattle.twp_land.proofs.CombinedLots.{combined_lots_are_whole}
 use Rattle.twp_plat.proofs.RatioFacts.{cancelled}
@@ -62,7 +63,7 @@ lot_area_is_plat_area g plat figures table places area are has is = record {
 
 -- an area by a lot table is a sum over places
 place_sum : (g : ℕ) (table : ReturnedLots) (places : ℕ → ℕ → ℕ → Bool) (area : Fraction)
-    → HasWholeLots g places → IsLotArea g table places area
+    → HasWholeLots (standard_lots g) places → IsLotArea g table places area
     → places_of_position g * area.units ≡ township_sum g (position_units (lot_units table) 400000000) places
 place_sum g table places area whole is =
     let by_lots = sum_by_lots g (shared g is.share is.share_is) (lot_units table) 400000000 places whole in
@@ -81,7 +82,7 @@ lot_areas_add g table places more first second either both rest whole whole' is 
     let n : ℕ = places_of_position g in
     let units : ℕ → ℕ → ℕ → ℕ = position_units (lot_units table) 400000000 in
     let some = some_places g (shared g is.share is.share_is) in
-    let wholes = combined_lots_are_whole g places more whole whole' in
+    let wholes = combined_lots_are_whole (standard_lots g) places more whole whole' in
     let of_first = place_sum g table places first whole is in
     let of_second = place_sum g table more second whole' is' in
     let of_either = place_sum g table (union places more) either wholes.0 is-either in

@@ -8,6 +8,7 @@ use Rattle.twp_grid.specs.Places.{PLACE_DIGITS}
 use Rattle.twp_grid.proofs.TotalFacts.{total-next, total-zero}
 use Rattle.twp_grid.specs.Lands.{no_places, LieWithin}
 use Rattle.twp_grid.specs.Lands.{HasWholeLots}
+use Rattle.twp_grid.specs.Lands.{STANDARD_LOTS}
 use Rattle.twp_land.proofs.LotFacts.{has_lot}
 use Rattle.twp_land.proofs.LandRanges.{nothing_within}
 use Rattle.twp_plat.specs.LandAreas.{section_sum}
@@ -88,7 +89,7 @@ sum-none table places none = sum-first table places 37 36 (nothing_within places
 
 -- the sum over all sections is the land's area
 pub lot_area : (table : ReturnedLots) (places : ℕ → ℕ → ℕ → Bool) (units : ℕ) (area : Fraction)
-    → HasWholeLots PLACE_DIGITS places → IsSumOf table places (37 - 1) units
+    → HasWholeLots STANDARD_LOTS places → IsSumOf table places (37 - 1) units
     → area ≡ record { units = units; over = 1 } → IsLotArea PLACE_DIGITS table places area
 lot_area table places units area whole sum area_is =
     let by_lots = sum_by_lots PLACE_DIGITS (omega arith) (lot_units table) REGULAR_UNITS places whole in

@@ -2,6 +2,7 @@ ghost use Rattle.std.specs.Prelude.{◌≡◌, ◌*◌, ◌≤◌, IfOk, IfErr};
 ghost use Rattle.twp_grid.specs.Places.{PLACE_DIGITS};
 ghost use Rattle.twp_grid.specs.Lots.{number_of_lots};
 ghost use Rattle.twp_grid.specs.Lands.{HasWholeLots};
+ghost use Rattle.twp_grid.specs.Lands.{STANDARD_LOTS};
 ghost use Rattle.twp_plat.specs.LandAreas.{places_of_position, section_sum};
 ghost use Rattle.twp_plat.specs.steps.Bounds.{SECTION_PLACES_MOST, REGULAR_PLACE_UNITS};
 ghost use Rattle.twp_plat.specs.LotAreas.{IsLotArea, HasFigures, IsFirstLacking};
@@ -28,7 +29,7 @@ const HUNDREDTH: u64 = HUNDREDTH_OF_AN_ACRE as u64;
 /// each place off the lots for its share of 40 acres. Nothing is rounded. The error is the first
 /// lot of the land that the table lacks.
 pub fn area_by_lots<L: Land>(table: &LotTable, land: &L) -> Result<Area, LackingLot>
-    requires whole { HasWholeLots PLACE_DIGITS (L.places land.now) }
+    requires whole { HasWholeLots STANDARD_LOTS (L.places land.now) }
     ensures figures { IfOk result (λ _.
         HasFigures PLACE_DIGITS table.now (L.places land.now)) }
     ensures area { IfOk result (IsLotArea PLACE_DIGITS table.now (L.places land.now)) }
@@ -43,7 +44,7 @@ pub fn area_by_lots<L: Land>(table: &LotTable, land: &L) -> Result<Area, Lacking
 
 /// The area of land by a lot table, in which a lot that is lacking counts for nothing.
 fn sum_by_lots<L: Land>(table: &LotTable, land: &L) -> Area
-    requires whole { HasWholeLots PLACE_DIGITS (L.places land.now) }
+    requires whole { HasWholeLots STANDARD_LOTS (L.places land.now) }
     ensures { IsLotArea PLACE_DIGITS table.now (L.places land.now) result }
 {
     let Some((first, last)) = land.sections() else {
@@ -60,7 +61,7 @@ fn sum_by_lots<L: Land>(table: &LotTable, land: &L) -> Area
 /// The area of the land in a section. The land contains each lot wholly or not at all, so one place
 /// of a lot decides whether its units are added; the places off the lots are counted.
 fn units_in_section<L: Land>(table: &LotTable, land: &L, section: Section) -> u64
-    requires whole { HasWholeLots PLACE_DIGITS (L.places land.now) }
+    requires whole { HasWholeLots STANDARD_LOTS (L.places land.now) }
     ensures sum { places_of_position PLACE_DIGITS * result
         ≡ section_sum PLACE_DIGITS (position_units_by table.now section)
         (L.places land.now section) }

@@ -12,14 +12,14 @@ use Rattle.twp_grid.specs.Spans.{Rectangle}
 use Rattle.twp_grid.specs.Townships.{Designation}
 use Rattle.twp_grid.specs.Winding.{IsSection}
 use Rattle.twp_grid.specs.Lands.{no_places, union, SharePlace}
-use Rattle.twp_grid.specs.Lands.{lot_of_place}
+use Rattle.twp_grid.specs.Lands.{Lotting}
 use Rattle.twp_grammar.specs.declared.item.Item.{Item}
 use Rattle.twp_grammar.specs.declared.item.Item.TheVariants as item
 use Rattle.twp_resolve.specs.declared.place_fault.PlaceFault.{PlaceFault}
 use Rattle.twp_grammar.specs.declared.item.Step.{Step}
 use Rattle.twp_grammar.specs.ItemPlaces.{cuts_of, is_lot_from, item_places}
 use Rattle.twp_grammar.specs.OnPlat.{LiesOnPlat}
-use Rattle.twp_resolve.specs.PlaceFaults.{HasFault, number_of}
+use Rattle.twp_resolve.specs.PlaceFaults.{HasFault, turn_of}
 use Rattle.twp_grammar.specs.ItemPlaces.{item_of}
 
 -- the block is large enough for the cut
@@ -27,16 +27,16 @@ abbrev pub CanCut : Rectangle → Cut → Type 0
 CanCut block (half side) = CanHalve block side
 CanCut block (quarter corner) = CanQuarter block
 
--- all places of the sections from a first number to a last
-abbrev pub sections_from : ℕ → ℕ → ℕ → ℕ → ℕ → ℕ → Bool
-sections_from g first last section column row =
-    is_place g column row && (nat_le first section && nat_le section last)
+-- the places of the sections from a first number to a last at which the plat has land
+abbrev pub sections_from : Lotting → ℕ → ℕ → ℕ → ℕ → ℕ → Bool
+sections_from lots first last section column row = is_place lots.digits column row
+    && ((nat_le first section && nat_le section last) && lots.has_land section column row)
 
 -- the places of a section's lots from a first number to a last
-abbrev pub lots_from : ℕ → ℕ → ℕ → ℕ → ℕ → ℕ → ℕ → Bool
-lots_from g section first last other column row =
-    is_place g column row
-    && ((section == other) && is_lot_from first last (lot_of_place g section column row))
+abbrev pub lots_from : Lotting → ℕ → ℕ → ℕ → ℕ → ℕ → ℕ → Bool
+lots_from lots section first last other column row =
+    is_place lots.digits column row
+    && ((section == other) && is_lot_from first last (lots.lot_of section column row))
 
 -- the land contained none of these places, and now it contains them all
 pub record AreAdded (places old new : ℕ → ℕ → ℕ → Bool) : Type 0 where
@@ -44,23 +44,23 @@ pub record AreAdded (places old new : ℕ → ℕ → ℕ → Bool) : Type 0 whe
   pub added : new ≡ union old places
 
 -- the item lies on the plat; the land contained none of its places, and now it contains them all
-pub record IsItemTaken (g : ℕ) (township : Designation) (section : ℕ) (some : Item)
+pub record IsItemTaken (lots : Lotting) (township : Designation) (section : ℕ) (some : Item)
     (old new : ℕ → ℕ → ℕ → Bool) : Type 0 where
-  pub lies : LiesOnPlat g township section some
-  pub apart : ¬ SharePlace old (item_places g (item_of section some))
-  pub added : new ≡ union old (item_places g (item_of section some))
+  pub lies : LiesOnPlat lots township section some
+  pub apart : ¬ SharePlace old (item_places lots (item_of section some))
+  pub added : new ≡ union old (item_places lots (item_of section some))
 
 -- the item, after items with this land, has the fault, and none with a smaller number
-pub record IsItemsFirstFault (g : ℕ) (township : Designation) (section : ℕ) (some : Item)
+pub record IsItemsFirstFault (lots : Lotting) (township : Designation) (section : ℕ) (some : Item)
     (earlier : ℕ → ℕ → ℕ → Bool) (fault : PlaceFault) : Type 0 where
-  pub is : HasFault g township earlier section some fault
-  pub first : (other : PlaceFault) → HasFault g township earlier section some other
-      → number_of fault ≤ number_of other
+  pub is : HasFault lots township earlier section some fault
+  pub first : (other : PlaceFault) → HasFault lots township earlier section some other
+      → turn_of fault ≤ turn_of other
 
 -- the item has a fault, whatever the items before it
-pub record HasSomeFault (g : ℕ) (township : Designation) (section : ℕ) (some : Item) : Type 0 where
+pub record HasSomeFault (lots : Lotting) (township : Designation) (section : ℕ) (some : Item) : Type 0 where
   pub fault : PlaceFault
-  pub is : HasFault g township no_places section some fault
+  pub is : HasFault lots township no_places section some fault
 
 -- the number of the section named last, or 0
 abbrev pub number_of_section : Option ℕ → ℕ

@@ -106,6 +106,7 @@ impl<'a> Described<'a> {
             PlaceFault::TooFine { at } => self.explain_fine_part(alloc, at),
             PlaceFault::OnLot { at } => self.explain_part_of_lots(alloc, at),
             PlaceFault::Overlap { at } => self.explain_overlap(alloc, at),
+            PlaceFault::NoLand { at } => self.explain_no_land(alloc, at),
         }
     }
 
@@ -302,6 +303,25 @@ impl<'a> Described<'a> {
             sentence,
             help,
             other,
+        })
+    }
+
+    /// Land that the plat doesn't have.
+    fn explain_no_land(&self, alloc: Global, at: u32) -> Result<Explained, AllocError>
+        ensures span { IfOk result (λ explained.
+            EndsLike (IsSpanAt self.now.text.now self.now.description.now at) explained.end) }
+        ensures other { IfOk result (λ explained. explained.other ≡ None) }
+    {
+        let mut sentence = String::new(alloc);
+        sentence.push_str(match self.item_at(at) {
+            Some(Item::Chain { .. }) => "the plat doesn't have all of this land",
+            _ => "the plat has no land in this section",
+        })?;
+        Ok(Explained {
+            end: self.span_at(at).end,
+            sentence,
+            help: String::new(alloc),
+            other: None,
         })
     }
 

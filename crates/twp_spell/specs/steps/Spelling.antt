@@ -14,7 +14,7 @@ use Rattle.twp_grid.specs.declared.block.Corner.TheVariants.{NE, NW, SW, SE}
 use Rattle.twp_grammar.specs.declared.item.Step.TheVariants.{Quarter}
 use Rattle.twp_spell.specs.declared.full_quarters.FullQuarters.{FullQuarters}
 use Rattle.twp_grammar.specs.ItemPlaces.{cuts_of}
-use Rattle.twp_spell.specs.Listing.{AreListed}
+use Rattle.twp_grid.specs.Listing.{AreListed}
 use Rattle.twp_spell.specs.WrittenParts.{Part, steps_of_part, IsFull, IsChosenHalf, IsOnSide}
 use Rattle.twp_spell.specs.WrittenParts.{IsWritten, ComesBefore}
 use Rattle.twp_spell.specs.WrittenParts.Part.{square, half_of_square}

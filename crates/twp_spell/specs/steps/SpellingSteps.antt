@@ -3,7 +3,8 @@
 use Rattle.std.specs.Prelude.{◌≡◌, ℕ, ◌<◌, Bool, List, [], ◌∷◌, ◌++◌, codes}
 use Rattle.std.specs.List.{flat_map, join_by, AllZip}
 use Rattle.twp_grid.specs.Townships.{Designation}
-use Rattle.twp_spell.specs.Listing.{AreListed}
+use Rattle.twp_grid.specs.Lands.{Lotting}
+use Rattle.twp_grid.specs.Listing.{AreListed}
 use Rattle.twp_spell.specs.CanonicalText.{lots_entry, IsLotHeld, IsSectionText, IsSectionOfLand}
 use Rattle.twp_spell.specs.CanonicalText.{heading_line, line_end}
 
@@ -12,16 +13,16 @@ abbrev pub entries_text : List (List ℕ) → List ℕ
 entries_text entries = flat_map (λ entry. codes ", " ++ entry) entries
 
 -- the section's lots in the land were appended to a text
-pub record HasLots (g section : ℕ) (held : ℕ → ℕ → Bool) (old new : List ℕ) : Type 0 where
+pub record HasLots (plan : Lotting) (section : ℕ) (held : ℕ → ℕ → Bool) (old new : List ℕ) : Type 0 where
   pub lots : List ℕ
-  pub are : AreListed (IsLotHeld g section held) ◌<◌ lots
+  pub are : AreListed (IsLotHeld plan section held) ◌<◌ lots
   pub text_is : new ≡ old ++ entries_text (lots_entry lots)
 
 -- the section's text was appended to a text
-pub record HasSection (g : ℕ) (places : ℕ → ℕ → ℕ → Bool) (section : ℕ) (old new : List ℕ)
+pub record HasSection (plan : Lotting) (places : ℕ → ℕ → ℕ → Bool) (section : ℕ) (old new : List ℕ)
     : Type 0 where
   pub line : List ℕ
-  pub is : IsSectionText g places section line
+  pub is : IsSectionText plan places section line
   pub text_is : new ≡ old ++ line
 
 -- lines without the end of the last line
@@ -31,11 +32,11 @@ lines_begun township (text ∷ more) =
     heading_line township ++ join_by (λ line. line) (codes ";" ++ line_end) (text ∷ more)
 
 -- the land's sections below a number were written
-pub record AreBegun (g : ℕ) (township : Designation) (places : ℕ → ℕ → ℕ → Bool) (number : ℕ)
+pub record AreBegun (plan : Lotting) (township : Designation) (places : ℕ → ℕ → ℕ → Bool) (number : ℕ)
     (text : List ℕ) : Type 0 where
   pub sections : List ℕ
   pub lines : List (List ℕ)
   pub sections_are :
-      AreListed (λ section. IsSectionOfLand g places section × (section < number)) ◌<◌ sections
-  pub lines_are : AllZip (IsSectionText g places) sections lines
+      AreListed (λ section. IsSectionOfLand plan.digits places section × (section < number)) ◌<◌ sections
+  pub lines_are : AllZip (IsSectionText plan places) sections lines
   pub text_is : text ≡ lines_begun township lines

@@ -3,6 +3,7 @@ use Rattle.std.proofs.Common.{◌≡◌, ◌-◌, ◌+◌, ◌≤◌, Some, sym,
 use Rattle.twp_grid.specs.Lots.{position_of_lot, number_of_lots}
 use Rattle.twp_grid.specs.Places.{PLACE_DIGITS}
 use Rattle.twp_grid.specs.Lands.{difference}
+use Rattle.twp_grid.specs.Lands.{STANDARD_LOTS}
 use Rattle.twp_land.proofs.LotFacts.{few_lots, block_of}
 use Rattle.twp_resolve.specs.steps.ResolvingSteps.{lots_from}
 use Rattle.twp_diagnose.proofs.PartFacts.{none_taken, one_more_taken}
@@ -31,7 +32,8 @@ loop-lot-preserved g c =
       least = omega arith;
       taken = subst
           (λ n. g.L.PlaceSet.places c.remove.new.self
-          ≡ difference (g.L.PlaceSet.places c.args.land.now) (lots_from PLACE_DIGITS c.args.section 1 n)) next
+          ≡ difference (g.L.PlaceSet.places c.args.land.now) (lots_from STANDARD_LOTS c.args.section 1 n))
+          next
           (one_more_taken c.args.section lot c.unwrap-block.result (g.L.PlaceSet.places c.args.land.now)
           (g.L.PlaceSet.places c.loop-lot.land) (g.L.PlaceSet.places c.remove.new.self)
           c.lot_count-lot-end.ensures.section so_far.least most is so_far.taken c.remove.ensures);

@@ -2,8 +2,8 @@
 use Rattle.std.proofs.Common.{◌≡◌, ℕ, ◌+◌, ◌-◌, [], get_or, ap, refl, sym, ◌∙◌, inl, inr, arith}
 use Rattle.std.proofs.lemmas.Bool.{cases_lt}
 use Rattle.twp_grid.specs.Winding.{IsSection}
-use Rattle.twp_grid.specs.Places.{PLACE_DIGITS}
 use Rattle.twp_grid.specs.Lands.{IsWholeOrNot}
+use Rattle.twp_grid.specs.Lands.{STANDARD_LOTS}
 use Rattle.twp_land.specs.Storage.{held_by_lane, land_of_rows}
 use Rattle.twp_land.proofs.LandFacts.{kept_at}
 use Rattle.twp_land.proofs.LotFacts.{section_is}
@@ -40,7 +40,7 @@ loop-at-preserved c =
     let part : held_by_lane (get_or c.args.rows.now (number - 1) []) ≡ land_of_rows c.args.rows.now number =
     sym (kept_at held_by_lane c.args.rows.now (number - 1) [] (omega (arith, range.1)) (omega arith))
     ∙ ap (λ n. land_of_rows c.args.rows.now n) back in
-    let here : (lot : ℕ) → IsWholeOrNot PLACE_DIGITS number lot (land_of_rows c.args.rows.now number) =
+    let here : (lot : ℕ) → IsWholeOrNot STANDARD_LOTS number lot (land_of_rows c.args.rows.now number) =
     whole_part c.unwrap-section.result number (held_by_lane (get_or c.args.rows.now (number - 1) []))
     (land_of_rows c.args.rows.now number) is part
     ((rw c.from.ensures at c.holds_whole_lots.ensures).0 c.if-not-holds_whole_lots.false) in

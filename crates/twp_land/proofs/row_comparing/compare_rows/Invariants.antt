@@ -1,6 +1,6 @@
 use Rattle.std.proofs.Common.{ℕ, ◌≤◌}
-use Rattle.twp_grid.specs.Places.{PLACE_DIGITS}
 use Rattle.twp_grid.specs.Lands.{IsWholeOrNot}
+use Rattle.twp_grid.specs.Lands.{STANDARD_LOTS}
 use Rattle.twp_land.specs.Storage.{land_of_rows}
 use Rattle.twp_land.proofs.RelationFacts.{RelatesTo}
 use Rattle.twp_land.proofs.row_comparing.compare_rows.Given as goal
@@ -10,7 +10,7 @@ abbrev pub invariant-loop-index : goal.invariant-loop-index
 invariant-loop-index l = record {
   relates : RelatesTo l.index l.relation (land_of_rows l.rows) (land_of_rows l.other);
   whole : (section lot : ℕ) → 1 ≤ section → section ≤ l.index
-      → IsWholeOrNot PLACE_DIGITS section lot (land_of_rows l.rows section);
+      → IsWholeOrNot STANDARD_LOTS section lot (land_of_rows l.rows section);
   whole_other : (section lot : ℕ) → 1 ≤ section → section ≤ l.index
-      → IsWholeOrNot PLACE_DIGITS section lot (land_of_rows l.other section);
+      → IsWholeOrNot STANDARD_LOTS section lot (land_of_rows l.other section);
 }

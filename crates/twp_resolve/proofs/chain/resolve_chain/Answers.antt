@@ -10,7 +10,8 @@ returns-in-Some-clause-refused g c = c.resolve_block.ensures.refused c.args.step
 
 pub returns-in_default-chain_block-clause-refused : goal.returns-in_default-chain_block-clause-refused
 returns-in_default-chain_block-clause-refused g c =
-    is_too_fine c.args.section c.args.steps.now c.args.at (g.L.PlaceSet.places c.args.land.now)
+    is_too_fine (g.P.Lotting.layout c.args.lots.now) c.args.section c.args.steps.now c.args.at
+    (g.L.PlaceSet.places c.args.land.now)
     c.in_default-chain_block.ensures
 
 pub returns-clause-taken : goal.returns-clause-taken

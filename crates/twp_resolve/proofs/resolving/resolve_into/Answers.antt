@@ -2,7 +2,6 @@
 -- the end the land is that of all items.
 use Rattle.std.proofs.Common.{sym, subst, refl, arith}
 use Rattle.std.proofs.lemmas.Result.{err_from_is_err_and}
-use Rattle.twp_grid.specs.Places.{PLACE_DIGITS}
 use Rattle.twp_grid.specs.Lands.{HasWholeLots}
 use Rattle.twp_grammar.specs.OnPlat.{IsLandOfItems}
 use Rattle.twp_resolve.specs.steps.ResolvingSteps.{number_of_section}
@@ -11,12 +10,14 @@ use Rattle.twp_resolve.proofs.PlaceAnswers.{no_fault}
 use Rattle.twp_resolve.proofs.ResolvingFacts.{taken_none, taken_next, refused_here, taken_all}
 use Rattle.twp_resolve.proofs.ResolvingFacts.{not_known, may_be_taken, known_next}
 use Rattle.twp_resolve.proofs.RoomFacts.{room_for_each}
+use Rattle.twp_grid.specs.Lands.{lotting}
 use Rattle.twp_resolve.proofs.resolving.resolve_into.Goals as goal
 
 pub loop-item-init : goal.loop-item-init
 loop-item-init g c = record {
   taken =
-      taken_none PLACE_DIGITS c.args.township c.items-items.result.now (g.L.PlaceSet.places c.clear.new.self)
+      taken_none (lotting (g.P.Lotting.layout c.args.lots.now)) c.args.township c.items-items.result.now
+      (g.L.PlaceSet.places c.clear.new.self)
       c.clear.ensures;
   known =
       not_known c.items-items.result.now
@@ -36,7 +37,8 @@ pub returns-in_err-section-clause-refused : goal.returns-in_err-section-clause-r
 returns-in_err-section-clause-refused g c =
     let gone = err_from_is_err_and c.from_residual.result c.from_residual.ensures.1 in
     rw (gone.1, gone.2, ← c.items-items.ensures.items)
-    (refused_here PLACE_DIGITS c.args.township c.items-items.result.now c.loop-item.item-index
+    (refused_here (lotting (g.P.Lotting.layout c.args.lots.now)) c.args.township c.items-items.result.now
+    c.loop-item.item-index
     (number_of_section c.loop-item.section) c.item-item.result (g.L.PlaceSet.places c.loop-item.land)
     c.in_err-section.field-0.0
     c.loop-item-test.true (sym c.item-item.is) c.loop-item.invariant.taken c.in_err-section.ensures.refused)
@@ -45,7 +47,8 @@ pub returns-in_err-section-clause-on_plat : goal.returns-in_err-section-clause-o
 returns-in_err-section-clause-on_plat g c =
     let gone = err_from_is_err_and c.from_residual.result c.from_residual.ensures.1 in
     let refused =
-    refused_here PLACE_DIGITS c.args.township c.items-items.result.now c.loop-item.item-index
+    refused_here (lotting (g.P.Lotting.layout c.args.lots.now)) c.args.township c.items-items.result.now
+    c.loop-item.item-index
     (number_of_section c.loop-item.section) c.item-item.result (g.L.PlaceSet.places c.loop-item.land)
     c.in_err-section.field-0.0
     c.loop-item-test.true (sym c.item-item.is) c.loop-item.invariant.taken c.in_err-section.ensures.refused in
@@ -53,7 +56,8 @@ returns-in_err-section-clause-on_plat g c =
       λ ok. cc ok,
       λ on.
           absurd
-          (no_fault PLACE_DIGITS c.args.township c.items-items.result.now c.in_err-section.field-0.0 on
+          (no_fault (lotting (g.P.Lotting.layout c.args.lots.now)) c.args.township c.items-items.result.now
+          c.in_err-section.field-0.0 on
           refused),
     )
 
@@ -61,14 +65,16 @@ pub loop-item-preserved : goal.loop-item-preserved
 loop-item-preserved g c =
     let so_far = c.loop-item.invariant in
     let taken =
-    taken_next PLACE_DIGITS c.args.township c.items-items.result.now c.loop-item.item-index
+    taken_next (lotting (g.P.Lotting.layout c.args.lots.now)) c.args.township c.items-items.result.now
+    c.loop-item.item-index
     (number_of_section c.loop-item.section) c.item-item.result (g.L.PlaceSet.places c.loop-item.land)
     (g.L.PlaceSet.places c.resolve_item.new.land)
     c.loop-item-test.true (sym c.item-item.is) so_far.taken c.in_ok-section.ensures.taken in
     record {
       taken = rw c.in_ok-section.ensures.after taken;
       known =
-          known_next PLACE_DIGITS c.args.township c.loop-item.section c.in_ok-section.section
+          known_next (lotting (g.P.Lotting.layout c.args.lots.now)) c.args.township c.loop-item.section
+          c.in_ok-section.section
           c.items-items.result.now c.loop-item.item-index c.item-item.result
           c.loop-item-test.true (sym c.item-item.is) so_far.known c.in_ok-section.ensures.taken.lies
           c.in_ok-section.ensures.after;
@@ -77,25 +83,33 @@ loop-item-preserved g c =
 pub returns-clause-land : goal.returns-clause-land
 returns-clause-land g c =
     rw (← c.items-items.ensures.items)
-    (taken_all PLACE_DIGITS c.args.township c.items-items.result.now c.loop-item.item-index
+    (taken_all (lotting (g.P.Lotting.layout c.args.lots.now)) c.args.township c.items-items.result.now
+    c.loop-item.item-index
     (number_of_section c.loop-item.section) (g.L.PlaceSet.places c.loop-item.land) (omega arith)
     c.loop-item.invariant.taken)
 
 pub returns-clause-whole_lots : goal.returns-clause-whole_lots
 returns-clause-whole_lots g c =
-    let whole : IsLandOfItems PLACE_DIGITS c.args.township c.items-items.result.now
+    let
+    whole : IsLandOfItems (lotting (g.P.Lotting.layout c.args.lots.now)) c.args.township
+    c.items-items.result.now
     (g.L.PlaceSet.places c.loop-item.land) =
-    taken_all PLACE_DIGITS c.args.township c.items-items.result.now c.loop-item.item-index
+    taken_all (lotting (g.P.Lotting.layout c.args.lots.now)) c.args.township c.items-items.result.now
+    c.loop-item.item-index
     (number_of_section c.loop-item.section) (g.L.PlaceSet.places c.loop-item.land) (omega arith)
     c.loop-item.invariant.taken in
-    subst (HasWholeLots PLACE_DIGITS) (sym whole.land_is)
-    (land_has_whole_lots c.args.township c.items-items.result.now whole.on_plat)
+    subst (HasWholeLots (lotting (g.P.Lotting.layout c.args.lots.now))) (sym whole.land_is)
+    (land_has_whole_lots (g.P.Lotting.layout c.args.lots.now) c.args.township c.items-items.result.now
+    (g.met.P.Lotting.lots c.args.lots.now) whole.on_plat)
 
 pub returns-clause-on_plat : goal.returns-clause-on_plat
 returns-clause-on_plat g c =
-    let whole : IsLandOfItems PLACE_DIGITS c.args.township c.items-items.result.now
+    let
+    whole : IsLandOfItems (lotting (g.P.Lotting.layout c.args.lots.now)) c.args.township
+    c.items-items.result.now
     (g.L.PlaceSet.places c.loop-item.land) =
-    taken_all PLACE_DIGITS c.args.township c.items-items.result.now c.loop-item.item-index
+    taken_all (lotting (g.P.Lotting.layout c.args.lots.now)) c.args.township c.items-items.result.now
+    c.loop-item.item-index
     (number_of_section c.loop-item.section) (g.L.PlaceSet.places c.loop-item.land) (omega arith)
     c.loop-item.invariant.taken in
     (λ _. rw (← c.items-items.ensures.items) whole.on_plat, λ _. refl)

@@ -1,14 +1,14 @@
 -- An item that shares land with the refused one, or one more that does not; the end is not reached.
 use Rattle.std.proofs.Common.{sym, subst, arith}
-use Rattle.twp_grid.specs.Places.{PLACE_DIGITS}
 use Rattle.twp_resolve.specs.steps.ResolvingSteps.{number_of_section}
 use Rattle.twp_resolve.proofs.ResolvingFacts.{not_known, may_be_taken, known_next}
 use Rattle.twp_resolve.proofs.SharedFacts.{apart_none, apart_next, sharing_here, some_share, before_not_alone}
+use Rattle.twp_grid.specs.Lands.{lotting}
 use Rattle.twp_resolve.proofs.shared.first_sharing.Goals as goal
 
 pub loop-index-init : goal.loop-index-init
 loop-index-init g c = record {
-  apart = apart_none PLACE_DIGITS c.args.items.now c.args.later;
+  apart = apart_none (lotting (g.P.Lotting.layout c.args.lots.now)) c.args.items.now c.args.later;
   known = not_known c.args.items.now c.requires.sections_first;
 }
 
@@ -21,7 +21,8 @@ place_item-requires g c =
 pub returns-in_err-section : goal.returns-in_err-section
 returns-in_err-section g c =
     absurd
-    (before_not_alone PLACE_DIGITS c.args.township c.args.items.now c.loop-index.index
+    (before_not_alone (lotting (g.P.Lotting.layout c.args.lots.now)) c.args.township c.args.items.now
+    c.loop-index.index
     (number_of_section c.loop-index.section) c.args.later c.index-items-index.result
     (g.L.PlaceSet.places c.args.named.now)
     (omega (arith, c.requires.within, c.loop-index-test.true)) (sym c.index-items-index.is)
@@ -29,7 +30,8 @@ returns-in_err-section g c =
 
 pub returns-then-meets_land : goal.returns-then-meets_land
 returns-then-meets_land g c =
-    sharing_here PLACE_DIGITS c.args.township c.args.items.now c.loop-index.index
+    sharing_here (lotting (g.P.Lotting.layout c.args.lots.now)) c.args.township c.args.items.now
+    c.loop-index.index
     (number_of_section c.loop-index.section) c.args.later c.index-items-index.result
     (g.L.PlaceSet.places c.place_item.new.land) (g.L.PlaceSet.places c.args.named.now)
     (g.L.PlaceSet.places c.keep_common.new.self)
@@ -42,7 +44,8 @@ loop-index-preserved g c =
     let so_far = c.loop-index.invariant in
     let taken = (c.in_ok-section.ensures).0 in
     let apart =
-    apart_next PLACE_DIGITS c.args.township c.args.items.now c.loop-index.index
+    apart_next (lotting (g.P.Lotting.layout c.args.lots.now)) c.args.township c.args.items.now
+    c.loop-index.index
     (number_of_section c.loop-index.section) c.args.later c.index-items-index.result
     (g.L.PlaceSet.places c.place_item.new.land) (g.L.PlaceSet.places c.args.named.now)
     (omega (arith, c.requires.within, c.loop-index-test.true)) (sym c.index-items-index.is)
@@ -51,7 +54,8 @@ loop-index-preserved g c =
     record {
       apart = rw (c.in_ok-section.ensures).1 apart;
       known =
-          known_next PLACE_DIGITS c.args.township c.loop-index.section c.in_ok-section.section
+          known_next (lotting (g.P.Lotting.layout c.args.lots.now)) c.args.township c.loop-index.section
+          c.in_ok-section.section
           c.args.items.now c.loop-index.index c.index-items-index.result
           (omega (arith, c.requires.within, c.loop-index-test.true)) (sym c.index-items-index.is)
           so_far.known taken.lies (c.in_ok-section.ensures).1;
@@ -59,6 +63,7 @@ loop-index-preserved g c =
 
 pub returns : goal.returns
 returns g c =
-    some_share PLACE_DIGITS c.args.township c.args.items.now c.loop-index.index
+    some_share (lotting (g.P.Lotting.layout c.args.lots.now)) c.args.township c.args.items.now
+    c.loop-index.index
     (number_of_section c.loop-index.section) c.args.later (g.L.PlaceSet.places c.args.named.now)
     c.requires.refused c.loop-index-test.false c.loop-index.invariant.apart

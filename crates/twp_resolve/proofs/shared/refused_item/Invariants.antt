@@ -1,13 +1,14 @@
 use Rattle.std.proofs.Common.{drop}
-use Rattle.twp_grid.specs.Places.{PLACE_DIGITS}
 use Rattle.twp_resolve.specs.steps.ResolvingSteps.{number_of_section}
 use Rattle.twp_resolve.proofs.ResolvingFacts.{AreTaken, SectionKnown}
+use Rattle.twp_grid.specs.Lands.{lotting}
 use Rattle.twp_resolve.proofs.shared.refused_item.Given as goal
 
 -- the items so far were added, and the remaining parts have a section
 abbrev pub invariant-loop-index : goal.invariant-loop-index
 invariant-loop-index g l = record {
-  taken : AreTaken PLACE_DIGITS l.township l.items l.index (number_of_section l.section)
+  taken : AreTaken (lotting (g.P.Lotting.layout l.lots)) l.township l.items l.index
+      (number_of_section l.section)
       (g.L.PlaceSet.places l.land);
   known : SectionKnown l.section (drop l.index l.items);
 }

@@ -3,6 +3,7 @@ use Rattle.std.proofs.Common.{sym, ◌∙◌}
 use Rattle.std.proofs.lemmas.Bool.{false≢true}
 use Rattle.twp_grid.specs.Places.{PLACE_DIGITS}
 use Rattle.twp_grid.specs.Lands.{off_lots}
+use Rattle.twp_grid.specs.Lands.{lotting}
 use Rattle.twp_spell.proofs.OpenFacts.{closed_not_full}
 use Rattle.twp_spell.proofs.SquareBlocks.{deeper}
 use Rattle.twp_spell.proofs.open_halves.open_quarter_is_full.Goals as goal
@@ -13,7 +14,8 @@ returns-then-not-at g c = λ quarters of_square are. (
   (λ full.
       absurd
       (closed_not_full PLACE_DIGITS
-      (off_lots PLACE_DIGITS c.args.section (g.L.PlaceSet.places c.args.land.now c.args.section))
+      (off_lots (lotting (g.P.Lotting.layout c.args.lots.now)) c.args.section
+      (g.L.PlaceSet.places c.args.land.now c.args.section))
       c.args.corner quarters c.args.halves (deeper PLACE_DIGITS quarters c.args.block of_square c.requires.0)
       are (sym c.at.ensures ∙ c.if-not-at.true) full)),
 )

@@ -7,11 +7,13 @@ use Rattle.twp_spell.specs.steps.SpellingSteps.{HasSection, AreBegun}
 use Rattle.twp_spell.proofs.HeldFacts.{some_of_meets, meets_of_some}
 use Rattle.twp_spell.proofs.SpellingFacts.{on_ok, begun_skip, begun_next, text_before, lead_written}
 use Rattle.twp_spell.proofs.spelling.write_if_held.Goals as goal
+use Rattle.twp_grid.specs.Lands.{lotting}
 
 pub returns-then-is_untouched : goal.returns-then-is_untouched
 returns-then-is_untouched g c = λ begun.
     let places = g.L.PlaceSet.places c.args.land.now in
-    begun_skip PLACE_DIGITS c.args.township places c.args.section c.args.text.now.items begun
+    begun_skip (lotting (g.P.Lotting.layout c.args.lots.now)) c.args.township places c.args.section
+    c.args.text.now.items begun
     (λ some.
     c.is_untouched.ensures c.if-is_untouched.true
     (meets_of_some (places c.args.section) (whole_block PLACE_DIGITS) refl some))
@@ -19,7 +21,8 @@ returns-then-is_untouched g c = λ begun.
 pub returns-then-not-meets : goal.returns-then-not-meets
 returns-then-not-meets g c = λ begun.
     let places = g.L.PlaceSet.places c.args.land.now in
-    begun_skip PLACE_DIGITS c.args.township places c.args.section c.args.text.now.items begun
+    begun_skip (lotting (g.P.Lotting.layout c.args.lots.now)) c.args.township places c.args.section
+    c.args.text.now.items begun
     (λ some.
     false≢true
     (sym c.if-not-meets.true
@@ -35,11 +38,13 @@ returns g c = λ begun.
     let range =
     (g.met.L.PlaceSet.within c.args.land.now c.args.section some.column some.row some.is_held).0 in
     let before = text_before c.args.township c.args.text.now.items in
-    on_ok c.write_section.result (HasSection PLACE_DIGITS places c.args.section before new)
-    (AreBegun PLACE_DIGITS c.args.township places (c.args.section + 1) new)
+    on_ok c.write_section.result
+    (HasSection (lotting (g.P.Lotting.layout c.args.lots.now)) places c.args.section before new)
+    (AreBegun (lotting (g.P.Lotting.layout c.args.lots.now)) c.args.township places (c.args.section + 1) new)
     (c.write_section.ensures before
     (lead_written c.args.township c.args.text.now.items c.write_lead.new.text.items
     (codes "sec. " ++ decimal c.args.section) c.in_ok-write_lead.ensures.first
     c.in_ok-write_lead.ensures.after)
     some)
-    (begun_next PLACE_DIGITS c.args.township places c.args.section c.args.text.now.items new begun range some)
+    (begun_next (lotting (g.P.Lotting.layout c.args.lots.now)) c.args.township places c.args.section
+    c.args.text.now.items new begun range some)

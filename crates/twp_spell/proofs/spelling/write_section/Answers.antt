@@ -1,38 +1,39 @@
--- The land contains the section wholly, or the section's lots and parts are written.
+-- The land contains all land of the section, or the section's lots and parts are written.
 use Rattle.std.proofs.Common.{◌≡◌, ◌++◌, codes, sym, ◌∙◌}
 use Rattle.std.proofs.lemmas.Bool.{false≢true}
 use Rattle.twp_grid.specs.Places.{PLACE_DIGITS}
 use Rattle.twp_spell.specs.WrittenParts.{AreWrittenParts}
-use Rattle.twp_grid.specs.Lands.{off_lots}
-use Rattle.twp_spell.specs.CanonicalText.{HoldsEach}
+use Rattle.twp_grid.specs.Lands.{off_lots, lotting, HoldsEach}
 use Rattle.twp_spell.specs.steps.Spelling.{AreWritten}
 use Rattle.twp_spell.specs.steps.SpellingSteps.{HasSection}
-use Rattle.twp_spell.proofs.HeldFacts.{each_of_all, all_of_each}
 use Rattle.twp_spell.proofs.SpellingFacts.{on_ok, all_done, parts_done}
 use Rattle.twp_spell.proofs.spelling.write_section.Goals as goal
 
-pub returns-then-full : goal.returns-then-full
-returns-then-full g c = λ before lead some.
+pub returns-then-holds_section : goal.returns-then-holds_section
+returns-then-holds_section g c = λ before lead some.
     let places = g.L.PlaceSet.places c.args.land.now in
     let new = c.write_all.new.text.items in
     on_ok c.write_all.result (new ≡ c.args.text.now.items ++ codes ", all")
-    (HasSection PLACE_DIGITS places c.args.section before new) c.write_all.ensures
-    (all_done PLACE_DIGITS places c.args.section before c.args.text.now.items new
-    (each_of_all (places c.args.section) c.whole.result c.whole.ensures (c.full.ensures.0 c.if-full.true))
-    lead)
+    (HasSection (lotting (g.P.Lotting.layout c.args.lots.now)) places c.args.section before new)
+    c.write_all.ensures
+    (all_done (lotting (g.P.Lotting.layout c.args.lots.now)) places c.args.section before
+    c.args.text.now.items new (c.holds_section.ensures.0 c.if-holds_section.true) lead)
 
 pub returns : goal.returns
 returns g c = λ before lead some.
     let places = g.L.PlaceSet.places c.args.land.now in
     let lotted = c.write_held_lots.new.text.items in
     let new = c.write_parts.new.text.items in
-    let short : ¬ HoldsEach PLACE_DIGITS (places c.args.section) = λ each.
-    false≢true
-    (sym c.if-full.false
-    ∙ c.full.ensures.1 (all_of_each (places c.args.section) c.whole.result c.whole.ensures each)) in
+    let short : ¬ HoldsEach (lotting (g.P.Lotting.layout c.args.lots.now)) c.args.section
+    (places c.args.section) = λ each.
+    false≢true (sym c.if-holds_section.false ∙ c.holds_section.ensures.1 each) in
     on_ok c.write_parts.result
-    (AreWritten (AreWrittenParts PLACE_DIGITS (off_lots PLACE_DIGITS c.args.section (places c.args.section)))
+    (AreWritten
+    (AreWrittenParts PLACE_DIGITS
+    (off_lots (lotting (g.P.Lotting.layout c.args.lots.now)) c.args.section (places c.args.section)))
     lotted new)
-    (HasSection PLACE_DIGITS places c.args.section before new) (c.write_parts.ensures short)
-    (parts_done PLACE_DIGITS places c.args.section before c.args.text.now.items lotted
+    (HasSection (lotting (g.P.Lotting.layout c.args.lots.now)) places c.args.section before new)
+    (c.write_parts.ensures short)
+    (parts_done (lotting (g.P.Lotting.layout c.args.lots.now)) places c.args.section before
+    c.args.text.now.items lotted
     new short some lead c.in_ok-write_held_lots.ensures)

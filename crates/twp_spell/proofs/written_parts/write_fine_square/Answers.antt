@@ -2,46 +2,29 @@
 use Rattle.std.proofs.Common.{◌≡◌, ◌+◌, ◌%◌, sym, ◌∙◌, arith}
 use Rattle.twp_grid.specs.Places.{PLACE_DIGITS}
 use Rattle.twp_grid.specs.Lands.{off_lots}
+use Rattle.twp_grid.specs.Lands.{lotting}
 use Rattle.twp_spell.specs.steps.Spelling.{FINE_SIDE, AreOfSquare}
 use Rattle.twp_spell.proofs.DescentLists.{of_empty}
 use Rattle.twp_spell.proofs.SquareFacts.{square_fits}
 use Rattle.twp_spell.proofs.PlaceSquares.{fine_places, fine_full, fine_level, fine_free}
-use Rattle.twp_spell.proofs.PlaceSquares.{fine_lot, not_some}
+use Rattle.std.proofs.lemmas.Bool.{false≢true}
 use Rattle.twp_spell.proofs.WritingFacts.{written_none, buffer_appended}
 use Rattle.twp_spell.proofs.written_parts.write_fine_square.Goals as goal
 
-pub returns-then-is_some : goal.returns-then-is_some
-returns-then-is_some g c = λ quarters of_square path_is short.
-    let wide : c.column-column.result % FINE_SIDE ≡ 0 =
-    rw c.column-column.ensures.value (rw c.requires.width at c.column-column.ensures.dyadic.aligned) in
-    let high : c.row-row.result % FINE_SIDE ≡ 0 =
-    rw c.row-row.ensures.value (rw c.requires.height at c.row-row.ensures.dyadic.aligned) in
-    written_none
-    (AreOfSquare PLACE_DIGITS
-    (off_lots PLACE_DIGITS c.args.section (g.L.PlaceSet.places c.args.land.now c.args.section)) quarters)
-    c.args.text.now.items
-    (of_empty PLACE_DIGITS
-    (off_lots PLACE_DIGITS c.args.section (g.L.PlaceSet.places c.args.land.now c.args.section)) quarters
-    (square_fits PLACE_DIGITS quarters of_square.within)
-    (fine_lot c.args.section c.column-column.result c.row-row.result
-    (g.L.PlaceSet.places c.args.land.now c.args.section) quarters c.args.block of_square c.requires.width
-    c.requires.height c.column-column.ensures.value c.row-row.ensures.value wide high
-    (rw (sym c.lot_at-lot.ensures.lot) (sym c.is_some.ensures ∙ c.if-is_some.true))))
-
 pub returns : goal.returns
-returns g c = λ quarters of_square path_is short.
+returns g c = λ layout quarters no_lots of_square path_is short.
     let level = fine_level PLACE_DIGITS quarters c.args.block of_square c.requires.width in
-    let wide : c.column-column.result % FINE_SIDE ≡ 0 =
-    rw c.column-column.ensures.value (rw c.requires.width at c.column-column.ensures.dyadic.aligned) in
-    let high : c.row-row.result % FINE_SIDE ≡ 0 =
-    rw c.row-row.ensures.value (rw c.requires.height at c.row-row.ensures.dyadic.aligned) in
     let free =
-    fine_free c.args.section c.column-column.result c.row-row.result
-    (g.L.PlaceSet.places c.args.land.now c.args.section) wide high
-    (not_some _ (rw (sym c.lot_at-lot.ensures.lot) (sym c.is_some.ensures ∙ c.if-is_some.false))) in
+    fine_free (lotting layout) c.args.section c.column-column.result
+    c.row-row.result
+    (g.L.PlaceSet.places c.args.land.now c.args.section) c.args.block c.requires.width c.requires.height
+    c.column-column.ensures.value c.row-row.ensures.value
+    no_lots in
     let places =
     fine_places PLACE_DIGITS
-    (off_lots PLACE_DIGITS c.args.section (g.L.PlaceSet.places c.args.land.now c.args.section)) quarters
+    (off_lots (lotting layout) c.args.section
+    (g.L.PlaceSet.places c.args.land.now c.args.section))
+    quarters
     c.args.block c.column-column.result c.row-row.result
     c.held_places-ne.result c.held_places-nw.result c.held_places-sw.result c.held_places-se.result of_square
     c.requires.width c.column-column.ensures.value c.row-row.ensures.value
@@ -94,16 +77,22 @@ returns g c = λ quarters of_square path_is short.
     ∙ free c.column-column.result c.row-row.result (omega arith) (omega arith) (omega arith) (omega arith)) in
     let full =
     fine_full PLACE_DIGITS
-    (off_lots PLACE_DIGITS c.args.section (g.L.PlaceSet.places c.args.land.now c.args.section)) quarters
+    (off_lots (lotting layout) c.args.section
+    (g.L.PlaceSet.places c.args.land.now c.args.section))
+    quarters
     (record { ne = c.all.result; nw = c.all-2.result; sw = c.all-3.result; se = c.all-4.result })
     c.held_places-ne.result c.held_places-nw.result c.held_places-sw.result c.held_places-se.result level
     places c.all.ensures c.all-2.ensures c.all-3.ensures c.all-4.ensures in
     buffer_appended c.append_to.result
     (AreOfSquare PLACE_DIGITS
-    (off_lots PLACE_DIGITS c.args.section (g.L.PlaceSet.places c.args.land.now c.args.section)) quarters)
+    (off_lots (lotting layout) c.args.section
+    (g.L.PlaceSet.places c.args.land.now c.args.section))
+    quarters)
     c.args.text.now.items c.new-buffer.result c.push_fine_square.new.buffer c.append_to.new.text.items
     c.new-buffer.ensures
     (c.push_fine_square.ensures
-    (off_lots PLACE_DIGITS c.args.section (g.L.PlaceSet.places c.args.land.now c.args.section)) quarters level
+    (off_lots (lotting layout) c.args.section
+    (g.L.PlaceSet.places c.args.land.now c.args.section))
+    quarters level
     path_is short full places.0 places.1.0 places.1.1.0 places.1.1.1)
     c.append_to.ensures

@@ -2,6 +2,7 @@
 use Rattle.std.proofs.Common.{[], arith}
 use Rattle.twp_grid.specs.Places.{PLACE_DIGITS}
 use Rattle.twp_grid.specs.Lands.{off_lots}
+use Rattle.twp_grid.specs.Lands.{lotting}
 use Rattle.twp_spell.specs.WrittenParts.{IsFull}
 use Rattle.twp_spell.specs.WrittenParts.Part.{square}
 use Rattle.twp_spell.proofs.WritingFacts.{section_written, quarters_written, whole_held, whole_of}
@@ -9,14 +10,20 @@ use Rattle.twp_spell.proofs.written_parts.write_parts.Goals as goal
 
 pub returns : goal.returns
 returns g c = λ short.
-    let held = off_lots PLACE_DIGITS c.args.section (g.L.PlaceSet.places c.args.land.now c.args.section) in
+    let held =
+    off_lots (lotting (g.P.Lotting.layout c.args.lots.now)) c.args.section
+    (g.L.PlaceSet.places c.args.land.now c.args.section) in
     let not_full : ¬ IsFull PLACE_DIGITS held (square []) = λ full.
     short
-    (whole_held PLACE_DIGITS c.args.section (g.L.PlaceSet.places c.args.land.now c.args.section) full) in
-    let halves = c.open_halves-halves.ensures [] (whole_of PLACE_DIGITS c.whole.result c.whole.ensures) in
+    (whole_held (lotting (g.P.Lotting.layout c.args.lots.now)) c.args.section
+    (g.L.PlaceSet.places c.args.land.now c.args.section) full) in
+    let halves =
+    c.open_halves-halves.ensures (g.P.Lotting.layout c.args.lots.now) []
+    (whole_of PLACE_DIGITS c.whole.result c.whole.ensures) in
     let are =
     c.full_open_quarters-full.ensures [] (whole_of PLACE_DIGITS c.whole-2.result c.whole-2.ensures) halves in
-    section_written c.write_quarter_of_section-4.result PLACE_DIGITS c.args.section
+    section_written c.write_quarter_of_section-4.result (lotting (g.P.Lotting.layout c.args.lots.now))
+    c.args.section
     (g.L.PlaceSet.places c.args.land.now c.args.section) c.args.text.now.items
     c.write_quarter_of_section-4.new.text.items
     (quarters_written c.write_quarter_of_section-4.result PLACE_DIGITS held []

@@ -6,3 +6,10 @@ returns-in-Overlap-clause-span c = rw c.in-Overlap.is c.explain_overlap.ensures.
 
 pub returns-in-Overlap-clause-other : goal.returns-in-Overlap-clause-other
 returns-in-Overlap-clause-other c = rw c.in-Overlap.is c.explain_overlap.ensures.other
+
+-- it is land that the plat doesn't have
+pub returns-in-NoLand-clause-span : goal.returns-in-NoLand-clause-span
+returns-in-NoLand-clause-span c = rw c.in-NoLand.is c.explain_no_land.ensures.span
+
+pub returns-in-NoLand-clause-other : goal.returns-in-NoLand-clause-other
+returns-in-NoLand-clause-other c = rw c.in-NoLand.is c.explain_no_land.ensures.other

@@ -1,0 +1,6 @@
+-- What is underlined is the item that names land that the plat doesn't have.
+use Rattle.std.proofs.Common.{refl}
+use Rattle.twp_sentences.proofs.descriptions.places.Described.explain_no_land.Goals as goal
+
+pub returns-clause-span : goal.returns-clause-span
+returns-clause-span c = record { span = c.span_at.result; is = c.span_at.ensures; ends = refl }
