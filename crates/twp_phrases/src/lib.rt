@@ -1,5 +1,6 @@
 //! How the phrases of a text are found that people write as a description of land, and the changes in them.
-//! None of this is trusted: each change is checked against its rule, and the text that they make is read.
+//! None of this is trusted: each change is checked against its rule, and the text that they make is read. Of a
+//! text without readings, the words that no phrase covers are found (`unread`), with a contract (`stretches`).
 #![tactic(auto)]
 
 mod asides;
@@ -16,8 +17,12 @@ mod phrases;
 mod registers;
 mod sections;
 mod sought;
+mod stretches;
 mod sure;
+mod unread;
 mod whole;
 mod worded;
 
 pub use finder::Phrases;
+pub use stretches::{Stretch, unread_of};
+pub use unread::{Ambiguity, AmbiguousPhrase, Unread, unread_in};

@@ -12,7 +12,7 @@ const JOINING_MOST: usize = 16;
 
 /// What a piece begins.
 #[derive(Clone, Copy)]
-enum Beginning {
+pub(crate) enum Beginning {
     Nothing,
     /// A phrase, most often of this kind.
     Phrase(Option<SoughtPhrase>),
@@ -48,7 +48,7 @@ impl<'a> Finder<'a> {
     }
 
     /// Notes what the phrase that was added last names.
-    fn note_phrase(&mut self) {
+    pub(crate) fn note_phrase(&mut self) {
         let Some(Placed { phrase, .. }) = self.draft.phrases.last() else {
             return;
         };
@@ -70,7 +70,7 @@ impl<'a> Finder<'a> {
 
     /// Takes a piece as what joins phrases, the last of which ended before an index. If it doesn't, the text
     /// isn't sure.
-    fn join(&mut self, here: usize, index: usize) {
+    pub(crate) fn join(&mut self, here: usize, index: usize) {
         if !self.joins_phrases(here)
             || here >= plus(index, JOINING_MOST)
             || self.is_empty_slot(here)
@@ -140,7 +140,11 @@ impl<'a> Finder<'a> {
 
     /// Adds the phrase at an index, which is looked for first as the kind that most such pieces begin, and
     /// then as the others: the index after it.
-    fn phrase_at(&mut self, index: usize, likely: Option<SoughtPhrase>) -> Option<usize> {
+    pub(crate) fn phrase_at(
+        &mut self,
+        index: usize,
+        likely: Option<SoughtPhrase>,
+    ) -> Option<usize> {
         let from = self.draft.extent();
         if let Some(likely) = likely {
             if let Some(end) = self.phrase_of_kind(likely, index) {
@@ -162,7 +166,7 @@ impl<'a> Finder<'a> {
     }
 
     /// What the piece at an index begins: most marks, and words that only join two phrases, begin none.
-    fn beginning(&self, index: usize) -> Beginning {
+    pub(crate) fn beginning(&self, index: usize) -> Beginning {
         let pieces = &self.draft.pieces;
         let next = plus(index, 1);
         match pieces.kind(index) {

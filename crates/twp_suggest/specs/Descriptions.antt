@@ -5,6 +5,7 @@ use Rattle.std.specs.Prelude.{if◌then◌else◌}
 use Rattle.twp_grid.specs.Places.{PLACE_DIGITS}
 use Rattle.twp_grid.specs.Townships.{Designation, designation, line_feed}
 use Rattle.twp_grid.specs.Lands.{ContainsAll, HasWholeLots, SamePlaces, difference}
+use Rattle.twp_grid.specs.Lands.{STANDARD_LOTS}
 use Rattle.twp_grammar.specs.declared.item.Item.{Item}
 use Rattle.twp_grammar.specs.declared.item.Item.TheVariants.{Heading}
 use Rattle.twp_grammar.specs.ItemPlaces.{land_of, parts_of}
@@ -30,7 +31,7 @@ pub record IsClear (text : List ℕ) : Type 0 where
 pub record IsLandOfText (township : Designation) (text : List ℕ) (places : ℕ → ℕ → ℕ → Bool) : Type 0 where
   pub items : List Item
   pub read : IsReadAs text items
-  pub land : IsLandOfItems PLACE_DIGITS township items places
+  pub land : IsLandOfItems STANDARD_LOTS township items places
 
 -- a text names no other places, in any township
 abbrev pub IsOnlyLandOfText : List ℕ → (ℕ → ℕ → ℕ → Bool) → Type 0
@@ -70,7 +71,7 @@ pub record IsRemainder (made text : List ℕ) : Type 0 where
   pub inside : ContainsAll places less
   pub some_left : ¬ SamePlaces places less
   pub full : List ℕ
-  pub spelled : IsCanonicalText PLACE_DIGITS township (difference places less) full
+  pub spelled : IsCanonicalText STANDARD_LOTS township (difference places less) full
   pub text_is : text ≡ as_written of_whole.items full
 
 -- what is excepted is read as items, and its text begins at an offset of the changed text
@@ -91,8 +92,8 @@ AreItemsOf made items (Some part) = AreExcepted made items part
 pub record AreNamed (text : List ℕ) (places : ℕ → ℕ → ℕ → Bool) : Type 0 where
   pub items : List Item
   pub read : IsReadAs text items
-  pub places_are : places ≡ land_of PLACE_DIGITS (parts_of items)
-  pub whole : HasWholeLots PLACE_DIGITS places
+  pub places_are : places ≡ land_of STANDARD_LOTS (parts_of items)
+  pub whole : HasWholeLots STANDARD_LOTS places
 
 -- a township that items begin with is this one
 abbrev pub NamesTownship : List Item → Designation → Type 0
@@ -107,7 +108,7 @@ pub record AreLotsNamed (made text : List ℕ) : Type 0 where
   pub named : AreNamed made places
   pub of_township : NamesTownship named.items township
   pub full : List ℕ
-  pub spelled : IsCanonicalText PLACE_DIGITS township places full
+  pub spelled : IsCanonicalText STANDARD_LOTS township places full
   pub text_is : text ≡ as_written named.items full
 
 -- how the description comes of the changed text

@@ -10,6 +10,8 @@
 //!   are slow, for `tests/program/test_devices.py`.
 //! - With the word `readings`, it prints the readings of the descriptions on standard input, for
 //!   `tests/descriptions` and `bench/readings.sh`.
+//! - With the word `unread`, it prints why those without a reading have none, for
+//!   `tests/descriptions/unread.py`.
 //! - With a kind of land, or `text`, it does work whose instructions `make bench` counts.
 #![tactic(auto)]
 
@@ -19,6 +21,7 @@ mod mixed;
 mod readings;
 mod single;
 mod trials;
+mod unread;
 
 use counted::LandTask;
 use std::process::ExitCode;
@@ -41,6 +44,10 @@ fn main(rt: HostRuntime) -> io::Result<ExitCode> {
         }
         "readings" => {
             readings::read_lines(&rt)?;
+            return Ok(ExitCode::SUCCESS);
+        }
+        "unread" => {
+            unread::read_lines(&rt)?;
             return Ok(ExitCode::SUCCESS);
         }
         _ => {}
@@ -74,7 +81,7 @@ fn ended(rt: &HostRuntime, is_made: bool) -> io::Result<ExitCode> {
 /// How the program ends if its words ask for nothing that it does.
 fn misused(rt: &HostRuntime) -> io::Result<ExitCode> {
     eprintln!(rt;
-        "twp_trials [CALL INPUT [ROOM] | devices | readings | grid|lanes WORK TIMES | text]: see src/main.rt"
+        "twp_trials [CALL INPUT [ROOM] | devices | readings | unread | grid|lanes WORK TIMES | text]: see src/main.rt"
     )?;
     Ok(ExitCode::from(2))
 }

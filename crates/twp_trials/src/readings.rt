@@ -27,7 +27,7 @@ pub fn print_each(rt: &HostRuntime, lines: &[u8]) -> io::Result<()> {
 }
 
 /// The text of a line, with a line feed for `\n` and a tab for `\t`.
-fn without_escapes(alloc: Global, line: &[u8]) -> Result<Vec<u8>, AllocError> {
+pub fn without_escapes(alloc: Global, line: &[u8]) -> Result<Vec<u8>, AllocError> {
     let mut text = Vec::with_capacity(alloc, line.len())?;
     if line.find_byte(b'\\').is_none() {
         text.extend_from_slice(line)?;
@@ -122,7 +122,7 @@ fn print_assumption(rt: &HostRuntime, assumption: Assumption, phrase: &[u8]) -> 
 }
 
 /// Prints a text on a line. Most are printed as they are.
-fn print_escaped(rt: &HostRuntime, text: &[u8]) -> io::Result<()> {
+pub fn print_escaped(rt: &HostRuntime, text: &[u8]) -> io::Result<()> {
     if text
         .iter()
         .all(|byte| matches!(*byte, b' '..=b'[' | b']'..=b'~'))

@@ -5,6 +5,7 @@ use Rattle.std.proofs.Common.{◌∙◌}
 use Rattle.twp_grid.specs.Places.{PLACE_DIGITS}
 use Rattle.twp_grid.specs.Townships.{Designation}
 use Rattle.twp_grid.specs.Lands.{ContainsAll, SamePlaces, difference}
+use Rattle.twp_grid.specs.Lands.{STANDARD_LOTS}
 use Rattle.twp_grammar.specs.declared.item.Item.{Item}
 use Rattle.twp_grammar.specs.ItemPlaces.{parts_of, land_of}
 use Rattle.twp_grammar.specs.OnPlat.{AreOnPlat, IsLandOfItems}
@@ -15,26 +16,26 @@ use Rattle.twp_suggest.specs.Descriptions.{NamesNoLand, as_written, except}
 use Rattle.twp_suggest.specs.declared.meaning.wording.Excepted.{Excepted}
 
 pub is_land : (township : Designation) (text : List ℕ) (items : List Item) (places : ℕ → ℕ → ℕ → Bool)
-    → IsReadAs text items → IsLandOfItems PLACE_DIGITS township items places
+    → IsReadAs text items → IsLandOfItems STANDARD_LOTS township items places
     → IsLandOfText township text places
 is_land township text items places read land = record { items = items; read = read; land = land }
 
 pub is_only_land : (township : Designation) (text : List ℕ) (items : List Item) (places : ℕ → ℕ → ℕ → Bool)
     → ((others : List Item) → IsReadAs text others → items ≡ others)
-    → IsLandOfItems PLACE_DIGITS township items places → IsOnlyLandOfText text places
+    → IsLandOfItems STANDARD_LOTS township items places → IsOnlyLandOfText text places
 is_only_land township text items places only land = λ other others is.
     is.land.land_is
-    ∙ ap (λ (named : List Item). land_of PLACE_DIGITS (parts_of named)) (sym (only is.items is.read))
+    ∙ ap (λ (named : List Item). land_of STANDARD_LOTS (parts_of named)) (sym (only is.items is.read))
     ∙ sym land.land_is
 
 -- a text whose items don't lie on the plat names no land
 pub no_land : (township : Designation) (text : List ℕ) (items : List Item)
     → ((others : List Item) → IsReadAs text others → items ≡ others)
-    → IsTrue false ↔ AreOnPlat PLACE_DIGITS township items → NamesNoLand township text
+    → IsTrue false ↔ AreOnPlat STANDARD_LOTS township items → NamesNoLand township text
 no_land township text items only on_plat places is =
     false≢true
     (on_plat.1
-    (subst (λ (its : List Item). AreOnPlat PLACE_DIGITS township its) (sym (only is.items is.read))
+    (subst (λ (its : List Item). AreOnPlat STANDARD_LOTS township its) (sym (only is.items is.read))
     is.land.on_plat))
 
 -- what is left of a text without its exception
@@ -42,7 +43,7 @@ pub is_remainder : (whole excepted text full : List ℕ) (items : List Item) (to
     (places less : ℕ → ℕ → ℕ → Bool) → ((others : List Item) → IsReadAs whole others → items ≡ others)
     → IsLandOfText township whole places → IsLandOfText township excepted less
     → ContainsAll places less → ¬ SamePlaces places less
-    → IsCanonicalText PLACE_DIGITS township (difference places less) full → text ≡ as_written items full
+    → IsCanonicalText STANDARD_LOTS township (difference places less) full → text ≡ as_written items full
     → IsRemainder (whole ++ except ++ excepted) text
 is_remainder whole excepted text full items township places less only of_whole of_excepted inside some_left
     spelled

@@ -1,11 +1,11 @@
 //! The land that a text names, also by aliquot parts that include lots.
 ghost use Rattle.std.specs.Prelude.{◌≡◌, ℕ, ◌≤◌, true, IfOk};
-ghost use Rattle.twp_grid.specs.Places.{PLACE_DIGITS};
 ghost use Rattle.twp_grid.specs.Winding.{IsSection};
 ghost use Rattle.twp_grid.specs.Lands.{HasWholeLots, IsWholeOrNot, Meets, block_places, union};
+ghost use Rattle.twp_grid.specs.Lands.{STANDARD_LOTS};
 ghost use Rattle.twp_grammar.specs.declared.item.Item.TheVariants.{Chain, All, Sections as RangeOfSections, Lots as RangeOfLots};
 ghost use Rattle.twp_grammar.specs.ItemPlaces.{item_of, item_places, land_of, parts_of, section_after};
-ghost use Rattle.twp_grammar.specs.OnPlat.{HasLot};
+ghost use Rattle.twp_grid.specs.Lands.{HasLot};
 ghost use Rattle.twp_suggest.specs.Descriptions.{AreNamed};
 ghost use Rattle.twp_resolve.specs.steps.ResolvingSteps.{sections_from, lots_from, AreAdded, number_of_section};
 
@@ -37,8 +37,8 @@ pub fn find_named_land(alloc: Global, text: &[u8], land: &mut Lanes) -> Result<b
 /// Whether a description names land, also by aliquot parts that include whole lots, which `land` is then.
 pub(crate) fn find_with_lots(description: &Description, land: &mut Lanes) -> bool
     ensures named { result ≡ true →
-        ⟦<Lanes as PlaceSet>⟧.places land.new ≡ land_of PLACE_DIGITS (parts_of description.now) }
-    ensures whole { result ≡ true → HasWholeLots PLACE_DIGITS (⟦<Lanes as PlaceSet>⟧.places land.new) }
+        ⟦<Lanes as PlaceSet>⟧.places land.new ≡ land_of STANDARD_LOTS (parts_of description.now) }
+    ensures whole { result ≡ true → HasWholeLots STANDARD_LOTS (⟦<Lanes as PlaceSet>⟧.places land.new) }
 {
     let is_named = find_items(description, land);
     if !is_named {
@@ -50,7 +50,7 @@ pub(crate) fn find_with_lots(description: &Description, land: &mut Lanes) -> boo
 /// Whether land contains each lot wholly or not at all. Only the sections between which it is are looked at,
 /// of which most have no lots.
 fn has_whole_lots<L: Land>(land: &L) -> bool
-    ensures { result ≡ true → HasWholeLots PLACE_DIGITS (L.places land.now) }
+    ensures { result ≡ true → HasWholeLots STANDARD_LOTS (L.places land.now) }
 {
     let Some((first, last)) = land.sections() else {
         return true;
@@ -66,7 +66,7 @@ fn has_whole_lots<L: Land>(land: &L) -> bool
 
 /// Whether land contains each lot of a section wholly or not at all.
 fn holds_whole_lots<L: Land>(land: &L, section: Section) -> bool
-    ensures { result ≡ true → (lot : ℕ) → IsWholeOrNot PLACE_DIGITS section lot (L.places land.now section) }
+    ensures { result ≡ true → (lot : ℕ) → IsWholeOrNot STANDARD_LOTS section lot (L.places land.now section) }
 {
     for lot in 1..lot_count(section) + 1 {
         let places = Block::of_lot(section, lot).unwrap();
@@ -91,7 +91,7 @@ pub(crate) fn why_unread(description: &Description) -> Unread {
 /// places of its items.
 #[tactic(auto, using(crate::proofs::meaning::NamedFacts::named_none, crate::proofs::meaning::NamedFacts::named_next, crate::proofs::meaning::NamedFacts::named_all))]
 fn find_items<L: Land>(description: &Description, land: &mut L) -> bool
-    ensures { result ≡ true → L.places land.new ≡ land_of PLACE_DIGITS (parts_of description.now) }
+    ensures { result ≡ true → L.places land.new ≡ land_of STANDARD_LOTS (parts_of description.now) }
 {
     let items = description.items();
     land.clear();
@@ -112,7 +112,7 @@ fn add_item<L: Land>(
     item: &Item,
 ) -> Result<Option<Section>, Unnamed>
     ensures added { IfOk result (λ _. L.places land.new ≡ union (L.places land.old)
-        (item_places PLACE_DIGITS (item_of (number_of_section section) item.now))) }
+        (item_places STANDARD_LOTS (item_of (number_of_section section) item.now))) }
     ensures after { IfOk result (λ after. number_of_section after
         ≡ section_after (number_of_section section) item.now) }
 {
@@ -136,7 +136,7 @@ fn sections_named<L: Land>(
     whole: bool,
 ) -> Result<Section, Unnamed>
     ensures added { IfOk result (λ _. (section : ℕ) → L.places land.new ≡ union (L.places land.old)
-        (item_places PLACE_DIGITS (item_of section (RangeOfSections first last whole)))) }
+        (item_places STANDARD_LOTS (item_of section (RangeOfSections first last whole)))) }
     ensures first { IfOk result (λ section. section ≡ first.value) }
 {
     let from = section_of(first)?;
@@ -158,7 +158,7 @@ fn lots_named<L: Land>(
     last: Numeral,
 ) -> Result<Option<Section>, Unnamed>
     ensures added { IfOk result (λ _. L.places land.new ≡ union (L.places land.old)
-        (item_places PLACE_DIGITS (item_of (number_of_section section) (RangeOfLots first last)))) }
+        (item_places STANDARD_LOTS (item_of (number_of_section section) (RangeOfLots first last)))) }
     ensures same { IfOk result (λ after. after ≡ section) }
 {
     let Some(section) = section else {
@@ -180,7 +180,7 @@ fn chain_named<L: Land>(
     steps: &Steps,
 ) -> Result<Option<Section>, Unnamed>
     ensures added { IfOk result (λ _. (at : ℕ) → L.places land.new ≡ union (L.places land.old)
-        (item_places PLACE_DIGITS (item_of (number_of_section section) (Chain steps.now at)))) }
+        (item_places STANDARD_LOTS (item_of (number_of_section section) (Chain steps.now at)))) }
     ensures same { IfOk result (λ after. after ≡ section) }
 {
     let Some(section) = section else {
@@ -196,7 +196,7 @@ fn chain_named<L: Land>(
 /// Adds all of a section.
 fn all_named<L: Land>(land: &mut L, section: Option<Section>) -> Result<Option<Section>, Unnamed>
     ensures added { IfOk result (λ _. (at : ℕ) → L.places land.new ≡ union (L.places land.old)
-        (item_places PLACE_DIGITS (item_of (number_of_section section) (All at)))) }
+        (item_places STANDARD_LOTS (item_of (number_of_section section) (All at)))) }
     ensures same { IfOk result (λ after. after ≡ section) }
 {
     let Some(section) = section else {
@@ -224,7 +224,7 @@ fn add_sections<L: Land>(land: &mut L, first: u8, last: u8) -> Result<(), Unname
     requires last { IsSection last }
     requires order { first ≤ last }
     ensures { IfOk result (λ _.
-        AreAdded (sections_from PLACE_DIGITS first last) (L.places land.old) (L.places land.new)) }
+        AreAdded (sections_from STANDARD_LOTS first last) (L.places land.old) (L.places land.new)) }
 {
     for number in first..last + 1 {
         let section = Section::new(number).unwrap();
@@ -236,11 +236,11 @@ fn add_sections<L: Land>(land: &mut L, first: u8, last: u8) -> Result<(), Unname
 /// Adds the lots of a section from a first number to a last.
 fn add_lots<L: Land>(land: &mut L, section: Section, first: u8, last: u8) -> Result<(), Unnamed>
     requires section { IsSection section }
-    requires first { HasLot section first }
-    requires last { HasLot section last }
+    requires first { HasLot STANDARD_LOTS section first }
+    requires last { HasLot STANDARD_LOTS section last }
     requires order { first ≤ last }
     ensures { IfOk result (λ _.
-        AreAdded (lots_from PLACE_DIGITS section first last) (L.places land.old) (L.places land.new)) }
+        AreAdded (lots_from STANDARD_LOTS section first last) (L.places land.old) (L.places land.new)) }
 {
     for lot in first..last + 1 {
         let block = Block::of_lot(section, lot).unwrap();
@@ -260,9 +260,9 @@ fn section_of(number: Numeral) -> Result<Section, Unnamed>
 }
 
 /// The lot with a number in a section.
-#[tactic(auto, using(twp_resolve::proofs::RangeFacts::has_lot))]
+#[tactic(auto, using(twp_land::proofs::LottingFacts::standard_has))]
 fn lot_of(section: Section, number: Numeral) -> Result<u8, Unnamed>
-    ensures lot { IfOk result (λ lot. (lot ≡ number.value) × HasLot section number.value) }
+    ensures lot { IfOk result (λ lot. (lot ≡ number.value) × HasLot STANDARD_LOTS section number.value) }
     ensures section { IsSection section }
 {
     let count = u16::from(lot_count(section));

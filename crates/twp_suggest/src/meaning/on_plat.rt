@@ -7,7 +7,7 @@ ghost use Rattle.twp_suggest.specs.Descriptions.{IsAccepted, IsLandOfText, IsOnl
 use std::alloc::{AllocError, Global};
 use twp_grammar::Item;
 use twp_grid::{EastWest, NorthSouth, Township};
-use twp_land::{Land, Lanes, PlaceSet};
+use twp_land::{Land, Lanes, PlaceSet, StandardLots};
 use twp_read::Description;
 use twp_resolve::resolve_into;
 
@@ -45,7 +45,7 @@ pub fn find_land(
     let Some(description) = read(alloc, text)? else {
         return Ok(false);
     };
-    match resolve_into(land, &description, township) {
+    match resolve_into(land, &description, township, &StandardLots) {
         Ok(()) => Ok(true),
         Err(_) => Ok(false),
     }
@@ -92,7 +92,7 @@ pub fn find_own_land(
     let Some(township) = first_township(description.items()) else {
         return Ok(None);
     };
-    match resolve_into(land, &description, township) {
+    match resolve_into(land, &description, township, &StandardLots) {
         Ok(()) => Ok(Some(township)),
         Err(_) => Ok(None),
     }

@@ -15,7 +15,7 @@ use crate::meaning::unread::Unread;
 use std::alloc::{AllocError, Global};
 use twp_grammar::Item;
 use twp_grid::Township;
-use twp_land::{Land, Lanes, OneLanes, PlaceSet};
+use twp_land::{Land, Lanes, OneLanes, PlaceSet, StandardLots};
 use twp_read::Description;
 use twp_resolve::{PlaceFault, names_one_section, resolve_if_room, resolve_into};
 use twp_spell::spell;
@@ -93,7 +93,7 @@ pub fn described(alloc: Global, made: Vec<u8>, has_except: bool) -> Result<Optio
 fn is_on_plat(description: &Description, township: Township) -> Result<(), PlaceFault> {
     if names_one_section(description) {
         let mut land = OneLanes::empty();
-        if resolve_if_room(&mut land, description, township)? {
+        if resolve_if_room(&mut land, description, township, &StandardLots)? {
             return Ok(());
         }
     }
@@ -104,7 +104,7 @@ fn is_on_plat(description: &Description, township: Township) -> Result<(), Place
 #[inline(never)]
 fn is_on_plat_in_all(description: &Description, township: Township) -> Result<(), PlaceFault> {
     let mut land = Lanes::empty();
-    resolve_into(&mut land, description, township)
+    resolve_into(&mut land, description, township, &StandardLots)
 }
 
 /// Reads a canonical description.
@@ -135,7 +135,7 @@ fn with_lots_named(
     if !is_named {
         return Err(why_unread(description));
     }
-    let full = spell(alloc, &land, township)?;
+    let full = spell(alloc, &land, township, &StandardLots)?;
     let text = as_written(alloc, description, full.as_slice())?;
     Ok(text)
 }
@@ -198,20 +198,20 @@ fn remainder(alloc: Global, whole: &[u8], excepted: &[u8]) -> Result<Wording, Un
     let Some(township) = first_township(description.items()) else {
         return Err(Unread::Refused);
     };
-    let Ok(()) = resolve_into(&mut land, &description, township) else {
+    let Ok(()) = resolve_into(&mut land, &description, township, &StandardLots) else {
         return Err(why_unread(&description));
     };
     let Some(items) = read(alloc, excepted)? else {
         return Err(Unread::Refused);
     };
-    let Ok(()) = resolve_into(&mut less, &items, township) else {
+    let Ok(()) = resolve_into(&mut less, &items, township, &StandardLots) else {
         return Err(why_unread(&items));
     };
     if !is_proper_part(&less, &land) {
         return Err(Unread::Unfit);
     }
     land.take_away(&less);
-    let full = spell(alloc, &land, township)?;
+    let full = spell(alloc, &land, township, &StandardLots)?;
     let text = as_written(alloc, &description, full.as_slice())?;
     Ok(Wording {
         text,

@@ -3,7 +3,7 @@
 use crate::single::showing::{ANSWERED, OUT_OF_MEMORY, explain, start};
 use std::io;
 use twp_grid::{EastWest, NorthSouth, Township};
-use twp_land::Lanes;
+use twp_land::{Lanes, StandardLots};
 use twp_read::Description;
 use twp_resolve::resolve;
 use twp_spell::spell;
@@ -17,12 +17,12 @@ pub fn spell_land(rt: &HostRuntime, text: &[u8]) -> io::Result<()> {
         Ok(description) => description,
         Err(fault) => return rt.println(fault),
     };
-    let land: Lanes = match resolve(&description, township) {
+    let land: Lanes = match resolve(&description, township, &StandardLots) {
         Ok(land) => land,
         Err(fault) => return rt.println(fault),
     };
     start(rt)?;
-    match spell(rt.alloc(), &land, township) {
+    match spell(rt.alloc(), &land, township, &StandardLots) {
         Ok(spelled) => explain(rt, ANSWERED, spelled.as_slice()),
         Err(_) => rt.println(OUT_OF_MEMORY),
     }

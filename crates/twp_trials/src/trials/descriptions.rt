@@ -4,7 +4,7 @@ use crate::trials::figures::print_area;
 use std::io;
 use std::io::Write;
 use twp_answers::Stop;
-use twp_land::{Grid, Land, Lanes};
+use twp_land::{Grid, Land, Lanes, StandardLots};
 use twp_plat::{Plat, area_of};
 use twp_read::Description;
 use twp_resolve::resolve;
@@ -108,7 +108,7 @@ pub fn try_descriptions(rt: &HostRuntime, plat: &Plat) -> io::Result<()> {
 
 /// Prints the length of the text of empty land, which no description names.
 fn print_empty<L: Land>(rt: &HostRuntime, kind: &str, plat: &Plat) -> io::Result<()> {
-    let text = spell(rt.alloc(), &L::empty(), plat.township())?;
+    let text = spell(rt.alloc(), &L::empty(), plat.township(), &StandardLots)?;
     rt.print(kind)?;
     rt.print(": bytes of the empty land's text: ")?;
     rt.println(text.len())
@@ -121,7 +121,7 @@ fn print_land<L: Land>(
     plat: &Plat,
     description: &Description,
 ) -> io::Result<()> {
-    let land: L = match resolve(description, plat.township()) {
+    let land: L = match resolve(description, plat.township(), &StandardLots) {
         Ok(land) => land,
         Err(fault) => {
             rt.print(kind)?;
@@ -129,6 +129,6 @@ fn print_land<L: Land>(
         }
     };
     print_area(rt, kind, &area_of(plat, &land))?;
-    let text = spell(rt.alloc(), &land, plat.township())?;
+    let text = spell(rt.alloc(), &land, plat.township(), &StandardLots)?;
     io::writer(rt).write_all(text.as_slice())
 }

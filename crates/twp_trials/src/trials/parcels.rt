@@ -3,7 +3,7 @@
 use std::io;
 use twp_answers::{Stop, acres_of, land_of};
 use twp_grid::Bytes;
-use twp_land::{Comparison, Land, LandRows, Lanes, compare};
+use twp_land::{Comparison, Land, LandRows, Lanes, StandardLots, compare};
 use twp_plat::{Account, LOTS, LotTable, Plat, area_by_lots};
 use twp_spell::spell;
 
@@ -150,7 +150,7 @@ fn print_parcel(rt: &HostRuntime, plat: &Plat, lead: &str, land: &Lanes) -> io::
     rt.print(" and ")?;
     rt.print(acres_of(plat, &land, Account::Plat))?;
     rt.print(" hundredths of an acre; its text is ")?;
-    let text = spell(rt.alloc(), &land, plat.township())?;
+    let text = spell(rt.alloc(), &land, plat.township(), &StandardLots)?;
     match land_of(rt.alloc(), plat.township(), text.as_slice()) {
         Ok(again) => rt.println(name_of(compare(&again, &land))),
         Err(stop) => rt.println(stop),

@@ -1,8 +1,10 @@
 -- Section by section, the added places grow by a block that shares none with the land before.
-use Rattle.std.proofs.Common.{◌≡◌, ◌-◌, ◌+◌, subst, arith}
+use Rattle.std.proofs.Common.{◌≡◌, ◌-◌, ◌+◌, refl, sym, ap, ◌∙◌, subst, arith}
 use Rattle.twp_grid.specs.Places.{PLACE_DIGITS}
 use Rattle.twp_grid.specs.Spans.{whole_block}
+use Rattle.twp_grid.specs.Lands.{STANDARD_LOTS, union}
 use Rattle.twp_land.proofs.LotFacts.{section_is}
+use Rattle.twp_land.proofs.LottingFacts.{standard_section}
 use Rattle.twp_resolve.specs.steps.ResolvingSteps.{sections_from, AreAdded}
 use Rattle.twp_resolve.proofs.RangeFacts.{added_next, next_section}
 use Rattle.twp_suggest.proofs.meaning.named.add_sections.Goals as goal
@@ -18,21 +20,24 @@ loop-number-preserved g c =
     record {
       least = omega (arith, so_far.least);
       added = subst (λ n.
-          AreAdded (sections_from PLACE_DIGITS c.args.first n) (g.L.PlaceSet.places c.args.land.now)
+          AreAdded (sections_from STANDARD_LOTS c.args.first n) (g.L.PlaceSet.places c.args.land.now)
           (g.L.PlaceSet.places c.add_block.new.land)) next
-          (added_next (sections_from PLACE_DIGITS c.args.first (c.loop-number.number - 1))
-          (sections_from PLACE_DIGITS c.args.first c.loop-number.number) (g.L.PlaceSet.places c.args.land.now)
+          (added_next (sections_from STANDARD_LOTS c.args.first (c.loop-number.number - 1))
+          (sections_from STANDARD_LOTS c.args.first c.loop-number.number)
+          (g.L.PlaceSet.places c.args.land.now)
           (g.L.PlaceSet.places c.loop-number.land) (g.L.PlaceSet.places c.add_block.new.land)
           c.loop-number.number
           (whole_block PLACE_DIGITS)
           so_far.added free grown
-          (next_section c.args.first c.loop-number.number (omega (arith, c.requires.first.0, so_far.least))
-          so_far.least));
+          (next_section STANDARD_LOTS c.args.first c.loop-number.number
+          (omega (arith, c.requires.first.0, so_far.least)) so_far.least
+          ∙ ap (λ more. union (sections_from STANDARD_LOTS c.args.first (c.loop-number.number - 1)) more)
+          (sym (standard_section c.loop-number.number (whole_block PLACE_DIGITS) refl))));
     }
 
 pub returns : goal.returns
 returns g c =
     let all : c.loop-number.number - 1 ≡ c.args.last = omega (arith, c.requires.order) in
     subst (λ n.
-    AreAdded (sections_from PLACE_DIGITS c.args.first n) (g.L.PlaceSet.places c.args.land.now)
+    AreAdded (sections_from STANDARD_LOTS c.args.first n) (g.L.PlaceSet.places c.args.land.now)
     (g.L.PlaceSet.places c.loop-number.land)) all c.loop-number.invariant.added
