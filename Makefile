@@ -53,6 +53,7 @@ descriptions: township
 		python3 tests/descriptions/suggested.py ./township crates/twp_trials/out/twp_trials \
 			tests/descriptions/$$author.tsv || exit 1; \
 	done
+	@python3 tests/descriptions/unread.py
 	@python3 tests/descriptions/mutated.py
 
 ## check          prove all crates, and nothing else

@@ -42,7 +42,7 @@ extern "C" {
 /* The same as one number, which can be compared: 1,000,000 * MAJOR + 1,000 * MINOR + PATCH. */
 #define TOWNSHIP_VERSION_NUMBER 1000000
 
-/* The numbers of refusals, which docs/REFUSALS.md and docs/LOTS-FORMAT.md explain. */
+/* The numbers of refusals, which docs/REFUSALS.md, docs/TOWNSHIPS.md, and docs/LOTS-FORMAT.md explain. */
 /* Field notes: */
 #define TOWNSHIP_REFUSAL_NOTES_TOO_LARGE 1u
 #define TOWNSHIP_REFUSAL_NOTES_EMPTY 2u
@@ -59,6 +59,13 @@ extern "C" {
 #define TOWNSHIP_REFUSAL_PLAT_IRREGULAR 21u
 #define TOWNSHIP_REFUSAL_PLAT_CLOSING_SHORT 22u
 #define TOWNSHIP_REFUSAL_PLAT_CLOSING_LONG 23u
+/* The name of a township: */
+#define TOWNSHIP_REFUSAL_DESIGNATION_NUMBER 31u
+#define TOWNSHIP_REFUSAL_DESIGNATION_DIRECTION 32u
+#define TOWNSHIP_REFUSAL_DESIGNATION_RANGE 33u
+#define TOWNSHIP_REFUSAL_DESIGNATION_RANGE_DIRECTION 34u
+#define TOWNSHIP_REFUSAL_DESIGNATION_AFTER 35u
+#define TOWNSHIP_REFUSAL_DESIGNATION_TOO_LARGE 36u
 /* The text of a description: */
 #define TOWNSHIP_REFUSAL_TEXT_TOO_LARGE 41u
 #define TOWNSHIP_REFUSAL_TEXT_BAD_BYTE 42u
@@ -110,9 +117,10 @@ extern "C" {
 #define TOWNSHIP_NO_ACCOUNT 4u    /* the account you passed is not valid */
 #define TOWNSHIP_NO_ROOM 5u       /* the text needs `length` bytes and `room` is smaller: nothing is written */
 #define TOWNSHIP_NO_MEMORY 6u     /* memory ran out, and nothing was written. Every function may return this
-                                     except township_version, township_figures, and those that take land
-                                     and write neither text nor parts; township_acres_many and
-                                     township_answer_many report it in their answers */
+                                     except township_version, township_figures, township_designation_read,
+                                     and those that take land and write neither text nor parts;
+                                     township_acres_many and township_answer_many report it in their
+                                     answers */
 #define TOWNSHIP_NO_RANGE 7u      /* township_acres_many, township_answer_many: the two offsets of this
                                      description are not a range of the bytes given */
 #define TOWNSHIP_NO_LAND 8u       /* the land you passed is not valid: it has no township, or contains part of a
@@ -128,8 +136,8 @@ extern "C" {
  * TOWNSHIP_NO_TOWNSHIP; TOWNSHIP_NO_LAND; TOWNSHIP_NO_ACCOUNT or TOWNSHIP_NO_OPERATION; TOWNSHIP_OTHER_TOWNSHIP;
  * TOWNSHIP_REFUSED or TOWNSHIP_TRACT_REFUSED; TOWNSHIP_NO_ROOM. There are two exceptions: a function that explains
  * returns TOWNSHIP_NO_ROOM for a refused input if its buffer is too small for the text, and township_answer_many
- * checks its buffer first. TOWNSHIP_NO_MEMORY is returned only if the arguments are valid: instead of a refusal, of
- * TOWNSHIP_NO_ROOM, or of TOWNSHIP_ACCEPTED.
+ * checks its buffer first. TOWNSHIP_NO_MEMORY is returned only if the arguments are valid, in place of a refusal,
+ * TOWNSHIP_NO_ROOM, or TOWNSHIP_ACCEPTED.
  */
 
 /* Accounts: how whole lots count. */
@@ -155,8 +163,8 @@ typedef struct township_plat {
     uint8_t east_west;   /* TOWNSHIP_EAST or TOWNSHIP_WEST */
 } township_plat;
 
-/* An answer. Fields that do not apply to the verdict are 0; with TOWNSHIP_NO_ROOM, the other fields are as they would
-   be if there were enough room. */
+/* An answer. Fields that do not apply to the verdict are 0; with TOWNSHIP_NO_ROOM, the other fields are those of the
+   answer with a larger buffer. */
 typedef struct township_answer {
     uint32_t verdict;
     uint32_t number;       /* the refusal's number, such as TOWNSHIP_REFUSAL_LAND_OVERLAP */
@@ -182,7 +190,7 @@ typedef struct township_full_answer {
     township_answer acres;  /* the answer of township_acres */
     township_answer normal; /* the answer of township_normal, with a buffer of TOWNSHIP_TEXT_ROOM bytes */
     township_answer note;   /* if `acres` accepts the description, the answer of township_explain_description
-                               with no room: its verdict is TOWNSHIP_NO_ROOM if there is a note. Otherwise
+                               with an empty buffer: its verdict is TOWNSHIP_NO_ROOM if there is a note. Otherwise
                                the same answer as `acres` */
     uint8_t text[TOWNSHIP_TEXT_ROOM]; /* the canonical text */
 } township_full_answer;
@@ -393,6 +401,25 @@ typedef struct township_suggestion {
     uint64_t beyond_end;
 } township_suggestion;
 
+/* The two ways to read a phrase of a text without readings. */
+#define TOWNSHIP_WAYS_SECTION_OR_HALF 1u    /* `S2` before any other land: a section, or a half */
+#define TOWNSHIP_WAYS_LOT_OR_HALF 2u        /* `N2` after a lot: one more lot, or a half */
+#define TOWNSHIP_WAYS_QUARTER_OR_SECTION 3u /* `Se` at the end: a quarter, or a word for a section */
+#define TOWNSHIP_WAYS_NUMBER_OR_FIGURE 4u   /* the number of a section or a lot, or another figure, such as acreage */
+#define TOWNSHIP_WAYS_RANGE_OR_HALF 5u      /* a letter and a digit after a range: its side, or a half */
+#define TOWNSHIP_WAYS_PART_OR_SECTION 6u    /* a part with `thereof`: of the part before it, or of the section */
+
+/*
+ * Some bytes of a text without readings, from `start` to before `end`: unread words, which no phrase contains that
+ * could be in a reading; or, if `ways` is not 0, a phrase that can be read in two ways.
+ */
+typedef struct township_stretch {
+    uint64_t start;
+    uint64_t end;
+    uint32_t ways;     /* such as TOWNSHIP_WAYS_SECTION_OR_HALF, or 0 for unread words */
+    uint32_t reserved; /* 0 */
+} township_stretch;
+
 /* Makes a plat from field notes. On any verdict other than TOWNSHIP_ACCEPTED, `plat` is unchanged. */
 township_answer township_read(const uint8_t *notes, size_t notes_length, township_plat *plat);
 
@@ -424,7 +451,7 @@ township_answer township_report(const township_plat *plat, const uint8_t *list, 
  * Writes the figures that township_report prints: to `tracts` a tract for each record after the heading, in the
  * order of the list, and to `totals` the totals. `length` is the number of tracts; if `room`, the number of
  * elements of `tracts`, is smaller, the verdict is TOWNSHIP_NO_ROOM. On any verdict other than
- * TOWNSHIP_ACCEPTED, `tracts` and `totals` are unchanged. Room for TOWNSHIP_TRACTS_MOST tracts always suffices.
+ * TOWNSHIP_ACCEPTED, `tracts` and `totals` are unchanged. An array of TOWNSHIP_TRACTS_MOST tracts always suffices.
  */
 township_answer township_account(const township_plat *plat, const uint8_t *list, size_t list_length,
                                  township_tract *tracts, size_t room, township_totals *totals);
@@ -475,6 +502,18 @@ township_answer township_answer_many(const township_plat *plat, const uint8_t *d
                                      size_t descriptions_length, const size_t *offsets,
                                      size_t offsets_length, uint32_t account,
                                      township_full_answer *answers, size_t room);
+
+/*
+ * Writes to `township` the township that a text names: `T. 2 N., R. 3 W.` as in the heading of a description, `T2N R3W`,
+ * `T-2-N, R-3-W`, `Township 2 North, Range 3 West`, `2N-3W`, or `0020N 0030W` as in a register; docs/TOWNSHIPS.md
+ * lists all spellings. Any other text is refused, including one that names land, too. The place of the refusal is the
+ * byte at which the first word, number, or mark begins that no spelling has there, or the length of the text. On any
+ * verdict other than TOWNSHIP_ACCEPTED, `township` is unchanged.
+ */
+township_answer township_designation_read(const uint8_t *text, size_t text_length, township_designation *township);
+
+/* Writes the name of a township in the form `T. 2 N., R. 3 W.`, which township_designation_read reads. */
+township_answer township_designation_text(const township_designation *township, uint8_t *text, size_t room);
 
 /* Writes to `land` the land that a description names in a township. The description is refused exactly if it is
    refused on the plats of that township. On any verdict other than TOWNSHIP_ACCEPTED, `land` is unchanged. */
@@ -631,6 +670,15 @@ township_answer township_suggest(const uint8_t *description, size_t description_
                                  township_reading *readings, size_t readings_room, township_change *changes,
                                  size_t changes_room, uint8_t *bytes, size_t bytes_room,
                                  township_suggestion *suggestion);
+
+/*
+ * Says what of a text is unread, for a text without readings: writes to `unread` the runs of unread words, from left to
+ * right, and then at most 8 phrases that can be read in two ways. `length` is their number; if `room`, the number of
+ * elements of `unread`, is smaller, the verdict is TOWNSHIP_NO_ROOM. On any verdict other than TOWNSHIP_ACCEPTED,
+ * `unread` is unchanged.
+ */
+township_answer township_unread(const uint8_t *description, size_t description_length,
+                                township_stretch *unread, size_t room);
 
 /* Writes the version of this library, such as `1.0.0`. */
 township_answer township_version(uint8_t *text, size_t room);

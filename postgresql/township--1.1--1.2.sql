@@ -61,6 +61,16 @@ AS 'MODULE_PATHNAME', 'twpg_township_of_text' LANGUAGE C IMMUTABLE STRICT PARALL
 COMMENT ON FUNCTION township(text)
 IS 'the designation of the township of a description with a heading, or of field notes';
 
+CREATE FUNCTION designation(spelling text) RETURNS text
+AS 'MODULE_PATHNAME', 'twpg_designation' LANGUAGE C IMMUTABLE STRICT PARALLEL SAFE COST 20;
+COMMENT ON FUNCTION designation(text)
+IS 'the designation of a township in any spelling, such as T. 2 N., R. 3 W. of 2N-3W';
+
+CREATE FUNCTION designation_or_null(spelling text) RETURNS text
+AS 'MODULE_PATHNAME', 'twpg_designation_or_null' LANGUAGE C IMMUTABLE STRICT PARALLEL SAFE COST 20;
+COMMENT ON FUNCTION designation_or_null(text)
+IS 'the designation of a township in any spelling, or NULL if the text spells none';
+
 CREATE FUNCTION isempty(description text) RETURNS bool
 AS 'MODULE_PATHNAME', 'twpg_text_is_empty' LANGUAGE C IMMUTABLE STRICT PARALLEL SAFE COST 40;
 COMMENT ON FUNCTION isempty(text) IS 'whether a description with a heading is of no land at all';
@@ -159,3 +169,10 @@ CREATE OPERATOR CLASS lots_hash_ops DEFAULT FOR TYPE lots USING hash AS
     OPERATOR 1 =,
     FUNCTION 1 lots_hash(lots),
     FUNCTION 2 lots_hash_extended(lots, int8);
+
+-- Texts without a reading.
+
+CREATE FUNCTION unread(description text) RETURNS text[]
+AS 'MODULE_PATHNAME', 'twpg_unread' LANGUAGE C IMMUTABLE STRICT PARALLEL SAFE COST 1000;
+COMMENT ON FUNCTION unread(text)
+IS 'what of a text without readings is not understood, or can be read in two ways; empty if it has readings';

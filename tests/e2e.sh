@@ -21,6 +21,8 @@ if python=$(sh "$root/tools/python_with.sh" argparse); then
         begin "followed-$author" "$python" "$root/tests/descriptions/follow.py" "$program" "$rows"
     done
     begin mutated "$python" "$root/tests/descriptions/mutated.py" "$program" "$calls"
+    # What is said of those without a reading.
+    begin unread "$python" "$root/tests/descriptions/unread.py" "$calls"
 else
     skip 'the descriptions, since there is no Python here'
 fi

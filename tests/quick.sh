@@ -19,7 +19,8 @@ else
 fi
 if python=$(python_with pytest); then
     pytests "$python" tests/tools
+    pytests "$python" tests/lots
 else
-    skip 'the tests of the scripts: no Python with pytest'
+    skip 'the tests of the scripts and of the model of lot tables: no Python with pytest'
 fi
 ended

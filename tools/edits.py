@@ -3,8 +3,10 @@
 
 The wrong bodies of a crate are edits in its folder must-fail, which every run of the tests tries, and in
 must-fail-release, which `make bugs` tries. An edit has a line `file:` and pairs of lines `old:` and `new:`. It fits if
-each old text is in its file exactly once; one that doesn't isn't tried any more. No two edits of a crate have the same name or the same text. Beside
-those for releases, the file let-through names those that no contract refuses, each with its reason.
+each old text is in its file exactly once; one that doesn't isn't tried any more. Its name begins with the module of a
+file that it changes: `heading_` or `usual_heading_` for src/usual/heading.rt. No two edits of a crate have the same
+name or the same text. Beside those for releases, the file let-through names those that no contract refuses, each with
+its reason.
 
 tests/named-wrong-bodies.tsv lists the wrong bodies that the proofs must refuse in any case: what each does, and its
 edits, which must be in must-fail, or the tests that refuse it, each as a file and a text that is in it.
@@ -52,6 +54,12 @@ def misfit(text, crate):
     return None if changed else "it changes nothing"
 
 
+def has_modules_name(stem, text):
+    """Whether the name of an edit begins with the module of a file that it changes, with or without its folders."""
+    modules = [Path(it.strip()).with_suffix("").parts[1:] for it in re.findall(r"(?m)^file: (.*)$", text)]
+    return any(stem.startswith("_".join(it[at:]) + "_") for it in modules for at in range(len(it)))
+
+
 def misfits(root):
     """What is wrong with the edits of all crates."""
     seen = {}
@@ -64,6 +72,8 @@ def misfits(root):
                 same = {seen.setdefault((crate, it), name) for it in (text, file.name)} - {name}
                 if why := misfit(text, crate) or (same and f"its name or its text is that of {same.pop()}, too"):
                     yield f"{name}: {why}"
+                elif not has_modules_name(file.stem, text):
+                    yield f"{name}: its name doesn't begin with the module of a file that it changes"
             elif not re.fullmatch(BESIDE[folder.name], file.name):
                 yield f"{name}: an edit has a name of letters, digits, `_`, `-`, and `.`, which ends in .edit"
             elif file.name == LIST:

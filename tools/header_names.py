@@ -1,7 +1,7 @@
 #!/usr/bin/env python3
 """Writes the constants of include/township.h that repeat what is said elsewhere.
 
-The names of the refusals are those of the tables in docs/REFUSALS.md and docs/LOTS-FORMAT.md, which
+The names of the refusals are those of the tables in docs/REFUSALS.md, docs/TOWNSHIPS.md, and docs/LOTS-FORMAT.md, which
 tests/documents/documents.sh compares with the code, and the version is that of the library. With --check, nothing is written: the status is 1 if the header
 differs, or the version of a package in bindings/.
 """
@@ -16,6 +16,7 @@ TOP = Path(__file__).resolve().parents[1]
 HEADER = TOP / "include" / "township.h"
 REFUSALS = TOP / "docs" / "REFUSALS.md"
 LOTS = TOP / "docs" / "LOTS-FORMAT.md"
+TOWNSHIPS = TOP / "docs" / "TOWNSHIPS.md"
 VERSION = TOP / "crates" / "twp_calls" / "src" / "version.rt"
 
 #: The packages' own statements of their version.
@@ -38,7 +39,8 @@ class Group(NamedTuple):
 
 GROUPS = (
     Group(range(1, 20), "NOTES_", "Field notes"),
-    Group(range(20, 40), "PLAT_", "The plat that field notes make"),
+    Group(range(20, 30), "PLAT_", "The plat that field notes make"),
+    Group(range(30, 40), "DESIGNATION_", "The name of a township"),
     Group(range(40, 60), "TEXT_", "The text of a description"),
     Group(range(60, 80), "LAND_", "The land that a description names"),
     Group(range(80, 86), "", "A list of tracts"),
@@ -83,9 +85,10 @@ def version_lines(version: str) -> Iterator[str]:
 def refusal_lines() -> Iterator[str]:
     """Yield a constant for each refusal, by groups."""
     rows = re.findall(r"^\| (\d+) \| ([A-Z][A-Za-z]*) \|", REFUSALS.read_text(), re.MULTILINE)
-    rows += re.findall(r"^\| (\d+) `([A-Z][A-Za-z]*)` \|", LOTS.read_text(), re.MULTILINE)
+    for page in (TOWNSHIPS, LOTS):
+        rows += re.findall(r"^\| (\d+) `([A-Z][A-Za-z]*)` \|", page.read_text(), re.MULTILINE)
     refusals = {int(number): name for number, name in rows}
-    yield "/* The numbers of refusals, which docs/REFUSALS.md and docs/LOTS-FORMAT.md explain. */"
+    yield "/* The numbers of refusals, which docs/REFUSALS.md, docs/TOWNSHIPS.md, and docs/LOTS-FORMAT.md explain. */"
     for group in GROUPS:
         yield f"/* {group.subject}: */"
         for number in sorted(set(group.numbers) & set(refusals)):

@@ -71,6 +71,7 @@ FOOT = r"""
 In the Debian package township-doc, the pages
 .Pa docs/BATCH.md ,
 .Pa docs/DESCRIPTIONS.md ,
+.Pa docs/GIS.md ,
 .Pa docs/HTTP.md ,
 .Pa docs/LOTS-FORMAT.md ,
 .Pa docs/NOTES-FORMAT.md ,
@@ -168,6 +169,16 @@ def command(name: str, parser: argparse.ArgumentParser) -> Iterator[str]:
     yield from body(parser.epilog or "")
 
 
+def commands(name: str, parser: argparse.ArgumentParser) -> Iterator[str]:
+    """The section of a command, or those of the commands that it has."""
+    for action in parser._actions:
+        if isinstance(action, argparse._SubParsersAction):
+            for second, subparser in action.choices.items():
+                yield from command(f"{name} {second}", subparser)
+            return
+    yield from command(name, parser)
+
+
 def page() -> str:
     """The whole page."""
     from township import _command
@@ -179,7 +190,7 @@ def page() -> str:
         lines += [f".It Cm {each.dest}", *sentences(f"{capital(each.help or '')}.")]
     lines += [".El", MIDDLE]
     for name, subparser in chosen.choices.items():
-        lines += command(name, subparser)
+        lines += commands(name, subparser)
     return "\n".join([*lines, FOOT, ""])
 
 

@@ -27,6 +27,13 @@ FROM plats WHERE name = 'uneven';
 SELECT number, at, message FROM refusal(:'heading', 'sec. 5, lot 5.');
 SELECT number FROM refusal(:'heading', 'sec. 5, lot 4.');
 
+-- Each spelling of a township, and texts that are none.
+SELECT designation(spelling), land(spelling, 'sec. 14.') = land('T. 2 N., R. 3 W.', 'sec. 14.') AS the_same
+FROM (VALUES ('T2N R3W'), ('2N-3W'), ('0020N 0030W'), ('Township Two North, Range Three West')) AS t(spelling);
+SELECT designation('T. 0020 N., R. 0030 W.');
+SELECT designation_or_null('T. 2 N., R. 3 W., sec. 14') IS NULL AS land_too, designation_or_null('2N') IS NULL AS half,
+       designation_or_null('0022N 0030W') IS NULL AS half_township, designation_or_null('2N-3W');
+
 -- A description with a heading of its own, and a township that is none: NULL, or a record, in place of an error.
 SELECT id, given, land_or_null(given) AS land, refused.number, refused.at, refused.message
 FROM (VALUES (1, 'T. 2 N., R. 3 W., sec. 14, N1/2.'), (2, 'T. 2 N., R. 3 W., sec. 5, N1/2.'), (3, 'sec. 14.'),

@@ -77,3 +77,8 @@ SELECT count(DISTINCT id) AS texts, count(reading) > 200 AS some_readings, count
        count(*) FILTER (WHERE acres IS DISTINCT FROM acres_or_null(plat, reading)) AS other_acres,
        count(*) FILTER (WHERE refused.number < 61) AS unreadable
 FROM pieces, plats, suggest(plat, text), refusal(plat, reading) AS refused WHERE name = 'even';
+
+-- What is unread of a text without readings: runs of words on one line, and phrases that can be read in two ways.
+SELECT unnest(unread(E'½ bläh\nblip Sec. 14 blop')) AS unread;
+SELECT unnest(unread('S2, 12, T2N R3W')) AS unread;
+SELECT unread('NENE Sec 14') = '{}' AS nothing, unread('') = '{}' AS empty, unread(NULL) IS NULL AS none;

@@ -107,24 +107,59 @@ bool twpg_read_heading(twpg_bytes given, township_designation *township, size_t 
     return found == TWPG_HEADING;
 }
 
-/* Finds the township that a text names, which contains nothing but a heading. Returns whether there is one. */
+/* Finds the township that a text spells. Returns whether there is one. */
 bool twpg_find_township(const text *given, township_designation *township) {
     twpg_bytes bytes = twpg_bytes_of_text(given);
-    size_t end;
 
-    return twpg_find_heading(bytes, township, &end) == TWPG_HEADING && end == bytes.length;
+    return township_designation_read(bytes.start, bytes.length, township).verdict == TOWNSHIP_ACCEPTED;
 }
 
-/* The same, but a text that names none is an error. */
+/* What is expected at the place of a refusal, by its number. */
+static const char *const expected_there[] = {
+    "expected the township number, 1 to 99", "expected N or S", "expected the range, as in R. 3 W.", "expected E or W",
+    "expected nothing after the township", "the text exceeds 65,536 bytes",
+};
+
+/* The same, but a text that spells none is an error. */
 township_designation twpg_township_of(const text *given) {
     twpg_bytes bytes = twpg_bytes_of_text(given);
     township_designation township;
-    size_t end;
+    township_answer answer = township_designation_read(bytes.start, bytes.length, &township);
+    twpg_explanation explained = {0, 0, "this is no township", NULL, "Write it as in T. 2 N., R. 3 W."};
+    uint32_t index = answer.number - TOWNSHIP_REFUSAL_DESIGNATION_NUMBER;
 
-    if (!twpg_read_heading(bytes, &township, &end) || end != bytes.length) {
-        ereport(ERROR, (errcode(ERRCODE_INVALID_PARAMETER_VALUE),
-                        errmsg("this is no township: \"%s\"", text_to_cstring(given)),
-                        errhint("Write it as in the heading of a description: T. 2 N., R. 3 W.")));
+    if (answer.verdict == TOWNSHIP_REFUSED) {
+        if (index < lengthof(expected_there)) {
+            explained.sentence = psprintf("this is no township: %s", expected_there[index]);
+        }
+        twpg_refuse(answer, &explained);
+    }
+    if (answer.verdict != TOWNSHIP_ACCEPTED) {
+        twpg_fail(answer.verdict);
     }
     return township;
+}
+
+static Datum designation_datum(const township_designation *township) {
+    PG_RETURN_TEXT_P(cstring_to_text(twpg_township_text(township->number, township->north_south, township->range,
+                                                        township->east_west)));
+}
+
+/* The designation of the township that a text spells. */
+PG_FUNCTION_INFO_V1(twpg_designation);
+Datum twpg_designation(PG_FUNCTION_ARGS) {
+    township_designation township = twpg_township_of(PG_GETARG_TEXT_PP(0));
+
+    return designation_datum(&township);
+}
+
+/* The same, or NULL if it spells none. */
+PG_FUNCTION_INFO_V1(twpg_designation_or_null);
+Datum twpg_designation_or_null(PG_FUNCTION_ARGS) {
+    township_designation township;
+
+    if (!twpg_find_township(PG_GETARG_TEXT_PP(0), &township)) {
+        PG_RETURN_NULL();
+    }
+    return designation_datum(&township);
 }

@@ -86,53 +86,22 @@ static Datum area(FunctionCallInfo fcinfo, const twpg_measured *measured) {
     return twpg_area_datum(fcinfo, &found);
 }
 
-PG_FUNCTION_INFO_V1(twpg_acres_of_land);
-Datum twpg_acres_of_land(PG_FUNCTION_ARGS) {
-    twpg_measured measured;
+/* A function of land for SQL: how it gets its arguments, and its value for them. */
+#define OF_LAND(name, get, value)                                                                                     \
+    PG_FUNCTION_INFO_V1(name);                                                                                        \
+    Datum name(PG_FUNCTION_ARGS) {                                                                                    \
+        twpg_measured measured;                                                                                       \
+                                                                                                                      \
+        get(fcinfo, &measured);                                                                                       \
+        return value;                                                                                                 \
+    }
 
-    get_on_plat(fcinfo, &measured);
-    return acres(&measured);
-}
-
-PG_FUNCTION_INFO_V1(twpg_acres_of_land_or_null);
-Datum twpg_acres_of_land_or_null(PG_FUNCTION_ARGS) {
-    twpg_measured measured;
-
-    get_on_plat(fcinfo, &measured);
-    return acres_or_null(fcinfo, &measured);
-}
-
-PG_FUNCTION_INFO_V1(twpg_area_of_land);
-Datum twpg_area_of_land(PG_FUNCTION_ARGS) {
-    twpg_measured measured;
-
-    get_on_plat(fcinfo, &measured);
-    return area(fcinfo, &measured);
-}
-
-PG_FUNCTION_INFO_V1(twpg_acres_of_land_by_lots);
-Datum twpg_acres_of_land_by_lots(PG_FUNCTION_ARGS) {
-    twpg_measured measured;
-
-    get_by_lots(fcinfo, &measured);
-    return acres(&measured);
-}
-
-PG_FUNCTION_INFO_V1(twpg_acres_of_land_by_lots_or_null);
-Datum twpg_acres_of_land_by_lots_or_null(PG_FUNCTION_ARGS) {
-    twpg_measured measured;
-
-    get_by_lots(fcinfo, &measured);
-    return acres_or_null(fcinfo, &measured);
-}
-
-PG_FUNCTION_INFO_V1(twpg_area_of_land_by_lots);
-Datum twpg_area_of_land_by_lots(PG_FUNCTION_ARGS) {
-    twpg_measured measured;
-
-    get_by_lots(fcinfo, &measured);
-    return area(fcinfo, &measured);
-}
+OF_LAND(twpg_acres_of_land, get_on_plat, acres(&measured))
+OF_LAND(twpg_acres_of_land_or_null, get_on_plat, acres_or_null(fcinfo, &measured))
+OF_LAND(twpg_area_of_land, get_on_plat, area(fcinfo, &measured))
+OF_LAND(twpg_acres_of_land_by_lots, get_by_lots, acres(&measured))
+OF_LAND(twpg_acres_of_land_by_lots_or_null, get_by_lots, acres_or_null(fcinfo, &measured))
+OF_LAND(twpg_area_of_land_by_lots, get_by_lots, area(fcinfo, &measured))
 
 /* Why a lot table gives no acres, or NULL. A table of another township has a number, but no place. */
 PG_FUNCTION_INFO_V1(twpg_refusal_of_land_by_lots);

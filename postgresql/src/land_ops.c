@@ -136,40 +136,7 @@ static int compare(FunctionCallInfo fcinfo) {
     return order;
 }
 
-PG_FUNCTION_INFO_V1(twpg_land_cmp);
-Datum twpg_land_cmp(PG_FUNCTION_ARGS) {
-    PG_RETURN_INT32(compare(fcinfo));
-}
-
-PG_FUNCTION_INFO_V1(twpg_land_eq);
-Datum twpg_land_eq(PG_FUNCTION_ARGS) {
-    PG_RETURN_BOOL(compare(fcinfo) == 0);
-}
-
-PG_FUNCTION_INFO_V1(twpg_land_ne);
-Datum twpg_land_ne(PG_FUNCTION_ARGS) {
-    PG_RETURN_BOOL(compare(fcinfo) != 0);
-}
-
-PG_FUNCTION_INFO_V1(twpg_land_lt);
-Datum twpg_land_lt(PG_FUNCTION_ARGS) {
-    PG_RETURN_BOOL(compare(fcinfo) < 0);
-}
-
-PG_FUNCTION_INFO_V1(twpg_land_le);
-Datum twpg_land_le(PG_FUNCTION_ARGS) {
-    PG_RETURN_BOOL(compare(fcinfo) <= 0);
-}
-
-PG_FUNCTION_INFO_V1(twpg_land_gt);
-Datum twpg_land_gt(PG_FUNCTION_ARGS) {
-    PG_RETURN_BOOL(compare(fcinfo) > 0);
-}
-
-PG_FUNCTION_INFO_V1(twpg_land_ge);
-Datum twpg_land_ge(PG_FUNCTION_ARGS) {
-    PG_RETURN_BOOL(compare(fcinfo) >= 0);
-}
+TWPG_COMPARISONS(twpg_land)
 
 PG_FUNCTION_INFO_V1(twpg_land_smaller);
 Datum twpg_land_smaller(PG_FUNCTION_ARGS) {

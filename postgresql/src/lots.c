@@ -129,40 +129,7 @@ static int compare(FunctionCallInfo fcinfo) {
     return order;
 }
 
-PG_FUNCTION_INFO_V1(twpg_lots_cmp);
-Datum twpg_lots_cmp(PG_FUNCTION_ARGS) {
-    PG_RETURN_INT32(compare(fcinfo));
-}
-
-PG_FUNCTION_INFO_V1(twpg_lots_eq);
-Datum twpg_lots_eq(PG_FUNCTION_ARGS) {
-    PG_RETURN_BOOL(compare(fcinfo) == 0);
-}
-
-PG_FUNCTION_INFO_V1(twpg_lots_ne);
-Datum twpg_lots_ne(PG_FUNCTION_ARGS) {
-    PG_RETURN_BOOL(compare(fcinfo) != 0);
-}
-
-PG_FUNCTION_INFO_V1(twpg_lots_lt);
-Datum twpg_lots_lt(PG_FUNCTION_ARGS) {
-    PG_RETURN_BOOL(compare(fcinfo) < 0);
-}
-
-PG_FUNCTION_INFO_V1(twpg_lots_le);
-Datum twpg_lots_le(PG_FUNCTION_ARGS) {
-    PG_RETURN_BOOL(compare(fcinfo) <= 0);
-}
-
-PG_FUNCTION_INFO_V1(twpg_lots_gt);
-Datum twpg_lots_gt(PG_FUNCTION_ARGS) {
-    PG_RETURN_BOOL(compare(fcinfo) > 0);
-}
-
-PG_FUNCTION_INFO_V1(twpg_lots_ge);
-Datum twpg_lots_ge(PG_FUNCTION_ARGS) {
-    PG_RETURN_BOOL(compare(fcinfo) >= 0);
-}
+TWPG_COMPARISONS(twpg_lots)
 
 PG_FUNCTION_INFO_V1(twpg_lots_hash);
 Datum twpg_lots_hash(PG_FUNCTION_ARGS) {

@@ -22,41 +22,21 @@ static void read_first(FunctionCallInfo fcinfo, PGFunction input) {
     fcinfo->args[0].value = DirectFunctionCall1(input, CStringGetDatum(text_to_cstring(PG_GETARG_TEXT_PP(0))));
 }
 
-PG_FUNCTION_INFO_V1(twpg_acres_by_notes);
-Datum twpg_acres_by_notes(PG_FUNCTION_ARGS) {
-    read_first(fcinfo, twpg_plat_in);
-    return twpg_acres(fcinfo);
-}
+/* A function of a text, which is read as the text of a type, and then given to the function of that type. */
+#define OF_TEXT(name, input, function)                                                                                \
+    PG_FUNCTION_INFO_V1(name);                                                                                        \
+    Datum name(PG_FUNCTION_ARGS) {                                                                                    \
+        read_first(fcinfo, input);                                                                                    \
+        return function(fcinfo);                                                                                      \
+    }
 
-PG_FUNCTION_INFO_V1(twpg_acres_by_notes_or_null);
-Datum twpg_acres_by_notes_or_null(PG_FUNCTION_ARGS) {
-    read_first(fcinfo, twpg_plat_in);
-    return twpg_acres_or_null(fcinfo);
-}
-
-PG_FUNCTION_INFO_V1(twpg_area_by_notes);
-Datum twpg_area_by_notes(PG_FUNCTION_ARGS) {
-    read_first(fcinfo, twpg_plat_in);
-    return twpg_area(fcinfo);
-}
-
-PG_FUNCTION_INFO_V1(twpg_acres_of_land_by_notes);
-Datum twpg_acres_of_land_by_notes(PG_FUNCTION_ARGS) {
-    read_first(fcinfo, twpg_plat_in);
-    return twpg_acres_of_land(fcinfo);
-}
-
-PG_FUNCTION_INFO_V1(twpg_acres_of_land_by_notes_or_null);
-Datum twpg_acres_of_land_by_notes_or_null(PG_FUNCTION_ARGS) {
-    read_first(fcinfo, twpg_plat_in);
-    return twpg_acres_of_land_or_null(fcinfo);
-}
-
-PG_FUNCTION_INFO_V1(twpg_area_of_land_by_notes);
-Datum twpg_area_of_land_by_notes(PG_FUNCTION_ARGS) {
-    read_first(fcinfo, twpg_plat_in);
-    return twpg_area_of_land(fcinfo);
-}
+OF_TEXT(twpg_acres_by_notes, twpg_plat_in, twpg_acres)
+OF_TEXT(twpg_acres_by_notes_or_null, twpg_plat_in, twpg_acres_or_null)
+OF_TEXT(twpg_area_by_notes, twpg_plat_in, twpg_area)
+OF_TEXT(twpg_acres_of_land_by_notes, twpg_plat_in, twpg_acres_of_land)
+OF_TEXT(twpg_acres_of_land_by_notes_or_null, twpg_plat_in, twpg_acres_of_land_or_null)
+OF_TEXT(twpg_area_of_land_by_notes, twpg_plat_in, twpg_area_of_land)
+OF_TEXT(twpg_text_is_empty, twpg_land_in, twpg_land_is_empty)
 
 /* The township of a description with a heading of its own, or else of field notes. */
 PG_FUNCTION_INFO_V1(twpg_township_of_text);
@@ -70,10 +50,4 @@ Datum twpg_township_of_text(PG_FUNCTION_ARGS) {
     }
     read_first(fcinfo, twpg_land_in);
     return twpg_land_township(fcinfo);
-}
-
-PG_FUNCTION_INFO_V1(twpg_text_is_empty);
-Datum twpg_text_is_empty(PG_FUNCTION_ARGS) {
-    read_first(fcinfo, twpg_land_in);
-    return twpg_land_is_empty(fcinfo);
 }

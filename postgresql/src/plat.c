@@ -135,40 +135,7 @@ static int compare(FunctionCallInfo fcinfo) {
     return order;
 }
 
-PG_FUNCTION_INFO_V1(twpg_plat_cmp);
-Datum twpg_plat_cmp(PG_FUNCTION_ARGS) {
-    PG_RETURN_INT32(compare(fcinfo));
-}
-
-PG_FUNCTION_INFO_V1(twpg_plat_eq);
-Datum twpg_plat_eq(PG_FUNCTION_ARGS) {
-    PG_RETURN_BOOL(compare(fcinfo) == 0);
-}
-
-PG_FUNCTION_INFO_V1(twpg_plat_ne);
-Datum twpg_plat_ne(PG_FUNCTION_ARGS) {
-    PG_RETURN_BOOL(compare(fcinfo) != 0);
-}
-
-PG_FUNCTION_INFO_V1(twpg_plat_lt);
-Datum twpg_plat_lt(PG_FUNCTION_ARGS) {
-    PG_RETURN_BOOL(compare(fcinfo) < 0);
-}
-
-PG_FUNCTION_INFO_V1(twpg_plat_le);
-Datum twpg_plat_le(PG_FUNCTION_ARGS) {
-    PG_RETURN_BOOL(compare(fcinfo) <= 0);
-}
-
-PG_FUNCTION_INFO_V1(twpg_plat_gt);
-Datum twpg_plat_gt(PG_FUNCTION_ARGS) {
-    PG_RETURN_BOOL(compare(fcinfo) > 0);
-}
-
-PG_FUNCTION_INFO_V1(twpg_plat_ge);
-Datum twpg_plat_ge(PG_FUNCTION_ARGS) {
-    PG_RETURN_BOOL(compare(fcinfo) >= 0);
-}
+TWPG_COMPARISONS(twpg_plat)
 
 PG_FUNCTION_INFO_V1(twpg_plat_hash);
 Datum twpg_plat_hash(PG_FUNCTION_ARGS) {

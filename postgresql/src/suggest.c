@@ -1,6 +1,7 @@
 /*
  * The function suggest: how a text, as people write it, would be written as a description. It returns a row for each of
- * the text's readings. A text that has none has one row without a reading, so that a join with it keeps every text.
+ * the text's readings. A text that has none has one row without a reading, so that a join with it keeps every text. And
+ * the function unread: what of a text without readings is not understood, or can be read in two ways.
  */
 #include "twpg.h"
 
@@ -13,6 +14,9 @@
 /* The room for the changes and the texts of nearly all readings. */
 #define USUAL_CHANGES 64
 #define USUAL_BYTES 4096
+
+/* The room for what is unread of nearly all texts. */
+#define USUAL_UNREAD 64
 
 /* A text, the plat that its readings are on, or NULL, and what the library suggests. */
 typedef struct twpg_suggested {
@@ -44,6 +48,19 @@ static const struct {
     {TOWNSHIP_ASSUMES_SAID_BEFORE, "this repeats what is before it"},
     {TOWNSHIP_ASSUMES_WRONG_LETTER, "a letter or digit is wrong"},
     {TOWNSHIP_ASSUMES_NO_MISSING_COMMA, "no comma is missing"},
+};
+
+/* The two ways to read a phrase. The words are those of the package for Python. */
+static const struct {
+    uint32_t ways;
+    const char *words;
+} two_ways[] = {
+    {TOWNSHIP_WAYS_SECTION_OR_HALF, "a section, or a half"},
+    {TOWNSHIP_WAYS_LOT_OR_HALF, "one more lot, or a half"},
+    {TOWNSHIP_WAYS_QUARTER_OR_SECTION, "a quarter, or a word for a section"},
+    {TOWNSHIP_WAYS_NUMBER_OR_FIGURE, "the number of a section or a lot, or another figure"},
+    {TOWNSHIP_WAYS_RANGE_OR_HALF, "the side of a range, or a half"},
+    {TOWNSHIP_WAYS_PART_OR_SECTION, "of the part before it, or of the section"},
 };
 
 /* A phrase of a text: the bytes from `start` to before `end`. */
@@ -288,4 +305,52 @@ Datum twpg_suggest_on_plat(PG_FUNCTION_ARGS) {
     };
 
     return suggested_rows(fcinfo, &suggested);
+}
+
+/* What is said of some bytes of a text that are unread. */
+static char *unread_by(const township_stretch *stretch, twpg_bytes text) {
+    StringInfoData said;
+    size_t index;
+
+    initStringInfo(&said);
+    appendStringInfoString(&said, stretch->ways == 0 ? "not understood: `" : "`");
+    append_line(&said, text.start + stretch->start, text.start + stretch->end);
+    appendStringInfoChar(&said, '`');
+    for (index = 0; index < lengthof(two_ways); index++) {
+        if (two_ways[index].ways == stretch->ways) {
+            appendStringInfo(&said, " can be read in two ways: %s", two_ways[index].words);
+        }
+    }
+    return said.data;
+}
+
+static township_answer unread_in(twpg_bytes text, township_stretch **unread, size_t room) {
+    *unread = palloc(room * sizeof **unread);
+    return township_unread(text.start, text.length, *unread, room);
+}
+
+PG_FUNCTION_INFO_V1(twpg_unread);
+Datum twpg_unread(PG_FUNCTION_ARGS) {
+    twpg_suggested suggested = {.text = twpg_bytes_of_text(PG_GETARG_TEXT_PP(0))};
+    township_stretch *unread;
+    township_answer answer;
+    Datum *said;
+    uint64_t index;
+
+    suggest(&suggested);
+    if (suggested.sizes.readings != 0) {
+        PG_RETURN_ARRAYTYPE_P(construct_empty_array(TEXTOID));
+    }
+    answer = unread_in(suggested.text, &unread, USUAL_UNREAD);
+    if (answer.verdict == TOWNSHIP_NO_ROOM) {
+        answer = unread_in(suggested.text, &unread, (size_t)answer.length);
+    }
+    if (answer.verdict != TOWNSHIP_ACCEPTED) {
+        twpg_fail(answer.verdict);
+    }
+    said = palloc((size_t)(answer.length + 1) * sizeof *said);
+    for (index = 0; index < answer.length; index++) {
+        said[index] = CStringGetTextDatum(twpg_from_utf8(unread_by(&unread[index], suggested.text)));
+    }
+    PG_RETURN_ARRAYTYPE_P(construct_array(said, (int)answer.length, TEXTOID, -1, false, TYPALIGN_INT));
 }

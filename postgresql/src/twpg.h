@@ -29,6 +29,23 @@
 /* The number of what is in two different townships, which is no refusal of a text. The library has a verdict for it. */
 #define TWPG_OTHER_TOWNSHIP 100u
 
+/* A function for SQL that returns a value. */
+#define TWPG_RETURNS(name, value)                                                                                     \
+    PG_FUNCTION_INFO_V1(name);                                                                                        \
+    Datum name(PG_FUNCTION_ARGS) {                                                                                    \
+        return value;                                                                                                 \
+    }
+
+/* The functions TYPE_cmp, TYPE_eq, and so on, for SQL, over the file's function `compare`. */
+#define TWPG_COMPARISONS(type)                                                                                        \
+    TWPG_RETURNS(type##_cmp, Int32GetDatum(compare(fcinfo)))                                                          \
+    TWPG_RETURNS(type##_eq, BoolGetDatum(compare(fcinfo) == 0))                                                       \
+    TWPG_RETURNS(type##_ne, BoolGetDatum(compare(fcinfo) != 0))                                                       \
+    TWPG_RETURNS(type##_lt, BoolGetDatum(compare(fcinfo) < 0))                                                        \
+    TWPG_RETURNS(type##_le, BoolGetDatum(compare(fcinfo) <= 0))                                                       \
+    TWPG_RETURNS(type##_gt, BoolGetDatum(compare(fcinfo) > 0))                                                        \
+    TWPG_RETURNS(type##_ge, BoolGetDatum(compare(fcinfo) >= 0))
+
 /* Bytes that the library reads: a description or a table, in UTF-8. */
 typedef struct twpg_bytes {
     const uint8_t *start;

@@ -13,6 +13,8 @@ import sys
 from pathlib import Path
 from typing import Dict, Set
 
+from comparisons import ended, same
+
 #: What each package depends on. One of ours has to have the same version.
 NEEDED: Dict[str, Set[str]] = {
     "township": {"libc6", "sse4.2-support", "township-doc"},
@@ -22,17 +24,6 @@ NEEDED: Dict[str, Set[str]] = {
     "python3-township": {"libtownship1", "python3", "township-doc"},
 }
 SERVER = re.compile(r"postgresql-(\d+)-township")
-passed = failed = 0
-
-
-def same(what: str, wanted: object, found: object) -> None:
-    """Count a comparison."""
-    global passed, failed
-    if wanted == found:
-        passed += 1
-    else:
-        failed += 1
-        print(f"FAILED: {what}: wanted {wanted}, found {found}")
 
 
 def needed_by(name: str) -> Set[str]:
@@ -57,5 +48,4 @@ for package in sorted(folder.glob("*.deb")):
     scripts = {file.name for file in (package / "DEBIAN").iterdir()} - {"control", "md5sums", "shlibs", "symbols", "triggers"}
     # Those of debhelper for compiled Python and for the service, which is not enabled.
     same(f"the scripts of {name}", {"postinst", "postrm", "prerm"} if name == "python3-township" else set(), scripts)
-print(f"{passed} passed, {failed} failed")
-sys.exit(1 if failed else 0)
+ended()

@@ -13,19 +13,10 @@ import json
 import sys
 from pathlib import Path
 
+from comparisons import ended, same
+
 #: These are made after the bill, or are the bill.
 NOT_LISTED = (".spdx.json", "BUILDINFO", "SHA256SUMS")
-passed = failed = 0
-
-
-def same(what: str, wanted: object, found: object) -> None:
-    """Count a comparison."""
-    global passed, failed
-    if wanted == found:
-        passed += 1
-    else:
-        failed += 1
-        print(f"FAILED: {what}: wanted {wanted}, found {found}")
 
 
 folder, notices = map(Path, sys.argv[1:])
@@ -54,5 +45,4 @@ identifiers = [entry["SPDXID"] for entry in [document, *document["packages"], *d
 same("identifiers are unique", len(identifiers), len(set(identifiers)))
 ends = {each[end] for each in document["relationships"] for end in ("spdxElementId", "relatedSpdxElement")}
 same("relationships are between what is listed", set(), ends - set(identifiers))
-print(f"{passed} passed, {failed} failed")
-sys.exit(1 if failed else 0)
+ended()

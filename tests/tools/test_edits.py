@@ -56,31 +56,39 @@ class Edits(unittest.TestCase):
 
     def test_both_folders_are_looked_at(self):
         fits, gone = [f"file: src/lib.rt\nold: fn {it}\nnew: fn one\n" for it in ("least", "none")]
-        self.write("crates/low/must-fail/a.edit", fits)
-        self.write("crates/low/must-fail-release/b.edit", fits.replace("one", "two"))
-        self.write("crates/low/must-fail-release/let-through", "b: a reason\n")
+        self.write("crates/low/must-fail/lib_a.edit", fits)
+        self.write("crates/low/must-fail-release/lib_b.edit", fits.replace("one", "two"))
+        self.write("crates/low/must-fail-release/let-through", "lib_b: a reason\n")
         self.assertEqual(list(misfits(self.root)), [])
-        for name in ("must-fail/c.edit", "must-fail-release/c.edit", "must-fail/c.edit.old", "must-fail/let-through"):
+        for name in ("must-fail/lib_c.edit", "must-fail-release/lib_c.edit", "must-fail/c.edit.old", "must-fail/let-through"):
             self.write(f"crates/low/{name}", gone)
             self.assertEqual([it.partition(":")[0] for it in misfits(self.root)], [f"low/{name}"])
             (self.root / "crates/low" / name).unlink()
 
     def test_the_list_of_those_that_no_contract_refuses(self):
-        self.write("crates/low/must-fail-release/a.edit", "file: src/lib.rt\nold: fn least\nnew: fn one\n")
-        for text, count in (("a: a reason\n", 0), ("a:  \n", 1), ("a\n", 1), ("b: a reason\n", 1)):
+        self.write("crates/low/must-fail-release/lib_a.edit", "file: src/lib.rt\nold: fn least\nnew: fn one\n")
+        for text, count in (("lib_a: a reason\n", 0), ("lib_a:  \n", 1), ("lib_a\n", 1), ("lib_b: a reason\n", 1)):
             self.write("crates/low/must-fail-release/let-through", text)
             self.assertEqual(len(list(misfits(self.root))), count, text)
 
     def test_no_edit_is_there_twice(self):
         fits = "file: src/lib.rt\nold: fn least\nnew: fn one\n"
-        for name, text in (("a", fits), ("b", fits.replace("one", "two"))):
-            self.write("crates/low/must-fail/a.edit", fits)
+        for name, text in (("lib_a", fits), ("lib_b", fits.replace("one", "two"))):
+            self.write("crates/low/must-fail/lib_a.edit", fits)
             self.write(f"crates/low/must-fail-release/{name}.edit", text)
         self.assertEqual(len(list(misfits(self.root))), 1)
-        (self.root / "crates/low/must-fail-release/a.edit").unlink()
+        (self.root / "crates/low/must-fail-release/lib_a.edit").unlink()
         self.assertEqual(list(misfits(self.root)), [])
-        self.write("crates/low/must-fail-release/b.edit", fits)
+        self.write("crates/low/must-fail-release/lib_b.edit", fits)
         self.assertEqual(len(list(misfits(self.root))), 1)
+
+    def test_an_edit_is_named_after_its_module(self):
+        self.write("crates/low/src/usual/part.rt", SOURCE)
+        for name, count in (("part_a", 0), ("usual_part_a", 0), ("part", 1), ("partly_a", 1), ("usual_a", 1)):
+            text = "file: src/usual/part.rt\nold: fn least\nnew: fn one\n"
+            self.write(f"crates/low/must-fail/{name}.edit", text)
+            self.assertEqual(len(list(misfits(self.root))), count, name)
+            (self.root / f"crates/low/must-fail/{name}.edit").unlink()
 
     def test_the_list_of_named_wrong_bodies(self):
         self.write("crates/low/must-fail/a.edit", "")

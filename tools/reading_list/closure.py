@@ -6,7 +6,6 @@ entry too many, but none too few. A name that nothing defines, imports, or binds
 
 import re
 from functools import lru_cache
-from pathlib import Path
 from typing import NamedTuple
 
 # A definition with its comment, which is a paragraph of its file; and what else a paragraph can be.

@@ -6,6 +6,7 @@
 - The functions of include/township.h, with the lists and the tests that have to name each of them.
 - The words of hints, with those of tests/program/hints.toml, which the rows of the tests name.
 - The numbers of the rules of readings, with those of the header and of the bindings, and the words for what they assume.
+- The two ways to read a phrase of a text without readings, by their numbers and in words, likewise.
 - The limits of the definitions, with those of the code, of the header, and of sentences; and likewise the lengths that
   half miles may have.
 - The numbers of refusals in docs/REFUSALS.md, with the ranges of numbers that sentences give.
@@ -23,11 +24,12 @@ import lengths
 import limits
 import ranges
 import rules
+import ways
 
 
 def main() -> int:
     differences: List[str] = []
-    for module in (calls, rules, hints, limits, lengths, ranges):
+    for module in (calls, rules, ways, hints, limits, lengths, ranges):
         compared, found = module.compare()
         differences += found
         print(f"{compared} {module.WHAT}")

@@ -22,12 +22,15 @@ BEFORE_SMALL = re.compile(r"([Rr]efusals?|, with a number from|wrong:|[Ee]xample
 #: Parts of a stage that have places of one kind: of the records of field notes, and of the tokens of a description.
 PARTS = {(2, 10), (41, 43)}
 
+#: The refusals of what items name, with that of land that a plat lacks, which no field notes lead to.
+ITEMS = {(61, 68)}
+
 #: The indexes of the west-run section lines.
 OTHERS = {(42, 83)}
 
 
 def compare() -> Compared:
-    allowed = allowed_ranges(stages_of(text_of(REFUSALS))) | PARTS
+    allowed = allowed_ranges(stages_of(text_of(REFUSALS))) | PARTS | ITEMS
     firsts = {first for first, _ in allowed}
     compared = 0
     differences: List[str] = []

@@ -133,7 +133,7 @@ class Tables(BatchCase):
         data = 'description\n"Lot 1, Sec 5"\n"Lot 2, Sec 5"\n'
         run = self.run_words("batch", "--lots", self.put(LOTS, "lots.csv"), self.put(data), "--suggest")
         self.assertEqual([row[7:] for row in records(run.stdout)[1:]],
-                         [["sec. 5, Lot 1.", "1", "", "41.23"], ["sec. 5, Lot 2.", "1", "", ""]])
+                         [["sec. 5, Lot 1.", "1", "", "41.23", ""], ["sec. 5, Lot 2.", "1", "", "", ""]])
 
     def test_one_table_that_is_refused(self):
         listed = self.put("description\nsec. 14.\n")

@@ -38,25 +38,31 @@ class Folders(BatchCase):
 
     def test_accepted_spellings(self):
         for spelling in ("T. 2 N., R. 3 W.", "T. 2 N., R. 3 W.,", "T2N R3W", "t2n r3w", "T. 2 N. R. 3 W.",
-                         "T 2 N, R 3 W", "  T2N R3W ", "T.2N.,R.3W.", "T2N\tR3W"):
+                         "T 2 N, R 3 W", "  T2N R3W ", "T.2N.,R.3W.", "T2N\tR3W", "2N3W", "2N-3W", "2N/3W",
+                         "T-2-N, R-3-W", "0020N 0030W", "Twp. 2 North, Rge. 3 West", "\u00a02N-3W\u00a0",
+                         "Township Two North, Range Three West"):
             with self.subTest(spelling=spelling):
                 data = f'township,description\n"{spelling}","sec. 5, lot 1."\n'
                 self.assertEqual(self.acres(data, status=0), ["40.45"])
 
     def test_what_is_no_township(self):
         for spelling, said in (
-            ("", "the township is missing"),
-            ("2N3W", "`2N3W` is not a township, such as T. 2 N., R. 3 W.: "),
-            ("T. 2 N.", "`T. 2 N.` is not a township, such as T. 2 N., R. 3 W.: "),
-            ("sec. 5;", "`sec. 5;` is not a township, such as T. 2 N., R. 3 W."),
-            ("T. 2 N., R. 3 W., sec. 14, NE1/4;", "`T. 2 N., R. 3 W., sec. 14, NE1/4;` is not only a township, such as "),
-            ("T. 5 N., R. 3 W., sec. 14;", "`T. 5 N., R. 3 W., sec. 14;` is not only a township, such as "),
-            ("T. 0 N., R. 3 W.", "there are no field notes and no lot table for T. 0 N., R. 3 W. in "),
-            ("T2N R3W sec. 37;", "there are no field notes and no lot table for T2N R3W sec. 37; in "),
+            ("", (31, 0, "1:1: the township is missing")),
+            ("2N R3W", (33, 3, "1:4: unexpected `R3W`; expected the range, as in R. 3 W.")),
+            ("T. 2 N.", (33, 7, "1:8: incomplete township: expected the range, as in R. 3 W.")),
+            ("sec. 5;", (31, 0, "1:1: unexpected `sec. 5;`; expected the township number, 1 to 99")),
+            ("T. 2 N., R. 3 W., sec. 14, NE1/4;",
+             (35, 18, "1:19: unexpected `sec. 14, NE1/4;`; expected nothing after the township")),
+            ("T. 5 N., R. 3 W., sec. 14;",
+             (35, 18, "1:19: unexpected `sec. 14;`; expected nothing after the township")),
+            ("T. 0 N., R. 3 W.",
+             (31, 3, "1:4: unexpected `0 N., R. 3 W.`; expected the township number, 1 to 99")),
+            ("T2N R3W sec. 37;", (35, 8, "1:9: unexpected `sec. 37;`; expected nothing after the township")),
         ):
             with self.subTest(spelling=spelling):
-                [found] = self.acres(f'township,description\n"{spelling}",sec. 14.\n')
-                self.assertTrue(found.startswith(said), found)
+                [_, row] = self.over(f'township,description\n"{spelling}",sec. 14.\n')
+                number, at, sentence = said
+                self.assertEqual(row[2:], ["", str(number), str(at), f"township:{sentence}", "", "", ""])
 
     def test_township_without_a_plat(self):
         data = "township,description\nT5N R3W,sec. 14.\nT2N R3W,sec. 14.\nT2N,sec. 14.\n"
@@ -94,7 +100,7 @@ class Folders(BatchCase):
     def test_one_fault_never_stops_the_rest(self):
         found = self.acres('township,description\nT2N,sec. 14.\nT2N R3W,sec. 14.,NE1/4\nT2N R3W,sec. 37.\n"T2N R3W\n'
                            "T2N R3W,sec. 14.\n")
-        self.assertEqual([each[:8] for each in found], ["`T2N` is", "line 3 h", "there is", "the quot", "640.00"])
+        self.assertEqual([each[:8] for each in found], ["township", "line 3 h", "there is", "the quot", "640.00"])
 
     def test_heading_of_a_description_must_be_its_township(self):
         rows = self.over('township,description\nT3S R4E,"T. 2 N., R. 3 W., sec. 14."\n')

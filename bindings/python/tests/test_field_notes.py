@@ -29,12 +29,12 @@ class Beginning(unittest.TestCase):
         self.assertEqual(sample().plat(), even())
 
     def test_township(self):
-        for named in ("T. 2 N., R. 3 W.", "T2N R3W", (2, "N", 3, "W"), even().township):
+        for named in ("T. 2 N., R. 3 W.", "T2N R3W", "Township 2 North, Range 3 West", (2, "N", 3, "W"), even().township):
             with self.subTest(named=named):
                 self.assertEqual(township.Notes(named).township, (2, "N", 3, "W"))
 
     def test_no_township(self):
-        for named in ("", "sec. 14.", "Township 2 North, Range 3 West", "T. 100 N., R. 3 W.", (0, "N", 3, "W"), (2, "n", 3, "W"), (2, "N", 3)):
+        for named in ("", "sec. 14.", "Township 2 North", "T. 100 N., R. 3 W.", (0, "N", 3, "W"), (2, "n", 3, "W"), (2, "N", 3)):
             with self.subTest(named=named), self.assertRaises(ValueError):
                 township.Notes(named)
 

@@ -208,10 +208,13 @@ class Verdicts(unittest.TestCase):
         "acres_many": lambda: uneven().acres_many(["sec. 14."]),
         "answer_many": lambda: uneven().normal_many(["sec. 14."]),
         "suggest": lambda: township.suggest("sec. 14."),
+        "unread": lambda: township.suggest("the old mill").unread,
         "version": township.version,
         "explain_notes_parts": lambda: township.Plat.read(b""),
         "explain_description_parts": lambda: uneven().acres(""),
         "explain_list_parts": lambda: uneven().report_csv(b""),
+        "designation_read": lambda: township.Township.of("98N-97W"),
+        "designation_text": lambda: str(uneven().township),
         "land_read": lambda: uneven().land("sec. 14."),
         "land_acres": lambda: uneven().acres(LAND),
         "land_area": lambda: uneven().area(LAND),
@@ -317,6 +320,8 @@ class Verdicts(unittest.TestCase):
         self.assertEqual(_library.land_combine(first, first, 3, made).verdict, _library.NO_OPERATION)
         self.assertEqual(_library.land_acres(ctypes.byref(uneven()._parts), first, 2).verdict, _library.NO_ACCOUNT)
         none = ctypes.byref(_library.Designation(100, 0, 3, 1))
+        text = ctypes.create_string_buffer(18)
+        self.assertEqual(_library.designation_text(none, text, 18).verdict, _library.NO_TOWNSHIP)
         self.assertEqual(_library.land_read(none, b"sec. 14.", 8, made).verdict, _library.NO_TOWNSHIP)
 
     def test_account_that_is_none(self):

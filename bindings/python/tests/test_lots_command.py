@@ -22,8 +22,9 @@ class New(BatchCase):
             (("new",), b"TOWNSHIP"),
             ((), b"new"),
             (("old", "T2N R3W"), b"invalid choice: 'old'"),
-            (("new", "2N3W"), b"`2N3W` is not a township, such as T. 2 N., R. 3 W."),
-            (("new", "T. 100 N., R. 3 W."), b"is an unusual spelling of a township"),
+            (("new", "2N R3W"), b"township:1:4: unexpected `R3W`; expected the range, as in R. 3 W."),
+            (("new", "T. 100 N., R. 3 W."),
+             b"township:1:4: unexpected `100 N., R. 3 W.`; expected the township number, 1 to 99"),
             (("new", "T2N R3W", "more"), b"unrecognized arguments: more"),
         ):
             with self.subTest(words=words):

@@ -14,7 +14,7 @@ TWO = "sec. 14: NE¼NE¼ SW¼SW¼"
 MANY = "NENE, S2NE4 Sec 14-2N-3W"
 
 #: The columns that `--suggest` adds.
-SUGGESTED = ["reading", "readings", "assumes", "reading_acres"]
+SUGGESTED = ["reading", "readings", "assumes", "reading_acres", "unread"]
 
 
 class Suggested(unittest.TestCase):
@@ -116,6 +116,26 @@ class Suggested(unittest.TestCase):
         self.assertIn("portion", text[start:end])
         self.assertEqual(township.suggest("sec. 14.").reason, None)
 
+    def test_unread(self):
+        # Runs of words on one line, in which connectives and marks may be; no byte of a phrase is in one.
+        text = "½ bläh\nblip Sec. 14 blop"
+        for readings in (township.suggest(text), PLAT.suggest(text)):
+            self.assertEqual(list(readings), [])
+            self.assertEqual(readings.unread, (
+                (0, 8, "½ bläh", None), (9, 13, "blip", None), (22, 26, "blop", None)
+            ))
+            self.assertEqual(str(readings.unread[1]), "not understood: `blip`")
+        number, phrase = township.suggest("S2, 12, T2N R3W").unread
+        self.assertEqual(str(number), "not understood: `12`")
+        self.assertEqual(str(phrase), "`S2` can be read in two ways: a section, or a half")
+        self.assertEqual(township.suggest(TWO).unread, ())
+        self.assertEqual(township.suggest("").unread, ())
+
+    def test_unread_with_a_reason(self):
+        readings = township.suggest("that portion of the NE/4 Sec 9 lying north of the road")
+        self.assertEqual(readings.reason, "a portion needs a survey")
+        self.assertIn("portion", readings.unread[0].text)
+
     def test_manners(self):
         for text, manner, land in (
             ("N2 Sec 5", "lots named", "sec. 5, lots 1 to 4, S1/2N1/2."),
@@ -189,7 +209,7 @@ class Command(BatchCase):
 
     def test_the_document_shows_what_is_printed(self):
         document = (TOP / "docs" / "DESCRIPTIONS.md").read_text()
-        for text in (MANY, TWO, "that portion of the NE/4 lying north of the road"):
+        for text in (MANY, TWO, "that portion of the NE/4 lying north of the road", "20 net mineral acres in NE/4 Sec 9"):
             shown = self.run_words("suggest", NOTES, "-", input=text.encode()).stdout.decode()
             self.assertIn("\n\n" + "".join(f"    {line}\n" for line in shown.splitlines()) + "\n", document)
 
@@ -264,10 +284,20 @@ class Command(BatchCase):
 
     def test_not_expressible(self):
         text = "that portion of the NE/4 lying north of the road"
-        self.assertShows(text, 4, "not expressible by lots and aliquot parts: a portion needs a survey")
+        self.assertShows(
+            text, 4,
+            "not expressible by lots and aliquot parts: a portion needs a survey",
+            "     not understood: `that portion`",
+            "     not understood: `lying north of the road`",
+        )
 
     def test_no_reading(self):
-        self.assertShows("the old mill", 4, "no reading is certain")
+        self.assertShows("the old mill", 4, "no reading is certain", "     not understood: `old mill`")
+        self.assertShows(
+            "S2, 12, T2N R3W", 4, "no reading is certain",
+            "     not understood: `12`",
+            "     `S2` can be read in two ways: a section, or a half",
+        )
         self.assertShows("", 4, "no reading is certain")
 
     def test_account(self):
@@ -301,7 +331,7 @@ class Batch(BatchCase):
             '"TRACT 1: sec. 14."\n"RABBIT CREEK: sec. 14."\n'
         status, (heading, *rows) = self.answers("--suggest", data=data)
         self.assertEqual((status, heading), (1, ["description", *ADDED, *SUGGESTED]))
-        self.assertEqual([row[-4:] for row in rows], [
+        self.assertEqual([row[-5:-1] for row in rows], [
             ["T. 2 N., R. 3 W., sec. 14, NE1/4NE1/4, S1/2NE1/4.", "1", "`NENE`: no comma is missing; `S2NE4`: no comma is missing", "120.00"],
             ["", "2", "", ""],
             ["sec. 14, NE1/4.", "1", "", "160.00"],
@@ -312,6 +342,8 @@ class Batch(BatchCase):
             # A section without land beside a remark: the land may be in the remark.
             ["", "0", "", ""],
         ])
+        # Only a description without a reading has something unread.
+        self.assertEqual([row[-1] for row in rows[:7]], ["", "", "", "not understood: `old mill`", "", "", ""])
         # The columns of the answer are the same as without readings.
         without = self.answers(data=data)[1]
         self.assertEqual([row[: len(ADDED) + 1] for row in (heading, *rows)], without)
@@ -331,7 +363,12 @@ class Batch(BatchCase):
 
     def test_record_that_is_not_answered(self):
         status, (heading, row) = self.answers("--suggest", data='description\n"sec. 14."x\n')
-        self.assertEqual((status, len(row), row[-4:]), (1, len(heading), [""] * 4))
+        self.assertEqual((status, len(row), row[-5:]), (1, len(heading), [""] * 5))
+
+    def test_reason_and_unread(self):
+        data = "description\nPT NENE SEC 21 T2N R3W\n"
+        status, (heading, row) = self.answers("--suggest", data=data)
+        self.assertEqual(row[-1], "not expressible: a portion needs a survey; not understood: `PT`")
 
     def test_column_that_is_there_already(self):
         run = self.run_words("batch", NOTES, self.put("description,reading\nsec. 14.,\n"), "--suggest")

@@ -38,7 +38,7 @@ class Townships(unittest.TestCase):
 
     def test_plats_of_spellings(self):
         quarters = even().closing_quarters
-        for where in ("T. 2 N., R. 3 W.", "T2N R3W", (2, "N", 3, "W"), even().township):
+        for where in ("T. 2 N., R. 3 W.", "T2N R3W", "2N-3W", "0020N 0030W", (2, "N", 3, "W"), even().township):
             self.assertEqual(Plat.of_parts(where, quarters), even())
         for where in ("sec. 14.", "", "T. 2 N., R. 3 W., sec. 14;", "T99S R99E, sec. 14;", (100, "N", 3, "W")):
             with self.assertRaises(ValueError):

@@ -153,7 +153,7 @@ impl Land {
     /// ```
     /// let nothing = township::Land::empty("T. 2 N., R. 3 W.".parse()?);
     /// assert!(nothing.is_empty() && nothing.to_string().is_empty());
-    /// # Ok::<(), township::ParseError>(())
+    /// # Ok::<(), township::Refused>(())
     /// ```
     pub fn empty(township: Township) -> Land {
         Land {

@@ -54,6 +54,7 @@ mod refused;
 mod report;
 mod text;
 mod township;
+mod township_faults;
 
 pub use self::account::Account;
 pub use self::acres::Acres;
@@ -68,7 +69,9 @@ pub use self::note::Note;
 pub use self::parse::ParseError;
 pub use self::part::Part;
 pub use self::plat::{NoPlat, Plat, LINES};
-pub use self::readings::{suggest, Assumption, Beyond, Change, Manner, Reading, Rule, Suggestion};
+pub use self::readings::{
+    suggest, Assumption, Beyond, Change, Manner, Reading, Rule, Suggestion, Unread, Ways,
+};
 pub use self::refused::{Refusal, Refused};
 pub use self::report::{LotsReport, Overlap, Report, Tract, TractAnswer, TractRefusal};
 pub use self::township::{EastWest, NorthSouth, Township};

@@ -89,7 +89,7 @@ impl Lots {
     /// let text = township::Lots::new("T. 2 N., R. 3 W.".parse()?).to_string();
     /// assert!(text.starts_with("section,lot,acres\nT,2,N,3,W\n1,1,40.00\n1,2,40.00\n"));
     /// assert_eq!(text.lines().count(), 2 + 47);
-    /// # Ok::<(), township::ParseError>(())
+    /// # Ok::<(), township::Refused>(())
     /// ```
     pub fn new(township: Township) -> Lots {
         Lots {

@@ -1,10 +1,14 @@
 //! Readings: what a text that is not written as descriptions are may mean, as descriptions.
 
 mod assumption;
+#[cfg(test)]
+mod header;
 mod rule;
+mod unread;
 
 pub use self::assumption::Assumption;
 pub use self::rule::Rule;
+pub use self::unread::{Unread, Ways};
 
 use crate::answer::{out_of_memory, Verdict};
 use crate::ffi;
@@ -23,6 +27,9 @@ pub struct Suggestion {
     pub readings: Vec<Reading>,
     /// Why lots and aliquot parts can't describe the land.
     pub beyond: Option<Beyond>,
+    /// If there are no readings: the words that are not understood, and then the phrases that can be
+    /// read in two ways, each from left to right.
+    pub unread: Vec<Unread>,
 }
 
 /// Why lots and aliquot parts can't describe the land of a text.
@@ -99,6 +106,10 @@ pub struct Change {
 /// let none = township::suggest("sec. 14, that portion of the NE/4 lying north of the road");
 /// assert!(none.readings.is_empty());
 /// assert_eq!(none.beyond.unwrap().reason, "a portion needs a survey");
+///
+/// let text = "20 net mineral acres in NE/4 Sec 9";
+/// let unread = township::suggest(text).unread;
+/// assert_eq!(&text[unread[0].start..unread[0].end], "20 net mineral acres");
 /// # Ok::<(), township::Refused>(())
 /// ```
 pub fn suggest(text: impl AsRef<[u8]>) -> Suggestion {
@@ -106,7 +117,7 @@ pub fn suggest(text: impl AsRef<[u8]>) -> Suggestion {
     let data = Data::with_room(text, USUAL_CHANGES, USUAL_BYTES)
         .or_else(|said| Data::with_room(text, size(said.changes), size(said.bytes)));
     match data {
-        Ok(data) => data.suggestion(),
+        Ok(data) => data.suggestion(text),
         Err(said) => unreachable!("there was room for all of {said:?}"),
     }
 }
@@ -160,8 +171,13 @@ impl Data {
         }
     }
 
-    fn suggestion(&self) -> Suggestion {
+    fn suggestion(&self, text: &[u8]) -> Suggestion {
         let readings = &self.readings[..size(self.said.readings)];
+        let unread = if readings.is_empty() {
+            unread::unread_in(text)
+        } else {
+            Vec::new()
+        };
         let beyond = Beyond {
             start: size(self.said.beyond),
             end: size(self.said.beyond_end),
@@ -170,6 +186,7 @@ impl Data {
         Suggestion {
             readings: readings.iter().map(|data| self.reading(data)).collect(),
             beyond: (self.said.reason_length > 0).then_some(beyond),
+            unread,
         }
     }
 

@@ -1,8 +1,11 @@
 //! The designation of a township.
 
 use crate::ffi::{self, Designation};
-use crate::parse::{number, ParseError};
+use crate::parse::ParseError;
 use crate::plat::LINES;
+use crate::refused::Refused;
+use crate::text::accepted_text_by;
+use crate::township_faults::refused_township;
 use std::fmt;
 use std::str::FromStr;
 
@@ -31,7 +34,7 @@ pub enum EastWest {
 }
 
 /// A township's designation, without its principal meridian. It is displayed as in the heading of a
-/// description, and parsed from such a text. Townships are ordered by their number and its side, then
+/// description, and parsed from any of its spellings. Townships are ordered by their number and its side, then
 /// by their range and its side.
 ///
 /// ```
@@ -141,20 +144,6 @@ impl Township {
     }
 }
 
-impl Township {
-    fn from_text(text: &str) -> Option<Township> {
-        let (number_side, range_side) = text.strip_prefix("T. ")?.split_once("., R. ")?;
-        let (tier, north_south) = number_side.split_once(' ')?;
-        let (range, east_west) = range_side.strip_suffix('.')?.split_once(' ')?;
-        Township::new(
-            number(tier)?,
-            north_south.parse().ok()?,
-            number(range)?,
-            east_west.parse().ok()?,
-        )
-    }
-}
-
 impl NorthSouth {
     fn from_code(code: u8) -> Option<NorthSouth> {
         match code {
@@ -218,12 +207,31 @@ impl FromStr for EastWest {
 }
 
 impl FromStr for Township {
-    type Err = ParseError;
+    type Err = Refused;
 
-    /// Parses a text in the form in which townships are displayed, such as `T. 2 N., R. 3 W.`. The
-    /// headings of descriptions may be spelled in more ways.
-    fn from_str(text: &str) -> Result<Township, ParseError> {
-        Township::from_text(text).ok_or(ParseError::not("a township, such as T. 2 N., R. 3 W."))
+    /// Parses a township in any of the spellings that `docs/TOWNSHIPS.md` lists.
+    ///
+    /// ```
+    /// use township::Township;
+    ///
+    /// let township: Township = "2N-3W".parse()?;
+    /// for text in ["T2N R3W", "Township Two North, Range Three West", "0020N 0030W"] {
+    ///     assert_eq!(text.parse::<Township>()?, township);
+    /// }
+    /// let refused = "T. 2 N., R. 3 W., sec. 14".parse::<Township>().unwrap_err();
+    /// assert_eq!((refused.number, refused.at), (35, 18));
+    /// assert_eq!(
+    ///     refused.to_string(),
+    ///     "township:1:19: unexpected `sec. 14`; expected nothing after the township"
+    /// );
+    /// # Ok::<(), township::Refused>(())
+    /// ```
+    fn from_str(text: &str) -> Result<Township, Refused> {
+        let (answer, parts) = ffi::designation_read(text.as_bytes());
+        match answer.accepted() {
+            Ok(_) => Ok(Township::from_designation(&parts).expect("what is read is a township")),
+            Err(fault) => Err(refused_township(fault, text)),
+        }
     }
 }
 
@@ -248,12 +256,9 @@ impl fmt::Display for EastWest {
 impl fmt::Display for Township {
     /// Writes the designation as in the heading of a description: `T. 2 N., R. 3 W.`.
     fn fmt(&self, f: &mut fmt::Formatter<'_>) -> fmt::Result {
-        let Township {
-            number,
-            north_south,
-            range,
-            east_west,
-        } = self;
-        write!(f, "T. {number} {north_south}., R. {range} {east_west}.")
+        let designation = self.designation();
+        f.write_str(&accepted_text_by(|room| {
+            ffi::designation_text(&designation, room)
+        }))
     }
 }

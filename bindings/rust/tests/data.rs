@@ -32,7 +32,8 @@ fn texts_of_nothing() {
         assert!(serde_json::from_str::<Acres>(json).is_err(), "{json}");
     }
     let error = serde_json::from_str::<Township>(r#""T. 100 N., R. 3 W.""#).unwrap_err();
-    let message = "not a township, such as T. 2 N., R. 3 W.";
+    let message =
+        "township:1:4: unexpected `100 N., R. 3 W.`; expected the township number, 1 to 99";
     assert!(error.to_string().starts_with(message), "{error}");
 }
 

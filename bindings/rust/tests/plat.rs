@@ -245,21 +245,38 @@ fn townships_parsed() {
     for text in ["T. 2 N., R. 3 W.", "T. 99 S., R. 1 E."] {
         assert_eq!(text.parse::<Township>().unwrap().to_string(), text);
     }
-    for text in [
-        "",
+    let spellings = [
         "T. 2 N., R. 3 W",
-        "T. 0 N., R. 3 W.",
-        "T. 2 N., R. 100 W.",
-        "T. 300 N., R. 3 W.",
-        "T. +2 N., R. 3 W.",
-        "T. 2 E., R. 3 W.",
-        "T. 2 N., R. 3 n.",
         "T2N R3W",
-    ] {
-        let error = text.parse::<Township>().unwrap_err();
-        let message = "not a township, such as T. 2 N., R. 3 W.";
-        assert_eq!(error.to_string(), message, "{text}");
+        "t-2-n, r-3-w",
+        "2N-3W",
+        "0020N 0030W",
+        "Township 2 North, Range 3 West",
+        "Township Two North, Range Three West",
+    ];
+    for text in spellings {
+        assert_eq!(text.parse(), Ok(sample_township()), "{text}");
     }
+    for (text, number, at) in [
+        ("", 31, 0),
+        ("T. 0 N., R. 3 W.", 31, 3),
+        ("T. 300 N., R. 3 W.", 31, 3),
+        ("T. +2 N., R. 3 W.", 31, 3),
+        ("T. 2 E., R. 3 W.", 32, 5),
+        ("T. 2 N., R. 100 W.", 33, 12),
+        ("T. 2 N., R. 3 n.", 34, 14),
+        ("T. 2 N., R. 3 W., sec. 14", 35, 18),
+    ] {
+        let refused = text.parse::<Township>().unwrap_err();
+        assert_eq!((refused.number, refused.at), (number, at), "{text}");
+        assert_eq!(
+            (refused.line, refused.column),
+            (Some(1), Some(at + 1)),
+            "{text}"
+        );
+    }
+    let long = "2".repeat(65_537).parse::<Township>().unwrap_err();
+    assert_eq!((long.number, long.at, long.line), (36, 65_536, None));
 }
 
 #[test]

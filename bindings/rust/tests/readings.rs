@@ -3,7 +3,7 @@
 mod samples;
 
 use samples::uneven;
-use township::{suggest, Assumption, Manner, Rule};
+use township::{suggest, Assumption, Manner, Rule, Ways};
 
 /// White space between two parts: two parts, or one.
 const TWO: &str = "sec. 14: NE¼NE¼ SW¼SW¼";
@@ -140,4 +140,22 @@ fn long_texts_are_read_whole() {
         uneven().acres(&found.readings[0]).unwrap().to_string(),
         "1440.00"
     );
+}
+
+#[test]
+fn unread() {
+    let text = "½ bläh\nblip Sec. 14 blop";
+    let found = suggest(text);
+    assert!(found.readings.is_empty());
+    let words: Vec<_> = found
+        .unread
+        .iter()
+        .map(|unread| (&text[unread.start..unread.end], unread.ways))
+        .collect();
+    assert_eq!(words, [("½ bläh", None), ("blip", None), ("blop", None)]);
+    // Before any other land, `S2` may be section 2.
+    let ways = suggest("S2, 12, T2N R3W").unread[1].ways;
+    assert_eq!(ways, Some(Ways::SectionOrHalf));
+    assert_eq!(Ways::SectionOrHalf.to_string(), "a section, or a half");
+    assert_eq!(suggest(TWO).unread, []);
 }

@@ -2,6 +2,7 @@
 //! them. Each passes its arguments to the function of the same name in `twp_calls`.
 #![tactic(auto)]
 
+mod designations;
 mod explaining;
 mod explanation_parts;
 mod exports;

@@ -1,10 +1,13 @@
-//! The call for readings, as C calls it.
+//! The calls for readings, and for what is unread, as C calls them.
 ghost use Rattle.std.specs.Prelude.{◌≡◌, ◌≢◌};
 ghost use Rattle.twp_calls.specs.Answers.{ACCEPTED, NO_MEMORY};
 ghost use Rattle.twp_calls.specs.Suggestions.{IsSuggestCall, rooms};
+ghost use Rattle.twp_calls.specs.UnreadCalls.{IsUnreadCall};
 
 use std::alloc::Global;
-use twp_calls::{TownshipAnswer, TownshipChange, TownshipReading, TownshipSuggestion};
+use twp_calls::{
+    TownshipAnswer, TownshipChange, TownshipReading, TownshipStretch, TownshipSuggestion,
+};
 
 /// The readings of a text as descriptions: where the text of each is, and its changes.
 #[unsafe(no_mangle)]
@@ -23,4 +26,17 @@ pub extern "C" fn township_suggest(
     ensures unknown { result.verdict ≡ NO_MEMORY → suggestion.new ≡ suggestion.old }
 {
     twp_calls::township_suggest(alloc, description, readings, changes, bytes, suggestion)
+}
+
+/// What is unread of a text: its unread runs, and then the phrases that can be read in two ways.
+#[unsafe(no_mangle)]
+pub extern "C" fn township_unread(
+    alloc: Global,
+    description: &[u8],
+    unread: &mut [TownshipStretch],
+) -> TownshipAnswer
+    ensures answer { IsUnreadCall description.now unread.old unread.new result }
+    ensures kept { result.verdict ≢ ACCEPTED → unread.new ≡ unread.old }
+{
+    twp_calls::township_unread(alloc, description, unread)
 }

@@ -5,6 +5,7 @@ use Rattle.std.proofs.lemmas.Bool.{false≢true}
 use Rattle.twp_grid.specs.Places.{PLACE_DIGITS}
 use Rattle.twp_grid.specs.Townships.{Designation}
 use Rattle.twp_grid.specs.Lands.{HasWholeLots}
+use Rattle.twp_grid.specs.Lands.{STANDARD_LOTS}
 use Rattle.twp_land.specs.Storage.{land_of_rows}
 use Rattle.twp_land.proofs.CombinedLots.{combined_lots_are_whole}
 use Rattle.twp_land.proofs.WholeDecided.{whole_lots_decided}
@@ -49,18 +50,18 @@ stops_in given township is Accepted description stopping answer same stops =
     (stopped_on (Accepted township) township description stopping stops))
 
 -- the land that an operation makes has whole lots
-pub combined_whole : (by : Operation) (places more : ℕ → ℕ → ℕ → Bool) → HasWholeLots PLACE_DIGITS places
-    → HasWholeLots PLACE_DIGITS more → HasWholeLots PLACE_DIGITS (combined by places more)
+pub combined_whole : (by : Operation) (places more : ℕ → ℕ → ℕ → Bool) → HasWholeLots STANDARD_LOTS places
+    → HasWholeLots STANDARD_LOTS more → HasWholeLots STANDARD_LOTS (combined by places more)
 combined_whole operation.Union places more whole other =
-    (combined_lots_are_whole PLACE_DIGITS places more whole other).0
+    (combined_lots_are_whole STANDARD_LOTS places more whole other).0
 combined_whole operation.Intersection places more whole other =
-    (combined_lots_are_whole PLACE_DIGITS places more whole other).1
+    (combined_lots_are_whole STANDARD_LOTS places more whole other).1
 combined_whole operation.Difference places more whole other =
-    (combined_lots_are_whole PLACE_DIGITS places more whole other).2
+    (combined_lots_are_whole STANDARD_LOTS places more whole other).2
 
 -- the data is land where it stands
 pub given_land : (given : GivenLand) (township : Designation) → IsGivenTownship given.township township
-    → HasWholeLots PLACE_DIGITS (land_of_rows given.rows)
+    → HasWholeLots STANDARD_LOTS (land_of_rows given.rows)
     → IsGivenLand given township (land_of_rows given.rows)
 given_land given township is whole = record { township_is = is; places_are = refl; whole = whole }
 
@@ -68,22 +69,22 @@ given_land given township is whole = record { township_is = is; places_are = ref
 pub without_township : (given : GivenLand) → IsNoGivenTownship given.township → IsNoGivenLand given
 without_township given none township places is = none township is.township_is
 
-pub with_cut_lot : (given : GivenLand) → ¬ HasWholeLots PLACE_DIGITS (land_of_rows given.rows)
+pub with_cut_lot : (given : GivenLand) → ¬ HasWholeLots STANDARD_LOTS (land_of_rows given.rows)
     → IsNoGivenLand given
-with_cut_lot given cut township places is = cut (subst (HasWholeLots PLACE_DIGITS) is.places_are is.whole)
+with_cut_lot given cut township places is = cut (subst (HasWholeLots STANDARD_LOTS) is.places_are is.whole)
 
 -- The data has a township, and the call answers that some data is no land: this data, if it contains part
 -- of a lot.
 pub no_land_unless : (given : GivenLand) (township : Designation) → IsGivenTownship given.township township
     → (Answers : Designation → (ℕ → ℕ → ℕ → Bool) → TownshipAnswer → Type 0) (answer : TownshipAnswer)
     → answer ≡ bare NO_LAND
-    → (HasWholeLots PLACE_DIGITS (land_of_rows given.rows)
+    → (HasWholeLots STANDARD_LOTS (land_of_rows given.rows)
     → Answers township (land_of_rows given.rows) answer)
     → OnLand given Answers answer
 no_land_unless given township is Answers answer none other = go (whole_lots_decided (land_of_rows given.rows))
   where
-    go : HasWholeLots PLACE_DIGITS (land_of_rows given.rows)
-        ⊎ ¬ HasWholeLots PLACE_DIGITS (land_of_rows given.rows)
+    go : HasWholeLots STANDARD_LOTS (land_of_rows given.rows)
+        ⊎ ¬ HasWholeLots STANDARD_LOTS (land_of_rows given.rows)
         → OnLand given Answers answer
     go (inl whole) =
         on_land township (land_of_rows given.rows) (given_land given township is whole) (other whole)

@@ -14,3 +14,8 @@ pub mod PlaceFacts
 pub mod SuggestionFacts
 pub mod WritingFacts
 pub mod FullFacts
+pub mod DesignationForms
+pub mod DesignationTable
+pub mod DesignationFacts
+pub mod DesignationReadBack
+pub mod DesignationCallFacts

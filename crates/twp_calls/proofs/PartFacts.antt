@@ -12,8 +12,10 @@ use Rattle.twp_grid.specs.Spans.{Rectangle, position_block, whole_block}
 use Rattle.twp_land.proofs.LotFacts.{block_of}
 use Rattle.twp_grid.specs.Places.{PLACE_DIGITS}
 use Rattle.twp_grid.specs.Lands.{off_lots}
-use Rattle.twp_spell.specs.CanonicalText.{HoldsEach, IsLotHeld}
-use Rattle.twp_spell.specs.Listing.{AreListed}
+use Rattle.twp_grid.specs.Lands.{STANDARD_LOTS}
+use Rattle.twp_grid.specs.Lands.{HoldsEach}
+use Rattle.twp_spell.specs.CanonicalText.{IsLotHeld}
+use Rattle.twp_grid.specs.Listing.{AreListed}
 use Rattle.twp_spell.specs.PartBlocks.{AreWrittenBlocks}
 use Rattle.twp_calls.specs.LandParts.{AreLandParts, ArePartsPut, AreSectionParts, ArePartsTo, IsLotPart}
 use Rattle.twp_calls.specs.LandParts.{IsPartsPut, all, by_parts, part_with}
@@ -117,7 +119,7 @@ parts_after number section places old new least same before adds =
 -- ---- the parts of one section
 
 pub whole_section : (section : ℕ) (held : ℕ → ℕ → Bool) (block : Rectangle) (part : TownshipPart)
-    (old new : List TownshipPart) → HoldsEach PLACE_DIGITS held → block ≡ whole_block PLACE_DIGITS
+    (old new : List TownshipPart) → HoldsEach STANDARD_LOTS section held → block ≡ whole_block PLACE_DIGITS
     → part ≡ part_with section 0 block → new ≡ old ++ (part ∷ []) → AddsSection section held old new
 whole_section section held block part old new each block_is part_is new_is = record {
   parts = part ∷ [];
@@ -127,18 +129,18 @@ whole_section section held block part old new each block_is part_is new_is = rec
 
 pub some_parts : {T E : Type 0} (result : Result T E) (section : ℕ) (held : ℕ → ℕ → Bool)
     (lots found : List ℕ) (blocks gathered : List Rectangle) (old middle new : List TownshipPart)
-    → ¬ HoldsEach PLACE_DIGITS held
-    → lots ≡ found → AreListed (IsLotHeld PLACE_DIGITS section held) ◌<◌ found
+    → ¬ HoldsEach STANDARD_LOTS section held
+    → lots ≡ found → AreListed (IsLotHeld STANDARD_LOTS section held) ◌<◌ found
     → AddsLots section lots old middle
-    → blocks ≡ gathered → AreWrittenBlocks PLACE_DIGITS (off_lots PLACE_DIGITS section held) gathered
+    → blocks ≡ gathered → AreWrittenBlocks PLACE_DIGITS (off_lots STANDARD_LOTS section held) gathered
     → OnOk result (AddsBlocks section blocks middle new) → OnOk result (AddsSection section held old new)
 some_parts (Ok value) section held lots found blocks gathered old middle new short same listed of_lots same'
     written adds = record {
       parts = of_lots.parts ++ map (part_with section 0) blocks;
       are =
           by_parts short lots of_lots.parts blocks
-          (subst (λ l. AreListed (IsLotHeld PLACE_DIGITS section held) ◌<◌ l) (sym same) listed) of_lots.are
-          (subst (λ b. AreWrittenBlocks PLACE_DIGITS (off_lots PLACE_DIGITS section held) b) (sym same')
+          (subst (λ l. AreListed (IsLotHeld STANDARD_LOTS section held) ◌<◌ l) (sym same) listed) of_lots.are
+          (subst (λ b. AreWrittenBlocks PLACE_DIGITS (off_lots STANDARD_LOTS section held) b) (sym same')
           written)
           refl;
       parts_are =

@@ -3,6 +3,7 @@ use Rattle.std.specs.Prelude.{◌≡◌, ℕ, Bool}
 use Rattle.twp_grid.specs.Places.{PLACE_DIGITS}
 use Rattle.twp_grid.specs.Townships.{Designation}
 use Rattle.twp_grid.specs.Lands.{HasWholeLots}
+use Rattle.twp_grid.specs.Lands.{STANDARD_LOTS}
 use Rattle.twp_land.specs.Storage.{land_of_rows}
 use Rattle.twp_calls.specs.GivenTownships.{IsGivenTownship}
 use Rattle.twp_calls.specs.declared.land.TownshipLand.{TownshipLand as GivenLand}
@@ -12,7 +13,7 @@ pub record IsGivenLand (given : GivenLand) (township : Designation) (places : �
     : Type 0 where
   pub township_is : IsGivenTownship given.township township
   pub places_are : places ≡ land_of_rows given.rows
-  pub whole : HasWholeLots PLACE_DIGITS places
+  pub whole : HasWholeLots STANDARD_LOTS places
 
 -- the data is no land: it has no township, or contains part of a lot
 abbrev pub IsNoGivenLand : GivenLand → Type 0

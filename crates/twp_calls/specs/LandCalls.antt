@@ -26,6 +26,7 @@ use Rattle.twp_calls.specs.declared.combining.Operation.TheVariants as operation
 use Rattle.twp_calls.specs.declared.designation.TownshipDesignation.{TownshipDesignation}
 use Rattle.twp_calls.specs.declared.land.TownshipLand.{TownshipLand as GivenLand}
 use Rattle.twp_calls.specs.declared.plat.TownshipPlat.{TownshipPlat as GivenPlat}
+use Rattle.twp_grid.specs.Lands.{STANDARD_LOTS}
 
 -- The given parts are those of a township, for which the call answers, or of none.
 pub data InTownship (given : TownshipDesignation) (Answers : Designation → TownshipAnswer → Type 0)
@@ -94,7 +95,7 @@ IsLandAreaCall given land code new = OnPlatAndLand given land code (HasLandArea 
 -- `township_land_text`: the canonical text of the land, which nothing refuses
 abbrev pub IsLandTextCall : GivenLand → List ℕ → List ℕ → TownshipAnswer → Type 0
 IsLandTextCall land old new = OnLand land (λ township places.
-    Answers (IsTextPut (IsCanonicalText PLACE_DIGITS township places) old new) (λ answer. ⊥))
+    Answers (IsTextPut (IsCanonicalText STANDARD_LOTS township places) old new) (λ answer. ⊥))
 
 -- the operation that a number stands for
 abbrev pub operation_of : ℕ → Option Operation

@@ -7,8 +7,9 @@ use Rattle.twp_grid.specs.Places.{PLACE_DIGITS}
 use Rattle.twp_grid.specs.Spans.{Rectangle, whole_block, position_block}
 use Rattle.twp_grid.specs.Winding.{SECTION_COUNT}
 use Rattle.twp_grid.specs.Lands.{off_lots}
-use Rattle.twp_spell.specs.CanonicalText.{HoldsEach, IsLotHeld}
-use Rattle.twp_spell.specs.Listing.{AreListed}
+use Rattle.twp_grid.specs.Lands.{STANDARD_LOTS, HoldsEach}
+use Rattle.twp_spell.specs.CanonicalText.{IsLotHeld}
+use Rattle.twp_grid.specs.Listing.{AreListed}
 use Rattle.twp_spell.specs.PartBlocks.{AreWrittenBlocks}
 use Rattle.twp_calls.specs.Answers.{ACCEPTED, NO_ROOM, bare, with_text}
 use Rattle.twp_calls.specs.Calls.{Answers}
@@ -38,12 +39,12 @@ pub record IsLotPart (section lot : ℕ) (part : TownshipPart) : Type 0 where
 -- The parts of a section: the section, if the land contains every place of it; otherwise the lots in
 -- the land, by ascending number, and then the written parts of the land off the lots.
 pub data AreSectionParts (section : ℕ) (held : ℕ → ℕ → Bool) (parts : List TownshipPart) : Type 0 where
-  all : HoldsEach PLACE_DIGITS held → parts ≡ part_with section 0 (whole_block PLACE_DIGITS) ∷ []
+  all : HoldsEach STANDARD_LOTS section held → parts ≡ part_with section 0 (whole_block PLACE_DIGITS) ∷ []
       → AreSectionParts section held parts
-  by_parts : ¬ HoldsEach PLACE_DIGITS held → (lots : List ℕ) (of_lots : List TownshipPart)
-      (blocks : List Rectangle) → AreListed (IsLotHeld PLACE_DIGITS section held) ◌<◌ lots
+  by_parts : ¬ HoldsEach STANDARD_LOTS section held → (lots : List ℕ) (of_lots : List TownshipPart)
+      (blocks : List Rectangle) → AreListed (IsLotHeld STANDARD_LOTS section held) ◌<◌ lots
       → AllZip (IsLotPart section) lots of_lots
-      → AreWrittenBlocks PLACE_DIGITS (off_lots PLACE_DIGITS section held) blocks
+      → AreWrittenBlocks PLACE_DIGITS (off_lots STANDARD_LOTS section held) blocks
       → parts ≡ of_lots ++ map (part_with section 0) blocks → AreSectionParts section held parts
 
 -- the parts of the first sections, up to this number of them, one section after another

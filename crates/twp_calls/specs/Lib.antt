@@ -10,11 +10,14 @@ pub mod EachCalls
 pub mod OverlapCalls
 pub mod Figures
 pub mod LandCalls
+pub mod DesignationTexts
+pub mod DesignationCalls
 pub mod LandParts
 pub mod LotCalls
 pub mod LotReports
 pub mod ManyAnswers
 pub mod Suggestions
+pub mod UnreadCalls
 pub mod Names
 pub mod ShownTexts
 pub mod ExplanationParts

@@ -5,3 +5,4 @@ pub mod Noting
 pub mod PartSteps
 pub mod Plain
 pub mod Suggesting
+pub mod DesignationSteps

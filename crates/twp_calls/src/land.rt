@@ -2,6 +2,7 @@
 ghost use Rattle.std.specs.Prelude.{MatchOption};
 ghost use Rattle.twp_grid.specs.Places.{PLACE_DIGITS};
 ghost use Rattle.twp_grid.specs.Lands.{HasWholeLots};
+ghost use Rattle.twp_grid.specs.Lands.{STANDARD_LOTS};
 ghost use Rattle.twp_land.specs.Storage.{land_of_rows};
 ghost use Rattle.twp_calls.specs.GivenLands.{IsGivenLand, IsNoGivenLand};
 
@@ -30,7 +31,7 @@ pub(crate) struct LandIn {
 impl TownshipLand {
     /// Land in a township as plain data.
     pub(crate) fn of(township: Township, places: &Lanes) -> TownshipLand
-        requires { HasWholeLots PLACE_DIGITS (⟦<Lanes as PlaceSet>⟧.places places.now) }
+        requires { HasWholeLots STANDARD_LOTS (⟦<Lanes as PlaceSet>⟧.places places.now) }
         ensures { IsGivenLand result township (⟦<Lanes as PlaceSet>⟧.places places.now) }
     {
         TownshipLand {

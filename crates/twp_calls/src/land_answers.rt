@@ -16,6 +16,7 @@ use crate::verdict::{
 };
 use std::alloc::Global;
 use twp_answers::{acres_of, land_of};
+use twp_land::StandardLots;
 use twp_plat::area_by;
 use twp_spell::spell;
 
@@ -94,7 +95,7 @@ pub fn township_land_text(alloc: Global, land: &TownshipLand, text: &mut [u8]) -
     let Some(land) = land.land() else {
         return TownshipAnswer::bare(NO_LAND);
     };
-    match spell(alloc, &land.places, land.township) {
+    match spell(alloc, &land.places, land.township, &StandardLots) {
         Ok(spelled) => put(TownshipAnswer::bare(ACCEPTED), &spelled, text),
         Err(_) => TownshipAnswer::bare(NO_MEMORY),
     }

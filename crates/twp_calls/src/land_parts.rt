@@ -13,7 +13,7 @@ use crate::many::counted;
 use crate::verdict::{ACCEPTED, NO_LAND, NO_MEMORY, NO_ROOM};
 use std::alloc::{AllocError, Global};
 use twp_grid::{Block, SECTIONS, Section};
-use twp_land::Land;
+use twp_land::{Land, StandardLots};
 use twp_spell::{held_lots, part_blocks};
 
 /// A written part of land: a lot, or a block of places off the lots.
@@ -108,9 +108,9 @@ fn add_section<L: Land>(
         parts.push(TownshipPart::of(section, 0, whole))?;
         return Ok(());
     }
-    let lots = held_lots(alloc, land, section)?;
+    let lots = held_lots(alloc, land, section, &StandardLots)?;
     add_lots(section, &lots, parts)?;
-    let blocks = part_blocks(alloc, land, section)?;
+    let blocks = part_blocks(alloc, land, section, &StandardLots)?;
     add_blocks(section, &blocks, parts)
 }
 

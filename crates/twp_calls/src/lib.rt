@@ -10,6 +10,12 @@ mod answer_many;
 mod answering;
 mod combining;
 mod designation;
+mod designation_call;
+mod designation_mark;
+mod designation_parts;
+mod designation_reading;
+mod designation_stage;
+mod designation_text;
 mod each_call;
 mod explaining;
 mod explaining_texts;
@@ -31,6 +37,7 @@ mod reading;
 mod suggesting;
 mod suggestion;
 mod text;
+mod unread;
 mod verdict;
 mod version;
 mod writing;
@@ -43,6 +50,7 @@ pub use answering::{
 };
 pub use combining::{township_land_combine, township_land_compare};
 pub use designation::TownshipDesignation;
+pub use designation_call::{township_designation_read, township_designation_text};
 pub use each_call::{TownshipTractAnswer, township_report_each};
 pub use explaining::{
     township_explain_description_parts, township_explain_list_parts, township_explain_notes_parts,
@@ -71,4 +79,5 @@ pub use overlaps_call::{TownshipOverlap, township_overlaps};
 pub use plat::TownshipPlat;
 pub use suggesting::township_suggest;
 pub use suggestion::{TownshipChange, TownshipReading, TownshipSuggestion};
+pub use unread::{TownshipStretch, township_unread};
 pub use writing::township_write_notes;

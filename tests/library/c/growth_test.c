@@ -124,6 +124,7 @@ static township_part parts[8];
 static township_reading readings[TOWNSHIP_READINGS_MOST];
 static township_change changes[8];
 static township_suggestion suggestion;
+static township_stretch unread[2];
 static room *texts;
 
 /* Land of the township of the plat, and another. */
@@ -239,6 +240,16 @@ static township_answer call_note_list(void) {
                                  BYTES("tracts.csv"), room_text(texts), MOST_TEXT);
 }
 
+static township_answer call_designation_read(void) {
+    static township_designation township;
+
+    return township_designation_read(BYTES("Township Two North, Range Three West"), &township);
+}
+
+static township_answer call_designation_text(void) {
+    return township_designation_text(&here, room_text(texts), MOST_TEXT);
+}
+
 static township_answer call_land_read(void) {
     return township_land_read(&here, BYTES("sec. 5, lots 1 and 2, S1/2NE1/4."), &land);
 }
@@ -309,6 +320,10 @@ static township_answer call_suggest_itself(void) {
                             MOST_TEXT, &suggestion);
 }
 
+static township_answer call_unread(void) {
+    return township_unread(BYTES("blip Sec. 14 blop"), unread, 2);
+}
+
 static const struct {
     const char *name;
     township_answer (*call)(void);
@@ -334,6 +349,8 @@ static const struct {
     {"township_explain_list, accepted with a note", call_note_list},
     {"township_write_notes", call_write_notes},
     {"township_figures", call_figures},
+    {"township_designation_read", call_designation_read},
+    {"township_designation_text", call_designation_text},
     {"township_land_read", call_land_read},
     {"township_land_acres", call_land_acres},
     {"township_land_area", call_land_area},
@@ -350,6 +367,7 @@ static const struct {
     {"township_lots_report, refused", call_lots_report_refused},
     {"township_suggest", call_suggest},
     {"township_suggest, a description", call_suggest_itself},
+    {"township_unread", call_unread},
 };
 
 /* Everything that a call can write. */
@@ -368,6 +386,7 @@ typedef struct written {
     township_reading readings[TOWNSHIP_READINGS_MOST];
     township_change changes[8];
     township_suggestion suggestion;
+    township_stretch unread[2];
     room texts;
 } written;
 
@@ -390,6 +409,7 @@ static void clear(void) {
     memset(readings, 0, sizeof readings);
     memset(changes, 0, sizeof changes);
     memset(&suggestion, 0, sizeof suggestion);
+    memset(unread, 0, sizeof unread);
     room_clear(texts);
 }
 
@@ -408,6 +428,7 @@ static void keep(written *in) {
     memcpy(in->readings, readings, sizeof readings);
     memcpy(in->changes, changes, sizeof changes);
     in->suggestion = suggestion;
+    memcpy(in->unread, unread, sizeof unread);
     in->texts = *texts;
 }
 

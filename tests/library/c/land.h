@@ -1,4 +1,4 @@
-/* The tests of the calls on land, of those by a lot table, and of the call for readings. */
+/* The tests of the calls on land, of those on townships and by a lot table, and of the call for readings. */
 #ifndef LAND_H
 #define LAND_H
 
@@ -6,6 +6,9 @@
 
 /* Tries each call on land, with the plat of samples/b1.csv. */
 void answers_land(const township_plat *plat);
+
+/* Tries the calls on the names of townships. */
+void answers_designations(void);
 
 /* Tries each call by a lot table. */
 void answers_lots(void);

@@ -1,4 +1,4 @@
-/* Tries the call for readings. */
+/* Tries the calls for readings, and for what is unread. */
 #include "land.h"
 
 #include <stdlib.h>
@@ -10,9 +10,11 @@
 _Static_assert(sizeof(township_reading) == 40, "a reading has 4 numbers of 8 bytes and 2 of 4");
 _Static_assert(sizeof(township_change) == 56, "a change has 6 numbers of 8 bytes and 2 of 4");
 _Static_assert(sizeof(township_suggestion) == 56, "a suggestion has 7 numbers of 8 bytes");
+_Static_assert(sizeof(township_stretch) == 24, "a stretch has 2 numbers of 8 bytes and 2 of 4");
 
 #define COUNT(array) (sizeof(array) / sizeof *(array))
 #define MOST_CHANGES 64
+#define MOST_UNREAD 8
 
 /* Where the call writes, filled with NEVER before it. */
 typedef struct rooms {
@@ -135,8 +137,64 @@ static void are_measured(const township_plat *plat) {
     drop(given);
 }
 
+/* Exactly this is unread of a text: its places, and the ways of each. Beyond them nothing was written. */
+static void leaves(const char *text, const char *wanted) {
+    bytes given = bytes_of(text);
+    township_stretch unread[MOST_UNREAD], none[MOST_UNREAD];
+    char shown[256] = "";
+    size_t at = 0;
+
+    memset(unread, NEVER, sizeof unread);
+    memset(none, NEVER, sizeof none);
+    const township_answer answer = township_unread(given.at, given.length, unread, COUNT(unread));
+    CHECK(answer.verdict == TOWNSHIP_ACCEPTED && answer.length <= COUNT(unread));
+    for (uint64_t i = 0; i < answer.length; i++) {
+        CHECK(unread[i].reserved == 0);
+        at += (size_t)snprintf(shown + at, sizeof shown - at, "%d-%d %u\n", (int)unread[i].start, (int)unread[i].end,
+                               unread[i].ways);
+    }
+    CHECK(strcmp(shown, wanted) == 0);
+    if (strcmp(shown, wanted) != 0) {
+        printf("unread of %s:\n%s", text, shown);
+    }
+    CHECK(memcmp(unread + answer.length, none, sizeof none - answer.length * sizeof *none) == 0);
+    drop(given);
+}
+
+static void has_unread(void) {
+    leaves("", "");
+    /* `the` is a connective. */
+    leaves("the old mill", "4-12 0\n");
+    /* Between two words of a run there may be connectives and marks, but no line feed and no phrase. */
+    leaves("that portion of the NE/4 lying north of the road", "0-12 0\n25-48 0\n");
+    leaves("\302\275 bl\303\244h\nblip Sec. 14 blop", "0-8 0\n9-13 0\n22-26 0\n");
+    /* Before any other land, `S2` may be section 2. */
+    leaves("S2, 12, T2N R3W", "4-6 0\n0-2 1\n");
+    /* A byte that is no character is one of a word. */
+    leaves("sec. 14\377", "7-8 0\n");
+}
+
+/* With too little room, only the number is answered. */
+static void has_no_room_for_unread(void) {
+    bytes given = bytes_of("blip Sec. 14 blop");
+    township_stretch unread[2], none[2];
+
+    for (size_t room = 0; room < 2; room++) {
+        memset(unread, NEVER, sizeof unread);
+        memset(none, NEVER, sizeof none);
+        const township_answer answer = township_unread(given.at, given.length, unread, room);
+        CHECK(answer.verdict == TOWNSHIP_NO_ROOM && answer.length == 2);
+        CHECK(memcmp(unread, none, sizeof none) == 0);
+    }
+    CHECK(township_unread(given.at, given.length, unread, 2).verdict == TOWNSHIP_ACCEPTED);
+    CHECK(unread[0].start == 0 && unread[0].end == 4 && unread[1].start == 13 && unread[1].end == 17);
+    drop(given);
+}
+
 void answers_readings(const township_plat *plat) {
     has_readings();
+    has_unread();
+    has_no_room_for_unread();
     has_no_room();
     are_measured(plat);
 }

@@ -7,7 +7,7 @@
 #include "check.h"
 
 #define THREADS 4
-#define CALLS 37
+#define CALLS 40
 
 /* The stack that the library requires, and room for the thread's own calls. */
 #define STACK ((256 + 64) * 1024)
@@ -28,6 +28,7 @@ typedef struct round_answers {
     township_land land;
     township_land combined;
     uint32_t comparison;
+    township_designation township;
     township_lots lots;
     township_fraction areas[3];
     township_part parts[16];
@@ -35,6 +36,7 @@ typedef struct round_answers {
     township_reading readings[2];
     township_change changes[2];
     township_suggestion suggestion;
+    township_stretch unread[2];
     uint8_t texts[CALLS][8192];
 } round_answers;
 
@@ -76,6 +78,15 @@ static void call_on_land(const township_plat *plat, round_answers *to) {
     answer[28] = township_land_parts(&to->combined, to->parts, sizeof to->parts / sizeof *to->parts);
     answer[35] = township_lots_report(&to->lots, BYTES("name,description\nA,\"sec. 6, lot 1.\"\nB,sec. 14.\n"),
                                       to->tracts_by_lots, 2);
+}
+
+/* Calls each function on the name of a township. */
+static void call_on_township(const township_plat *plat, round_answers *to) {
+    const township_designation township = {plat->number, plat->north_south, plat->range, plat->east_west};
+    uint8_t *text = to->texts[37];
+
+    to->answers[37] = township_designation_text(&township, text, sizeof to->texts[37]);
+    to->answers[38] = township_designation_read(text, to->answers[37].length, &to->township);
 }
 
 /* Calls each function that explains and gives the parts of its text. */
@@ -125,15 +136,18 @@ static void call_all(bytes notes, const township_plat *plat, round_answers *to) 
     answer[29] = township_report_each(plat, BYTES("name,description\nA,sec. 6.\nA,sec. 7.\n"), to->each, 2);
     answer[30] = township_overlaps(plat, BYTES("name,description\nA,sec. 6.\nA,sec. 6.\n"), to->overlaps, 2);
     call_on_land(plat, to);
+    call_on_township(plat, to);
     call_explaining(plat, to);
     answer[34] = township_suggest(BYTES("sec. 14: NE1/4NE1/4 SW1/4SW1/4"), to->readings, 2, to->changes, 2,
                                   to->texts[34], sizeof to->texts[34], &to->suggestion);
+    answer[37] = township_unread(BYTES("blip Sec. 14 blop"), to->unread, 2);
 }
 
 /* Whether the land, the lot tables, and the areas of two rounds are the same. */
 static bool same_land(const round_answers *a, const round_answers *b) {
     return memcmp(&a->land, &b->land, sizeof a->land) == 0 && a->comparison == b->comparison &&
            memcmp(&a->combined, &b->combined, sizeof a->combined) == 0 &&
+           memcmp(&a->township, &b->township, sizeof a->township) == 0 &&
            memcmp(&a->lots, &b->lots, sizeof a->lots) == 0 && memcmp(a->areas, b->areas, sizeof a->areas) == 0 &&
            memcmp(a->tracts_by_lots, b->tracts_by_lots, sizeof a->tracts_by_lots) == 0 &&
            memcmp(a->parts, b->parts, sizeof a->parts) == 0;
@@ -143,7 +157,8 @@ static bool same_land(const round_answers *a, const round_answers *b) {
 static bool same_readings(const round_answers *a, const round_answers *b) {
     return memcmp(a->readings, b->readings, sizeof a->readings) == 0 &&
            memcmp(a->changes, b->changes, sizeof a->changes) == 0 &&
-           memcmp(&a->suggestion, &b->suggestion, sizeof a->suggestion) == 0;
+           memcmp(&a->suggestion, &b->suggestion, sizeof a->suggestion) == 0 &&
+           memcmp(a->unread, b->unread, sizeof a->unread) == 0;
 }
 
 /* Whether the figures, the accounts, and the answers to many descriptions of two rounds are the same. */

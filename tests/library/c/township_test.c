@@ -672,6 +672,7 @@ int main(int count, char **words) {
     refuses_plats();
     refuses_accounts(&plat);
     answers_land(&plat);
+    answers_designations();
     answers_lots();
     answers_readings(&plat);
     call_from_threads(notes, rounds);

@@ -27,7 +27,7 @@ from ._many import Answers
 from ._note import Note
 from ._parts import Part
 from ._plat import Plat
-from ._readings import Change, Reading, Readings, suggest
+from ._readings import Change, Reading, Readings, Unread, suggest
 from ._refused import Refusal, Refused, failure_of
 from ._report import LotsOverlap, LotsReport, Overlap, Report, Tract, TractAnswer
 from ._rounding import rounded
@@ -61,6 +61,7 @@ __all__ = [
     "Township",
     "Tract",
     "TractAnswer",
+    "Unread",
     "__version__",
     "rounded",
     "suggest",
@@ -69,7 +70,7 @@ __all__ = [
 
 for _public in (
     *(Answers, Change, Difference, Land, Lots, LotsOverlap, LotsReport, Note, Notes, OtherPlace, Overlap, Part, Plat),
-    *(Reading, Readings, Refusal, Refused, Report, Section, Township, Tract, TractAnswer),
+    *(Reading, Readings, Refusal, Refused, Report, Section, Township, Tract, TractAnswer, Unread),
 ):
     # Tracebacks and pickles name each class as users import it.
     _public.__module__ = __name__

@@ -12,6 +12,7 @@ from ._batch.decoding import ENCODINGS
 from ._batch.options import STANDARD
 from ._batch.workbook import is_workbook
 from ._draw import add_draw
+from ._gis_command import parts_command
 from ._lots_command import add_lots
 from ._measuring import Command, acres_command, compare_command
 from ._serve import add_serve
@@ -49,6 +50,8 @@ With --suggest, these are added, too. They never change the columns above:
   readings       the number of its readings
   assumes        what that reading assumes
   reading_acres  the acreage of that reading
+  unread         why there is no reading: the words that are not understood, what can be read in two ways, and why
+                 lots and aliquot parts can't describe the land
 """
 
 _STATUS = """\
@@ -151,6 +154,7 @@ def _parsers() -> Tuple[argparse.ArgumentParser, Dict[str, Command]]:
     return parser, {
         "acres": acres_command(commands),
         "compare": compare_command(commands),
+        "parts": parts_command(commands),
         "suggest": suggest_command(commands),
         "batch": _batch_command(commands),
     }

@@ -21,6 +21,12 @@ REFUSAL_NOTES_MISSING = 11
 REFUSAL_PLAT_IRREGULAR = 21
 REFUSAL_PLAT_CLOSING_SHORT = 22
 REFUSAL_PLAT_CLOSING_LONG = 23
+REFUSAL_DESIGNATION_NUMBER = 31
+REFUSAL_DESIGNATION_DIRECTION = 32
+REFUSAL_DESIGNATION_RANGE = 33
+REFUSAL_DESIGNATION_RANGE_DIRECTION = 34
+REFUSAL_DESIGNATION_AFTER = 35
+REFUSAL_DESIGNATION_TOO_LARGE = 36
 REFUSAL_TEXT_TOO_LARGE = 41
 REFUSAL_TEXT_BAD_BYTE = 42
 REFUSAL_TEXT_BAD_NUMBER = 43
@@ -115,6 +121,12 @@ ASSUMES_NO_MISSING_COMMA = 6
 CHANGED = 0
 LOTS_NAMED = 1
 REMAINDER = 2
+WAYS_SECTION_OR_HALF = 1
+WAYS_LOT_OR_HALF = 2
+WAYS_QUARTER_OR_SECTION = 3
+WAYS_NUMBER_OR_FIGURE = 4
+WAYS_RANGE_OR_HALF = 5
+WAYS_PART_OR_SECTION = 6
 UNION = 0
 INTERSECTION = 1
 DIFFERENCE = 2
@@ -243,6 +255,12 @@ class Suggestion(ctypes.Structure):
     ]
 
 
+class Stretch(ctypes.Structure):
+    """`township_stretch`: 24 bytes."""
+
+    _fields_ = [("start", c_uint64), ("end", c_uint64), ("ways", c_uint32), ("reserved", c_uint32)]
+
+
 class Explanation(ctypes.Structure):
     """`township_explanation`: 112 bytes."""
 
@@ -282,6 +300,8 @@ answer_many = _call(
     "township_answer_many", POINTER(Plat), c_char_p, c_size_t, POINTER(c_size_t), c_size_t, c_uint32,
     POINTER(FullAnswer), c_size_t,
 )
+designation_read = _call("township_designation_read", c_char_p, c_size_t, POINTER(Designation))
+designation_text = _call("township_designation_text", POINTER(Designation), POINTER(c_char), c_size_t)
 land_read = _call("township_land_read", POINTER(Designation), c_char_p, c_size_t, POINTER(Land))
 land_acres = _call("township_land_acres", POINTER(Plat), POINTER(Land), c_uint32)
 land_area = _call("township_land_area", POINTER(Plat), POINTER(Land), c_uint32, POINTER(Fraction))
@@ -318,4 +338,5 @@ suggest = _call(
     "township_suggest", c_char_p, c_size_t, POINTER(Reading), c_size_t, POINTER(Change), c_size_t, POINTER(c_char),
     c_size_t, POINTER(Suggestion),
 )
+unread = _call("township_unread", c_char_p, c_size_t, POINTER(Stretch), c_size_t)
 version = _call("township_version", POINTER(c_char), c_size_t)

@@ -3,13 +3,13 @@ from __future__ import annotations
 
 from ctypes import byref
 from decimal import Decimal
-from typing import Iterable, List, NamedTuple, Optional, Sequence, Tuple
+from typing import Iterable, NamedTuple, Sequence, Tuple
 
 from . import _library
 from ._figures import acres_of_hundredths
 from ._land import Land
 from ._lot_faults import LACKING, refused_lots
-from ._refused import LIST, Refusal, exception_of, failure_of, refusal_of
+from ._refused import LIST, Refusal, failure_of, refusal_of
 from ._report import (
     FIRST_TRACT,
     Described,
@@ -17,7 +17,9 @@ from ._report import (
     LotsReport,
     Overlap,
     TractAnswer,
+    accepted,
     answers_on,
+    exception_of_list,
     list_of,
     overlaps_on,
     report_by,
@@ -72,10 +74,7 @@ class LotsReporting:
         township.Refused: tracts: record 2: the lot table has no record for lot 3 of section 5
         """
         given = encoded(tracts)
-        answer, report = report_by(byref(self._parts), given)
-        if answer.verdict != _library.ACCEPTED:
-            raise self._list_exception(answer, given)
-        return report
+        return accepted(report_by(byref(self._parts), given), self._list_exception, given)
 
     def report_each(self, tracts: Iterable[Tuple[Text, Described]]) -> Tuple[TractAnswer, ...]:
         """Return the answer to each of the tracts, whatever is wrong with the others: its acreage or its refusal.
@@ -92,9 +91,7 @@ class LotsReporting:
         """
         given = _given(tracts)
         # On the nominal plat, a tract is refused for the same errors. Only its acreage is another one.
-        answer, answers = answers_on(byref(self._nominal_plat()), given.list)
-        if answer.verdict != _library.ACCEPTED:
-            raise self._list_exception(answer, given.list)
+        answers = accepted(answers_on(byref(self._nominal_plat()), given.list), self._list_exception, given.list)
         return tuple(
             each if each.acres is None else self._by_table(each, index, described)
             for index, (each, (_, described)) in enumerate(zip(answers, given.tracts))
@@ -111,9 +108,7 @@ class LotsReporting:
         (LotsOverlap(first=0, second=1, acres=Decimal('40.45')), LotsOverlap(first=0, second=2, acres=None))
         """
         given = _given(tracts)
-        answer, overlaps = overlaps_on(byref(self._nominal_plat()), given.list)
-        if answer.verdict != _library.ACCEPTED:
-            raise self._list_exception(answer, given.list)
+        overlaps = accepted(overlaps_on(byref(self._nominal_plat()), given.list), self._list_exception, given.list)
         return tuple(self._overlap(each, given.tracts) for each in overlaps)
 
     def _nominal_plat(self) -> _library.Plat:
@@ -158,9 +153,7 @@ class LotsReporting:
         """Return the exception for a list of tracts that is not accepted."""
         if answer.verdict == _library.TRACT_REFUSED and answer.inner_number == LACKING:
             return refused_lots(answer, LIST.decode())
-        explain = _library.explain_list_parts
-        plat = nominal_plat_of(township_of(self._parts.township))
-        return exception_of(answer, explain, byref(plat), given, len(given), source=LIST)
+        return exception_of_list(answer, byref(nominal_plat_of(township_of(self._parts.township))), given)
 
 
 def _given(tracts: Iterable[Tuple[Text, Described]]) -> _Given:

@@ -149,8 +149,13 @@ def _files_in(parser: argparse.ArgumentParser, asked: argparse.Namespace, wanted
 def _basis_in(name: str, is_lots: bool) -> Union[Plat, Lots]:
     """Return the plat or the lot table in a file."""
     if is_lots:
-        return Lots._read(_bytes_in(name, _library.LOTS_TEXT_MOST), _shown(name))
+        return _lots_in(name)
     return Plat._of_notes(_bytes_in(name, _library.NOTES_MOST), _source(name))
+
+
+def _lots_in(name: str) -> Lots:
+    """Return the lot table in a file."""
+    return Lots._read(_bytes_in(name, _library.LOTS_TEXT_MOST), _shown(name))
 
 
 class _Description(NamedTuple):

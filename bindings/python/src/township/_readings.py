@@ -8,7 +8,7 @@ from typing import Any, Callable, Iterable, List, NamedTuple, Optional, Sequence
 
 from . import _library
 from ._refused import Refused, failure_of
-from ._text import Text, encoded
+from ._text import Text, encoded, shown
 
 #: The names of the rules, in the order of their numbers, which begin with 1.
 RULES = (
@@ -29,6 +29,16 @@ ASSUMED = {
     "no missing comma": "no comma is missing",
 }
 
+#: The two ways to read a phrase of a text without readings, in the order of their numbers, which begin with 1.
+WAYS = (
+    "a section, or a half",
+    "one more lot, or a half",
+    "a quarter, or a word for a section",
+    "the number of a section or a lot, or another figure",
+    "the side of a range, or a half",
+    "of the part before it, or of the section",
+)
+
 #: The assumptions that are not about text that is left out, but about the words around the change.
 _AROUND = ("wrong letter", "no missing comma")
 
@@ -43,6 +53,9 @@ _SHOWN_MOST = 100
 
 #: The room for changes and for bytes in a first call. It is enough for all but long texts.
 _CHANGES, _BYTES = 64, 2048
+
+#: The room for unread words and phrases in a first call.
+_STRETCHES = 64
 
 
 class Change(NamedTuple):
@@ -120,11 +133,34 @@ class Reading(NamedTuple):
         return assumptions_of(self.changes)
 
 
+class Unread(NamedTuple):
+    """Why a text has no reading: some words that are not understood, or a phrase that can be read in two ways.
+
+    >>> for unread in township.suggest("An undivided 20 net mineral acres in W/2 SW/4 Sec. 9-2N-3W").unread:
+    ...     print(unread)
+    not understood: `An undivided 20 net mineral acres`
+    """
+
+    #: The place: the bytes of the text in UTF-8 from `start` to before `end`.
+    start: int
+    end: int
+    #: These bytes, as text.
+    text: str
+    #: The two ways to read a phrase, in words, or `None` if the words are not understood.
+    ways: Optional[str] = None
+
+    def __str__(self) -> str:
+        """Return it in words, such as `not understood: ..`, on one line. Unprintable characters are escaped."""
+        text = f"`{shown(' '.join(self.text.split()))}`"
+        return f"{text} can be read in two ways: {self.ways}" if self.ways else f"not understood: {text}"
+
+
 class Readings(Sequence[Reading]):
     """The readings of a text, in a fixed order: at most 8.
 
     If there are none, nothing about the text is certain, or lots and aliquot parts can't describe the land: then
-    there is a `reason`.
+    there is a `reason`. Of a text without readings, the words that are not understood are `unread`, and phrases that
+    can be read in two ways.
 
     >>> for reading in township.suggest("sec. 14: NE¼NE¼ SW¼SW¼"):
     ...     print(reading.text)
@@ -132,19 +168,26 @@ class Readings(Sequence[Reading]):
     sec. 14: NE¼NE¼SW¼SW¼
     """
 
-    __slots__ = ("_readings", "reason", "beyond")
+    __slots__ = ("_readings", "reason", "beyond", "unread")
 
     #: Why lots and aliquot parts can't describe the land, such as `a portion needs a survey`, or `None`.
     reason: Optional[str]
     #: The phrase that says so: the bytes of the text in UTF-8 from the first number to before the second one.
     beyond: Optional[Tuple[int, int]]
+    #: What is not understood if there are no readings, and then what can be read in two ways; each from left to right.
+    unread: Tuple[Unread, ...]
 
     def __init__(
-        self, readings: Sequence[Reading], reason: Optional[str] = None, beyond: Optional[Tuple[int, int]] = None
+        self,
+        readings: Sequence[Reading],
+        reason: Optional[str] = None,
+        beyond: Optional[Tuple[int, int]] = None,
+        unread: Sequence[Unread] = (),
     ) -> None:
         self._readings = tuple(readings)
         self.reason = reason
         self.beyond = beyond
+        self.unread = tuple(unread)
 
     def __len__(self) -> int:
         return len(self._readings)
@@ -161,10 +204,13 @@ class Readings(Sequence[Reading]):
     def __eq__(self, other: object) -> bool:
         if not isinstance(other, Readings):
             return NotImplemented
-        return (self._readings, self.reason, self.beyond) == (other._readings, other.reason, other.beyond)
+        return self._parts() == other._parts()
 
     def __hash__(self) -> int:
-        return hash((self._readings, self.reason, self.beyond))
+        return hash(self._parts())
+
+    def _parts(self) -> Tuple[object, ...]:
+        return (self._readings, self.reason, self.beyond, self.unread)
 
     def __repr__(self) -> str:
         texts = [shorten(reading.text, _SHOWN_MOST, placeholder=" ..") for reading in self._readings]
@@ -181,6 +227,25 @@ def suggest(text: Text) -> Readings:
     """
     given = encoded(text)
     return _Suggested(given).readings()
+
+
+def _unread(given: bytes) -> Tuple[Unread, ...]:
+    """Return what is unread of a text without readings."""
+    room = _STRETCHES
+    while True:
+        found = (_library.Stretch * room)()
+        answer = _library.unread(given, len(given), found, room)
+        if answer.verdict != _library.NO_ROOM:
+            break
+        room = answer.length
+    if answer.verdict != _library.ACCEPTED:
+        raise failure_of(answer.verdict)
+    return tuple(_unread_of(given, stretch) for stretch in found[: answer.length])
+
+
+def _unread_of(given: bytes, stretch: _library.Stretch) -> Unread:
+    text = given[stretch.start : stretch.end].decode("utf-8", "surrogateescape")
+    return Unread(stretch.start, stretch.end, text, WAYS[stretch.ways - 1] if stretch.ways else None)
 
 
 def _start_before(given: bytes, at: int, is_end: Callable[[int], bool]) -> int:
@@ -224,9 +289,12 @@ class _Suggested:
     def readings(self) -> Readings:
         said = self._said
         found = [self._reading(each) for each in self._readings[: said.readings]]
-        if not said.reason_length:
+        if found:
             return Readings(found)
-        return Readings(found, self._text(said.reason, said.reason_length), (said.beyond, said.beyond_end))
+        unread = _unread(self._given)
+        if not said.reason_length:
+            return Readings((), unread=unread)
+        return Readings((), self._text(said.reason, said.reason_length), (said.beyond, said.beyond_end), unread)
 
     def _reading(self, data: _library.Reading) -> Reading:
         changes: List[_library.Change] = self._changes[data.changes : data.changes + data.changes_length]

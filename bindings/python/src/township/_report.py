@@ -3,16 +3,18 @@ from __future__ import annotations
 
 import ctypes
 from decimal import Decimal
-from typing import Iterable, NamedTuple, Optional, Tuple, Union
+from typing import Callable, Iterable, NamedTuple, Optional, Tuple, TypeVar, Union
 
 from . import _library
 from ._figures import acres_of_hundredths
 from ._land import Land
-from ._refused import Refusal, inner_refusal, refusal_of
+from ._refused import LIST, Refusal, exception_of, inner_refusal, refusal_of
 from ._text import Text, encoded
 
 #: The land of a tract: a description, or land as a value.
 Described = Union[Text, Land]
+
+T = TypeVar("T")
 
 
 class Tract(NamedTuple):
@@ -75,6 +77,21 @@ class LotsOverlap(NamedTuple):
     second: int
     #: The acreage by the lot table of the land in both. None if the table lacks one of its lots.
     acres: Optional[Decimal]
+
+
+def accepted(
+    found: Tuple[_library.Answer, T], exception: Callable[[_library.Answer, bytes], Exception], given: bytes
+) -> T:
+    """Return the result of a call on a list of tracts. Raise the exception for the list if it is not accepted."""
+    answer, result = found
+    if answer.verdict != _library.ACCEPTED:
+        raise exception(answer, given)
+    return result
+
+
+def exception_of_list(answer: _library.Answer, plat: object, given: bytes) -> Exception:
+    """Return the exception for a list of tracts that is not accepted on a plat."""
+    return exception_of(answer, _library.explain_list_parts, plat, given, len(given), source=LIST)
 
 
 def report_on(parts: object, given: bytes) -> Tuple[_library.Answer, Report]:

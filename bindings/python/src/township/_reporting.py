@@ -5,8 +5,18 @@ from ctypes import byref
 from typing import Iterable, Tuple
 
 from . import _library
-from ._refused import LIST, exception_of
-from ._report import Described, Overlap, Report, TractAnswer, answers_on, list_of, overlaps_on, report_on
+from ._report import (
+    Described,
+    Overlap,
+    Report,
+    TractAnswer,
+    accepted,
+    answers_on,
+    exception_of_list,
+    list_of,
+    overlaps_on,
+    report_on,
+)
 from ._text import Text, encoded
 
 
@@ -44,10 +54,7 @@ class Reporting:
         Decimal('78.20')
         """
         given = encoded(tracts)
-        answer, report = report_on(byref(self._parts), given)
-        if answer.verdict != _library.ACCEPTED:
-            raise self._list_exception(answer, given)
-        return report
+        return accepted(report_on(byref(self._parts), given), self._list_exception, given)
 
     def report_each(self, tracts: Iterable[Tuple[Text, Described]]) -> Tuple[TractAnswer, ...]:
         """Return the answer to each of the tracts, whatever is wrong with the others: its acreage or its refusal.
@@ -73,10 +80,7 @@ class Reporting:
         TractAnswer(name='A', acres=Decimal('39.18'), refusal=None, inner=None)
         """
         given = encoded(tracts)
-        answer, answers = answers_on(byref(self._parts), given)
-        if answer.verdict != _library.ACCEPTED:
-            raise self._list_exception(answer, given)
-        return answers
+        return accepted(answers_on(byref(self._parts), given), self._list_exception, given)
 
     def overlaps(self, tracts: Iterable[Tuple[Text, Described]]) -> Tuple[Overlap, ...]:
         """Return all overlaps of the tracts, in the order of the later tract, and then of the earlier one.
@@ -95,12 +99,8 @@ class Reporting:
         ()
         """
         given = encoded(tracts)
-        answer, overlaps = overlaps_on(byref(self._parts), given)
-        if answer.verdict != _library.ACCEPTED:
-            raise self._list_exception(answer, given)
-        return overlaps
+        return accepted(overlaps_on(byref(self._parts), given), self._list_exception, given)
 
     def _list_exception(self, answer: _library.Answer, given: bytes) -> Exception:
         """Return the exception for a list of tracts that is not accepted."""
-        explain = _library.explain_list_parts
-        return exception_of(answer, explain, byref(self._parts), given, len(given), source=LIST)
+        return exception_of_list(answer, byref(self._parts), given)

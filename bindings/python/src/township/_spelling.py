@@ -1,35 +1,33 @@
-"""Reads a township as a description spells it.
-
-The library decides what a spelling means: `SPELLING sec. 36.` is accepted on the plat of that township as that section
-alone, and is refused with number 61 on every other plat.
-"""
+"""Reads a township as it is spelled: in the heading of a description, in words, or by a register."""
 from __future__ import annotations
 
 import functools
-import re
 from ctypes import byref
-from typing import Iterable, NamedTuple, Optional, Tuple, Union, cast
+from typing import Tuple, Union
 
 from . import _library
-from ._refused import DESCRIPTION, Refused, exception_of
+from ._explanation import Explained
+from ._refused import Refused, failure_of
 from ._text import encoded
-from ._township import EastWest, NorthSouth, Township, checked, nominal_plat_of
+from ._township import Township, checked, township_of
 
 #: A township: its spelling, or the parts of its designation.
 Named = Union[str, Tuple[int, str, int, str]]
 
-#: The number of the refusal of a description whose heading is for another township.
-_OTHER_TOWNSHIP = 61
+# What is expected at the place of a refusal, by its number.
+_EXPECTED = {
+    31: "the township number, 1 to 99",
+    32: "N or S",
+    33: "the range, as in R. 3 W.",
+    34: "E or W",
+    35: "nothing after the township",
+}
 
-#: The hundredths of an acre of section 36 alone.
-_SECTION = 64_000
+#: The number of the refusal of a text that is too long, which has no place in the text.
+_TOO_LARGE = 36
 
-#: What a spelling usually contains. It is only a guess, which the library confirms.
-_USUAL = re.compile(r"([0-9]{1,4})[^0-9]*?([NS])[^0-9]*([0-9]{1,4})[^0-9]*?([EW])", re.IGNORECASE)
-
-
-class NotTownship(ValueError):
-    """A text is not a township as a description spells it."""
+#: The most characters of a text that a sentence shows.
+_SHOWN_MOST = 60
 
 
 def township_named(named: Named) -> Township:
@@ -40,85 +38,42 @@ def township_named(named: Named) -> Township:
     >>> township_named("T2N R3W") == township_named((2, "N", 3, "W"))
     True
     """
-    return _township_spelled(named) if isinstance(named, str) else checked(named)
+    return township_spelled(named) if isinstance(named, str) else checked(named)
 
 
 @functools.lru_cache(maxsize=1024)
-def _township_spelled(spelling: str) -> Township:
-    """Return the township that is spelled so. Raise `NotTownship` if none is."""
-    township = township_spelled(spelling, ())
-    if township is None:
-        raise NotTownship(f"`{spelling}` is an unusual spelling of a township: write it as in T. 2 N., R. 3 W.")
-    return township
-
-
-def township_spelled(spelling: str, townships: Iterable[Township]) -> Optional[Township]:
-    """Return the township that is spelled so. Raise `NotTownship` if none is.
-
-    If the township is neither easy to guess nor one of those given, return `None`.
-    """
-    _check(spelling)
-    guess = _guess(spelling)
-    if guess is not None and _is(spelling, guess):
-        return guess
-    return next((each for each in townships if _is(spelling, each)), None)
-
-
-def _check(spelling: str) -> None:
-    """Raise `NotTownship` if a text is not the spelling of any township.
-
-    Of two different townships, at most one is the one that is spelled; so the other is refused.
-    """
-    if not spelling:
-        raise NotTownship("the township is missing")
-    refused = [_answer(spelling, probe).refused for probe in _PROBES]
-    for each in refused:
-        if each is not None and each.number != _OTHER_TOWNSHIP:
-            raise NotTownship(f"`{spelling}` is not a township, such as T. 2 N., R. 3 W.: {each.sentence}")
-    if not any(refused):
-        raise NotTownship(f"`{spelling}` is not a township, such as T. 2 N., R. 3 W.")
-
-
-_PROBES = (Township(99, "S", 99, "E"), Township(98, "S", 98, "E"))
-
-
-def _guess(spelling: str) -> Optional[Township]:
-    """Return the township that a spelling seems to mean."""
-    found = _USUAL.search(spelling)
-    if found is None:
-        return None
-    number, range_number = int(found[1]), int(found[3])
-    if not (0 < number < 100 and 0 < range_number < 100):
-        return None
-    sides = cast(NorthSouth, found[2].upper()), cast(EastWest, found[4].upper())
-    return Township(number, sides[0], range_number, sides[1])
-
-
-class _Answer(NamedTuple):
-    """The answer to a description that begins with a spelling."""
-
-    refused: Optional[Refused]
-    hundredths: int
-
-
-def _is(spelling: str, township: Township) -> bool:
-    """Return whether a text is the spelling of a township. Raise `NotTownship` if it names land, too."""
-    answer = _answer(spelling, township)
-    if answer.refused is None and answer.hundredths != _SECTION:
-        raise NotTownship(f"`{spelling}` is not only a township, such as T. 2 N., R. 3 W.: it names land, too")
-    return answer.refused is None
-
-
-def _answer(spelling: str, township: Township) -> _Answer:
-    """Return the answer to a description of section 36 that begins with a spelling, on a plat of a township."""
-    # On the nominal plat, as on any other, section 36 has no lots.
-    plat = nominal_plat_of(township)
-    given = encoded(f"{spelling} sec. 36.")
-    answer = _library.acres(byref(plat), given, len(given), _library.EXACT)
+def township_spelled(spelling: str) -> Township:
+    """Return the township that a text spells. Raise `Refused` if it spells none."""
+    given = encoded(spelling)
+    parts = _library.Designation()
+    answer = _library.designation_read(given, len(given), byref(parts))
     if answer.verdict == _library.ACCEPTED:
-        return _Answer(None, answer.hundredths)
-    explain = _library.explain_description_parts
-    exception = exception_of(answer, explain, byref(plat), given, len(given), source=DESCRIPTION)
-    if not isinstance(exception, Refused):
-        raise exception
-    return _Answer(exception, 0)
+        return township_of(parts)
+    if answer.verdict != _library.REFUSED:
+        raise failure_of(answer.verdict)
+    raise _refused(given, answer.number, answer.at)
+
+
+def _refused(given: bytes, number: int, at: int) -> Refused:
+    """Return the refusal of a text that spells no township."""
+    if number == _TOO_LARGE:
+        explained = Explained("township", f"the text is longer than {at:,} bytes")
+        return Refused(number, at, None, None, f"township: {explained.message}\n", None, "township", explained)
+    before = given[:at].decode("utf-8", "replace").split("\n")
+    line, column = len(before), len(before[-1]) + 1
+    expected = _EXPECTED.get(number, "a township, as in T. 2 N., R. 3 W.")
+    rest = _shortened(given[at:].decode("utf-8", "replace"))
+    if rest:
+        sentence = f"unexpected `{rest}`; expected {expected}"
+    elif given.strip():
+        sentence = f"incomplete township: expected {expected}"
+    else:
+        sentence = "the township is missing"
+    explained = Explained(f"township:{line}:{column}", sentence, start=at, end=len(given))
+    return Refused(number, at, line, column, f"township: {explained.message}\n", None, "township", explained)
+
+
+def _shortened(text: str) -> str:
+    """Return a text on one line, without white space around it and without its end if it is long."""
+    line = " ".join(text.split())
+    return line if len(line) <= _SHOWN_MOST else f"{line[:_SHOWN_MOST]} .."

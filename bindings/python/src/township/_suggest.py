@@ -98,7 +98,7 @@ def lines_of(given: bytes, found: Readings) -> List[str]:
          `S2NE4`: no comma is missing
     """
     if not found:
-        return [f"not expressible by lots and aliquot parts: {found.reason}" if found.reason else _NOT_CERTAIN]
+        return _why_none(found)
     conditions = [condition_of(given, reading, found) for reading in found]
     shown = _shown_readings(found, conditions)
     if len(found) > 1 and all(conditions):
@@ -109,6 +109,17 @@ def lines_of(given: bytes, found: Readings) -> List[str]:
         for reading, first in zip(found, shown)
         for line in (first, *_explained(given, reading.changes, [reading]))
     ]
+
+
+def _why_none(found: Readings) -> List[str]:
+    """Return the lines that say why a text has no reading.
+
+    >>> print(*_why_none(township.suggest("PT NENE SEC 21 T2N R3W")), sep="\\n")
+    not expressible by lots and aliquot parts: a portion needs a survey
+         not understood: `PT`
+    """
+    first = f"not expressible by lots and aliquot parts: {found.reason}" if found.reason else _NOT_CERTAIN
+    return [first, *(f"     {unread}" for unread in found.unread)]
 
 
 def _shown_readings(found: Readings, conditions: Sequence[Optional[str]]) -> List[str]:

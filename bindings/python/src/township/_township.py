@@ -2,11 +2,12 @@
 from __future__ import annotations
 
 import functools
-from ctypes import c_uint32
+from ctypes import byref, c_uint32
 from operator import index
 from typing import Any, Dict, Iterable, Literal, NamedTuple, Sequence, Tuple, Union, cast
 
 from . import _library
+from ._written import text_by
 
 #: The side of the base line.
 NorthSouth = Literal["N", "S"]
@@ -63,12 +64,38 @@ class Township(_Designation):
         return super().__new__(cls, numbers[0], north_south, numbers[1], east_west)
 
     @classmethod
+    def of(cls, text: str) -> Township:
+        """Return the township that a text spells, in any of the ways that `docs/TOWNSHIPS.md` lists.
+
+        Raise `Refused` if it spells none.
+
+        >>> township.Township.of("2N-3W") == township.Township.of("Township Two North, Range Three West")
+        True
+        >>> print(township.Township.of("0020N 0030W"))
+        T. 2 N., R. 3 W.
+        >>> township.Township.of("T. 2 N., R. 3 W., sec. 14")
+        Traceback (most recent call last):
+            ...
+        township.Refused: township:1:19: unexpected `sec. 14`; expected nothing after the township
+        """
+        # The module that reads spellings needs this one.
+        from ._spelling import township_spelled
+
+        return township_spelled(text)
+
+    @classmethod
     def _make(cls, iterable: Iterable[Any], **_: Any) -> Township:
         # `_replace` calls this.
         return cls(*iterable)
 
     def __str__(self) -> str:
-        return f"T. {self.number} {self.north_south}., R. {self.range} {self.east_west}."
+        answer, text = text_by(_library.designation_text, byref(_library.Designation(*codes_of(self))))
+        if answer.verdict != _library.ACCEPTED:
+            # The module of refusals needs this one.
+            from ._refused import failure_of
+
+            raise failure_of(answer.verdict)
+        return text
 
 
 def township_of(parts: Union[_library.Plat, _library.Designation]) -> Township:

@@ -20,6 +20,12 @@ pub(crate) const REFUSAL_NOTES_MISSING: u32 = 11;
 pub(crate) const REFUSAL_PLAT_IRREGULAR: u32 = 21;
 pub(crate) const REFUSAL_PLAT_CLOSING_SHORT: u32 = 22;
 pub(crate) const REFUSAL_PLAT_CLOSING_LONG: u32 = 23;
+pub(crate) const REFUSAL_DESIGNATION_NUMBER: u32 = 31;
+pub(crate) const REFUSAL_DESIGNATION_DIRECTION: u32 = 32;
+pub(crate) const REFUSAL_DESIGNATION_RANGE: u32 = 33;
+pub(crate) const REFUSAL_DESIGNATION_RANGE_DIRECTION: u32 = 34;
+pub(crate) const REFUSAL_DESIGNATION_AFTER: u32 = 35;
+pub(crate) const REFUSAL_DESIGNATION_TOO_LARGE: u32 = 36;
 pub(crate) const REFUSAL_TEXT_TOO_LARGE: u32 = 41;
 pub(crate) const REFUSAL_TEXT_BAD_BYTE: u32 = 42;
 pub(crate) const REFUSAL_TEXT_BAD_NUMBER: u32 = 43;
@@ -114,6 +120,12 @@ pub(crate) const ASSUMES_NO_MISSING_COMMA: u32 = 6;
 pub(crate) const CHANGED: u32 = 0;
 pub(crate) const LOTS_NAMED: u32 = 1;
 pub(crate) const REMAINDER: u32 = 2;
+pub(crate) const WAYS_SECTION_OR_HALF: u32 = 1;
+pub(crate) const WAYS_LOT_OR_HALF: u32 = 2;
+pub(crate) const WAYS_QUARTER_OR_SECTION: u32 = 3;
+pub(crate) const WAYS_NUMBER_OR_FIGURE: u32 = 4;
+pub(crate) const WAYS_RANGE_OR_HALF: u32 = 5;
+pub(crate) const WAYS_PART_OR_SECTION: u32 = 6;
 pub(crate) const UNION: u32 = 0;
 pub(crate) const INTERSECTION: u32 = 1;
 pub(crate) const DIFFERENCE: u32 = 2;
@@ -444,6 +456,25 @@ impl Suggestion {
     };
 }
 
+/// `township_stretch`.
+#[repr(C)]
+#[derive(Clone, Copy, Debug, PartialEq, Eq, Hash)]
+pub(crate) struct Stretch {
+    pub(crate) start: u64,
+    pub(crate) end: u64,
+    pub(crate) ways: u32,
+    pub(crate) reserved: u32,
+}
+
+impl Stretch {
+    pub(crate) const BLANK: Stretch = Stretch {
+        start: 0,
+        end: 0,
+        ways: 0,
+        reserved: 0,
+    };
+}
+
 /// `township_explanation`.
 #[repr(C)]
 #[derive(Clone, Copy, Debug, PartialEq, Eq, Hash)]
@@ -506,6 +537,7 @@ const _: () = assert!(size_of::<Part>() == 6 && offset_of!(Part, rows) == 5);
 const _: () = assert!(size_of::<Change>() == 56 && offset_of!(Change, assumes) == 52);
 const _: () = assert!(size_of::<Reading>() == 40 && offset_of!(Reading, reserved) == 36);
 const _: () = assert!(size_of::<Suggestion>() == 56 && offset_of!(Suggestion, beyond_end) == 48);
+const _: () = assert!(size_of::<Stretch>() == 24 && offset_of!(Stretch, reserved) == 20);
 const _: () = assert!(
     size_of::<Explanation>() == 112 && offset_of!(Explanation, repair_length) == 104,
 );
@@ -553,6 +585,12 @@ extern "C" {
         plat: *const Plat, descriptions: *const u8, descriptions_length: usize,
         offsets: *const usize, offsets_length: usize, account: u32, answers: *mut FullAnswer,
         room: usize,
+    ) -> Answer;
+    fn township_designation_read(
+        text: *const u8, text_length: usize, township: *mut Designation,
+    ) -> Answer;
+    fn township_designation_text(
+        township: *const Designation, text: *mut u8, room: usize,
     ) -> Answer;
     fn township_land_read(
         township: *const Designation, description: *const u8, description_length: usize,
@@ -610,6 +648,9 @@ extern "C" {
         description: *const u8, description_length: usize, readings: *mut Reading,
         readings_room: usize, changes: *mut Change, changes_room: usize, bytes: *mut u8,
         bytes_room: usize, suggestion: *mut Suggestion,
+    ) -> Answer;
+    fn township_unread(
+        description: *const u8, description_length: usize, unread: *mut Stretch, room: usize,
     ) -> Answer;
     fn township_version(text: *mut u8, room: usize) -> Answer;
 }
@@ -737,6 +778,24 @@ pub(crate) fn answer_many(
             plat, descriptions.as_ptr(), descriptions.len(), offsets.as_ptr(), offsets.len(),
             account, answers.as_mut_ptr(), answers.len(),
         )
+    }
+}
+
+/// Calls `township_designation_read`.
+pub(crate) fn designation_read(text: &[u8]) -> (Answer, Designation) {
+    let mut township = Designation::BLANK;
+    // SAFETY: slices and references meet the library's requirements.
+    let answer = unsafe {
+        township_designation_read(text.as_ptr(), text.len(), &mut township)
+    };
+    (answer, township)
+}
+
+/// Calls `township_designation_text`.
+pub(crate) fn designation_text(township: &Designation, text: &mut [u8]) -> Answer {
+    // SAFETY: slices and references meet the library's requirements.
+    unsafe {
+        township_designation_text(township, text.as_mut_ptr(), text.len())
     }
 }
 
@@ -950,6 +1009,14 @@ pub(crate) fn suggest(
         )
     };
     (answer, suggestion)
+}
+
+/// Calls `township_unread`.
+pub(crate) fn unread(description: &[u8], unread: &mut [Stretch]) -> Answer {
+    // SAFETY: slices and references meet the library's requirements.
+    unsafe {
+        township_unread(description.as_ptr(), description.len(), unread.as_mut_ptr(), unread.len())
+    }
 }
 
 /// Calls `township_version`.

@@ -65,34 +65,16 @@ impl fmt::Display for Assumption {
 
 #[cfg(test)]
 mod tests {
+    use super::super::header::assert_numbered;
     use super::*;
-
-    const HEADER: &str = include_str!(concat!(env!("TOWNSHIP_FILES"), "/include/township.h"));
-
-    /// `TOWNSHIP_ASSUMES_NOT_LAND` of `NotLand`.
-    fn name_in_header(assumption: Assumption) -> String {
-        let mut name = String::from("TOWNSHIP_ASSUMES");
-        for letter in format!("{assumption:?}").chars() {
-            if letter.is_uppercase() {
-                name.push('_');
-            }
-            name.push(letter.to_ascii_uppercase());
-        }
-        name
-    }
 
     #[test]
     fn numbers_are_those_of_the_header() {
         assert_eq!(Assumption::of(0), None);
         for (number, assumption) in (1..).zip(ASSUMPTIONS) {
             assert_eq!(Assumption::of(number), Some(assumption));
-            let line = format!("#define {} {number}u ", name_in_header(assumption));
-            assert!(HEADER.contains(&line), "the header has no line {line}");
         }
-        assert_eq!(
-            HEADER.matches("#define TOWNSHIP_ASSUMES_").count(),
-            ASSUMPTIONS.len()
-        );
+        assert_numbered("TOWNSHIP_ASSUMES", &ASSUMPTIONS);
     }
 
     #[test]

@@ -102,33 +102,15 @@ impl Rule {
 
 #[cfg(test)]
 mod tests {
+    use super::super::header::assert_numbered;
     use super::*;
-
-    const HEADER: &str = include_str!(concat!(env!("TOWNSHIP_FILES"), "/include/township.h"));
-
-    /// `TOWNSHIP_RULE_FRACTION_DIGIT` of `FractionDigit`.
-    fn name_in_header(rule: Rule) -> String {
-        let mut name = String::from("TOWNSHIP_RULE");
-        for letter in format!("{rule:?}").chars() {
-            if letter.is_uppercase() {
-                name.push('_');
-            }
-            name.push(letter.to_ascii_uppercase());
-        }
-        name
-    }
 
     #[test]
     fn numbers_are_those_of_the_header() {
         for (number, rule) in (1..).zip(RULES) {
             assert_eq!(Rule::of(number), rule);
-            let line = format!("#define {} {number}u ", name_in_header(rule));
-            assert!(HEADER.contains(&line), "the header has no line {line}");
         }
-        assert_eq!(
-            HEADER.matches("#define TOWNSHIP_RULE_").count(),
-            RULES.len()
-        );
+        assert_numbered("TOWNSHIP_RULE", &RULES);
     }
 
     #[test]

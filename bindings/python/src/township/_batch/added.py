@@ -6,6 +6,7 @@ from typing import Any, Dict, List, Optional, Sequence
 
 from .._figures import acres_of_hundredths
 from .columns import ADDED
+from .plats import Found
 
 _CACHED = 1 << 14
 
@@ -46,11 +47,12 @@ class Added:
             for index in indexes:
                 self.files[index] = file
 
-    def put_fault(self, indexes: Sequence[int], fault: str, file: str) -> None:
-        """Put this fault at the indexes, as the sentence of records that are not answered."""
-        self._put_file(indexes, file)
+    def put_fault(self, indexes: Sequence[int], found: Found) -> None:
+        """Put the reason why the records at the indexes are not answered."""
+        self._put_file(indexes, found.file)
+        number, at = found.refusal or (None, None)
         for index in indexes:
-            self.others[index] = [None, None, None, fault, None, None, *self._file_of(index)]
+            self.others[index] = [None, number, at, found.fault, None, None, *self._file_of(index)]
 
     def _file_of(self, index: int) -> List[Any]:
         """Return the field of the file, if there is one."""

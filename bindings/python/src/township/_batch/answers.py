@@ -3,12 +3,13 @@ from __future__ import annotations
 
 import itertools
 from dataclasses import dataclass, field
-from typing import Any, Dict, Iterable, Iterator, List, Sequence, Tuple, Union
+from typing import Any, Dict, Iterable, Iterator, List, Optional, Sequence, Tuple, Union
 
 from .._account import Account
 from .._full import FullAnswers
 from .._phrases import tidy
 from .._plat import Plat
+from .._readings import Readings
 from .added import Added
 from .cells import text_of
 from .columns import ADDED, SUGGESTED
@@ -108,7 +109,7 @@ class Answers:
 
     def _put_unanswered(self, found: Found, indexes: Sequence[int], added: Added) -> None:
         """Put the reason why records are not answered, and count them."""
-        added.put_fault(indexes, found.fault, found.file)
+        added.put_fault(indexes, found)
         self.counts.refused += len(indexes)
         if found.file == MISSING:
             self.counts.add_missing(found.fault, len(indexes))
@@ -156,13 +157,20 @@ class Answers:
         return by._full_answers(descriptions, self._account) if isinstance(by, Plat) else by._full_answers(descriptions)
 
     def _suggested(self, by: Basis, description: str) -> List[Any]:
-        """Return the fields on the readings of a description. Only if it has one reading does that have fields."""
+        """Return the fields on the readings of a description. Only if it has one reading does that have fields, and only
+        if it has none is something unread."""
         readings = by.suggest(description, self._account) if isinstance(by, Plat) else by.suggest(description)
         if len(readings) != 1:
-            return [None, len(readings), None, None]
+            return [None, len(readings), None, None, _why_none(readings)]
         reading, = readings
         assumed = "; ".join(dict.fromkeys(reading.assumptions)) or None
-        return [tidy(reading.text), 1, assumed, reading.acres]
+        return [tidy(reading.text), 1, assumed, reading.acres, None]
+
+
+def _why_none(readings: Readings) -> Optional[str]:
+    """Return why a description has no reading, in words, or `None` if nothing is known."""
+    reason = [f"not expressible: {readings.reason}"] if readings.reason else []
+    return "; ".join([*reason, *map(str, readings.unread)]) or None
 
 
 def _description(cell: Any) -> str:

@@ -14,7 +14,7 @@ ADDED = ("acres", "refusal", "at", "sentence", "note", "canonical")
 PLAT = "plat"
 
 #: The columns on readings, which it adds after all of these if it is asked to suggest readings.
-SUGGESTED = ("reading", "readings", "assumes", "reading_acres")
+SUGGESTED = ("reading", "readings", "assumes", "reading_acres", "unread")
 
 #: The number of columns that a message lists, and the number of characters of each name.
 _SHOWN = 12

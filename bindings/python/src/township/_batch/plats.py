@@ -4,7 +4,8 @@ from __future__ import annotations
 import functools
 from typing import Any, NamedTuple, Optional, Protocol, Sequence, Union
 
-from .._spelling import NotTownship, township_spelled
+from .._refused import Refusal, Refused
+from .._spelling import township_spelled
 from .._text import shown
 from .cells import text_of
 from .files import Basis
@@ -26,6 +27,8 @@ class Found(NamedTuple):
     file: str = ""
     #: Why the record is not answered.
     fault: str = ""
+    #: The refusal of the record's township, if its text spells none.
+    refusal: Optional[Refusal] = None
 
 
 class Plats(Protocol):
@@ -137,13 +140,13 @@ class FolderPlats:
         if isinstance(townships, Found):
             return townships
         try:
-            township = township_spelled(spelling, townships)
-        except NotTownship as error:
-            return Found(None, fault=str(error))
-        files = townships.get(township) if township else None
+            township = township_spelled(spelling)
+        except Refused as refused:
+            return Found(None, fault=str(refused), refusal=Refusal(refused.number, refused.at))
+        files = townships.get(township)
         if files is None:
-            fault = f"there are no field notes and no lot table for {township or spelling} in {self._shown}"
-            return Found(None, MISSING if township else "", fault)
+            fault = f"there are no field notes and no lot table for {township} in {self._shown}"
+            return Found(None, MISSING, fault)
         controlling = files.controlling()
         if isinstance(controlling, str):
             return Found(None, fault=controlling)

@@ -7,7 +7,7 @@ from .._drawing import svg_of
 from .._drawing.of_plat import shade_of, subject_of
 from .._land import Land
 from .._phrases import MANNERS_SAID, condition_of, phrases_of
-from .._readings import Change, Reading, suggest
+from .._readings import Change, Reading, Unread, suggest
 from .._refused import Refused
 from .._text import encoded
 from .answers import BASIS, land_json
@@ -34,6 +34,16 @@ def suggest_answer(body: bytes) -> Json:
         "reason": found.reason,
         "start": start,
         "end": end,
+        "unread": [_unread_json(written, unread) for unread in found.unread],
+    }
+
+
+def _unread_json(given: bytes, unread: Unread) -> Json:
+    return {
+        "start": _place(given, unread.start),
+        "end": _place(given, unread.end),
+        "ways": unread.ways,
+        "sentence": str(unread),
     }
 
 

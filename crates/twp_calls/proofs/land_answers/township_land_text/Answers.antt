@@ -5,11 +5,12 @@ use Rattle.twp_calls.specs.Calls.{accepted, no_memory}
 use Rattle.twp_calls.specs.LandCalls.{on_land}
 use Rattle.twp_calls.proofs.CallFacts.{text_put}
 use Rattle.twp_calls.proofs.land_answers.township_land_text.Goals as goal
+use Rattle.twp_grid.specs.Lands.{STANDARD_LOTS}
 
 pub returns-in-Ok-clause-answer : goal.returns-in-Ok-clause-answer
 returns-in-Ok-clause-answer c =
     on_land c.in-Some.land.township _ c.in-Some.ensures
-    (accepted (text_put (IsCanonicalText PLACE_DIGITS c.in-Some.land.township _) _ _ _ _ _ _
+    (accepted (text_put (IsCanonicalText STANDARD_LOTS c.in-Some.land.township _) _ _ _ _ _ _
     c.bare-in-Ok.ensures c.deref.ensures.value c.in-Ok.ensures.text c.put.ensures.put))
 
 pub returns-in-Err-clause-answer : goal.returns-in-Err-clause-answer

@@ -2,7 +2,8 @@
 use Rattle.std.proofs.Common.{sym, ◌∙◌, subst}
 use Rattle.std.specs.List.{Contains}
 use Rattle.std.proofs.lemmas.Bool.{false≢true}
-use Rattle.twp_spell.proofs.HeldFacts.{all_of_each, each_of_all, lot_is_least, lot_is_most}
+use Rattle.twp_land.proofs.LottingFacts.{section_held}
+use Rattle.twp_spell.proofs.HeldFacts.{lot_is_least, lot_is_most}
 use Rattle.twp_calls.proofs.PartFacts.{some_parts, whole_section}
 use Rattle.twp_calls.proofs.land_parts.add_section.Goals as goal
 
@@ -18,8 +19,9 @@ pub returns-then-full : goal.returns-then-full
 returns-then-full g c =
     whole_section c.args.section (g.L.PlaceSet.places c.args.land.now c.args.section)
     c.whole-whole.result c.of.result c.args.parts.now.items _
-    (each_of_all (g.L.PlaceSet.places c.args.land.now c.args.section)
-    c.whole-whole.result c.whole-whole.ensures (c.full.ensures.0 c.if-full.true))
+    ((section_held c.args.section (g.L.PlaceSet.places c.args.land.now c.args.section) c.whole-whole.result
+    c.whole-whole.ensures).0
+    (c.full.ensures.0 c.if-full.true))
     c.whole-whole.ensures c.of.ensures c.in_ok-push.ensures.items
 
 pub returns : goal.returns
@@ -29,7 +31,9 @@ returns g c =
     (λ each.
     false≢true
     (sym c.if-full.false
-    ∙ c.full.ensures.1 (all_of_each (g.L.PlaceSet.places c.args.land.now c.args.section)
-    c.whole-whole.result c.whole-whole.ensures each)))
+    ∙ c.full.ensures.1
+    ((section_held c.args.section (g.L.PlaceSet.places c.args.land.now c.args.section) c.whole-whole.result
+    c.whole-whole.ensures).1
+    each)))
     c.deref.ensures.value c.in_ok-lots.ensures c.in_ok-add_lots.ensures c.deref-2.ensures.value
     c.in_ok-blocks.ensures c.add_blocks.ensures

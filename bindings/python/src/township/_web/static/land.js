@@ -67,9 +67,11 @@ export function showNone(reason) {
 
 /** Shows the readings of a refused description, or marks what rules them out, or what is not understood. */
 async function explain(refused) {
-  const { reason, start, end } = (await readings.suggest(byId("readings"), kept.description, pick)) ?? {};
-  if (typeof start !== "number") return;
-  const places = reason === null ? [{ start, end }] : [refused, { start, end }];
+  const answer = (await readings.suggest(byId("readings"), kept.description, pick)) ?? {};
+  const { reason = null, start, end, unread = [] } = answer;
+  if (typeof start !== "number" && unread.length === 0) return;
+  const places = reason === null ? unread : [refused, { start, end }];
+  if (places.length === 0) places.push({ start, end });
   const marks = places.map((place) => ({ start: place.start, end: place.end, kind: "wrong" }));
   mark(byId("description"), marks.sort((one, other) => one.start - other.start));
 }

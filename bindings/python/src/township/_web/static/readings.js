@@ -24,10 +24,11 @@ export async function suggest(place, text, pick, of = "") {
   try {
     const answer = await ask("suggest", { ...basis(), text, draw: true });
     if (answer === null) return null;
-    const { readings = [], reason } = answer;
+    const { readings = [], reason, unread = [] } = answer;
     if (readings.length === 0) {
       const said = reason ? `Lots and aliquot parts can't describe this land: ${reason}.` : UNCERTAIN;
-      place.replaceChildren(make("p", {}, `${of}${said}`));
+      const sentences = unread.map(({ sentence }) => make("li", {}, visible(capitalized(sentence))));
+      place.replaceChildren(make("p", {}, `${of}${said}`), sentences.length === 0 ? "" : make("ul", {}, ...sentences));
     } else if (readings.length > 1 || readings[0].text !== text) {
       const cards = readings.map((each) => item(each, pick));
       place.replaceChildren(heading(readings.length, of), make("ol", { class: "readings" }, ...cards));
@@ -66,7 +67,11 @@ function picture({ svg }) {
 
 /** Returns when the reading is the one that is meant, if that is what the readings differ in. */
 function condition({ condition: when }) {
-  return when === null ? null : make("em", {}, `${when[0].toUpperCase()}${when.slice(1)}`);
+  return when === null ? null : make("em", {}, capitalized(when));
+}
+
+function capitalized(words) {
+  return `${words[0].toUpperCase()}${words.slice(1)}`;
 }
 
 function acreage({ acres, refused }) {

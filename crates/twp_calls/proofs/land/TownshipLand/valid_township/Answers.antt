@@ -2,12 +2,13 @@
 use Rattle.std.proofs.Common.{refl, subst}
 use Rattle.twp_grid.specs.Places.{PLACE_DIGITS}
 use Rattle.twp_grid.specs.Lands.{HasWholeLots}
+use Rattle.twp_grid.specs.Lands.{STANDARD_LOTS}
 use Rattle.twp_calls.proofs.land.TownshipLand.valid_township.Goals as goal
 
 pub returns-then-not-lots_whole : goal.returns-then-not-lots_whole
 returns-then-not-lots_whole c = λ township places is.
     cc (
-      c.lots_whole.ensures.1 (subst (HasWholeLots PLACE_DIGITS) is.places_are is.whole),
+      c.lots_whole.ensures.1 (subst (HasWholeLots STANDARD_LOTS) is.places_are is.whole),
       c.if-not-lots_whole.true,
     )
 

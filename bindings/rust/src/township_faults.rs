@@ -1,0 +1,127 @@
+//! Sentences for the refusals of texts that spell no township, which the library does not explain.
+
+use crate::answer::Fault;
+use crate::explanation::Explained;
+use crate::refused::Refused;
+
+/// The name of the text in an explanation.
+const TOWNSHIP: &str = "township";
+
+/// The number of the refusal of a text that is too long, which has no place in the text.
+const TOO_LARGE: u32 = 36;
+
+/// The most characters of a text that a sentence shows.
+const SHOWN_MOST: usize = 60;
+
+/// Returns the refusal of a text that spells no township, with its explanation.
+pub(crate) fn refused_township(fault: Fault, text: &str) -> Refused {
+    let at = fault.refusal.at;
+    if fault.refusal.number == TOO_LARGE {
+        let sentence = format!("the text is longer than {at} bytes");
+        return Refused::new(fault, explained(TOWNSHIP.to_owned(), sentence, None));
+    }
+    // The place is the beginning of a token, or the end of the text.
+    let at = usize::try_from(at).expect("a place is in the text");
+    let before = text.get(..at).unwrap_or_default();
+    let line = before.matches('\n').count() + 1;
+    let column = before
+        .rsplit('\n')
+        .next()
+        .unwrap_or_default()
+        .chars()
+        .count()
+        + 1;
+    let sentence = sentence_of(
+        fault.refusal.number,
+        text.get(at..).unwrap_or_default(),
+        text,
+    );
+    let location = format!("{TOWNSHIP}:{line}:{column}");
+    let mut refused = Refused::new(fault, explained(location, sentence, Some(at..text.len())));
+    refused.line = u32::try_from(line).ok();
+    refused.column = u32::try_from(column).ok();
+    refused
+}
+
+fn explained(
+    location: String,
+    sentence: String,
+    span: Option<std::ops::Range<usize>>,
+) -> Explained {
+    Explained {
+        text: format!("township: {location}: {sentence}\n"),
+        location,
+        sentence,
+        span,
+        ..Explained::default()
+    }
+}
+
+/// Returns what is wrong. A library that is newer than this crate may refuse for something else.
+fn sentence_of(number: u32, rest: &str, text: &str) -> String {
+    let expected = match number {
+        31 => "the township number, 1 to 99",
+        32 => "N or S",
+        33 => "the range, as in R. 3 W.",
+        34 => "E or W",
+        35 => "nothing after the township",
+        _ => "a township, as in T. 2 N., R. 3 W.",
+    };
+    if !rest.trim().is_empty() {
+        return format!("unexpected `{}`; expected {expected}", shortened(rest));
+    }
+    if text.trim().is_empty() {
+        return "the township is missing".to_owned();
+    }
+    format!("incomplete township: expected {expected}")
+}
+
+/// Returns a text on one line, without white space around it and without its end if it is long.
+fn shortened(text: &str) -> String {
+    let line = text.split_whitespace().collect::<Vec<_>>().join(" ");
+    match line.char_indices().nth(SHOWN_MOST) {
+        Some((end, _)) => format!("{} ..", &line[..end]),
+        None => line,
+    }
+}
+
+#[cfg(test)]
+mod tests {
+    use super::*;
+    use crate::refused::Refusal;
+
+    fn refused(number: u32, at: u32, text: &str) -> String {
+        let fault = Fault {
+            refusal: Refusal { number, at },
+            inner: None,
+        };
+        refused_township(fault, text).to_string()
+    }
+
+    #[test]
+    fn each_refusal_of_a_township_has_a_sentence() {
+        for number in 31..=35 {
+            let unknown =
+                "township:1:1: unexpected `x`; expected a township, as in T. 2 N., R. 3 W.";
+            assert_ne!(refused(number, 0, "x"), unknown);
+        }
+        assert_eq!(
+            refused(36, 65_536, ""),
+            "township: the text is longer than 65536 bytes"
+        );
+        assert_eq!(refused(31, 1, " "), "township:1:2: the township is missing");
+        assert_eq!(
+            refused(33, 4, "T2N\n"),
+            "township:2:1: incomplete township: expected the range, as in R. 3 W."
+        );
+    }
+
+    #[test]
+    fn long_texts_are_shortened() {
+        let found = refused(35, 6, &format!("2N-3W {}", "\u{e9} ".repeat(100)));
+        assert!(
+            found.ends_with(" ..`; expected nothing after the township"),
+            "{found}"
+        );
+    }
+}
