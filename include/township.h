@@ -42,7 +42,7 @@ extern "C" {
 /* The same as one number, which can be compared: 1,000,000 * MAJOR + 1,000 * MINOR + PATCH. */
 #define TOWNSHIP_VERSION_NUMBER 1000000
 
-/* The numbers of refusals, which docs/REFUSALS.md, docs/TOWNSHIPS.md, and docs/LOTS-FORMAT.md explain. */
+/* The numbers of refusals, which docs/REFUSALS.md explains, and the pages that it names. */
 /* Field notes: */
 #define TOWNSHIP_REFUSAL_NOTES_TOO_LARGE 1u
 #define TOWNSHIP_REFUSAL_NOTES_EMPTY 2u
@@ -96,6 +96,9 @@ extern "C" {
 #define TOWNSHIP_REFUSAL_LOTS_ACRES 92u
 #define TOWNSHIP_REFUSAL_LOTS_REPEATED 93u
 #define TOWNSHIP_REFUSAL_LOTS_LACKING 94u
+/* A text with the land of several townships: */
+#define TOWNSHIP_REFUSAL_SPLIT_NO_HEADING 95u
+#define TOWNSHIP_REFUSAL_SPLIT_TOO_LARGE 96u
 /* End of the lines that tools/header_names.py makes. */
 
 /* The number of section lines in a township. */
@@ -107,6 +110,9 @@ extern "C" {
 #define TOWNSHIP_DESCRIPTION_MOST 65536
 #define TOWNSHIP_LIST_MOST 1048576
 #define TOWNSHIP_LOTS_TEXT_MOST 65536
+
+/* The maximum size, in bytes, of a text that township_split takes. */
+#define TOWNSHIP_SPLIT_MOST 1048576
 
 /* Verdicts. */
 #define TOWNSHIP_ACCEPTED 0u      /* the input is accepted, and the answer is valid */
@@ -410,13 +416,14 @@ typedef struct township_suggestion {
 #define TOWNSHIP_WAYS_PART_OR_SECTION 6u    /* a part with `thereof`: of the part before it, or of the section */
 
 /*
- * Some bytes of a text without readings, from `start` to before `end`: unread words, which no phrase contains that
- * could be in a reading; or, if `ways` is not 0, a phrase that can be read in two ways.
+ * Some bytes of a text, from `start` to before `end`. Of a text with the land of several townships: the part of one of
+ * them. Of a text without readings: unread words, which no phrase contains that could be in a reading; or, if `ways` is
+ * not 0, a phrase that can be read in two ways.
  */
 typedef struct township_stretch {
     uint64_t start;
     uint64_t end;
-    uint32_t ways;     /* such as TOWNSHIP_WAYS_SECTION_OR_HALF, or 0 for unread words */
+    uint32_t ways;     /* such as TOWNSHIP_WAYS_SECTION_OR_HALF, or 0 */
     uint32_t reserved; /* 0 */
 } township_stretch;
 
@@ -679,6 +686,21 @@ township_answer township_suggest(const uint8_t *description, size_t description_
  */
 township_answer township_unread(const uint8_t *description, size_t description_length,
                                 township_stretch *unread, size_t room);
+
+/*
+ * Splits a text with the land of several townships, such as `T. 2 N., R. 3 W., sec. 5; T. 3 N., R. 3 W., sec. 31.`:
+ * writes to `parts` where the part of each township begins and ends. A part begins with its heading, and ends before the
+ * separator that the next heading follows: `;`, `; and`, or none. Each part is a description for the calls above, with
+ * places that are counted from its beginning. The first part begins at 0, and the last one ends at the end of the text,
+ * so a text with only one township is its only part. `length` is the number of parts; if `room`, the number of elements
+ * of `parts`, is smaller, the verdict is TOWNSHIP_NO_ROOM. On any verdict other than TOWNSHIP_ACCEPTED, `parts` is
+ * unchanged.
+ *
+ * A text with a heading whose first land has none is refused at this heading; docs/SEVERAL-TOWNSHIPS.md explains the
+ * refusals. A part may be refused when it is given to another call.
+ */
+township_answer township_split(const uint8_t *description, size_t description_length, township_stretch *parts,
+                               size_t room);
 
 /* Writes the version of this library, such as `1.0.0`. */
 township_answer township_version(uint8_t *text, size_t room);

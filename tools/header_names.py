@@ -1,9 +1,9 @@
 #!/usr/bin/env python3
 """Writes the constants of include/township.h that repeat what is said elsewhere.
 
-The names of the refusals are those of the tables in docs/REFUSALS.md, docs/TOWNSHIPS.md, and docs/LOTS-FORMAT.md, which
-tests/documents/documents.sh compares with the code, and the version is that of the library. With --check, nothing is written: the status is 1 if the header
-differs, or the version of a package in bindings/.
+The names of the refusals are those of the tables in docs/REFUSALS.md and of the pages in PAGES, which
+tests/documents/documents.sh compares with the code, and the version is that of the library. With --check, nothing is
+written: the status is 1 if the header differs, or the version of a package in bindings/.
 """
 from __future__ import annotations
 
@@ -15,8 +15,8 @@ from typing import Iterator, NamedTuple
 TOP = Path(__file__).resolve().parents[1]
 HEADER = TOP / "include" / "township.h"
 REFUSALS = TOP / "docs" / "REFUSALS.md"
-LOTS = TOP / "docs" / "LOTS-FORMAT.md"
-TOWNSHIPS = TOP / "docs" / "TOWNSHIPS.md"
+#: The pages with refusals of calls that the program does not make.
+PAGES = [TOP / "docs" / name for name in ("TOWNSHIPS.md", "LOTS-FORMAT.md", "SEVERAL-TOWNSHIPS.md")]
 VERSION = TOP / "crates" / "twp_calls" / "src" / "version.rt"
 
 #: The packages' own statements of their version.
@@ -44,7 +44,8 @@ GROUPS = (
     Group(range(40, 60), "TEXT_", "The text of a description"),
     Group(range(60, 80), "LAND_", "The land that a description names"),
     Group(range(80, 86), "", "A list of tracts"),
-    Group(range(86, 100), "LOTS_", "A lot table, and land measured by it"),
+    Group(range(86, 95), "LOTS_", "A lot table, and land measured by it"),
+    Group(range(95, 100), "SPLIT_", "A text with the land of several townships"),
 )
 
 
@@ -85,10 +86,10 @@ def version_lines(version: str) -> Iterator[str]:
 def refusal_lines() -> Iterator[str]:
     """Yield a constant for each refusal, by groups."""
     rows = re.findall(r"^\| (\d+) \| ([A-Z][A-Za-z]*) \|", REFUSALS.read_text(), re.MULTILINE)
-    for page in (TOWNSHIPS, LOTS):
+    for page in PAGES:
         rows += re.findall(r"^\| (\d+) `([A-Z][A-Za-z]*)` \|", page.read_text(), re.MULTILINE)
     refusals = {int(number): name for number, name in rows}
-    yield "/* The numbers of refusals, which docs/REFUSALS.md, docs/TOWNSHIPS.md, and docs/LOTS-FORMAT.md explain. */"
+    yield "/* The numbers of refusals, which docs/REFUSALS.md explains, and the pages that it names. */"
     for group in GROUPS:
         yield f"/* {group.subject}: */"
         for number in sorted(set(group.numbers) & set(refusals)):

@@ -41,6 +41,11 @@ LIMITS = (
         {"crates/twp_plat/src/lots/fault.rt": r"const MOST_BYTES: u32 = ", HEADER: r"#define TOWNSHIP_LOTS_TEXT_MOST "},
     ),
     Limit(
+        "crates/twp_calls/specs/Splits.antt",
+        "SPLIT_LIMIT",
+        {"crates/twp_calls/src/split.rt": r"const LIMIT: usize = ", HEADER: r"#define TOWNSHIP_SPLIT_MOST "},
+    ),
+    Limit(
         "crates/twp_answers/specs/Tracts.antt",
         "TRACTS_MOST",
         {

@@ -52,6 +52,7 @@ mod plat;
 mod readings;
 mod refused;
 mod report;
+mod split;
 mod text;
 mod township;
 mod township_faults;
@@ -74,6 +75,7 @@ pub use self::readings::{
 };
 pub use self::refused::{Refusal, Refused};
 pub use self::report::{LotsReport, Overlap, Report, Tract, TractAnswer, TractRefusal};
+pub use self::split::{split, TownshipText};
 pub use self::township::{EastWest, NorthSouth, Township};
 
 /// Returns the version of the library, such as `1.0.0`.

@@ -69,6 +69,39 @@ pub struct Refused {
     parts: Box<Explained>,
 }
 
+/// Returns the refusal of a text at a place, with a sentence that is not the library's. The span
+/// begins at the place, or is `None` if the refusal has no place in the text.
+pub(crate) fn refused_in(
+    source: &str,
+    text: &str,
+    fault: Fault,
+    span: Option<Range<usize>>,
+    sentence: String,
+) -> Refused {
+    let Some(span) = span else {
+        return Refused::new(fault, explained_as(source.to_owned(), sentence, None));
+    };
+    let before = text.get(..span.start).unwrap_or_default();
+    let line = before.matches('\n').count() + 1;
+    let last = before.rsplit('\n').next().unwrap_or_default();
+    let column = last.chars().count() + 1;
+    let location = format!("{source}:{line}:{column}");
+    let mut refused = Refused::new(fault, explained_as(location, sentence, Some(span)));
+    refused.line = u32::try_from(line).ok();
+    refused.column = u32::try_from(column).ok();
+    refused
+}
+
+fn explained_as(location: String, sentence: String, span: Option<Range<usize>>) -> Explained {
+    Explained {
+        text: format!("township: {location}: {sentence}\n"),
+        location,
+        sentence,
+        span,
+        ..Explained::default()
+    }
+}
+
 impl Refused {
     /// Returns the refusal for a fault, with the library's explanation. Panics if memory runs out.
     pub(crate) fn explained(

@@ -1,8 +1,7 @@
 //! Sentences for the refusals of texts that spell no township, which the library does not explain.
 
 use crate::answer::Fault;
-use crate::explanation::Explained;
-use crate::refused::Refused;
+use crate::refused::{refused_in, Refusal, Refused};
 
 /// The name of the text in an explanation.
 const TOWNSHIP: &str = "township";
@@ -15,46 +14,15 @@ const SHOWN_MOST: usize = 60;
 
 /// Returns the refusal of a text that spells no township, with its explanation.
 pub(crate) fn refused_township(fault: Fault, text: &str) -> Refused {
-    let at = fault.refusal.at;
-    if fault.refusal.number == TOO_LARGE {
+    let Refusal { number, at } = fault.refusal;
+    if number == TOO_LARGE {
         let sentence = format!("the text is longer than {at} bytes");
-        return Refused::new(fault, explained(TOWNSHIP.to_owned(), sentence, None));
+        return refused_in(TOWNSHIP, text, fault, None, sentence);
     }
     // The place is the beginning of a token, or the end of the text.
     let at = usize::try_from(at).expect("a place is in the text");
-    let before = text.get(..at).unwrap_or_default();
-    let line = before.matches('\n').count() + 1;
-    let column = before
-        .rsplit('\n')
-        .next()
-        .unwrap_or_default()
-        .chars()
-        .count()
-        + 1;
-    let sentence = sentence_of(
-        fault.refusal.number,
-        text.get(at..).unwrap_or_default(),
-        text,
-    );
-    let location = format!("{TOWNSHIP}:{line}:{column}");
-    let mut refused = Refused::new(fault, explained(location, sentence, Some(at..text.len())));
-    refused.line = u32::try_from(line).ok();
-    refused.column = u32::try_from(column).ok();
-    refused
-}
-
-fn explained(
-    location: String,
-    sentence: String,
-    span: Option<std::ops::Range<usize>>,
-) -> Explained {
-    Explained {
-        text: format!("township: {location}: {sentence}\n"),
-        location,
-        sentence,
-        span,
-        ..Explained::default()
-    }
+    let sentence = sentence_of(number, text.get(at..).unwrap_or_default(), text);
+    refused_in(TOWNSHIP, text, fault, Some(at..text.len()), sentence)
 }
 
 /// Returns what is wrong. A library that is newer than this crate may refuse for something else.
@@ -88,7 +56,6 @@ fn shortened(text: &str) -> String {
 #[cfg(test)]
 mod tests {
     use super::*;
-    use crate::refused::Refusal;
 
     fn refused(number: u32, at: u32, text: &str) -> String {
         let fault = Fault {

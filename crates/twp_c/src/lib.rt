@@ -10,4 +10,5 @@ mod figures;
 mod land;
 mod lists;
 mod lots;
+mod splitting;
 mod suggesting;

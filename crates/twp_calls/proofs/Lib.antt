@@ -19,3 +19,7 @@ pub mod DesignationTable
 pub mod DesignationFacts
 pub mod DesignationReadBack
 pub mod DesignationCallFacts
+pub mod SplitFacts
+pub mod SplitParts
+pub mod SplitCallFacts
+pub mod OneTownship

@@ -18,6 +18,7 @@ pub mod LotReports
 pub mod ManyAnswers
 pub mod Suggestions
 pub mod UnreadCalls
+pub mod Splits
 pub mod Names
 pub mod ShownTexts
 pub mod ExplanationParts

@@ -39,16 +39,16 @@ pub record AreUnreadData (text : List ℕ) (list : List TownshipStretch) : Type 
   pub ambiguous : List AmbiguousPhrase
   pub list_is : list ≡ map run_data runs ++ map ambiguous_data ambiguous
 
--- It was written at the front of the room, or there is less room than it takes.
-pub data IsUnreadPut (list old new : List TownshipStretch) (answer : TownshipAnswer) : Type 0 where
-  unread_put : length list ≤ length old → new ≡ list ++ drop (length list) old
-      → answer ≡ with_text (bare ACCEPTED) (length list) → IsUnreadPut list old new answer
-  unread_not_put : length old < length list → answer ≡ with_text (bare NO_ROOM) (length list)
-      → IsUnreadPut list old new answer
+-- They were written at the front of the room, or there is less room than they take.
+pub data AreStretchesPut (list old new : List TownshipStretch) (answer : TownshipAnswer) : Type 0 where
+  stretches_put : length list ≤ length old → new ≡ list ++ drop (length list) old
+      → answer ≡ with_text (bare ACCEPTED) (length list) → AreStretchesPut list old new answer
+  stretches_not_put : length old < length list → answer ≡ with_text (bare NO_ROOM) (length list)
+      → AreStretchesPut list old new answer
 
 -- `township_unread`: what is unread of the text; or memory ran out.
 pub data IsUnreadCall (text : List ℕ) (old new : List TownshipStretch) (answer : TownshipAnswer)
     : Type 0 where
-  unread_found : (list : List TownshipStretch) → AreUnreadData text list → IsUnreadPut list old new answer
+  unread_found : (list : List TownshipStretch) → AreUnreadData text list → AreStretchesPut list old new answer
       → IsUnreadCall text old new answer
   no_memory : answer ≡ bare NO_MEMORY → IsUnreadCall text old new answer

@@ -6,3 +6,4 @@ pub mod PartSteps
 pub mod Plain
 pub mod Suggesting
 pub mod DesignationSteps
+pub mod SplitSteps

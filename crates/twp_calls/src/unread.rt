@@ -1,7 +1,7 @@
 //! What is unread of a text without readings, as plain data.
 ghost use Rattle.std.specs.Prelude.{◌≡◌, ◌≢◌, ◌++◌, IfOk, map};
 ghost use Rattle.twp_calls.specs.Answers.{ACCEPTED};
-ghost use Rattle.twp_calls.specs.UnreadCalls.{AreUnreadData, IsUnreadCall, IsUnreadPut};
+ghost use Rattle.twp_calls.specs.UnreadCalls.{AreStretchesPut, AreUnreadData, IsUnreadCall};
 ghost use Rattle.twp_calls.specs.UnreadCalls.{ambiguous_data, run_data, ways_of};
 
 use crate::answer::TownshipAnswer;
@@ -10,7 +10,7 @@ use crate::verdict::{ACCEPTED, NO_MEMORY, NO_ROOM};
 use std::alloc::{AllocError, Global};
 use twp_phrases::{Ambiguity, AmbiguousPhrase, Stretch, unread_in};
 
-/// Some bytes of a text: unread words, or a phrase that can be read in two ways.
+/// Some bytes of a text: the part of a township, unread words, or a phrase that can be read in two ways.
 #[repr(C)]
 #[derive(Clone, Copy)]
 pub struct TownshipStretch {
@@ -18,7 +18,7 @@ pub struct TownshipStretch {
     pub start: u64,
     /// Where they end.
     pub end: u64,
-    /// The number of the two ways to read a phrase, or 0 for unread words.
+    /// The number of the two ways to read a phrase; otherwise 0.
     pub ways: u32,
     /// Unused; always 0.
     pub reserved: u32,
@@ -35,14 +35,17 @@ pub fn township_unread(
     ensures kept { result.verdict ≢ ACCEPTED → unread.new ≡ unread.old }
 {
     match data_of_unread(alloc, description) {
-        Ok(found) => put_unread(found.as_slice(), unread),
+        Ok(found) => put_stretches(found.as_slice(), unread),
         Err(_) => TownshipAnswer::bare(NO_MEMORY),
     }
 }
 
-/// Puts what is unread at the front of the room for it, or nothing if there is too little.
-fn put_unread(found: &[TownshipStretch], room: &mut [TownshipStretch]) -> TownshipAnswer
-    ensures put { IsUnreadPut found.now room.old room.new result }
+/// Puts stretches at the front of the room for them, or nothing if there is too little.
+pub(crate) fn put_stretches(
+    found: &[TownshipStretch],
+    room: &mut [TownshipStretch],
+) -> TownshipAnswer
+    ensures put { AreStretchesPut found.now room.old room.new result }
     ensures kept { result.verdict ≢ ACCEPTED → room.new ≡ room.old }
 {
     if room.len() < found.len() {

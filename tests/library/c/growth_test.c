@@ -324,6 +324,10 @@ static township_answer call_unread(void) {
     return township_unread(BYTES("blip Sec. 14 blop"), unread, 2);
 }
 
+static township_answer call_split(void) {
+    return township_split(BYTES("T2N R3W sec. 5; T3N R3W sec. 31."), unread, 2);
+}
+
 static const struct {
     const char *name;
     township_answer (*call)(void);
@@ -368,6 +372,7 @@ static const struct {
     {"township_suggest", call_suggest},
     {"township_suggest, a description", call_suggest_itself},
     {"township_unread", call_unread},
+    {"township_split", call_split},
 };
 
 /* Everything that a call can write. */

@@ -1,4 +1,5 @@
-/* The tests of the calls on land, of those on townships and by a lot table, and of the call for readings. */
+/* The tests of the calls on land, of those on townships and by a lot table, and of those for readings and
+   for the parts of a text. */
 #ifndef LAND_H
 #define LAND_H
 
@@ -9,6 +10,9 @@ void answers_land(const township_plat *plat);
 
 /* Tries the calls on the names of townships. */
 void answers_designations(void);
+
+/* Tries the call that splits a text into the parts of its townships. */
+void answers_split(void);
 
 /* Tries each call by a lot table. */
 void answers_lots(void);

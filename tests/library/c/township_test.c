@@ -673,6 +673,7 @@ int main(int count, char **words) {
     refuses_accounts(&plat);
     answers_land(&plat);
     answers_designations();
+    answers_split();
     answers_lots();
     answers_readings(&plat);
     call_from_threads(notes, rounds);

@@ -31,6 +31,7 @@ from ._readings import Change, Reading, Readings, Unread, suggest
 from ._refused import Refusal, Refused, failure_of
 from ._report import LotsOverlap, LotsReport, Overlap, Report, Tract, TractAnswer
 from ._rounding import rounded
+from ._split import TownshipText, split
 from ._township import EastWest, NorthSouth, Township
 from ._version import __version__
 from ._written import text_by
@@ -59,18 +60,21 @@ __all__ = [
     "Report",
     "Section",
     "Township",
+    "TownshipText",
     "Tract",
     "TractAnswer",
     "Unread",
     "__version__",
     "rounded",
+    "split",
     "suggest",
     "version",
 ]
 
 for _public in (
-    *(Answers, Change, Difference, Land, Lots, LotsOverlap, LotsReport, Note, Notes, OtherPlace, Overlap, Part, Plat),
-    *(Reading, Readings, Refusal, Refused, Report, Section, Township, Tract, TractAnswer, Unread),
+    *(Answers, Change, Difference, Land, Lots, LotsOverlap, LotsReport, Note, Notes),
+    *(OtherPlace, Overlap, Part, Plat, Reading, Readings, Refusal, Refused, Report, Section),
+    *(Township, TownshipText, Tract, TractAnswer, Unread),
 ):
     # Tracebacks and pickles name each class as users import it.
     _public.__module__ = __name__

@@ -53,11 +53,14 @@ REFUSAL_LOTS_NO_LOT = 91
 REFUSAL_LOTS_ACRES = 92
 REFUSAL_LOTS_REPEATED = 93
 REFUSAL_LOTS_LACKING = 94
+REFUSAL_SPLIT_NO_HEADING = 95
+REFUSAL_SPLIT_TOO_LARGE = 96
 LINES = 84
 NOTES_MOST = 65_536
 DESCRIPTION_MOST = 65_536
 LIST_MOST = 1_048_576
 LOTS_TEXT_MOST = 65_536
+SPLIT_MOST = 1_048_576
 ACCEPTED = 0
 REFUSED = 1
 TRACT_REFUSED = 2
@@ -339,4 +342,5 @@ suggest = _call(
     c_size_t, POINTER(Suggestion),
 )
 unread = _call("township_unread", c_char_p, c_size_t, POINTER(Stretch), c_size_t)
+split = _call("township_split", c_char_p, c_size_t, POINTER(Stretch), c_size_t)
 version = _call("township_version", POINTER(c_char), c_size_t)

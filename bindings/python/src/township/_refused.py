@@ -177,6 +177,22 @@ def hinted(refused: Refused, hint: str) -> Refused:
     return again
 
 
+def refused_as_a_whole(source: str, refusal: Refusal, sentence: str) -> Refused:
+    """Return the refusal of a text that has no place in it, with a sentence that is not the library's."""
+    explained = Explained(source, sentence)
+    text = f"township: {explained.message}\n"
+    return Refused(refusal.number, refusal.at, None, None, text, None, source, explained)
+
+
+def refused_in(source: str, given: bytes, refusal: Refusal, end: int, sentence: str, *hints: str) -> Refused:
+    """Return the refusal of a text at a place, and up to `end`, with a sentence that is not the library's."""
+    before = given[: refusal.at].decode("utf-8", "replace").split("\n")
+    line, column = len(before), len(before[-1]) + 1
+    explained = Explained(f"{source}:{line}:{column}", sentence, hints, start=refusal.at, end=end)
+    text = "".join([f"township: {explained.message}\n", *(f"  {hint}\n" for hint in hints)])
+    return Refused(refusal.number, refusal.at, line, column, text, None, source, explained)
+
+
 def failure_of(verdict: int, *townships: Township) -> Exception:
     """Return the exception for a verdict that is neither an answer nor a refusal.
 

@@ -6,8 +6,7 @@ from ctypes import byref
 from typing import Tuple, Union
 
 from . import _library
-from ._explanation import Explained
-from ._refused import Refused, failure_of
+from ._refused import Refusal, Refused, failure_of, refused_as_a_whole, refused_in
 from ._text import encoded
 from ._township import Township, checked, township_of
 
@@ -56,11 +55,9 @@ def township_spelled(spelling: str) -> Township:
 
 def _refused(given: bytes, number: int, at: int) -> Refused:
     """Return the refusal of a text that spells no township."""
+    refusal = Refusal(number, at)
     if number == _TOO_LARGE:
-        explained = Explained("township", f"the text is longer than {at:,} bytes")
-        return Refused(number, at, None, None, f"township: {explained.message}\n", None, "township", explained)
-    before = given[:at].decode("utf-8", "replace").split("\n")
-    line, column = len(before), len(before[-1]) + 1
+        return refused_as_a_whole("township", refusal, f"the text is longer than {at:,} bytes")
     expected = _EXPECTED.get(number, "a township, as in T. 2 N., R. 3 W.")
     rest = _shortened(given[at:].decode("utf-8", "replace"))
     if rest:
@@ -69,8 +66,7 @@ def _refused(given: bytes, number: int, at: int) -> Refused:
         sentence = f"incomplete township: expected {expected}"
     else:
         sentence = "the township is missing"
-    explained = Explained(f"township:{line}:{column}", sentence, start=at, end=len(given))
-    return Refused(number, at, line, column, f"township: {explained.message}\n", None, "township", explained)
+    return refused_in("township", given, refusal, len(given), sentence)
 
 
 def _shortened(text: str) -> str:

@@ -52,11 +52,14 @@ pub(crate) const REFUSAL_LOTS_NO_LOT: u32 = 91;
 pub(crate) const REFUSAL_LOTS_ACRES: u32 = 92;
 pub(crate) const REFUSAL_LOTS_REPEATED: u32 = 93;
 pub(crate) const REFUSAL_LOTS_LACKING: u32 = 94;
+pub(crate) const REFUSAL_SPLIT_NO_HEADING: u32 = 95;
+pub(crate) const REFUSAL_SPLIT_TOO_LARGE: u32 = 96;
 pub(crate) const LINES: usize = 84;
 pub(crate) const NOTES_MOST: usize = 65_536;
 pub(crate) const DESCRIPTION_MOST: usize = 65_536;
 pub(crate) const LIST_MOST: usize = 1_048_576;
 pub(crate) const LOTS_TEXT_MOST: usize = 65_536;
+pub(crate) const SPLIT_MOST: usize = 1_048_576;
 pub(crate) const ACCEPTED: u32 = 0;
 pub(crate) const REFUSED: u32 = 1;
 pub(crate) const TRACT_REFUSED: u32 = 2;
@@ -652,6 +655,9 @@ extern "C" {
     fn township_unread(
         description: *const u8, description_length: usize, unread: *mut Stretch, room: usize,
     ) -> Answer;
+    fn township_split(
+        description: *const u8, description_length: usize, parts: *mut Stretch, room: usize,
+    ) -> Answer;
     fn township_version(text: *mut u8, room: usize) -> Answer;
 }
 
@@ -1016,6 +1022,14 @@ pub(crate) fn unread(description: &[u8], unread: &mut [Stretch]) -> Answer {
     // SAFETY: slices and references meet the library's requirements.
     unsafe {
         township_unread(description.as_ptr(), description.len(), unread.as_mut_ptr(), unread.len())
+    }
+}
+
+/// Calls `township_split`.
+pub(crate) fn split(description: &[u8], parts: &mut [Stretch]) -> Answer {
+    // SAFETY: slices and references meet the library's requirements.
+    unsafe {
+        township_split(description.as_ptr(), description.len(), parts.as_mut_ptr(), parts.len())
     }
 }
 
