@@ -22,11 +22,13 @@ from ._explanation import OtherPlace
 from ._field_notes import Notes
 from ._figures import Section
 from ._land import Land
+from ._lands import Lands
 from ._lots import Lots
 from ._many import Answers
 from ._note import Note
 from ._parts import Part
 from ._plat import Plat
+from ._plats import LocatedTract, MissingPlat, Plats, PlatsReport
 from ._readings import Change, Reading, Readings, Unread, suggest
 from ._refused import Refusal, Refused, failure_of
 from ._report import LotsOverlap, LotsReport, Overlap, Report, Tract, TractAnswer
@@ -43,9 +45,12 @@ __all__ = [
     "Difference",
     "EastWest",
     "Land",
+    "Lands",
+    "LocatedTract",
     "Lots",
     "LotsOverlap",
     "LotsReport",
+    "MissingPlat",
     "NorthSouth",
     "Note",
     "Notes",
@@ -53,6 +58,8 @@ __all__ = [
     "Overlap",
     "Part",
     "Plat",
+    "Plats",
+    "PlatsReport",
     "Reading",
     "Readings",
     "Refusal",
@@ -72,8 +79,8 @@ __all__ = [
 ]
 
 for _public in (
-    *(Answers, Change, Difference, Land, Lots, LotsOverlap, LotsReport, Note, Notes),
-    *(OtherPlace, Overlap, Part, Plat, Reading, Readings, Refusal, Refused, Report, Section),
+    *(Answers, Change, Difference, Land, Lands, LocatedTract, Lots, LotsOverlap, LotsReport, MissingPlat, Note, Notes),
+    *(OtherPlace, Overlap, Part, Plat, Plats, PlatsReport, Reading, Readings, Refusal, Refused, Report, Section),
     *(Township, TownshipText, Tract, TractAnswer, Unread),
 ):
     # Tracebacks and pickles name each class as users import it.

@@ -8,9 +8,9 @@ from typing import Iterator, List, Mapping, Optional, Tuple, Union
 
 import township
 import township.pandas
-from township import Account, Change, Difference, EastWest, Land, Lots, LotsOverlap, NorthSouth, Notes, Overlap
-from township import Part, Plat
-from township import Reading, Readings, Refusal, Refused, Report, Section, Township, Tract, TractAnswer, suggest
+from township import Account, Change, Difference, EastWest, Land, Lands, LocatedTract, Lots, LotsOverlap, MissingPlat
+from township import NorthSouth, Notes, Overlap, Part, Plat, Plats, PlatsReport, Reading, Readings, Refusal, Refused
+from township import Report, Section, Township, TownshipText, Tract, TractAnswer, split, suggest
 
 
 def answers(plat: Plat, account: Account) -> Iterator[Union[Decimal, Refused]]:
@@ -81,6 +81,30 @@ def many(plat: Plat, lots: Lots) -> Optional[Decimal]:
     new: Lots = Lots.new("T. 2 N., R. 3 W.")
     found: Readings = new.suggest("NENE Sec 14")
     return shared if answers and texts and one_by_one and tracts and found else None
+
+
+def townships(plat: Plat, lots: Lots, path: Path, error: MissingPlat) -> Optional[Decimal]:
+    parts: List[TownshipText] = split("T2N R3W sec. 14; T3N R3W sec. 15") + split(b"sec. 14.")
+    places: List[int] = [parts[0].start, parts[0].end]
+    where: Township = parts[0].township if parts[0].text else error.township
+    plats: Plats = Plats([plat, lots]) if places else Plats.open(path, "6th P.M.")
+    by: Union[Plat, Lots] = plats[where] or plats["2N-3W"] or plats[2, "N", 3, "W"]
+    lands: Lands = plats.land(parts[0].text) | Lands.of(b"T2N R3W sec. 14") & Lands([plat.land("sec. 15.")])
+    by_township: Mapping[Township, Land] = lands.by_township()
+    figures: Mapping[Township, Decimal] = plats.acres_by_township(lands, account="plat")
+    area: Fraction = plats.area(by_township[where]) + lands.area(plats)
+    report: PlatsReport = plats.report([("A", lands), ("B", "T2N R3W sec. 14")])
+    tracts: Tuple[LocatedTract, ...] = report.tracts
+    overlaps: Tuple[LotsOverlap, ...] = plats.overlaps([("A", lands), ("B", b"T2N R3W sec. 14")])
+    is_less: bool = lands <= lands - lands and area > 0 and bool(by)
+    return overlaps[0].acres if is_less else lands.acres(plats) + figures[where] + tracts[0].by_township[where]
+
+
+def wrong_townships(plats: Plats, lands: Lands) -> None:
+    plats.acres(14)  # type: ignore[arg-type]
+    plats["2N-3W"] = lands  # type: ignore[index]
+    lands.acres()  # type: ignore[call-arg]
+    print(lands | "T2N R3W sec. 14")  # type: ignore[operator]
 
 
 def wrong_many(lots: Lots) -> None:

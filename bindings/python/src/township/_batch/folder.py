@@ -3,10 +3,10 @@ from __future__ import annotations
 
 import os
 from dataclasses import dataclass, field
-from typing import Dict, List, NamedTuple, Sequence, Union
+from typing import Dict, List, NamedTuple, Optional, Sequence, Union
 
 from .._lots import Lots
-from .._text import shown
+from .._text import Path, shown
 from .._township import Township
 from .files import Basis, Unrecognized, basis_in
 from .stopped import Status, Stopped, reading
@@ -110,6 +110,41 @@ class Folder:
     def _is_other(self, path: str) -> bool:
         """Return whether a file is the list, or the output."""
         return any(os.path.exists(other) and os.path.samefile(other, path) for other in self._others)
+
+
+def plats_in(name: Path, meridian: Optional[str]) -> List[Basis]:
+    """Return the plat or the lot table of each township in a folder.
+
+    Raise `OSError` if it can't be read, and `ValueError` if a file is refused, if two files of a township are
+    different, or if the meridian is not one of the folder.
+    """
+    try:
+        folder = Folder(os.fsdecode(name))
+    except Stopped as stopped:
+        if isinstance(stopped.__cause__, OSError):
+            raise stopped.__cause__
+        raise ValueError(str(stopped)) from None
+    if folder.refused:
+        raise ValueError("\n".join(folder.refused))
+    controlling = [files.controlling() for files in _townships_on(folder, meridian).values()]
+    faults = [each for each in controlling if isinstance(each, str)]
+    if faults:
+        raise ValueError("\n".join(faults))
+    return [each.by for each in controlling if not isinstance(each, str)]
+
+
+def _townships_on(folder: Folder, meridian: Optional[str]) -> Townships:
+    """Return the townships on a meridian, or all of them if there is only one. Otherwise raise `ValueError`."""
+    if meridian is None:
+        if len(folder.meridians) > 1:
+            raise ValueError(f"{shown(folder.name)} has folders by principal meridian; say which one")
+        return next(iter(folder.meridians.values()))
+    if not any(folder.meridians):
+        raise ValueError(f"{shown(folder.name)} has no folders by principal meridian")
+    townships = folder.meridians.get(meridian_key(meridian))
+    if townships is None:
+        raise ValueError(f"there is no folder for the principal meridian `{meridian}` in {shown(folder.name)}")
+    return townships
 
 
 def meridian_key(name: str) -> str:
