@@ -66,6 +66,9 @@ extern "C" {
 #define TOWNSHIP_REFUSAL_DESIGNATION_RANGE_DIRECTION 34u
 #define TOWNSHIP_REFUSAL_DESIGNATION_AFTER 35u
 #define TOWNSHIP_REFUSAL_DESIGNATION_TOO_LARGE 36u
+/* A text with the land of several townships: */
+#define TOWNSHIP_REFUSAL_SPLIT_NO_HEADING 38u
+#define TOWNSHIP_REFUSAL_SPLIT_TOO_LARGE 39u
 /* The text of a description: */
 #define TOWNSHIP_REFUSAL_TEXT_TOO_LARGE 41u
 #define TOWNSHIP_REFUSAL_TEXT_BAD_BYTE 42u
@@ -96,9 +99,6 @@ extern "C" {
 #define TOWNSHIP_REFUSAL_LOTS_ACRES 92u
 #define TOWNSHIP_REFUSAL_LOTS_REPEATED 93u
 #define TOWNSHIP_REFUSAL_LOTS_LACKING 94u
-/* A text with the land of several townships: */
-#define TOWNSHIP_REFUSAL_SPLIT_NO_HEADING 95u
-#define TOWNSHIP_REFUSAL_SPLIT_TOO_LARGE 96u
 /* End of the lines that tools/header_names.py makes. */
 
 /* The number of section lines in a township. */

@@ -40,12 +40,12 @@ class Group(NamedTuple):
 GROUPS = (
     Group(range(1, 20), "NOTES_", "Field notes"),
     Group(range(20, 30), "PLAT_", "The plat that field notes make"),
-    Group(range(30, 40), "DESIGNATION_", "The name of a township"),
+    Group(range(30, 38), "DESIGNATION_", "The name of a township"),
+    Group(range(38, 40), "SPLIT_", "A text with the land of several townships"),
     Group(range(40, 60), "TEXT_", "The text of a description"),
     Group(range(60, 80), "LAND_", "The land that a description names"),
     Group(range(80, 86), "", "A list of tracts"),
     Group(range(86, 95), "LOTS_", "A lot table, and land measured by it"),
-    Group(range(95, 100), "SPLIT_", "A text with the land of several townships"),
 )
 
 

@@ -75,7 +75,7 @@ class AcresTest(unittest.TestCase):
             ("T2N R3W sec. 14, T3N R3W sec. 31", 44, 16, "T. 2 N., R. 3 W."),
             ("T2N R3W sec. 14; T3N sec. 31", 33, 4, "township"),
             ("sec. 14", 31, 0, "township"),
-            ("sec. 14; T3N R3W sec. 31", 95, 9, "description"),
+            ("sec. 14; T3N R3W sec. 31", 38, 9, "description"),
         ):
             with self.assertRaises(Refused, msg=text) as caught:
                 plats().acres(text)

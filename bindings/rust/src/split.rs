@@ -53,8 +53,8 @@ impl TownshipText<'_> {
 ///
 /// A part begins with its heading, and ends before the `;` or `; and` that the next heading follows.
 /// It may be refused when it is read. A text with one township, or without a heading, is its only
-/// part. The text is refused if it has a heading, but its first land has none (95), or if it is too
-/// long (96). `docs/SEVERAL-TOWNSHIPS.md` has more examples.
+/// part. The text is refused if it has a heading, but its first land has none (38), or if it is too
+/// long (39). `docs/SEVERAL-TOWNSHIPS.md` has more examples.
 ///
 /// ```
 /// let text = "T2N R3W sec. 5, lots 1 and 2; and T3N R3W secs. 31 and 32";
@@ -64,7 +64,7 @@ impl TownshipText<'_> {
 /// assert_eq!((parts[1].start, parts[1].end), (34, 57));
 ///
 /// let refused = township::split("sec. 5; T. 2 N., R. 3 W., sec. 6.").unwrap_err();
-/// assert_eq!((refused.number, refused.at), (95, 8));
+/// assert_eq!((refused.number, refused.at), (38, 8));
 /// # Ok::<(), township::Refused>(())
 /// ```
 pub fn split(text: &str) -> Result<Vec<TownshipText<'_>>, Refused> {

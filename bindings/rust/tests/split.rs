@@ -67,7 +67,7 @@ fn the_township_of_a_part() {
 #[test]
 fn land_without_a_heading_before_one() {
     let refused = refused("sec. 5, S½;\n  T2N R3W sec. 6");
-    assert_eq!((refused.number, refused.at), (95, 15));
+    assert_eq!((refused.number, refused.at), (38, 15));
     assert_eq!((refused.line, refused.column), (Some(2), Some(3)));
     assert_eq!(refused.span(), Some(15..16));
     assert_eq!(
@@ -82,7 +82,7 @@ fn long_texts() {
     let most = land.to_owned() + &" ".repeat(1_048_576 - land.len());
     assert_eq!(texts(&most), [most.as_str()]);
     let refused = refused(&format!("{most} "));
-    assert_eq!((refused.number, refused.at), (96, 1_048_576));
+    assert_eq!((refused.number, refused.at), (39, 1_048_576));
     assert_eq!(
         refused.to_string(),
         "description: the text is longer than 1048576 bytes"

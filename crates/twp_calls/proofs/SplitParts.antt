@@ -175,7 +175,7 @@ split_of_nothing text parts within white parts_are = record {
 pub refused_at : (text : List ℕ) (from : ℕ) (token : Token) (next : NextHeading)
     → length text ≤ SPLIT_LIMIT → IsFirstIn text 0 token → ¬ BeginsHeading token
     → token.at + length token.text ≡ from → IsNextHeading text from next
-    → IsNoSplit text (record { number = 95; at = next.at })
+    → IsNoSplit text (record { number = 38; at = next.at })
 refused_at text from token next within first not ends found =
     let left = has_token_list (found.heading.at + length found.heading.text) (drop next.end text) in
     let tail : HasTokens from (drop from text) (found.between ++ (found.heading ∷ left.0)) =
@@ -192,7 +192,7 @@ refused_at text from token next within first not ends found =
       begins = found.begins;
       more = left.0;
       cut = (drop (token.at + length token.text) text, first.starts, there);
-      is = ap (λ n. record { number = 95; at = n }) found.at_is;
+      is = ap (λ n. record { number = 38; at = n }) found.at_is;
     })
 
 -- the first heading of tokens is the only one with none before it

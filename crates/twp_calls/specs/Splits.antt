@@ -102,11 +102,11 @@ pub record IsWithoutHeading (text : List ℕ) (answer : Refusal) : Type 0 where
   pub begins : BeginsHeading heading
   pub more : List Token
   pub cut : HasTokens 0 text (before ++ (heading ∷ more))
-  pub is : answer ≡ refusal 95 heading.at
+  pub is : answer ≡ refusal 38 heading.at
 
 -- the text has too many bytes, or its first township has no heading
 pub data IsNoSplit (text : List ℕ) (answer : Refusal) : Type 0 where
-  too_large : SPLIT_LIMIT < length text → answer ≡ refusal 96 SPLIT_LIMIT → IsNoSplit text answer
+  too_large : SPLIT_LIMIT < length text → answer ≡ refusal 39 SPLIT_LIMIT → IsNoSplit text answer
   no_heading : length text ≤ SPLIT_LIMIT → IsWithoutHeading text answer → IsNoSplit text answer
 
 -- `township_split`: the only parts into which the text can be split; or it can't be split, and is refused

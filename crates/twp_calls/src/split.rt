@@ -38,7 +38,7 @@ fn split_parts(alloc: Global, text: &[u8]) -> Result<Vec<TownshipStretch>, Stop>
 {
     if text.len() > LIMIT {
         return Err(Stop::Refused(Refusal {
-            number: 96,
+            number: 39,
             at: LIMIT as u32,
         }));
     }
@@ -51,7 +51,7 @@ fn split_parts(alloc: Global, text: &[u8]) -> Result<Vec<TownshipStretch>, Stop>
     }
     match next_heading(text, from) {
         Some(next) => Err(Stop::Refused(Refusal {
-            number: 95,
+            number: 38,
             at: next.at as u32,
         })),
         None => Ok(one_part(alloc, text.len())?),

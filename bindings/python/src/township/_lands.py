@@ -55,7 +55,7 @@ class Lands:
     def of(cls, text: Text) -> Lands:
         """Make the land that a text names.
 
-        Raise `Refused` if the text can't be split into the parts of its townships (95 or 96), if a part does not begin
+        Raise `Refused` if the text can't be split into the parts of its townships (38 or 39), if a part does not begin
         with a heading (31 to 36), or if it is refused (41 to 67); the place is then in this part, and `source` is its
         township. If a part names land of an earlier part, the number is 67, and the place is that of the part in the
         text.

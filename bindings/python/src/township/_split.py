@@ -49,7 +49,7 @@ def split(text: Text) -> List[TownshipText]:
 
     A part begins with its heading, and ends before the `;` or `; and` that the next heading follows. It may be refused
     when it is read. A text with one township, or without a heading, is its only part. Raise `Refused` if the text has a
-    heading, but its first land has none (95), or if it is too long (96). `docs/SEVERAL-TOWNSHIPS.md` has more examples.
+    heading, but its first land has none (38), or if it is too long (39). `docs/SEVERAL-TOWNSHIPS.md` has more examples.
 
     >>> for part in township.split("T2N R3W sec. 5, lots 1 and 2; and T3N R3W secs. 31 and 32"):
     ...     print(part.township, part.text)
