@@ -32,8 +32,7 @@ pub record ArePlatted (bytes : List ℕ) (plat : TownshipPlat) : Type 0 where
 abbrev pub MakePlat : List ℕ → Type 0
 MakePlat bytes = (plat : TownshipPlat) × ArePlatted bytes plat
 
--- The bytes are a description of this land: they are read as items that lie on the plat of the
--- township without overlapping, and the land is the set of all places that they name.
+-- the bytes are read as items that lie on the township's plat without overlapping, and this is their land
 pub record Describe (township : Designation) (bytes : List ℕ) (places : ℕ → ℕ → ℕ → Bool) : Type 0 where
   pub items : List Item
   pub read : IsReadAs bytes items
@@ -65,8 +64,7 @@ pub record IsNoText (bytes : List ℕ) (refusal : Refusal) : Type 0 where
   pub first : text_faults.IsFirstTextFault bytes fault
   pub refusal_is : text_faults.refusal_of fault ≡ Some refusal
 
--- the bytes are read as items that do not lie on the plat without overlapping, for their first
--- fault
+-- the bytes are read as items that do not lie on the plat without overlapping, for their first fault
 pub record DescribeNoLand (township : Designation) (bytes : List ℕ) (refusal : Refusal)
     : Type 0 where
   pub items : List Item
@@ -75,8 +73,7 @@ pub record DescribeNoLand (township : Designation) (bytes : List ℕ) (refusal :
   pub first : place_faults.IsFirstPlaceFault STANDARD_LOTS township items fault
   pub refusal_is : place_faults.refusal_of fault ≡ Some refusal
 
--- the bytes are not a description of land on the plat: for the first fault of the text, or
--- otherwise of its items
+-- the bytes are no description of land on the plat: for the first fault of the text, or else of its items
 abbrev pub IsNoDescription : Designation → List ℕ → Refusal → Type 0
 IsNoDescription township bytes refusal =
     IsNoText bytes refusal ⊎ DescribeNoLand township bytes refusal
@@ -91,8 +88,7 @@ pub record IsNoLandOnPlat (notes description : List ℕ) (refusal : Refusal) : T
 abbrev pub IsNoPlat : List ℕ → Refusal → Type 0
 IsNoPlat notes refusal = AreRefused notes refusal ⊎ MakeNoPlat notes refusal
 
--- the refusal of the first stage that has one: the notes, the plat, the description's text, and its
--- items
+-- the refusal of the first stage that has one: the notes, the plat, the description's text, and its items
 abbrev pub IsRefusal : List ℕ → List ℕ → Refusal → Type 0
 IsRefusal notes description refusal =
     IsNoPlat notes refusal ⊎ IsNoLandOnPlat notes description refusal

@@ -49,8 +49,7 @@ abbrev pub IsAnswered : Option (List ℕ) → Option (List ℕ) → List ℕ →
     → Result Verdict RunFault → Type 0
 IsAnswered old new answer verdict result = IfOk result (λ given. (given ≡ verdict) × Appends old new answer)
 
--- These are the bytes that two sources had to give, the second of which was read only if the bytes of the
--- first allow it.
+-- the bytes that two sources had to give, the second of which was read only if those of the first allow it
 pub record ReadsTwo (first second : Option (List ℕ)) (GoesOn : List ℕ → Type 0) (unread : Type 0)
     (Holds : List ℕ → List ℕ → Type 0) : Type 0 where
   pub first_bytes : List ℕ
@@ -64,8 +63,7 @@ pub record ReadsTwo (first second : Option (List ℕ)) (GoesOn : List ℕ → Ty
 abbrev pub AnyFailed : Bool → Bool → Type 0
 AnyFailed first second = (first ≡ true) ⊎ (second ≡ true)
 
--- What each run promises that reads field notes and, only if the notes make a plat, a second text
--- up to a limit of bytes.
+-- what a run promises that reads field notes and, only if these make a plat, a second text up to a limit
 pub record RunsOnPlat (Answers : List ℕ → List ℕ → AnswerRelation) (most : ℕ)
     (notes second out : Use) (is_unread : Type 0) (result : Result Verdict RunFault) : Type 0 where
   -- The answer for known texts; a verdict if no device fails and memory does not run out.

@@ -4,6 +4,7 @@ use Rattle.std.proofs.Common.{◌*◌, ◌≡◌, ◌==◌, ℕ, suc, ◌/◌, �
 use Rattle.std.proofs.Common.{IsSome, refl, sym, ap, subst, ◌∙◌, inl, inr, arith}
 use Rattle.std.proofs.Math.Nat.{pow-succ'}
 use Rattle.std.proofs.Math.Path.{fun_ext}
+use Rattle.twp_grid.proofs.PlaceTests.{place_of_test, test_of_place}
 use Rattle.twp_grid.specs.Lots.{POSITIONS_ACROSS}
 use Rattle.twp_grid.specs.Cuts.{rows_asked, columns_asked, AreWithin}
 use Rattle.twp_grid.specs.Places.{places_across, is_place, binary, begins}
@@ -100,10 +101,10 @@ has_land_finer : (g section : ℕ) → HasLand (standard_lots g) section → Has
 has_land_finer g section has = record {
   column = 2 * has.column;
   row = 2 * has.row;
-  place = (
-    omega (arith, has.place.0, pow-succ' 2 g),
-    omega (arith, has.place.1, pow-succ' 2 g),
-  );
+  place =
+      let place = place_of_test g has.column has.row has.place in
+      test_of_place (suc g) (2 * has.column) (2 * has.row)
+      (omega (arith, place.0, pow-succ' 2 g), omega (arith, place.1, pow-succ' 2 g));
   is_land = refl;
 }
 
@@ -130,9 +131,9 @@ lies_finer g township section (item.Chain steps at) fits lies = (
         (same_places g (record { section = section; item = item.Chain steps at }) section held.column held.row
         fits lies.0)
         ∙ held.named;
-    of_lot = subst (λ lot. IsSome lot) (same_lot g section held.column held.row fits) held.of_lot;
+    is = subst (λ lot. IsSome lot) (same_lot g section held.column held.row fits) held.is;
   }),
-  λ named. cc named.none,
+  λ named. cc named.is,
 )
 lies_finer g township section (item.All at) fits lies = has_land_finer g section lies
 

@@ -79,8 +79,7 @@ kind_of bad_byte _ = BadByte
 
 infixr 6 ◌⨾◌
 infixr 5 ◌∣◌
--- grammars: one without sentences, the empty list of tokens, one token of a class, a sequence, an
--- alternative, or a repetition
+-- grammars: no sentence, no tokens, one token of a class, a sequence, an alternative, or a repetition
 pub data Ebnf : Type 0 where
   never nothing : Ebnf
   one : Class → Ebnf

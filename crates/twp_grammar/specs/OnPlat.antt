@@ -11,38 +11,30 @@ use Rattle.twp_grammar.specs.ItemPlaces.{cuts_of, ItemOfSection, item_places, pa
 use Rattle.twp_grid.specs.Places.{IsPlace}
 use Rattle.twp_grammar.specs.declared.item.Item.TheVariants as item
 
--- the item names a place of a lot of its section
-pub record HoldsOfLot (lots : Lotting) (part : ItemOfSection) : Type 0 where
+-- an item of this section names a place of this kind in it
+pub record Names (lots : Lotting) (section : ℕ) (item : Item) (Is : ℕ → ℕ → Type 0) : Type 0 where
   pub column : ℕ
   pub row : ℕ
-  pub named : item_places lots part part.section column row ≡ true
-  pub of_lot : IsSome (lots.lot_of part.section column row)
+  pub named : item_places lots (record { section = section; item = item }) section column row ≡ true
+  pub is : Is column row
 
--- the item names a place of its section at which the plat has no land
-pub record NamesNoLand (lots : Lotting) (part : ItemOfSection) : Type 0 where
-  pub column : ℕ
-  pub row : ℕ
-  pub named : item_places lots part part.section column row ≡ true
-  pub none : lots.has_land part.section column row ≡ false
+-- each number from first to last has this property
+abbrev pub Each : (ℕ → Type 0) → ℕ → ℕ → Type 0
+Each Is first last = (number : ℕ) → first ≤ number → number ≤ last → Is number
 
--- the plat has land in each section from first to last
-abbrev pub HaveLand : Lotting → ℕ → ℕ → Type 0
-HaveLand lots first last = (section : ℕ) → first ≤ section → section ≤ last → HasLand lots section
-
--- The item lies on the plat: a heading is for the plat's township, sections are in the township and
--- lots in their section, no range runs backward, and no aliquot part is too small or contains a
--- place of a lot. There is land in each section that is named whole, and all over each aliquot part.
+-- The item lies on the plat: its heading, its sections, and its lots are there, no range runs backward,
+-- an aliquot part isn't too small, contains no place of a lot, and, as a whole section, has land.
 abbrev pub LiesOnPlat : Lotting → Designation → ℕ → Item → Type 0
 LiesOnPlat lots township section (item.Heading number north_south range east_west at) =
     designation number north_south range east_west ≡ township
 LiesOnPlat lots township section (item.Sections first last whole) =
     IsSection first.value × IsSection last.value × (first.value ≤ last.value)
-    × (IsTrue whole → HaveLand lots first.value last.value)
-LiesOnPlat lots township section (item.Lots first last) = (first.value ≤ last.value)
-    × ((lot : ℕ) → first.value ≤ lot → lot ≤ last.value → HasLot lots section lot)
+    × (IsTrue whole → Each (HasLand lots) first.value last.value)
+LiesOnPlat lots township section (item.Lots first last) =
+    (first.value ≤ last.value) × Each (HasLot lots section) first.value last.value
 LiesOnPlat lots township section (item.Chain steps at) = AreWithin lots.digits (cuts_of steps)
-    × ¬ HoldsOfLot lots (record { section = section; item = item.Chain steps at })
-    × ¬ NamesNoLand lots (record { section = section; item = item.Chain steps at })
+    × ¬ Names lots section (item.Chain steps at) (λ column row. IsSome (lots.lot_of section column row))
+    × ¬ Names lots section (item.Chain steps at) (λ column row. lots.has_land section column row ≡ false)
 LiesOnPlat lots township section (item.All at) = HasLand lots section
 
 -- each item lies on the plat, and no place is named by two items

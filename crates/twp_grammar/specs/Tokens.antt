@@ -91,8 +91,7 @@ pub record IsNumber (text rest : List ℕ) : Type 0 where
   pub no_half : ¬ Begins (codes "1/2") (text ++ rest)
   pub no_quarter : ¬ Begins (codes "1/4") (text ++ rest)
 
--- the text, when the rest follows it, is a token of this kind other than a bad byte; U+00BD is the
--- bytes C2 BD, and U+00BC is C2 BC
+-- the text, before the rest, is a good token of this kind; U+00BD is the bytes C2 BD, and U+00BC is C2 BC
 pub data IsGoodToken (text rest : List ℕ) (kind : Kind) : Type 0 where
   a_word : IsWholeRun is_ascii_alphabetic text rest → kind ≡ kind_of_word text → IsGoodToken text rest kind
   a_number : IsNumber text rest → length text ≤ 4 → kind ≡ Number (digits_value 10 text)

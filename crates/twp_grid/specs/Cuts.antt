@@ -36,8 +36,7 @@ column_asked (quarter corner.NW) = 1 ∷ []
 column_asked (quarter corner.SW) = 1 ∷ []
 column_asked (quarter corner.SE) = 0 ∷ []
 
--- the digits that cuts ask for in a row, the highest first; cuts are listed as a description writes
--- them, the last cut first
+-- the digits asked for in a row, the highest first, by cuts as a description writes them: the last cut first
 abbrev pub rows_asked : List Cut → List ℕ
 rows_asked [] = []
 rows_asked (cut ∷ before) = rows_asked before ++ row_asked cut

@@ -34,7 +34,6 @@ TakesJust old new count = (taken : List ℕ) × Consumes old new taken × (lengt
 abbrev pub TakesAll : Option (List ℕ) → Option (List ℕ) → List ℕ → Type 0
 TakesAll old new taken = Consumes old new taken × IsAtEnd new
 
--- of the known bytes, exactly the first ones up to this number were taken, or all if there are no
--- more
+-- of the known bytes, exactly the first ones up to this number were taken, or all if there are no more
 abbrev pub TakesFirst : Option (List ℕ) → Option (List ℕ) → ℕ → Type 0
 TakesFirst old new count = IfSome old (λ bytes. Consumes old new (take count bytes))

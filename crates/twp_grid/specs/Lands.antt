@@ -1,7 +1,8 @@
 -- Land: sets of places in a township. A set is a test of section, column, and row; the part of it
 -- in one section is a test of column and row. Also the lots of a plat, land that contains each lot
 -- wholly or not at all, and blocks that contain a place of a lot.
-use Rattle.std.specs.Prelude.{◌≡◌, ◌==◌, ℕ, ◌≤◌, ◌&&◌, ◌||◌, not, Bool, true, false, Option, Some, IsSome}
+use Rattle.std.specs.Prelude.{◌≡◌, ◌==◌, ℕ, ◌≤◌, ◌<◌, ◌&&◌, ◌||◌, not, Bool, true, false, Option, Some}
+use Rattle.std.specs.Prelude.{IsSome}
 use Rattle.std.specs.Prelude.{is_none}
 use Rattle.std.specs.Option.{option_map_or}
 use Rattle.twp_grid.specs.Spans.{Rectangle, in_rectangle, total_over, one_where}
@@ -70,25 +71,19 @@ abbrev pub LieWithin : (ℕ → ℕ → ℕ → Bool) → ℕ → ℕ → Type 0
 LieWithin places first last =
     (section column row : ℕ) → places section column row ≡ true → (first ≤ section) × (section ≤ last)
 
--- the lotting of a township: in which lot of a section, if in one, the place at a column and a row
--- lies, and whether the plat has land there
+-- the binary digits of a column, the lot of each place, if it is in one, and whether there is land at it
 pub record Lotting : Type 0 where
-  -- how many binary digits a column or a row has
   pub digits : ℕ
   pub lot_of : ℕ → ℕ → ℕ → Option ℕ
   pub has_land : ℕ → ℕ → ℕ → Bool
 
--- the plat has land at each place
-abbrev pub all_land : ℕ → ℕ → ℕ → Bool
-all_land section column row = true
-
--- the lotting of a regular township
+-- the lotting of a regular township, which has land at each place
 abbrev pub STANDARD_LOTS : Lotting
 STANDARD_LOTS = record {
   digits = PLACE_DIGITS;
   lot_of = λ section column row.
       lot_at_position section (position_along PLACE_DIGITS column) (position_along PLACE_DIGITS row);
-  has_land = all_land;
+  has_land = λ section column row. true;
 }
 
 -- the lot of a section that a place lies in, if it lies in one, in a regular township
@@ -97,7 +92,8 @@ lot_of_place g section column row = lot_at_position section (position_along g co
 
 -- the lotting of a regular township, if a column or a row has this many digits
 abbrev pub standard_lots : ℕ → Lotting
-standard_lots g = record { digits = g; lot_of = lot_of_place g; has_land = all_land }
+standard_lots g =
+    record { digits = g; lot_of = lot_of_place g; has_land = λ section column row. true }
 
 -- where the lots of a plat lie, and where it has land: a lotting without its digits
 pub record Layout : Type 0 where
@@ -110,13 +106,13 @@ lotting layout = record { digits = PLACE_DIGITS; lot_of = layout.lot_of; has_lan
 
 -- the layout of a regular township
 abbrev pub STANDARD_LAYOUT : Layout
-STANDARD_LAYOUT = record { lot_of = STANDARD_LOTS.lot_of; has_land = all_land }
+STANDARD_LAYOUT = record { lot_of = STANDARD_LOTS.lot_of; has_land = λ section column row. true }
 
 -- the plat has land at some place of the section
 pub record HasLand (lots : Lotting) (section : ℕ) : Type 0 where
   pub column : ℕ
   pub row : ℕ
-  pub place : IsPlace lots.digits column row
+  pub place : is_place lots.digits column row ≡ true
   pub is_land : lots.has_land section column row ≡ true
 
 -- the places of a section at which the plat has land
@@ -143,6 +139,16 @@ HasLot lots section lot = (column : ℕ) × (row : ℕ) × (lots.lot_of section 
 -- the section has a lot with each number from first to last
 abbrev pub HasLots : Lotting → ℕ → ℕ → ℕ → Type 0
 HasLots lots section first last = (lot : ℕ) → first ≤ lot → lot ≤ last → HasLot lots section lot
+
+-- no lot of the section has a greater number
+abbrev pub IsLastLot : Lotting → ℕ → ℕ → Type 0
+IsLastLot lots section number = (lot : ℕ) → HasLot lots section lot → lot ≤ number
+
+-- of the section's lots with greater numbers, this is the first
+pub record IsNextLot (lots : Lotting) (section number lot : ℕ) : Type 0 where
+  pub has : HasLot lots section lot
+  pub after : number < lot
+  pub first : (other : ℕ) → HasLot lots section other → number < other → lot ≤ other
 
 -- a set in one section contains some place of the lot with this number
 pub record IsLotHeld (lots : Lotting) (section : ℕ) (held : ℕ → ℕ → Bool) (lot : ℕ) : Type 0 where

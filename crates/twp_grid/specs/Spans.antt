@@ -63,6 +63,10 @@ whole_block g = rectangle (whole_span g) (whole_span g)
 abbrev pub position_block : ℕ → ℕ → ℕ → Rectangle
 position_block g column row = rectangle (position_span g column) (position_span g row)
 
+-- a single place
+abbrev pub place_block : ℕ → ℕ → Rectangle
+place_block column row = rectangle (span_from column 1) (span_from row 1)
+
 -- the sum of a function's values at the numbers below n
 unfoldable pub total : ℕ → (ℕ → ℕ) → ℕ
 total zero f = 0

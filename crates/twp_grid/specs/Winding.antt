@@ -18,8 +18,7 @@ WESTERN_COLUMN = SECTIONS_ACROSS - 1
 abbrev pub IsSection : ℕ → Type 0
 IsSection number = (1 ≤ number) × (number ≤ SECTION_COUNT)
 
--- The section with this number is at this row from the north and this column from the east: even
--- rows are numbered from the east, odd rows from the west.
+-- the section is in this row from the north and column from the east: even rows are numbered westward
 pub record LiesAt (number row column : ℕ) : Type 0 where
   pub row_range : row < SECTIONS_ACROSS
   pub column_range : column < SECTIONS_ACROSS

@@ -41,7 +41,8 @@ impl Model for Interval {
 }
 
 impl Interval {
-    ghost use Rattle.twp_grid.specs.Spans.{IsDyadic, whole_span, position_span, lower_half};
+    ghost use Rattle.twp_grid.specs.Places.{places_across};
+    ghost use Rattle.twp_grid.specs.Spans.{IsDyadic, whole_span, position_span, span_from, lower_half};
     ghost use Rattle.twp_grid.specs.Spans.{upper_half};
 
     /// All columns or rows of a section.
@@ -65,6 +66,19 @@ impl Interval {
         Some(Interval {
             start: usize::from(position) * usize::from(PLACES_TO_POSITION),
             len: usize::from(PLACES_TO_POSITION),
+        })
+    }
+
+    /// A single column or row. `None` outside the section.
+    pub(crate) fn place(number: u8) -> Option<Interval>
+        ensures { SomeIff result (number < places_across PLACE_DIGITS) (span_from number 1) }
+    {
+        if usize::from(number) >= PLACES_ACROSS {
+            return None;
+        }
+        Some(Interval {
+            start: usize::from(number),
+            len: 1,
         })
     }
 
@@ -158,7 +172,8 @@ impl Model for Block {
 }
 
 impl Block {
-    ghost use Rattle.twp_grid.specs.Spans.{IsDyadic, whole_block, position_block};
+    ghost use Rattle.twp_grid.specs.Places.{IsPlace};
+    ghost use Rattle.twp_grid.specs.Spans.{IsDyadic, whole_block, position_block, place_block};
     ghost use Rattle.twp_grid.specs.Blocks.{half_of, CanHalve, quarter_of, CanQuarter};
 
     /// All places of a section.
@@ -179,6 +194,16 @@ impl Block {
         Some(Block {
             columns: Interval::position(column)?,
             rows: Interval::position(row)?,
+        })
+    }
+
+    /// The place at a column from the east and a row from the south. `None` outside the section.
+    pub fn place(column: u8, row: u8) -> Option<Block>
+        ensures { SomeIff result (IsPlace PLACE_DIGITS column row) (place_block column row) }
+    {
+        Some(Block {
+            columns: Interval::place(column)?,
+            rows: Interval::place(row)?,
         })
     }
 

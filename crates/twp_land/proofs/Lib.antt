@@ -19,8 +19,13 @@ pub mod TakenLands
 pub mod RowLands
 pub mod CombinedLots
 pub mod CompareFacts
+pub mod DividingFacts
+pub mod PaintFacts
 pub mod RelationFacts
 pub mod LotSections
 pub mod MadeLands
+pub mod MarkedFacts
+pub mod MarkedLoops
+pub mod MarkedLots
 pub mod WholeDecided
 pub mod OneSections

@@ -4,16 +4,11 @@ use Rattle.std.proofs.Common.{Some}
 use Rattle.std.proofs.Common.{None}
 use Rattle.std.proofs.Common.{refl, sym, ap, subst, ◌∙◌, ◌⊎◌, inl, inr, arith, nat_le, nat_lt, IsSome}
 use Rattle.std.proofs.Common.{if◌then◌else◌}
-use Rattle.std.proofs.Common.{suc, zero, List, [], ◌∷◌, length, take}
-use Rattle.std.specs.List.{Contains}
-use Rattle.std.proofs.Math.ListN.{get_or}
 use Rattle.std.proofs.Math.Path.{fun_ext}
 use Rattle.std.specs.Option.{option_map_or}
 use Rattle.std.proofs.lemmas.Bool.{cases_Bool, eqb-true, eq-eqb}
 use Rattle.std.proofs.lemmas.Bool.Decides.{nat_tests}
 use Rattle.twp_grid.specs.Winding.{IsSection}
-use Rattle.twp_grid.specs.Listing.{AreListed}
-use Rattle.twp_grid.specs.steps.WesternSections.{is_western_number}
 use Rattle.twp_land.specs.steps.StandardLots.{standard_are_lots}
 use Rattle.twp_grid.specs.Lots.{position_of_lot, number_of_lots}
 use Rattle.twp_grid.specs.Places.{PLACE_DIGITS, is_place, position_along}
@@ -140,7 +135,7 @@ section_met places s block is met =
     subst (λ p. SharePlace places p) (standard_section s block is) (share_of_meets places s block met)
 
 pub section_has_land : (s : ℕ) → HasLand STANDARD_LOTS s
-section_has_land s = record { column = 0; row = 0; place = (omega arith, omega arith); is_land = refl }
+section_has_land s = record { column = 0; row = 0; place = refl; is_land = refl }
 
 pub section_held : (s : ℕ) (held : ℕ → ℕ → Bool) (block : Rectangle) → block ≡ whole_block PLACE_DIGITS
     → HoldsAll held block ↔ HoldsEach STANDARD_LOTS s held
@@ -163,72 +158,6 @@ pub standard_met : (places : ℕ → ℕ → ℕ → Bool) (s n : ℕ) (block : 
     → block_places s block ≡ lot_places STANDARD_LOTS s n → Meets (places s) block
     → SharePlace places (lot_places STANDARD_LOTS s n)
 standard_met places s n block is met = subst (λ p. SharePlace places p) is (share_of_meets places s block met)
-
--- the numbers of a section's lots are those from 1 to their count
-numbered : (s : ℕ) (list : List ℕ) → IsSection s → length list ≡ number_of_lots s
-    → ((k d : ℕ) → k < length list → get_or list k d ≡ suc k)
-    → AreListed (HasLot STANDARD_LOTS s) ◌<◌ list
-numbered s list range count at = record {
-  listed = λ n. (there n, back n);
-  ordered = λ i j d less within.
-      let first = at i d (omega (arith, less, within)) in
-      let second = at j d within in
-      omega (arith, less, first, second);
-}
-  where
-    there : (n : ℕ) → HasLot STANDARD_LOTS s n → Contains list n
-    there zero has = absurd (omega (arith, (standard_number s 0 range has).0))
-    there (suc k) has =
-        let within : k < length list = omega (arith, count, (standard_number s (suc k) range has).1) in
-        (k, within, at k (suc k) within)
-
-    back : (n : ℕ) → Contains list n → HasLot STANDARD_LOTS s n
-    back n (k, within, is) =
-        let same : suc k ≡ n = sym (at k n within) ∙ is in
-        standard_has s n range (omega (arith, same)) (omega (arith, same, within, count))
-
-abbrev one_to_seven : List ℕ
-one_to_seven = 1 ∷ 2 ∷ 3 ∷ 4 ∷ 5 ∷ 6 ∷ 7 ∷ []
-
-of_none : (k d : ℕ) → k < 0 → get_or (take 0 one_to_seven) k d ≡ suc k
-of_none k d less = absurd (omega arith)
-
-of_four : (k d : ℕ) → k < 4 → get_or (take 4 one_to_seven) k d ≡ suc k
-of_four zero d less = refl
-of_four (suc zero) d less = refl
-of_four (suc (suc zero)) d less = refl
-of_four (suc (suc (suc zero))) d less = refl
-of_four (suc (suc (suc (suc k)))) d less = absurd (omega arith)
-
-of_seven : (k d : ℕ) → k < 7 → get_or (take 7 one_to_seven) k d ≡ suc k
-of_seven zero d less = refl
-of_seven (suc zero) d less = refl
-of_seven (suc (suc zero)) d less = refl
-of_seven (suc (suc (suc zero))) d less = refl
-of_seven (suc (suc (suc (suc zero)))) d less = refl
-of_seven (suc (suc (suc (suc (suc zero))))) d less = refl
-of_seven (suc (suc (suc (suc (suc (suc zero)))))) d less = refl
-of_seven (suc (suc (suc (suc (suc (suc (suc k))))))) d less = absurd (omega arith)
-
-pub standard_numbers : (s count : ℕ) → IsSection s → count ≡ number_of_lots s
-    → AreListed (HasLot STANDARD_LOTS s) ◌<◌ (take count one_to_seven)
-standard_numbers s count range is = by (nat_le s 6) (is_western_number s) (lot_count_is s range)
-  where
-    by : (north west : Bool)
-        → number_of_lots s ≡ (if north then (if west then 7 else 4) else (if west then 4 else 0))
-        → AreListed (HasLot STANDARD_LOTS s) ◌<◌ (take count one_to_seven)
-    by true true has =
-        subst (λ n. AreListed (HasLot STANDARD_LOTS s) ◌<◌ (take n one_to_seven)) (sym (is ∙ has))
-        (numbered s (take 7 one_to_seven) range (sym has) of_seven)
-    by true false has =
-        subst (λ n. AreListed (HasLot STANDARD_LOTS s) ◌<◌ (take n one_to_seven)) (sym (is ∙ has))
-        (numbered s (take 4 one_to_seven) range (sym has) of_four)
-    by false true has =
-        subst (λ n. AreListed (HasLot STANDARD_LOTS s) ◌<◌ (take n one_to_seven)) (sym (is ∙ has))
-        (numbered s (take 4 one_to_seven) range (sym has) of_four)
-    by false false has =
-        subst (λ n. AreListed (HasLot STANDARD_LOTS s) ◌<◌ (take n one_to_seven)) (sym (is ∙ has))
-        (numbered s (take 0 one_to_seven) range (sym has) of_none)
 
 -- a set that meets a lot's block contains some of the lot
 pub held_of_meets : (s n : ℕ) (held : ℕ → ℕ → Bool) (block : Rectangle) → IsSection s

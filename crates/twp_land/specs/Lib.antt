@@ -1,4 +1,6 @@
 pub mod Storage
 pub mod Comparisons
+pub mod LotMaps
+pub mod LotMarks
 pub mod Laws
 pub mod steps

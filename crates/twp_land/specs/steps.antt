@@ -5,3 +5,5 @@ pub mod Crossing
 pub mod Exchanges
 pub mod Relating
 pub mod StandardLots
+pub mod Marked
+pub mod LotMapLots

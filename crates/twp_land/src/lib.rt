@@ -4,10 +4,13 @@
 #![tactic(auto)]
 
 mod comparing;
+mod dividing;
 mod land;
 mod land_rows;
 mod lanes;
 pub mod laws;
+mod lot_map;
+mod lot_marks;
 mod lots;
 mod lotting;
 mod one_section;
@@ -21,9 +24,12 @@ mod rows;
 mod sections;
 
 pub use comparing::{Comparison, compare};
+pub use dividing::map_of_marks;
 pub use land::Land;
 pub use land_rows::LandRows;
 pub use lanes::{LaneRows, Lanes};
+pub use lot_map::{DIVIDED_BYTES, LotMap, POSITION_BYTES};
+pub use lot_marks::LotMarks;
 pub use lots::{holds_of_lot, lots_whole};
 pub use lotting::{Lotting, StandardLots};
 pub use one_section::{OneLanes, OneSection};

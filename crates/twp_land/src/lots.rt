@@ -107,7 +107,7 @@ fn shares_lot(section: Section, block: Block) -> bool
 
 /// Whether two blocks share a place.
 #[tactic(auto, using(crate::proofs::LotBlocks::share_place, crate::proofs::LotBlocks::sharing))]
-fn share_place(block: Block, other: Block) -> bool
+pub(crate) fn share_place(block: Block, other: Block) -> bool
     ensures { IsTrue result ↔ Meets (in_rectangle block) other }
 {
     let across = cross(block.column(), block.width(), other.column(), other.width());

@@ -1,9 +1,8 @@
-ghost use Rattle.std.specs.Prelude.{◌≡◌, ◌<◌, ◌≤◌, ◌↔◌, ℕ, Option, false, IsTrue};
+ghost use Rattle.std.specs.Prelude.{◌≡◌, ◌≤◌, ◌↔◌, ℕ, Option, false, IsTrue, MatchOption};
 ghost use Rattle.twp_grid.specs.Places.{PLACE_DIGITS};
 ghost use Rattle.twp_grid.specs.Lands.{Layout, STANDARD_LAYOUT, lotting, HasLot, HasLots, HoldsLotPlace};
 ghost use Rattle.twp_grid.specs.Lands.{IsLotHeld, HasLand, IsOfLots, LacksLand, HoldsEach, section_places};
-ghost use Rattle.twp_grid.specs.Listing.{AreListed};
-ghost use Rattle.twp_grid.specs.Lands.{AreLots, lot_places, union, SharePlace};
+ghost use Rattle.twp_grid.specs.Lands.{AreLots, IsLastLot, IsNextLot, lot_places, union, SharePlace};
 
 use crate::lots::holds_of_lot;
 use crate::place_set::PlaceSet;
@@ -71,9 +70,10 @@ pub trait Lotting {
             (lot_places (lotting (layout self.now)) section number) }
         ensures room { S.has_room set.new ≡ S.has_room set.old };
 
-    /// The numbers of a section's lots, in ascending order.
-    fn lot_numbers(&self, section: Section) -> &[u8]
-        ensures { AreListed (HasLot (lotting (layout self.now)) section) ◌<◌ result.now };
+    /// The section's next lot by number. `None` after the last one.
+    fn next_lot(&self, section: Section, after: u8) -> Option<u8>
+        ensures { MatchOption result (IsLastLot (lotting (layout self.now)) section after)
+            (λ lot. IsNextLot (lotting (layout self.now)) section after lot) };
 
     /// Whether a set contains some place of a section's lot.
     fn meets_lot<S: PlaceSet>(&self, set: &S, section: Section, number: u8) -> bool
@@ -84,9 +84,6 @@ pub trait Lotting {
     /// Each lot is land of its section, and has a number from 1 to 99.
     ghost lots: { (lots : Self) → AreLots (lotting (layout lots)) };
 }
-
-/// The numbers of the lots of a section that has as many as any.
-const NUMBERS: [u8; 7] = [1, 2, 3, 4, 5, 6, 7];
 
 /// The lotting of a regular township: its lots lie along the half miles into which excess or
 /// deficiency in measurement is thrown (Manual of Surveying Instructions 2009, chapter 3).
@@ -145,8 +142,11 @@ impl Lotting for StandardLots {
     }
 
     #[inline(always)]
-    fn lot_numbers(&self, section: Section) -> &[u8] {
-        &NUMBERS[..usize::from(lot_count(section))]
+    fn next_lot(&self, section: Section, after: u8) -> Option<u8> {
+        if after >= lot_count(section) {
+            return None;
+        }
+        Some(after + 1)
     }
 
     #[inline(always)]

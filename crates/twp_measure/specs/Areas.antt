@@ -25,8 +25,7 @@ pub record IsArea (units over : ℕ) : Type 0 where
 abbrev pub hundredth_of : Fraction → ℕ
 hundredth_of area = HUNDREDTH_OF_AN_ACRE * area.over
 
--- The area is h hundredths of an acre, rounded half up: it is at most half a hundredth below that
--- number, and less than half a hundredth above it. Everything is doubled, so that halves are whole.
+-- the area is h hundredths of an acre, rounded half up; both sides are doubled, so that halves are whole
 pub record IsRounded (area : Fraction) (h : ℕ) : Type 0 where
   pub least : 2 * h * hundredth_of area ≤ 2 * area.units + hundredth_of area
   pub most : 2 * area.units < 2 * h * hundredth_of area + hundredth_of area

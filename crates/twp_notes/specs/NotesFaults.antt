@@ -85,8 +85,7 @@ HasFault bytes (fault.Missing line) = IsLine line × ¬ IsLineNamed (records_of 
 HasFault bytes fault.Read = ⊥
 HasFault bytes fault.Memory = ⊥
 
--- The size of the notes comes first, then their records one after another, and last any missing
--- line.
+-- The size of the notes comes first, then their records one after another, and last any missing line.
 abbrev pub stage_of : NotesFault → ℕ
 stage_of fault.TooLarge = 0
 stage_of (fault.Missing line) = 2

@@ -1,7 +1,7 @@
 -- Which returned distances make a plat, and the quarter miles that excess and deficiency are thrown
 -- into (Manual of Surveying Instructions 2009, chapter 3). The limits are this project's. Lengths
 -- are in thousandths of a chain, and a difference of two may be negative.
-use Rattle.std.specs.Prelude.{◌≡◌, ℕ, ◌+◌, ◌-◌, ◌*◌, ◌⊎◌, ℤ, pos, ◌-ℤ◌, ◌≤ℤ◌, ◌<ℤ◌}
+use Rattle.std.specs.Prelude.{◌≡◌, ℕ, ◌+◌, ◌-◌, ◌*◌, ◌⊎◌, ℤ, pos, ◌-ℤ◌, ◌≤ℤ◌}
 use Rattle.twp_grid.specs.Lines.{IsLine, IsClosing}
 use Rattle.twp_notes.specs.FieldNotes.{FieldNotes, returned_of}
 use Rattle.twp_notes.specs.declared.parsing.Returned.{Returned}
@@ -42,14 +42,6 @@ last_quarter returned = pos returned.corner -ℤ pos returned.quarter -ℤ pos Q
 pub record IsRegular (half : ℤ) : Type 0 where
   pub least : pos (HALF_MILE - TOLERANCE) ≤ℤ half
   pub most : half ≤ℤ pos (HALF_MILE + TOLERANCE)
-
--- a last quarter mile that is too short for a closing line
-abbrev pub IsTooShort : ℤ → Type 0
-IsTooShort quarter = quarter <ℤ pos CLOSING_LEAST
-
--- a last quarter mile that is too long for a closing line
-abbrev pub IsTooLong : ℤ → Type 0
-IsTooLong quarter = pos CLOSING_MOST <ℤ quarter
 
 -- a last quarter mile that a closing line can have
 pub record Closes (quarter : ℤ) : Type 0 where

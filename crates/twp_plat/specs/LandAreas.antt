@@ -24,14 +24,12 @@ piece_where_held g pieces held column row =
 abbrev pub section_sum : ℕ → (ℕ → ℕ → ℕ) → (ℕ → ℕ → Bool) → ℕ
 section_sum g pieces held = total_over (whole_block g) (piece_where_held g pieces held)
 
--- Their sum over the places of a township, section by section, for any set of places, whether or
--- not it contains lots wholly.
+-- their sum over the places of a township, for any set of places, whether or not it contains lots wholly
 abbrev pub township_sum : ℕ → (ℕ → ℕ → ℕ → ℕ) → (ℕ → ℕ → ℕ → Bool) → ℕ
 township_sum g pieces places =
     total SECTION_COUNT (λ before. section_sum g (pieces (before + 1)) (places (before + 1)))
 
--- The area of a set of places: the sum of their pieces, divided by the places of a position, over
--- the plat's denominator. Nothing is rounded, and the division leaves no remainder.
+-- the area of a set of places: the sum of their pieces, divided without remainder by a position's places
 pub record IsLandArea (g : ℕ) (plat : TownshipPlat) (places : ℕ → ℕ → ℕ → Bool)
     (area : Fraction) : Type 0 where
   pub pieces : ℕ → ℕ → ℕ → ℕ

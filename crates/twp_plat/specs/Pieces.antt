@@ -59,31 +59,26 @@ reach closing count = sum (take count (quarter_miles closing))
 abbrev pub line_length : ℕ → ℕ
 line_length closing = sum (quarter_miles closing)
 
--- A length that varies linearly along a line, from one value at its start to another at its end:
--- its value at a distance from the start.
+-- a length that varies linearly along a line from one value to another, at a distance from the line's start
 abbrev pub straight : (start end along distance : ℕ) → Ratio
 straight start end along distance = plus (whole start) (ratio ((pos end -ℤ pos start) *ℤ pos distance) along)
 
--- A column's width at a distance north of the section's south line: it varies linearly along the
--- west line, from the column's quarter mile of the south line to that of the north line.
+-- a column's width at a distance north along the west line, between its south and its north quarter mile
 abbrev pub width_at : ClosingQuarters → ℕ → ℕ → Ratio
 width_at q column distance = straight (quarter_mile q.south column) (quarter_mile q.north column)
     (line_length q.west) distance
 
--- A row's height at a distance west of the section's east line: it varies linearly along the north
--- line, from the row's quarter mile of the east line to that of the west line.
+-- a row's height at a distance west along the north line, between its east and its west quarter mile
 abbrev pub height_at : ClosingQuarters → ℕ → ℕ → Ratio
 height_at q row distance = straight (quarter_mile q.east row) (quarter_mile q.west row)
     (line_length q.north) distance
 
--- a position's mean width: the mean of its widths at its south and north edges, each of which is at a
--- distance along the west line
+-- a position's mean width: that of its south and north edges, which are at distances along the west line
 abbrev pub mean_width : ClosingQuarters → ℕ → ℕ → Ratio
 mean_width q column row =
     mean (width_at q column (reach q.west row)) (width_at q column (reach q.west (row + 1)))
 
--- a position's mean height: the mean of its heights at its east and west edges, each of which is at
--- a distance along the north line
+-- a position's mean height: that of its east and west edges, which are at distances along the north line
 abbrev pub mean_height : ClosingQuarters → ℕ → ℕ → Ratio
 mean_height q column row =
     mean (height_at q row (reach q.north column)) (height_at q row (reach q.north (column + 1)))
@@ -103,8 +98,7 @@ pub record IsPieceArea (plat : TownshipPlat) (section column row : ℕ) (area : 
 abbrev pub divisor_of : ClosingQuarters → ℕ
 divisor_of q = 4 * line_length q.north * line_length q.west
 
--- The denominator of all areas on a plat is that of section 6, whose north line is the westernmost
--- of the first tier, and whose west line is the westernmost of the first row.
+-- the denominator of all areas is section 6's, which has the westernmost lines of the first tier and row
 unfoldable pub over_of : TownshipPlat → ℕ
 over_of plat = 4 * line_length (closing_quarter_of plat (west_run 0 WESTERN_COLUMN))
     * line_length (closing_quarter_of plat (north_run 0 SECTIONS_ACROSS))

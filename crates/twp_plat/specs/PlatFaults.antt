@@ -1,11 +1,11 @@
 -- Why notes make no plat, with each fault as a statement about a line, and which fault is reported.
-use Rattle.std.specs.Prelude.{◌≡◌, ◌⊎◌, ℕ, ◌≤◌, ◌<◌, Option, Some, Result, Ok, Err}
+use Rattle.std.specs.Prelude.{◌≡◌, ◌⊎◌, ℕ, ◌≤◌, ◌<◌, pos, ◌<ℤ◌, Option, Some, Result, Ok, Err}
 use Rattle.twp_grid.specs.Lines.{IsLine, IsClosing}
 use Rattle.twp_grid.specs.declared.refusal.Refusal.{Refusal}
 use Rattle.twp_notes.specs.FieldNotes.{FieldNotes, returned_of}
 use Rattle.twp_notes.specs.declared.parsing.Returned.{Returned}
 use Rattle.twp_plat.specs.Closing.{first_half, second_half, last_quarter}
-use Rattle.twp_plat.specs.Closing.{IsRegular, IsTooShort, IsTooLong}
+use Rattle.twp_plat.specs.Closing.{IsRegular, CLOSING_LEAST, CLOSING_MOST}
 use Rattle.twp_plat.specs.Plats.{TownshipPlat, IsPlatOf}
 use Rattle.twp_plat.specs.declared.fault.HalfMile.TheVariants as half
 use Rattle.twp_plat.specs.declared.fault.PlatFault.{PlatFault}
@@ -29,9 +29,9 @@ HasLineFault line returned (fault.Irregular at half.First) = ¬ IsRegular (first
 HasLineFault line returned (fault.Irregular at half.Second) =
     ¬ IsClosing line × ¬ IsRegular (second_half returned)
 HasLineFault line returned (fault.ClosingShort at) =
-    IsClosing line × IsTooShort (last_quarter returned)
+    IsClosing line × (last_quarter returned <ℤ pos CLOSING_LEAST)
 HasLineFault line returned (fault.ClosingLong at) =
-    IsClosing line × IsTooLong (last_quarter returned)
+    IsClosing line × (pos CLOSING_MOST <ℤ last_quarter returned)
 
 -- the fault is present at its line
 abbrev pub HasFault : FieldNotes → PlatFault → Type 0

@@ -58,8 +58,7 @@ HasTextFault text (fault.BadNumber at) = HasToken text BadNumber at
 HasTextFault text (fault.Syntax at expected) = GoesWrong text at
 HasTextFault text fault.Memory = ⊥
 
--- The size of the text is looked at first, then whether its tokens are good, from left to right,
--- and at last whether they are a sentence.
+-- the size of the text comes first, then tokens that are not good, and at last whether they are a sentence
 abbrev pub stage_of : TextFault → ℕ
 stage_of fault.TooLarge = 0
 stage_of (fault.Syntax at expected) = 2

@@ -1,6 +1,6 @@
 -- The result for an aliquot part: the first of its faults, or its places are added.
 use Rattle.std.proofs.Common.{◌≡◌, ◌==◌, ℕ, ◌≤◌, Bool, List, refl, sym, ap, subst, ◌∙◌, arith, Result}
-use Rattle.std.proofs.Common.{Ok}
+use Rattle.std.proofs.Common.{Ok, IsSome, false}
 use Rattle.std.proofs.Common.{Err, IfOk, IfErr, MatchResult}
 use Rattle.std.proofs.lemmas.Bool.{and_parts}
 use Rattle.twp_grid.specs.Cuts.{AreWithin, reached}
@@ -13,7 +13,7 @@ use Rattle.twp_grammar.specs.declared.item.Item.TheVariants.{Chain}
 use Rattle.twp_resolve.specs.declared.place_fault.PlaceFault.{PlaceFault}
 use Rattle.twp_resolve.specs.declared.place_fault.PlaceFault.TheVariants as fault
 use Rattle.twp_grammar.specs.ItemPlaces.{cuts_of, item_places}
-use Rattle.twp_grammar.specs.OnPlat.{HoldsOfLot, NamesNoLand}
+use Rattle.twp_grammar.specs.OnPlat.{Names}
 use Rattle.twp_resolve.specs.PlaceFaults.{HasFault, turn_of}
 use Rattle.twp_grammar.specs.ItemPlaces.{item_of}
 use Rattle.twp_grid.specs.Lands.{HoldsLotPlace, LacksLand, Layout, lotting}
@@ -21,13 +21,23 @@ use Rattle.twp_resolve.specs.steps.ResolvingSteps.{IsItemTaken, IsItemsFirstFaul
 use Rattle.twp_land.proofs.LotBlocks.{same_section, share_of_meets, meets_of_share}
 use Rattle.twp_resolve.proofs.ChainFacts.{chain_places}
 
+-- an aliquot part names a place of a lot
+abbrev NamesLot : Layout → ℕ → List Step → ℕ → Type 0
+NamesLot layout section steps at =
+    Names (lotting layout) section (Chain steps at) (λ column row. IsSome (layout.lot_of section column row))
+
+-- an aliquot part names a place without land
+abbrev NamesNoLand : Layout → ℕ → List Step → ℕ → Type 0
+NamesNoLand layout section steps at =
+    Names (lotting layout) section (Chain steps at) (λ column row. layout.has_land section column row ≡ false)
+
 -- an aliquot part is too small, contains land of a lot, is not all land, or was named before
 at_least : (layout : Layout) (township : Designation) (earlier : ℕ → ℕ → ℕ → Bool) (section : ℕ)
     (steps : List Step)
     (at number : ℕ)
     → (¬ AreWithin PLACE_DIGITS (cuts_of steps) → number ≤ 65)
-    → (HoldsOfLot (lotting layout) (item_of section (Chain steps at)) → number ≤ 66)
-    → (NamesNoLand (lotting layout) (item_of section (Chain steps at)) → number ≤ 68)
+    → (NamesLot layout section steps at → number ≤ 66)
+    → (NamesNoLand layout section steps at → number ≤ 68)
     → number ≤ 69
     → (other : PlaceFault) → HasFault (lotting layout) township earlier section (Chain steps at) other
     → number ≤ turn_of other
@@ -55,7 +65,7 @@ is_too_fine layout section steps at earlier fine township = record {
 of_lot_of_block : (layout : Layout) (section : ℕ) (steps : List Step) (at : ℕ)
     → AreWithin PLACE_DIGITS (cuts_of steps)
     → HoldsLotPlace (lotting layout) section (reached PLACE_DIGITS (cuts_of steps))
-    → HoldsOfLot (lotting layout) (item_of section (Chain steps at))
+    → NamesLot layout section steps at
 of_lot_of_block layout section steps at within held = record {
   column = held.column;
   row = held.row;
@@ -63,12 +73,12 @@ of_lot_of_block layout section steps at within held = record {
       ap (λ places. places section held.column held.row)
       (chain_places (lotting layout) section steps at within)
       ∙ rw (same_section section, held.inside) refl;
-  of_lot = held.of_lot;
+  is = held.of_lot;
 }
 
 block_of_of_lot : (layout : Layout) (section : ℕ) (steps : List Step) (at : ℕ)
     → AreWithin PLACE_DIGITS (cuts_of steps)
-    → HoldsOfLot (lotting layout) (item_of section (Chain steps at))
+    → NamesLot layout section steps at
     → HoldsLotPlace (lotting layout) section (reached PLACE_DIGITS (cuts_of steps))
 block_of_of_lot layout section steps at within held =
     let there =
@@ -81,7 +91,7 @@ block_of_of_lot layout section steps at within held =
       inside =
           (and_parts (section == section)
           (in_rectangle (reached PLACE_DIGITS (cuts_of steps)) held.column held.row) there).1;
-      of_lot = held.of_lot;
+      of_lot = held.is;
     }
 
 pub is_on_lot : (layout : Layout) (section : ℕ) (steps : List Step) (at : ℕ)
@@ -101,7 +111,7 @@ is_on_lot layout section steps at earlier block within is held township = record
 no_land_of_block : (layout : Layout) (section : ℕ) (steps : List Step) (at : ℕ)
     → AreWithin PLACE_DIGITS (cuts_of steps)
     → LacksLand (lotting layout) section (reached PLACE_DIGITS (cuts_of steps))
-    → NamesNoLand (lotting layout) (item_of section (Chain steps at))
+    → NamesNoLand layout section steps at
 no_land_of_block layout section steps at within lacks = record {
   column = lacks.column;
   row = lacks.row;
@@ -109,12 +119,12 @@ no_land_of_block layout section steps at within lacks = record {
       ap (λ places. places section lacks.column lacks.row)
       (chain_places (lotting layout) section steps at within)
       ∙ rw (same_section section, lacks.inside) refl;
-  none = lacks.none;
+  is = lacks.none;
 }
 
 block_of_no_land : (layout : Layout) (section : ℕ) (steps : List Step) (at : ℕ)
     → AreWithin PLACE_DIGITS (cuts_of steps)
-    → NamesNoLand (lotting layout) (item_of section (Chain steps at))
+    → NamesNoLand layout section steps at
     → LacksLand (lotting layout) section (reached PLACE_DIGITS (cuts_of steps))
 block_of_no_land layout section steps at within named =
     let there =
@@ -127,7 +137,7 @@ block_of_no_land layout section steps at within named =
       inside =
           (and_parts (section == section)
           (in_rectangle (reached PLACE_DIGITS (cuts_of steps)) named.column named.row) there).1;
-      none = named.none;
+      none = named.is;
     }
 
 pub is_no_land : (layout : Layout) (section : ℕ) (steps : List Step) (at : ℕ)

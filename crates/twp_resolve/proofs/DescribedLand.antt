@@ -38,7 +38,7 @@ use Rattle.twp_grammar.proofs.Membership.{some_passes, passed}
 use Rattle.twp_grid.proofs.PlaceTests.{place_of_test, test_of_place}
 use Rattle.twp_resolve.proofs.ChainFacts.{chain_places}
 use Rattle.twp_land.proofs.LotBlocks.{same_section}
-use Rattle.twp_resolve.proofs.LandLots.{place_test, land_has_whole_lots}
+use Rattle.twp_resolve.proofs.LandLots.{land_has_whole_lots}
 use Rattle.twp_grammar.proofs.TreeFacts.{tree_begins}
 
 -- an item that names places, if it lies on the plat
@@ -178,14 +178,13 @@ first_section : (layout : Layout) (section : ℕ) (first last : Numeral)
     → first.value ≤ last.value → HasLand (lotting layout) first.value
     → NamesPlace layout section (Sections first last true)
 first_section layout section first last order land =
-    let place = test_of_place PLACE_DIGITS land.column land.row land.place in
     let in_range : (nat_le first.value first.value && nat_le first.value last.value) ≡ true =
     grind (arith, nat_tests) in
     record {
       of = first.value;
       column = land.column;
       row = land.row;
-      named = rw (place, in_range, land.is_land) refl;
+      named = rw (land.place, in_range, land.is_land) refl;
     }
 
 -- the first lot of a range
@@ -193,7 +192,7 @@ first_lot : (layout : Layout) (section : ℕ) (first last : Numeral) → AreLots
     → first.value ≤ last.value → HasLot (lotting layout) section first.value
     → NamesPlace layout section (Lots first last)
 first_lot layout section first last fine order (column, row, is) =
-    let place = place_test column row (fine.within section first.value column row is).0 in
+    let place = test_of_place PLACE_DIGITS column row (fine.within section first.value column row is).0 in
     let in_range : (nat_le first.value first.value && nat_le first.value last.value) ≡ true =
     grind (arith, nat_tests) in
     record {
@@ -235,14 +234,12 @@ some_place layout township section (Lots first last) fine (inl range) lies names
 some_place layout township section (Lots first last) fine (inr before) lies names = absurd before
 some_place layout township section (Chain steps at) fine after lies names =
     chain_place layout section steps at lies.0
-some_place layout township section (All at) fine after lies names =
-    let place = test_of_place PLACE_DIGITS lies.column lies.row lies.place in
-    record {
-      of = section;
-      column = lies.column;
-      row = lies.row;
-      named = rw (place, same_section section, lies.is_land) refl;
-    }
+some_place layout township section (All at) fine after lies names = record {
+  of = section;
+  column = lies.column;
+  row = lies.row;
+  named = rw (lies.place, same_section section, lies.is_land) refl;
+}
 
 -- each part of a sentence comes after sections
 each_after : (layout : Layout) (township : Designation) (tokens : List Token) (its : List Item)
@@ -342,7 +339,7 @@ on_land layout township section it s c r fine lies named =
             column = c;
             row = r;
             named = rw (place, same_section section, both.1) refl;
-            none = ap (λ n. layout.has_land n c r) (sym same) ∙ none;
+            is = ap (λ n. layout.has_land n c r) (sym same) ∙ none;
           }))
     ]
     of_item (All at) lies place is = (and_parts (section == s) (layout.has_land s c r) is).1

@@ -1,11 +1,12 @@
 -- Each item on the plat names each lot wholly or not at all, and so does the land of items.
 use Rattle.std.proofs.Common.{◌≡◌, ◌==◌, ℕ, suc, ◌<◌, ◌&&◌, ◌||◌, Bool, true, false, List, [], ◌∷◌}
-use Rattle.std.proofs.Common.{Some}
+use Rattle.std.proofs.Common.{Some, IsSome}
 use Rattle.std.proofs.Common.{nat_le, length, refl, sym, ap, ◌∙◌, inl, inr, arith}
 use Rattle.std.specs.List.{list_any}
 use Rattle.std.proofs.Math.ListN.{get_or}
 use Rattle.std.proofs.lemmas.Bool.{cases_Bool, eqb-true}
 use Rattle.std.proofs.lemmas.Bool.Decides.{nat_tests}
+use Rattle.twp_grid.proofs.PlaceTests.{test_of_place}
 use Rattle.twp_grid.specs.Places.{PLACE_DIGITS, IsPlace, is_place}
 use Rattle.twp_grid.specs.Townships.{Designation}
 use Rattle.twp_grid.specs.Lands.{HasWholeLots, AreLots, Layout, lotting}
@@ -13,16 +14,13 @@ use Rattle.twp_grammar.specs.declared.item.Item.{Item}
 use Rattle.twp_grammar.specs.declared.item.Item.TheVariants as item
 use Rattle.twp_grammar.specs.declared.item.Step.{Step}
 use Rattle.twp_grammar.specs.ItemPlaces.{is_lot_from, in_chain, in_item, item_places, parts_of, land_of}
-use Rattle.twp_grammar.specs.OnPlat.{HoldsOfLot, LiesOnPlat, AreOnPlat}
+use Rattle.twp_grammar.specs.OnPlat.{Names, LiesOnPlat, AreOnPlat}
 use Rattle.twp_grammar.specs.ItemPlaces.{item_of}
-
--- a place of a section passes the test
-pub place_test : (column row : ℕ) → IsPlace PLACE_DIGITS column row → is_place PLACE_DIGITS column row ≡ true
-place_test column row is = let below = is.0 in let low = is.1 in grind (arith, nat_tests)
 
 -- an aliquot part on the plat names no place of a lot
 not_of_lot : (layout : Layout) (section : ℕ) (steps : List Step) (at s lot column row : ℕ)
-    → AreLots (lotting layout) → ¬ HoldsOfLot (lotting layout) (item_of section (item.Chain steps at))
+    → AreLots (lotting layout) → ¬ Names (lotting layout) section (item.Chain steps at)
+    (λ c r. IsSome (layout.lot_of section c r))
     → layout.lot_of s column row ≡ Some lot
     → ((section == s) && in_chain PLACE_DIGITS steps column row) ≡ false
 not_of_lot layout section steps at s lot column row fine off is = elim (cases_Bool (section == s)) [
@@ -31,7 +29,7 @@ not_of_lot layout section steps at s lot column row fine off is = elim (cases_Bo
     | inr outside ↦ rw (here, outside) refl
     | inl inside ↦
         let same : section ≡ s = eqb-true section s here in
-        let place = place_test column row (fine.within s lot column row is).0 in
+        let place = test_of_place PLACE_DIGITS column row (fine.within s lot column row is).0 in
         let lot_there : layout.lot_of section column row ≡ Some lot =
         ap (λ n. layout.lot_of n column row) same ∙ is in
         let itself : (section == section) ≡ true = ap (λ n. section == n) same ∙ here in
@@ -39,7 +37,7 @@ not_of_lot layout section steps at s lot column row fine off is = elim (cases_Bo
           column = column;
           row = row;
           named = rw (place, itself, inside) refl;
-          of_lot = rw lot_there refl;
+          is = rw lot_there refl;
         }))
   ]
 ]
@@ -107,8 +105,8 @@ land_has_whole_lots layout township items fine on s lot range = record {
       (λ p. item_places (lotting layout) p s column' row') (parts_of items) (λ k d below.
       let part = get_or (parts_of items) k d in
       rw (
-        place_test column row (fine.within s lot column row is).0,
-        place_test column' row' (fine.within s lot column' row' is').0,
+        test_of_place PLACE_DIGITS column row (fine.within s lot column row is).0,
+        test_of_place PLACE_DIGITS column' row' (fine.within s lot column' row' is').0,
       )
       (item_alike layout township part.section part.item s lot column row column' row' (on.each k d below)
       fine

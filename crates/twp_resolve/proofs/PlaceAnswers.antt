@@ -12,8 +12,8 @@ use Rattle.twp_grammar.specs.declared.item.Item.TheVariants as item
 use Rattle.twp_resolve.specs.declared.place_fault.PlaceFault.{PlaceFault}
 use Rattle.twp_grammar.specs.ItemPlaces.{ItemOfSection, item_places, parts_of, land_of}
 use Rattle.twp_grid.specs.Lands.{SharePlace}
-use Rattle.twp_grid.specs.Lands.{Lotting, HasLots}
-use Rattle.twp_grammar.specs.OnPlat.{HaveLand, LiesOnPlat, AreOnPlat}
+use Rattle.twp_grid.specs.Lands.{Lotting, HasLand, HasLots}
+use Rattle.twp_grammar.specs.OnPlat.{Each, LiesOnPlat, AreOnPlat}
 use Rattle.twp_resolve.specs.PlaceFaults.{IsFirstUnlike, HasFault, HasFaultAt, IsFrom}
 use Rattle.twp_resolve.specs.PlaceFaults.{turn_of}
 use Rattle.twp_resolve.specs.PlaceFaults.{IsFirstPlaceFault, AnswersPlaces}
@@ -180,7 +180,7 @@ one_of_number lots township earlier section (item.Chain steps start) (fault.OnLo
     b = ap (λ x. fault.OnLot x) (a.0 ∙ sym b.0)
 one_of_number lots township earlier section (item.Sections first last whole) (fault.NoLand at)
     (fault.NoLand at') same a b =
-    ap (λ x. fault.NoLand x) (one_unlike (HaveLand lots first.value) first last at at' a.1 b.1)
+    ap (λ x. fault.NoLand x) (one_unlike (Each (HasLand lots) first.value) first last at at' a.1 b.1)
 one_of_number lots township earlier section (item.Chain steps start) (fault.NoLand at) (fault.NoLand at')
     same
     a b = ap (λ x. fault.NoLand x) (a.0 ∙ sym b.0)

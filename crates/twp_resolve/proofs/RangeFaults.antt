@@ -8,8 +8,8 @@ use Rattle.twp_grammar.specs.declared.item.Item.TheVariants.{Sections, Lots}
 use Rattle.twp_grammar.specs.declared.item.Numeral.{Numeral}
 use Rattle.twp_resolve.specs.declared.place_fault.PlaceFault.{PlaceFault}
 use Rattle.twp_resolve.specs.declared.place_fault.PlaceFault.TheVariants as fault
-use Rattle.twp_grid.specs.Lands.{SharePlace, Lotting, HasLot, HasLots, Layout, lotting}
-use Rattle.twp_grammar.specs.OnPlat.{HaveLand}
+use Rattle.twp_grid.specs.Lands.{SharePlace, Lotting, HasLand, HasLot, HasLots, Layout, lotting}
+use Rattle.twp_grammar.specs.OnPlat.{Each}
 use Rattle.twp_resolve.specs.PlaceFaults.{IsFirstUnlike, HasFault, turn_of}
 use Rattle.twp_resolve.specs.steps.ResolvingSteps.{sections_from, lots_from, AreAdded, IsItemTaken}
 use Rattle.twp_resolve.specs.steps.ResolvingSteps.{IsItemsFirstFault}
@@ -143,11 +143,11 @@ lots_refused layout (Err e) section first last old new order have adds = λ town
 
 -- the first number up to which a section of the range has no land
 abbrev pub IsFirstWithoutLand : Lotting → Numeral → Numeral → ℕ → Type 0
-IsFirstWithoutLand lots first last at = IsFirstUnlike (HaveLand lots first.value) first last at
+IsFirstWithoutLand lots first last at = IsFirstUnlike (Each (HasLand lots) first.value) first last at
 
 -- if each section of the range has land, there is no such number
 pub none_without_land : (lots : Lotting) (first last : Numeral) (at : ℕ) → first.value ≤ last.value
-    → HaveLand lots first.value last.value → ¬ IsFirstWithoutLand lots first last at
+    → Each (HasLand lots) first.value last.value → ¬ IsFirstWithoutLand lots first last at
 none_without_land lots first last at order have (inl out) =
     out.1 (λ section least most. have section least (omega (arith, most, order)))
 none_without_land lots first last at order have (inr out) = out.2 have
@@ -246,7 +246,7 @@ sections_no_land layout section first last earlier at low high order none townsh
 pub sections_overlap : (layout : Layout) (section : ℕ) (first last : Numeral)
     (earlier : ℕ → ℕ → ℕ → Bool)
     → IsSection first.value → IsSection last.value → first.value ≤ last.value
-    → HaveLand (lotting layout) first.value last.value
+    → Each (HasLand (lotting layout)) first.value last.value
     → SharePlace earlier (sections_from (lotting layout) first.value last.value)
     → (township : Designation)
     → IsItemsFirstFault (lotting layout) township section (Sections first last true) earlier

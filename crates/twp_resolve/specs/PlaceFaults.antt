@@ -1,5 +1,5 @@
 -- The first fault of items that do not lie on the plat without overlapping.
-use Rattle.std.specs.Prelude.{◌≡◌, ◌≢◌, ◌⊎◌, ℕ, ◌≤◌, ◌<◌, Bool, IsTrue, List, Option, Some}
+use Rattle.std.specs.Prelude.{◌≡◌, ◌≢◌, ◌⊎◌, ℕ, ◌≤◌, ◌<◌, Bool, false, IsTrue, IsSome, List, Option, Some}
 use Rattle.std.specs.Prelude.{Result, Ok, Err, slice_get, take}
 use Rattle.std.specs.Option.{option_map_or}
 use Rattle.twp_grid.specs.Winding.{IsSection}
@@ -13,7 +13,7 @@ use Rattle.twp_grammar.specs.declared.item.Numeral.{Numeral}
 use Rattle.twp_resolve.specs.declared.place_fault.PlaceFault.{PlaceFault}
 use Rattle.twp_resolve.specs.declared.place_fault.PlaceFault.TheVariants as fault
 use Rattle.twp_grammar.specs.ItemPlaces.{cuts_of, ItemOfSection, item_places, parts_of, land_of}
-use Rattle.twp_grammar.specs.OnPlat.{HoldsOfLot, NamesNoLand, HaveLand}
+use Rattle.twp_grammar.specs.OnPlat.{Names, Each}
 pub use Rattle.twp_grammar.specs.OnPlat.{AreOnPlat, IsLandOfItems}
 
 -- the number and the place of each fault
@@ -58,16 +58,17 @@ HasFault lots township earlier section (item.Sections first last whole) (fault.B
 HasFault lots township earlier section (item.Lots first last) (fault.Backward at) =
     (at ≡ last.at) × (last.value < first.value)
 HasFault lots township earlier section (item.Lots first last) (fault.NoLot at) =
-    IsFirstUnlike (λ number. (lot : ℕ) → first.value ≤ lot → lot ≤ number → HasLot lots section lot)
-    first last at
+    IsFirstUnlike (Each (HasLot lots section) first.value) first last at
 HasFault lots township earlier section (item.Chain steps start) (fault.TooFine at) =
     (at ≡ start) × ¬ AreWithin lots.digits (cuts_of steps)
 HasFault lots township earlier section (item.Chain steps start) (fault.OnLot at) =
-    (at ≡ start) × HoldsOfLot lots (record { section = section; item = item.Chain steps start })
+    (at ≡ start)
+    × Names lots section (item.Chain steps start) (λ column row. IsSome (lots.lot_of section column row))
 HasFault lots township earlier section (item.Sections first last whole) (fault.NoLand at) =
-    IsTrue whole × IsFirstUnlike (HaveLand lots first.value) first last at
+    IsTrue whole × IsFirstUnlike (Each (HasLand lots) first.value) first last at
 HasFault lots township earlier section (item.Chain steps start) (fault.NoLand at) =
-    (at ≡ start) × NamesNoLand lots (record { section = section; item = item.Chain steps start })
+    (at ≡ start)
+    × Names lots section (item.Chain steps start) (λ column row. lots.has_land section column row ≡ false)
 HasFault lots township earlier section (item.All start) (fault.NoLand at) =
     (at ≡ start) × ¬ HasLand lots section
 HasFault lots township earlier section some (fault.Overlap at) =
@@ -83,8 +84,7 @@ pub record HasFaultAt (lots : Lotting) (township : Designation) (items : List It
   pub has : HasFault lots township (land_of lots (take index (parts_of items))) part.section part.item
       place_fault
 
--- an index and a fault that do not come before these; of the faults of one item, the one whose
--- turn is first
+-- an index and a fault that do not come before these; of the faults of one item, the one whose turn is first
 abbrev pub IsFrom : ℕ → PlaceFault → ℕ → PlaceFault → Type 0
 IsFrom index place_fault index' other =
     (index < index') ⊎ ((index ≡ index') × (turn_of place_fault ≤ turn_of other))

@@ -1,11 +1,11 @@
 ghost use Rattle.std.specs.Prelude.{◌≡◌, ℕ, ◌≤◌, ◌<◌, IsTrue, IfOk, IfErr, MatchResult};
 ghost use Rattle.std.specs.Option.{SomeIff};
-ghost use Rattle.twp_grammar.specs.OnPlat.{HaveLand};
+ghost use Rattle.twp_grammar.specs.OnPlat.{Each};
 ghost use Rattle.twp_resolve.specs.PlaceFaults.{IsFirstUnlike};
 ghost use Rattle.twp_grid.specs.Townships.{Designation};
 ghost use Rattle.twp_grid.specs.Winding.{IsSection};
 ghost use Rattle.twp_grid.specs.Lands.{SharePlace, Meets, block_places, union};
-ghost use Rattle.twp_grid.specs.Lands.{lotting, HasLots};
+ghost use Rattle.twp_grid.specs.Lands.{lotting, HasLand, HasLots};
 ghost use Rattle.twp_resolve.specs.steps.ResolvingSteps.{sections_from, lots_from, AreAdded};
 ghost use Rattle.twp_resolve.specs.steps.ResolvingSteps.{IsItemTaken, IsItemsFirstFault, HaveRoom};
 ghost use Rattle.twp_grammar.specs.declared.item.Item.TheVariants.{Sections, Lots, All};
@@ -150,9 +150,9 @@ fn add_sections<L: PlaceSet, P: Lotting>(
 fn check_land<P: Lotting>(first: Numeral, last: Numeral, lots: &P) -> Result<(), PlaceFault>
     requires first { IsSection first.value }
     requires last { IsSection last.value }
-    ensures { MatchResult result (λ _. HaveLand (lotting (P.layout lots.now)) first.value last.value)
+    ensures { MatchResult result (λ _. Each (HasLand (lotting (P.layout lots.now))) first.value last.value)
         (λ fault. (at : ℕ) × (fault ≡ PlaceFault.NoLand at)
-        × IsFirstUnlike (HaveLand (lotting (P.layout lots.now)) first.value) first last at) }
+        × IsFirstUnlike (Each (HasLand (lotting (P.layout lots.now))) first.value) first last at) }
 {
     for number in first.value..last.value + 1 {
         if !lots.has_land(Section::new(number as u8).unwrap()) {

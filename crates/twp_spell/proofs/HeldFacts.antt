@@ -1,13 +1,7 @@
 -- The land in the blocks of a whole section and of a lot.
-use Rattle.std.proofs.Common.{◌≡◌, ◌⊎◌, ℕ, ◌+◌, ◌<◌, ◌≤◌, Bool, Some, List, [], ◌∷◌, ◌++◌, length, slice_get}
-use Rattle.std.proofs.Common.{refl}
-use Rattle.std.proofs.Common.{sym, ap, subst, ◌∙◌, inl, inr, arith}
-use Rattle.std.proofs.Math.ListN.{get_or}
-use Rattle.std.proofs.lemmas.Bool.{cases_lt}
-use Rattle.std.proofs.lemmas.Option.{get_or_from_slice_get, slice_get-get_or}
-use Rattle.twp_grid.specs.Listing.{AreListed}
+use Rattle.std.proofs.Common.{◌≡◌, ℕ, ◌≤◌, Bool, Some}
+use Rattle.std.proofs.Common.{sym, ap, ◌∙◌, true}
 use Rattle.twp_grid.specs.Lands.{Lotting, HasLot}
-use Rattle.twp_spell.proofs.Listings.{listed_none, listed_as, listed_both, listed_one}
 use Rattle.twp_grid.specs.Winding.{IsSection}
 use Rattle.twp_grid.specs.Lots.{position_of_lot, number_of_lots}
 use Rattle.twp_grid.specs.Places.{PLACE_DIGITS, position_along}
@@ -47,85 +41,6 @@ meets_of_some held block is some = record {
       ∙ test_of_place PLACE_DIGITS some.column some.row some.place;
   is_held = some.is_held;
 }
-
--- the lots in the land among the first of a section's lots
-abbrev pub AmongFirst : List ℕ → ℕ → ℕ → Type 0
-AmongFirst list count n = (k : ℕ) × (k < count) × (slice_get list k ≡ Some n)
-
-abbrev pub HeldAmong : (ℕ → Type 0) → List ℕ → ℕ → ℕ → Type 0
-HeldAmong has list count n = has n × AmongFirst list count n
-
-pub among_none : (has : ℕ → Type 0) (list : List ℕ) → AreListed (HeldAmong has list 0) ◌<◌ []
-among_none has list =
-    listed_none (HeldAmong has list 0) ◌<◌ (λ n it. absurd (omega (arith, it.1.1)))
-
--- one more, and it is the last of these
-last_of_first : (list : List ℕ) (count number n : ℕ) → slice_get list count ≡ Some number
-    → AmongFirst list (count + 1) n → AmongFirst list count n ⊎ (n ≡ number)
-last_of_first list count number n at (k, less, is) = elim (cases_lt k count) [
-  | inl before ↦ inl (k, before, is)
-  | inr not ↦
-      let same : k ≡ count = omega (arith, less, not) in
-      inr (cc (sym is ∙ ap (λ i. slice_get list i) same ∙ at))
-]
-
-pub among_skip : (has : ℕ → Type 0) (list held : List ℕ) (count number : ℕ)
-    → slice_get list count ≡ Some number
-    → AreListed (HeldAmong has list count) ◌<◌ held → ¬ has number
-    → AreListed (HeldAmong has list (count + 1)) ◌<◌ held
-among_skip has list held count number at are not =
-    listed_as (HeldAmong has list count) (HeldAmong has list (count + 1)) ◌<◌ held
-    (λ n it. (it.0, (it.1.0, omega (arith, it.1.1), it.1.2)))
-    (λ n it. (it.0, before n it)) are
-  where
-    before : (n : ℕ) → HeldAmong has list (count + 1) n → AmongFirst list count n
-    before n it = elim (last_of_first list count number n at it.1) [
-      | inl first ↦ first
-      | inr same ↦ absurd (not (subst has same it.0))
-    ]
-
-pub among_more : (Is : ℕ → Type 0) (has : ℕ → Type 0) (list held : List ℕ) (count number : ℕ)
-    → AreListed Is ◌<◌ list
-    → count < length list → slice_get list count ≡ Some number
-    → AreListed (HeldAmong has list count) ◌<◌ held → has number
-    → AreListed (HeldAmong has list (count + 1)) ◌<◌ (held ++ number ∷ [])
-among_more Is has list held count number listed within at are it =
-    listed_as (λ n. HeldAmong has list count n ⊎ (n ≡ number)) (HeldAmong has list (count + 1)) ◌<◌
-    (held ++ number ∷ []) to
-    from
-    (listed_both (HeldAmong has list count) (λ n. n ≡ number) ◌<◌ held (number ∷ []) are
-    (listed_one (λ n. n ≡ number) ◌<◌ number refl (λ n is. is)) below)
-  where
-    to : (n : ℕ) → HeldAmong has list count n ⊎ (n ≡ number) → HeldAmong has list (count + 1) n
-    to n (inl earlier) = (earlier.0, (earlier.1.0, omega (arith, earlier.1.1), earlier.1.2))
-    to n (inr same) = (subst has (sym same) it, (count, omega arith, at ∙ ap (λ m. Some m) (sym same)))
-
-    from : (n : ℕ) → HeldAmong has list (count + 1) n → HeldAmong has list count n ⊎ (n ≡ number)
-    from n both = elim (last_of_first list count number n at both.1) [
-      | inl first ↦ inl (both.0, first)
-      | inr same ↦ inr same
-    ]
-
-    below : (m n : ℕ) → HeldAmong has list count m → n ≡ number → m < n
-    below m n earlier same =
-        let first : get_or list earlier.1.0 0 ≡ m = get_or_from_slice_get list earlier.1.0 m 0 earlier.1.2 in
-        let second : get_or list count 0 ≡ number = get_or_from_slice_get list count number 0 at in
-        let order = listed.ordered earlier.1.0 count 0 earlier.1.1 within in
-        omega (arith, first, second, order, same)
-
-pub among_all : (Is has : ℕ → Type 0) (list held : List ℕ) (count : ℕ) → AreListed Is ◌<◌ list
-    → ((n : ℕ) → has n → Is n) → length list ≤ count → AreListed (HeldAmong has list count) ◌<◌ held
-    → AreListed has ◌<◌ held
-among_all Is has list held count listed each end are =
-    listed_as (HeldAmong has list count) has ◌<◌ held (λ n it. it.0) (λ n it. (it, there n it)) are
-  where
-    there : (n : ℕ) → has n → AmongFirst list count n
-    there n it =
-        let found = (listed.listed n).0 (each n it) in (
-          found.0,
-          omega (arith, found.1, end),
-          slice_get-get_or list found.0 n found.1 ∙ ap (λ m. Some m) found.2,
-        )
 
 pub lot_of_held : (plan : Lotting) (section : ℕ) (held : ℕ → ℕ → Bool) (lot : ℕ)
     → IsLotHeld plan section held lot

@@ -15,6 +15,7 @@ use Rattle.twp_grid.specs.Lands.{HasLand, HoldsEach}
 use Rattle.twp_spell.specs.CanonicalText.{part_text, with_commas, lots_entry}
 use Rattle.twp_spell.specs.CanonicalText.{IsSectionList, all, by_parts, IsSectionText, IsSectionOfLand}
 use Rattle.std.proofs.lemmas.Bool.{and_parts}
+use Rattle.twp_grid.proofs.PlaceTests.{test_of_place}
 use Rattle.twp_grid.specs.Lands.{lot_of_place}
 use Rattle.twp_grid.specs.Lands.{Lotting, AreLots}
 use Rattle.std.specs.Prelude.{is_none}
@@ -166,7 +167,7 @@ line_of_section plan fine township places section text land of_land spelled =
     has = record {
       column = of_land.1.column;
       row = of_land.1.row;
-      place = of_land.1.place;
+      place = test_of_place plan.digits of_land.1.column of_land.1.row of_land.1.place;
       is_land = on_land of_land.1.column of_land.1.row of_land.1.is_held;
     }
 

@@ -1,7 +1,8 @@
 -- The list of a section: its lots and its written parts lie on the plat, share no place, and name
 -- the land in the section.
 use Rattle.std.proofs.Common.{◌≡◌, ◌==◌, ℕ, ◌<◌, ◌^◌, ◌&&◌, Bool, true, List, [], ◌∷◌, ◌++◌, Option, Some}
-use Rattle.std.proofs.Common.{None, IsSome, map, nat_le, nat_lt, refl, sym, ap, subst, ◌∙◌, inl, inr, arith}
+use Rattle.std.proofs.Common.{None, IsSome, false, map, nat_le, nat_lt, refl, sym, ap, subst, ◌∙◌, inl, inr}
+use Rattle.std.proofs.Common.{arith}
 use Rattle.std.specs.Prelude.{is_none}
 use Rattle.std.proofs.lemmas.Bool.{and_parts, eqb-true, eq-eqb, false≢true}
 use Rattle.std.proofs.lemmas.Bool.Decides.{nat_tests}
@@ -13,7 +14,7 @@ use Rattle.twp_grid.specs.Lands.{lot_of_place, HasWholeLots}
 use Rattle.twp_land.proofs.LotFacts.{fills, few_lots}
 use Rattle.twp_grammar.specs.declared.item.Item.TheVariants.{Chain, All}
 use Rattle.twp_grammar.specs.ItemPlaces.{ItemOfSection, is_lot_from, in_chain, item_places}
-use Rattle.twp_grammar.specs.OnPlat.{LiesOnPlat, HoldsOfLot, NamesNoLand}
+use Rattle.twp_grammar.specs.OnPlat.{LiesOnPlat, Names}
 use Rattle.twp_grammar.specs.ItemPlaces.{item_of}
 use Rattle.twp_grid.specs.Listing.{AreListed}
 use Rattle.twp_spell.specs.WrittenParts.{Part, steps_of_part, IsInPart, IsWritten, ComesBefore}
@@ -192,16 +193,17 @@ lies plan township places section lots parts lists p there =
           let made = made_of (aliquot_part section) p parts of_parts in
           let written = part_written plan places section lots parts lists made.thing made.there in
           let full = full_part plan.digits (off_lots plan section (places section)) made.thing written in
-          let clear : ¬ HoldsOfLot plan (aliquot_part section made.thing) = λ of_lot.
+          let aliquot = Chain (steps_of_part made.thing) 0 in
+          let clear : ¬ Names plan section aliquot (λ c r. IsSome (plan.lot_of section c r)) = λ of_lot.
           let here = in_aliquot plan section made.thing section of_lot.column of_lot.row of_lot.named in
           off_some (plan.lot_of section of_lot.column of_lot.row)
           (part_off_lots plan places section made.thing of_lot.column of_lot.row written here.inside).none
-          of_lot.of_lot in
-          let there : ¬ NamesNoLand plan (aliquot_part section made.thing) = λ named.
+          of_lot.is in
+          let there : ¬ Names plan section aliquot (λ c r. plan.has_land section c r ≡ false) = λ named.
           let here = in_aliquot plan section made.thing section named.column named.row named.named in
           let held =
           (part_off_lots plan places section made.thing named.column named.row written here.inside).held in
-          false≢true (sym named.none ∙ lists.on_land named.column named.row held) in
+          false≢true (sym named.is ∙ lists.on_land named.column named.row held) in
           subst (λ (q : ItemOfSection). LiesOnPlat plan township q.section q.item) (sym made.is)
           (full.within, clear, there)
     ]

@@ -110,13 +110,13 @@ lies_also plan township section (Chain steps at) lies = (
     column = of_lot.column;
     row = of_lot.row;
     named = of_lot.named;
-    of_lot = of_lot.of_lot;
+    is = of_lot.is;
   }),
   λ no_land. lies.2 (record {
     column = no_land.column;
     row = no_land.row;
     named = no_land.named;
-    none = no_land.none;
+    is = no_land.is;
   }),
 )
 lies_also plan township section (All at) lies = lies

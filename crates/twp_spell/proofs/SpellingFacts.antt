@@ -14,7 +14,7 @@ use Rattle.twp_grid.specs.Lands.{lot_of_place, LieWithin}
 use Rattle.twp_grid.specs.Listing.{AreListed}
 use Rattle.twp_spell.specs.WrittenParts.{Part, AreWrittenParts}
 use Rattle.twp_grid.specs.Lands.{off_lots}
-use Rattle.twp_grid.specs.Lands.{Lotting}
+use Rattle.twp_grid.specs.Lands.{Lotting, HasLot, IsNextLot}
 use Rattle.twp_grid.specs.Lands.{HoldsEach}
 use Rattle.twp_spell.specs.CanonicalText.{part_text, with_commas, lots_entry, HoldsSome}
 use Rattle.twp_spell.specs.CanonicalText.{IsLotHeld, IsSectionText, heading_line, line_end, land_lines}
@@ -80,6 +80,22 @@ pub below_all : (has : ℕ → Type 0) (number : ℕ) (list : List ℕ) → AreL
     → ((n : ℕ) → has n → n < number) → AreListed has ◌<◌ list
 below_all has number list are all_below =
     listed_as (Below has number) has ◌<◌ list (λ n it. it.0) (λ n it. (it, all_below n it)) are
+
+-- no lot is between one and the next
+pub below_next : (plan : Lotting) (section : ℕ) (has : ℕ → Type 0) (last number : ℕ) (list : List ℕ)
+    → ((n : ℕ) → has n → HasLot plan section n) → IsNextLot plan section last number
+    → AreListed (Below has (last + 1)) ◌<◌ list → AreListed (Below has number) ◌<◌ list
+below_next plan section has last number list each next are =
+    listed_as (Below has (last + 1)) (Below has number) ◌<◌ list
+    (λ n it. (it.0, omega (arith, it.1, next.after))) (λ n it. (it.0, to n it)) are
+  where
+    to : (n : ℕ) → Below has number n → n < last + 1
+    to n it = elim (cases_lt last n) [
+      | inl more ↦
+          let least = next.first n (each n it.0) more in
+          absurd (omega (arith, least, it.1))
+      | inr not ↦ omega (arith, not)
+    ]
 
 -- the numbers of a section's lots
 abbrev pub numbers_text : List ℕ → List ℕ

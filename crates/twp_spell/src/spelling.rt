@@ -157,13 +157,13 @@ pub fn held_lots<L: PlaceSet, P: Lotting>(
     ensures { IfOk result (λ held.
         AreListed (IsLotHeld (lotting (P.layout lots.now)) section (L.places land.now section)) ◌<◌ held.items) }
 {
-    let numbers = lots.lot_numbers(section);
     let mut held = Vec::new(alloc);
-    for index in 0..numbers.len() {
-        let number = numbers[index];
+    let mut last = 0;
+    while let Some(number) = lots.next_lot(section, last) {
         if lots.meets_lot(land, section, number) {
             held.push(number)?;
         }
+        last = number;
     }
     Ok(held)
 }

@@ -1,49 +1,65 @@
 -- Number by number, the lots that the land meets are added.
-use Rattle.std.proofs.Common.{ℕ, sym, ◌∙◌, arith}
-use Rattle.std.proofs.Math.ListN.{get_or}
-use Rattle.std.proofs.lemmas.Option.{get_or_from_slice_get, slice_get-get_or}
+use Rattle.std.proofs.Common.{ℕ, ◌+◌, refl, arith}
 use Rattle.std.proofs.lemmas.Bool.{false≢true}
 use Rattle.twp_grid.specs.Lands.{HasLot, IsLotHeld, lotting}
-use Rattle.twp_spell.proofs.HeldFacts.{among_none, among_skip, among_more, among_all, lot_of_held}
+use Rattle.twp_spell.proofs.HeldFacts.{lot_of_held}
+use Rattle.twp_spell.proofs.SpellingFacts.{below_next, below_none, below_skip, below_more, below_all}
 use Rattle.twp_spell.proofs.spelling.held_lots.Goals as goal
-use Rattle.twp_spell.proofs.spelling.held_lots.Goals.{then-meets_lot+in_ok-push, else-meets_lot}
 
-pub meets_lot-requires : goal.meets_lot-requires
-meets_lot-requires g c =
-    let numbers = c.lot_numbers-numbers.result.now in
-    let index = c.loop-index.index in
-    let number : ℕ = get_or numbers index 0 in
-    let at = slice_get-get_or numbers index 0 c.loop-index-test.true in
-    (c.lot_numbers-numbers.ensures.listed number).1
-    (index, c.loop-index-test.true, get_or_from_slice_get numbers index number number at)
-
-pub loop-index-preserved : goal.loop-index-preserved
-loop-index-preserved g c =
+pub loop-number-init : goal.loop-number-init
+loop-number-init g c =
+    let plan = lotting (g.P.Lotting.layout c.args.lots.now) in
     let held = g.L.PlaceSet.places c.args.land.now c.args.section in
-    let numbers = c.lot_numbers-numbers.result.now in
-    let index = c.loop-index.index in
-    let at = slice_get-get_or numbers index 0 c.loop-index-test.true in
     record {
-      listed = elim c.if-meets_lot.branch [
-        | then-meets_lot+in_ok-push w ↦ rw (w.held-is, w.in_ok-push.ensures.items)
-            (among_more (HasLot (lotting (g.P.Lotting.layout c.args.lots.now)) c.args.section)
-            (IsLotHeld (lotting (g.P.Lotting.layout c.args.lots.now)) c.args.section held) numbers
-            c.loop-index.held.items index (get_or numbers index 0) c.lot_numbers-numbers.ensures
-            c.loop-index-test.true at c.loop-index.invariant.listed
-            (c.meets_lot.ensures.0 w.if-meets_lot.true))
-        | else-meets_lot w ↦ rw w.held-is
-            (among_skip (IsLotHeld (lotting (g.P.Lotting.layout c.args.lots.now)) c.args.section held) numbers
-            c.loop-index.held.items index
-            (get_or numbers index 0) at c.loop-index.invariant.listed
-            (λ lot. false≢true (sym w.if-meets_lot.false ∙ c.meets_lot.ensures.1 lot)))
-      ];
+      most = omega arith;
+      listed =
+          rw c.new-held.ensures.items
+          (below_none (IsLotHeld plan c.args.section held) 1 (λ n it.
+          let lot = lot_of_held plan c.args.section held n it in
+          ((g.met.P.Lotting.lots c.args.lots.now).numbered c.args.section n lot.0 lot.1 lot.2).0));
+    }
+
+pub loop-number-preserved-in_ok-push : goal.loop-number-preserved-in_ok-push
+loop-number-preserved-in_ok-push g c =
+    let plan = lotting (g.P.Lotting.layout c.args.lots.now) in
+    let held = g.L.PlaceSet.places c.args.land.now c.args.section in
+    let lot = c.in-Some.ensures.has in
+    let before =
+    below_next plan c.args.section (IsLotHeld plan c.args.section held) c.loop-number.last c.in-Some.number
+    c.loop-number.held.items (λ n it. lot_of_held plan c.args.section held n it) c.in-Some.ensures
+    c.loop-number.invariant.listed in
+    record {
+      most =
+          ((g.met.P.Lotting.lots c.args.lots.now).numbered c.args.section c.in-Some.number lot.0 lot.1
+          lot.2).1;
+      listed =
+          rw c.in_ok-push.ensures.items
+          (below_more (IsLotHeld plan c.args.section held) c.in-Some.number c.loop-number.held.items before
+          (c.meets_lot.ensures.0 c.if-meets_lot.true));
+    }
+
+pub loop-number-preserved : goal.loop-number-preserved
+loop-number-preserved g c =
+    let plan = lotting (g.P.Lotting.layout c.args.lots.now) in
+    let held = g.L.PlaceSet.places c.args.land.now c.args.section in
+    let lot = c.in-Some.ensures.has in
+    let before =
+    below_next plan c.args.section (IsLotHeld plan c.args.section held) c.loop-number.last c.in-Some.number
+    c.loop-number.held.items (λ n it. lot_of_held plan c.args.section held n it) c.in-Some.ensures
+    c.loop-number.invariant.listed in
+    record {
+      most =
+          ((g.met.P.Lotting.lots c.args.lots.now).numbered c.args.section c.in-Some.number lot.0 lot.1
+          lot.2).1;
+      listed =
+          below_skip (IsLotHeld plan c.args.section held) c.in-Some.number c.loop-number.held.items before
+          (λ it. false≢true (c.if-meets_lot.ensures.1 it));
     }
 
 pub returns : goal.returns
 returns g c =
+    let plan = lotting (g.P.Lotting.layout c.args.lots.now) in
     let held = g.L.PlaceSet.places c.args.land.now c.args.section in
-    among_all (HasLot (lotting (g.P.Lotting.layout c.args.lots.now)) c.args.section)
-    (IsLotHeld (lotting (g.P.Lotting.layout c.args.lots.now)) c.args.section held)
-    c.lot_numbers-numbers.result.now c.loop-index.held.items c.loop-index.index c.lot_numbers-numbers.ensures
-    (λ n it. lot_of_held (lotting (g.P.Lotting.layout c.args.lots.now)) c.args.section held n it)
-    (omega arith) c.loop-index.invariant.listed
+    below_all (IsLotHeld plan c.args.section held) (c.loop-number.last + 1) c.loop-number.held.items
+    c.loop-number.invariant.listed
+    (λ n it. omega (arith, c.in_default.ensures n (lot_of_held plan c.args.section held n it)))

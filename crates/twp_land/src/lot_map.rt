@@ -1,0 +1,296 @@
+ghost use Rattle.std.specs.Prelude.{◌≡◌, ◌+◌, ◌-◌, ◌*◌, ◌%◌, ◌/◌, ◌≤◌, ◌<◌, ◌↔◌, ℕ, IsTrue, true, false, MatchOption, IfSome, get_or};
+ghost use Rattle.twp_grid.specs.Places.{PLACE_DIGITS};
+ghost use Rattle.twp_grid.specs.Lands.{SharePlace, Meets, HoldsAll, union};
+ghost use Rattle.twp_grid.specs.Spans.{place_block, position_block, in_rectangle};
+ghost use Rattle.twp_land.specs.LotMaps.{mark_of, mark_in, place_number, layout_of_bytes};
+ghost use Rattle.twp_land.specs.steps.Marked.{PLACES, marked, in_section, NoneLeft, IsNext};
+
+use crate::lots::share_place;
+use crate::lotting::Lotting;
+use crate::place_set::PlaceSet;
+use twp_grid::{Block, PLACES_TO_POSITION, SECTIONS, Section};
+
+/// The number of positions in a section.
+const POSITIONS: usize = 16;
+
+/// The number of places in a position.
+const PLACES_OF_POSITION: usize = 64;
+
+/// The number of places in a section.
+const PLACES: usize = POSITIONS * PLACES_OF_POSITION;
+
+/// The mark of a place without land. 0 marks land in no lot, and a number between them the lot.
+const NO_LAND: u8 = 100;
+
+/// The highest number that a lot may have.
+const LOT_MOST: u8 = NO_LAND - 1;
+
+/// The number of bytes for the positions of a township.
+pub const POSITION_BYTES: usize = SECTIONS as usize * POSITIONS;
+
+/// The number of bytes for the places of divided positions: 128 positions can be divided.
+pub const DIVIDED_BYTES: usize = 128 * PLACES_OF_POSITION;
+
+/// Where the lots of a plat lie, and where it has no land, as bytes: a lotting.
+///
+/// Each position of a section has a byte: 0 if it is land in no lot, 1 to 99 if it is land in the
+/// lot with this number, and 100 if the plat has no land there. A greater byte is for a position of
+/// several of these: it names one of the divided positions, which has such a byte for each place.
+/// Any bytes are a lotting.
+#[derive(Clone, Drop)]
+pub struct LotMap {
+    positions: [u8; POSITION_BYTES],
+    divided: [u8; DIVIDED_BYTES],
+}
+
+/// A block of places with the same mark, and the number after those of its places.
+#[derive(Clone, Copy)]
+struct Marked {
+    block: Block,
+    mark: u8,
+    end: usize,
+}
+
+impl LotMap {
+    /// The lotting of these bytes: for each section by number, those of its positions, and those of
+    /// divided positions.
+    pub fn new(positions: &[u8; POSITION_BYTES], divided: &[u8; DIVIDED_BYTES]) -> LotMap
+        ensures layout { ⟦<LotMap as Lotting>⟧.layout result
+            ≡ layout_of_bytes positions.now divided.now }
+        ensures positions { result.positions ≡ positions.now }
+        ensures divided { result.divided ≡ divided.now }
+    {
+        LotMap {
+            positions: *positions,
+            divided: *divided,
+        }
+    }
+
+    /// The byte of a section's position, by the number of a place in it.
+    #[inline(always)]
+    fn position(&self, section: Section, number: usize) -> u8
+        requires { number < PLACES }
+        ensures { result ≡ get_or self.now.positions ((section - 1) * 16 + number / 64) 0 }
+    {
+        self.positions[usize::from(section.number() - 1) * POSITIONS + number / PLACES_OF_POSITION]
+    }
+
+    /// The mark of a place, by the byte of its position, and by its number.
+    #[inline(always)]
+    fn mark(&self, position: u8, number: usize) -> u8
+        ensures { result ≡ mark_in self.now.divided position (number % 64) }
+    {
+        if position <= NO_LAND {
+            return position;
+        }
+        let index = usize::from(position - NO_LAND - 1) * PLACES_OF_POSITION
+            + number % PLACES_OF_POSITION;
+        if index >= DIVIDED_BYTES || self.divided[index] > NO_LAND {
+            return NO_LAND;
+        }
+        self.divided[index]
+    }
+
+    /// The first block of a section, from a place's number on, whose places have marks from a least
+    /// to a greatest: a whole position, or a single place. `None` if no such place is left.
+    fn next(&self, section: Section, from: usize, least: u8, most: u8) -> Option<Marked>
+        ensures next { MatchOption result
+            (NoneLeft (marked self.now.positions self.now.divided section least most) from)
+            (λ found. IsNext (marked self.now.positions self.now.divided section least most) from
+            found.block found.end) }
+        ensures mark { IfSome result (λ found. (column row : ℕ)
+            → in_rectangle found.block column row ≡ true
+            → mark_of self.now.positions self.now.divided section (place_number column row)
+            ≡ found.mark) }
+    {
+        let mut at = from;
+        'places: while at < PLACES {
+            let position = self.position(section, at);
+            let mark = self.mark(position, at);
+            let is_sought = least <= mark && mark <= most;
+            if position <= NO_LAND && at % PLACES_OF_POSITION == 0 {
+                if is_sought {
+                    return Some(Marked {
+                        block: position_at(at),
+                        mark,
+                        end: at + PLACES_OF_POSITION,
+                    });
+                }
+                at += PLACES_OF_POSITION;
+            } else {
+                if is_sought {
+                    return Some(Marked {
+                        block: place_at(at),
+                        mark,
+                        end: at + 1,
+                    });
+                }
+                at += 1;
+            }
+        }
+        None
+    }
+
+    /// Whether a block of a section contains a place with a mark from a least to a greatest.
+    fn meets(&self, section: Section, block: Block, least: u8, most: u8) -> bool
+        ensures { IsTrue result
+            ↔ Meets (marked self.now.positions self.now.divided section least most) block }
+    {
+        let mut from = 0;
+        while let Some(found) = self.next(section, from, least, most) {
+            if share_place(found.block, block) {
+                return true;
+            }
+            from = found.end;
+        }
+        false
+    }
+
+    /// Adds the places of a section with marks from a least to a greatest to a set, unless the set
+    /// contains one of them. Returns whether it contained none; if it did, its content has no
+    /// meaning.
+    fn add<S: PlaceSet>(&self, set: &mut S, section: Section, least: u8, most: u8) -> bool
+        requires { IsTrue (S.has_room set.old section) }
+        ensures apart { IsTrue result → ¬ SharePlace (S.places set.old)
+            (in_section section (marked self.now.positions self.now.divided section least most)) }
+        ensures met { result ≡ false → SharePlace (S.places set.old)
+            (in_section section (marked self.now.positions self.now.divided section least most)) }
+        ensures places { IsTrue result → S.places set.new ≡ union (S.places set.old)
+            (in_section section (marked self.now.positions self.now.divided section least most)) }
+        ensures room { S.has_room set.new ≡ S.has_room set.old }
+    {
+        let mut from = 0;
+        while let Some(found) = self.next(section, from, least, most) {
+            if !set.add_apart(section, found.block) {
+                return false;
+            }
+            from = found.end;
+        }
+        true
+    }
+
+    /// Whether a set contains each place of a section with a mark from a least to a greatest.
+    fn is_held<S: PlaceSet>(&self, set: &S, section: Section, least: u8, most: u8) -> bool
+        ensures { IsTrue result ↔ ((column row : ℕ)
+            → marked self.now.positions self.now.divided section least most column row ≡ true
+            → S.places set.now section column row ≡ true) }
+    {
+        let mut from = 0;
+        while let Some(found) = self.next(section, from, least, most) {
+            if !set.full(section, found.block) {
+                return false;
+            }
+            from = found.end;
+        }
+        true
+    }
+}
+
+impl Lotting for LotMap {
+    ghost layout = { λ map. layout_of_bytes map.positions map.divided };
+
+    ghost use Rattle.twp_land.specs.steps.LotMapLots.{map_are_lots};
+
+    ghost lots = { λ map. map_are_lots map.positions map.divided };
+
+    fn has_land(&self, section: Section) -> bool {
+        self.next(section, 0, 0, LOT_MOST).is_some()
+    }
+
+    fn lacks_land(&self, section: Section, block: Block) -> bool {
+        self.meets(section, block, NO_LAND, NO_LAND)
+    }
+
+    fn add_section<S: PlaceSet>(&self, set: &mut S, section: Section) -> bool {
+        self.add(set, section, 0, LOT_MOST)
+    }
+
+    fn holds_section<S: PlaceSet>(&self, set: &S, section: Section) -> bool {
+        self.is_held(set, section, 0, LOT_MOST)
+    }
+
+    fn has_lot(&self, section: Section, number: u16) -> bool {
+        if number == 0 || number > u16::from(LOT_MOST) {
+            return false;
+        }
+        let lot = number as u8;
+        self.next(section, 0, lot, lot).is_some()
+    }
+
+    fn has_lots(&self, section: Section, first: u16, last: u16) -> bool {
+        if last > u16::from(LOT_MOST) {
+            return false;
+        }
+        for number in first..last + 1 {
+            if !self.has_lot(section, number) {
+                return false;
+            }
+        }
+        true
+    }
+
+    fn holds_of_lot(&self, section: Section, block: Block) -> bool {
+        self.meets(section, block, 1, LOT_MOST)
+    }
+
+    // A larger block is looked at by its quarters.
+    fn is_of_lots(&self, section: Section, block: Block) -> bool {
+        if block.width() > PLACES_TO_POSITION || block.height() > PLACES_TO_POSITION {
+            return false;
+        }
+        !self.meets(section, block, 0, 0) && !self.lacks_land(section, block)
+    }
+
+    fn add_lot<S: PlaceSet>(&self, set: &mut S, section: Section, number: u8) -> bool {
+        self.add(set, section, number, number)
+    }
+
+    fn next_lot(&self, section: Section, after: u8) -> Option<u8> {
+        if after >= LOT_MOST {
+            return None;
+        }
+        let mut lot = NO_LAND;
+        let mut from = 0;
+        while let Some(found) = self.next(section, from, after + 1, lot - 1) {
+            lot = found.mark;
+            from = found.end;
+        }
+        if lot == NO_LAND {
+            return None;
+        }
+        Some(lot)
+    }
+
+    fn meets_lot<S: PlaceSet>(&self, set: &S, section: Section, number: u8) -> bool {
+        let mut from = 0;
+        while let Some(found) = self.next(section, from, number, number) {
+            if set.meets(section, found.block) {
+                return true;
+            }
+            from = found.end;
+        }
+        false
+    }
+}
+
+/// The position whose places are numbered from this on.
+fn position_at(number: usize) -> Block
+    requires { number < PLACES }
+    ensures { result ≡ position_block PLACE_DIGITS (number / 64 % 4) (number / 64 / 4) }
+{
+    let position = number / PLACES_OF_POSITION;
+    Block::position((position % 4) as u8, (position / 4) as u8).unwrap()
+}
+
+/// The place with this number.
+fn place_at(number: usize) -> Block
+    requires { number < PLACES }
+    ensures { result ≡ place_block (number / 64 % 4 * 8 + number % 8)
+        (number / 64 / 4 * 8 + number % 64 / 8) }
+{
+    let position = number / PLACES_OF_POSITION;
+    let within = number % PLACES_OF_POSITION;
+    let column = position % 4 * 8 + within % 8;
+    let row = position / 4 * 8 + within / 8;
+    Block::place(column as u8, row as u8).unwrap()
+}

@@ -1,0 +1,89 @@
+ghost use Rattle.std.specs.Prelude.{◌≡◌, ◌≢◌, ◌+◌, ◌-◌, ◌≤◌, ◌<◌, ℕ, IsTrue, false, get_or, []};
+ghost use Rattle.twp_grid.specs.Winding.{SECTION_COUNT};
+ghost use Rattle.twp_grid.specs.Spans.{rectangle, span_from};
+ghost use Rattle.twp_land.specs.LotMaps.{place_number};
+ghost use Rattle.twp_land.specs.LotMarks.{HasMark, IsPainted, marks_of};
+ghost use Rattle.twp_land.specs.steps.Marked.{PLACES};
+
+use twp_grid::{Block, SECTIONS, Section};
+
+/// The number of places in a section.
+pub(crate) const PLACES: usize = 1024;
+
+/// A mark for each place of a township: 0 for land in no lot, 1 to 99 for land in the lot with this
+/// number, and 100 for no land.
+#[derive(Drop)]
+pub struct LotMarks {
+    sections: [[u8; PLACES]; SECTIONS as usize],
+}
+
+impl LotMarks {
+    /// The marks of the places of a section, by its index from 0 and by the numbers of the places.
+    pub(crate) fn section(&self, index: usize) -> &[u8; PLACES]
+        requires { index < SECTION_COUNT }
+        ensures { result.now ≡ get_or self.now.sections index [] }
+    {
+        &self.sections[index]
+    }
+
+    /// Marks the places of a block, unless one of them has a mark. Returns whether none had; if one
+    /// had, the marks have no meaning any more.
+    pub fn paint(&mut self, section: Section, block: Block, mark: u8) -> bool
+        ensures painted { IsTrue result → IsPainted block mark
+            (marks_of self.old.sections section) (marks_of self.new.sections section) }
+        ensures others { (other : ℕ) → other ≢ section → 1 ≤ other
+            → marks_of self.new.sections other ≡ marks_of self.old.sections other }
+        ensures taken { result ≡ false → HasMark (marks_of self.old.sections section) block }
+    {
+        paint_block(
+            &mut self.sections[usize::from(section.number() - 1)],
+            block,
+            mark,
+        )
+    }
+}
+
+/// The same for the marks of one section.
+fn paint_block(marks: &mut [u8; PLACES], block: Block, mark: u8) -> bool
+    ensures painted { IsTrue result → IsPainted block mark marks.old marks.new }
+    ensures taken { result ≡ false → HasMark marks.old block }
+{
+    let start = block.column();
+    let end = start + block.width();
+    for row in block.row()..block.row() + block.height() {
+        if !paint_row(marks, row, start, end, mark) {
+            return false;
+        }
+    }
+    true
+}
+
+/// The same for the places of one row.
+fn paint_row(marks: &mut [u8; PLACES], row: u8, start: u8, end: u8, mark: u8) -> bool
+    requires row { row < 32 }
+    requires start { start ≤ end }
+    requires end { end ≤ 32 }
+    ensures painted { IsTrue result → IsPainted
+        (rectangle (span_from start (end - start)) (span_from row 1)) mark marks.old marks.new }
+    ensures taken { result ≡ false → HasMark marks.old
+        (rectangle (span_from start (end - start)) (span_from row 1)) }
+{
+    for column in start..end {
+        let number = place_number(column, row);
+        if marks[number] != 0 {
+            return false;
+        }
+        marks[number] = mark;
+    }
+    true
+}
+
+/// The number of a place in its section.
+fn place_number(column: u8, row: u8) -> usize
+    requires column { column < 32 }
+    requires row { row < 32 }
+    ensures number { result ≡ place_number column row }
+    ensures below { result < PLACES }
+{
+    usize::from(row / 8 * 4 + column / 8) * 64 + usize::from(row % 8 * 8 + column % 8)
+}
