@@ -11,7 +11,7 @@ MADE = "// Made by tools/words.py from words.tsv and classes.tsv. To change a wo
 FORMS = ("word", "two words", "text", "number")
 
 #: The most columns of a source, of a comment, and of the arguments of a call on one line.
-COLUMNS, COMMENT, ARGUMENTS = 92, 120, 60
+COLUMNS, COMMENT, ARGUMENTS = 92, 110, 60
 
 #: The words of each class, with their values: an empty list for a class without values.
 Table = Dict[str, Dict[str, List[str]]]

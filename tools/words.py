@@ -19,7 +19,7 @@ from pathlib import Path
 from typing import Dict, Iterable, Iterator, List, Set, Tuple
 
 from spec_lists import Unread, lists_of
-from word_functions import COMMENT, FORMS, Class, Table, sources_of
+from word_functions import FORMS, Class, Table, sources_of
 
 ROOT = Path(__file__).resolve().parents[1]
 WORDS = "crates/twp_words/words.tsv"
@@ -28,6 +28,8 @@ SOURCES = "crates/twp_words/src"
 SPECS = "crates/twp_rules/specs"
 SIGNS = "crates/twp_sentences/src/descriptions/hints/signs.rt"
 DOCUMENT = "docs/DESCRIPTIONS.md"
+#: The most columns of a line in the document.
+DOCUMENT_COLUMNS = 120
 
 #: The list of words in the document: what they are, and their classes.
 LISTED = (
@@ -199,7 +201,8 @@ def with_listed(text: str, table: Table) -> str:
     _, _, after = rest.partition(END + "\n")
     lines = []
     for what, classes in LISTED:
-        lines += textwrap.wrap(f"- {what}: {listed(what, classes.split(), table)}", COMMENT, subsequent_indent="  ")
+        line = f"- {what}: {listed(what, classes.split(), table)}"
+        lines += textwrap.wrap(line, DOCUMENT_COLUMNS, subsequent_indent="  ")
     return "\n".join([before + BEGIN, *lines, END, after])
 
 

@@ -75,13 +75,11 @@ impl<'a> Pieces<'a> {
                 if end == index
                     && next == plus(end, 1)
                     && self.has_digits(end, 1)
-                    && !self.is(index.saturating_sub(1), b"(") => {
+                    && !self.follows(index, b"(") => {
                 return None;
             }
             Some(next) => next,
-            None if end > index || self.is(index.saturating_sub(1), b",") => {
-                self.end_of_count(end)?
-            }
+            None if end > index || self.follows(index, b",") => { self.end_of_count(end)? }
             None => return None,
         };
         let may_be_unit = matches!(
@@ -126,13 +124,13 @@ impl<'a> Pieces<'a> {
 
     /// Whether a number at an index is a fraction, with a point and no number before it, as in `.25 acres`.
     fn is_after_point(&self, index: usize) -> bool {
-        let point = index.saturating_sub(1);
-        let before = point.saturating_sub(1);
+        let Some(point) = index.checked_sub(1) else {
+            return false;
+        };
         self.number(index).is_some()
-            && index > 0
             && self.is(point, b".")
             && self.is_joined(index)
-            && !(self.is_joined(point) && matches!(self.kind(before), Kind::Other))
+            && !(self.is_joined(point) && matches!(self.kind_before(point), Some(Kind::Other)))
     }
 
     /// Words before acreage, at an index.
@@ -188,18 +186,17 @@ impl<'a> Pieces<'a> {
     /// comma after a part: with decimals, or after a tab.
     pub fn end_of_last_figure(&self, index: usize) -> Option<usize> {
         let end = self.end_of_decimal(index)?;
-        let has_decimals = end > plus(index, 2) && self.is(end.saturating_sub(2), b".");
+        let has_decimals = end > plus(index, 2) && self.is_back(end, 2, b".");
         let number = self.number(index).unwrap_or(0);
         let is_cell = (self.begins_column(index) || self.is_after_part(index))
             && number > SECTIONS
             && number <= SECTION_ACRES;
         let is_apart = self.begins_column(index) || self.is_after_part(index);
         // After a mark, a number up to that of the last section may be of one, with a point for a comma.
-        let before = index.saturating_sub(1);
-        let is_marked = self.is(before, b",")
-            || self.is(before, b";")
-            || self.is(before, b".")
-            || self.is_dash(before);
+        let is_marked = self.follows(index, b",")
+            || self.follows(index, b";")
+            || self.follows(index, b".")
+            || self.is_after_dash(index);
         if is_marked && number <= SECTIONS && !self.begins_column(index) {
             return None;
         }
@@ -225,7 +222,9 @@ impl<'a> Pieces<'a> {
 
     /// Whether an aliquot part ends before an index.
     fn is_after_part(&self, index: usize) -> bool {
-        let before = index.saturating_sub(1);
+        let Some(before) = index.checked_sub(1) else {
+            return false;
+        };
         matches!(
             self.kind(before),
             Kind::Corner(_) | Kind::Half | Kind::Quarter

@@ -38,8 +38,10 @@ por pors pt ptn|||a portion needs a survey
 part|that||a portion needs a survey
 lying||<side> north south east west northerly southerly easterly westerly|a portion needs a survey
 lying||outside above below between along|a portion needs a survey
-canal ditch creek river road rd highway hwy railroad|<side> north south east west northerly;of||a portion needs a survey
-canal ditch creek river road rd highway hwy railroad|<side> north south east west northerly;of;the||a portion needs a survey
+canal ditch creek river|<side> north south east west northerly;of||a portion needs a survey
+road rd highway hwy railroad|<side> north south east west northerly;of||a portion needs a survey
+canal ditch creek river|<side> north south east west northerly;of;the||a portion needs a survey
+road rd highway hwy railroad|<side> north south east west northerly;of;the||a portion needs a survey
 corner cor|||a corner is a point
 block blocks blk||<n>|it names lots of a town plat
 addition subdivision|<lot>;<n>;<w>||it names lots of a town plat
@@ -77,6 +79,13 @@ acres acre ac||in;the|it is described by acreage
 out||of|it is described by acreage
 ";
 
+/// For each letter, a bit for each length of the words in `PHRASES` that begin with it: bit 4 for a word of
+/// four letters. For most words of a text, this rules out all rows.
+const LENGTHS: [u16; 26] = [
+    0x134, 0x268, 0x468, 0x120, 0x240, 0x014, 0, 0x088, 0, 0, 0, 0x030, 0x00e, 0, 0x208, 0x19c, 0,
+    0x13c, 0x8e8, 0x16c, 0x400, 0, 0x008, 0, 0, 0,
+];
+
 /// What is said of a part of a lot.
 const PART_OF_LOT: &str = "part of a lot needs a survey";
 
@@ -112,6 +121,18 @@ pub fn beyond_of(alloc: Global, text: &[u8]) -> Result<Option<Beyond>, AllocErro
     Ok(None)
 }
 
+/// Whether a word has the first letter and the length of the first word of a row.
+fn may_have_row(word: &[u8]) -> bool {
+    let letter = match word.first() {
+        Some(first) => first.to_ascii_lowercase(),
+        None => return false,
+    };
+    match (letter, word.len()) {
+        (b'a'..=b'z', length @ 0..=15) => (LENGTHS[usize::from(letter - b'a')] >> length) & 1 == 1,
+        _ => false,
+    }
+}
+
 /// Whether two headings name different townships.
 fn are_different(first: Option<NamedTownship>, heading: Option<NamedTownship>) -> bool {
     match (first, heading) {
@@ -144,6 +165,9 @@ impl<'a> Pieces<'a> {
 
     /// The first phrase with the word at an index.
     fn beyond_by_word(&self, index: usize) -> Option<(usize, &'static str)> {
+        if !may_have_row(self.bytes(index)) {
+            return None;
+        }
         for line in PHRASES.lines() {
             if let Some((end, reason)) = self.beyond_by_line(line, index) {
                 return if reason.is_empty() {
@@ -253,16 +277,25 @@ impl<'a> Pieces<'a> {
 
     /// Whether a part of the lot at an index is named.
     fn is_part_of_lot(&self, index: usize) -> bool {
-        let before = index.saturating_sub(1);
-        let of = if self.is_one_of(before, "the government govt t") {
-            before.saturating_sub(1)
-        } else {
-            before
+        let Some(fraction) = self.before_of_lot(index) else {
+            return false;
         };
-        let fraction = of.saturating_sub(1);
-        self.is_one_of(of, "of")
-            && (matches!(self.kind(fraction), Kind::Half | Kind::Quarter)
-                || self.is_one_of(fraction, "2 4 half quarter"))
+        matches!(self.kind(fraction), Kind::Half | Kind::Quarter)
+            || self.is_one_of(fraction, "2 4 half quarter")
+    }
+
+    /// The index of the piece before an `of` that the lot at an index follows, also with a word such as `the`
+    /// between them.
+    fn before_of_lot(&self, index: usize) -> Option<usize> {
+        let mut of = index.checked_sub(1)?;
+        if self.is_one_of(of, "the government govt t") {
+            of = of.checked_sub(1)?;
+        }
+        if self.is_one_of(of, "of") {
+            of.checked_sub(1)
+        } else {
+            None
+        }
     }
 
     /// The township that a heading at an index names.

@@ -34,8 +34,9 @@ impl<'a> Pieces<'a> {
         if !is_of_tract(self.lower(index)) {
             return None;
         }
-        let before = index.saturating_sub(1);
-        let is_apart = self.begins_line(index) || self.is(before, b".") || self.is(before, b";");
+        let is_apart = self.begins_line(index)
+            || self.follows(index, b".")
+            || self.follows(index, b";");
         let next = plus(index, 1);
         let is_short = self.is(index, b"tr") && self.is(next, b".") && self.is_joined(next);
         let place = plus(next, usize::from(is_short));
@@ -159,14 +160,27 @@ impl<'a> Pieces<'a> {
     /// Whether the number at an index may be that of a section, or of a lot: not in a date, after the word
     /// for a record or a tract, in a code, or in a share.
     pub fn may_be_section(&self, index: usize) -> bool {
-        let before = index.saturating_sub(1);
         let next = plus(index, 1);
-        if !self.is_number_of_section(index) {
+        if !self.is_number_of_section(index) || self.is_after_other(index) {
             return false;
         }
+        let is_first = self.is_joined(next)
+            && matches!(self.kind(next), Kind::Number(_) | Kind::BadNumber);
+        !is_first
+            && !(self.is_date(index) || self.is_share(index))
+            && !is_of_time(self.lower(next))
+            && !self.is_percentage(index)
+            && !(self.is(next, b",") && self.has_digits(plus(index, 2), 3))
+    }
+
+    /// Whether the piece before the number at an index says that it isn't that of a section: the word for a
+    /// record or a tract, the sign of a price, or a mark that is joined to it.
+    fn is_after_other(&self, index: usize) -> bool {
+        let Some(before) = index.checked_sub(1) else {
+            return false;
+        };
         let word = self.lower(before);
-        let is_numbered = self.is(before, b".") && self.is(before.saturating_sub(1), b"no");
-        let is_record = is_numbered
+        let is_record = (self.is(before, b".") && self.follows(before, b"no"))
             || is_of_label(word)
             || is_instrument(word)
             || is_of_record(word);
@@ -175,14 +189,7 @@ impl<'a> Pieces<'a> {
                 || self.is(before, b".")
                 || self.is(before, b",")
                 || self.is_dash(before));
-        let is_first = self.is_joined(next)
-            && matches!(self.kind(next), Kind::Number(_) | Kind::BadNumber);
-        !is_first
-            && !(is_record || is_end || self.is_date(index) || self.is_share(index))
-            && !is_of_time(self.lower(next))
-            && !self.is(before, b"$")
-            && !self.is_percentage(index)
-            && !(self.is(next, b",") && self.has_digits(plus(index, 2), 3))
+        is_record || is_end || self.is(before, b"$")
     }
 
     /// Whether the number of a section is at an index, in digits, or in words without more of them.

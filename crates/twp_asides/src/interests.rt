@@ -41,7 +41,7 @@ impl<'a> Pieces<'a> {
             let is_in = is_same(word, b"in")
                 || is_same(word, b"wit")
                 || is_same(word, b"under")
-                || (is_same(word, b"to") && self.is(place.saturating_sub(1), b"and"));
+                || (is_same(word, b"to") && self.follows(place, b"and"));
             let is_of = is_undivided && end.is_none() && self.is_of_share(place);
             if is_interest || (is_in && has_interest) || is_of {
                 end = Some(self.after_stop_of_word(plus(place, 1)));
@@ -52,14 +52,13 @@ impl<'a> Pieces<'a> {
 
     /// Whether the `of` after a share is at an index, as in `an undivided 1/2 of`.
     fn is_of_share(&self, index: usize) -> bool {
-        let before = index.saturating_sub(1);
         matches!(self.kind(index), Kind::Of)
             && (matches!(
-                self.kind(before),
-                Kind::Half | Kind::Quarter | Kind::Number(_)
-            ) || self.is(before, b"half")
-                || self.is(before, b"third")
-                || self.is(before, b"fourth"))
+                self.kind_before(index),
+                Some(Kind::Half | Kind::Quarter | Kind::Number(_))
+            ) || self.follows(index, b"half")
+                || self.follows(index, b"third")
+                || self.follows(index, b"fourth"))
     }
 
     /// Whether a share of land begins at an index: a fraction, or all that somebody has.
@@ -87,10 +86,9 @@ impl<'a> Pieces<'a> {
 
     /// Whether the piece at an index is the S after an apostrophe.
     pub(crate) fn is_possessive(&self, index: usize) -> bool {
-        let mark = index.saturating_sub(1);
         self.is(index, b"s")
             && self.is_joined(index)
-            && (self.is(mark, b"'") || self.is(mark, b"\xE2\x80\x99"))
+            && (self.follows(index, b"'") || self.follows(index, b"\xE2\x80\x99"))
     }
 
     /// The index after a period that is joined to a word before it.
@@ -120,10 +118,10 @@ impl<'a> Pieces<'a> {
                     && !(self.is(after, b"as") || self.is(after, b"described")))
                 || (is_same(word, b"follows") && !(self.is(after, b":") || self.is(after, b",")))
                 || (is_same(word, b"wit") && !(self.is(after, b":") || self.is(after, b",")));
-            if ends && has_property && points_into(self.lower(place.saturating_sub(1))) {
-                return None;
-            }
             if ends && has_property {
+                if matches!(self.lower_back(place, 1), Some(last) if points_into(last)) {
+                    return None;
+                }
                 let is_within = self.is(after, b"in")
                     && self.end_of_state_after_in(after).is_none();
                 return if is_within { None } else { Some(after) };

@@ -35,10 +35,13 @@ impl<'a> Pieces<'a> {
 
     /// Whether `together with` is at an index, and land after it.
     pub fn joins_together(&self, index: usize) -> bool {
-        let first = if self.is(index, b"with") {
-            index.saturating_sub(1)
+        let before = if self.is(index, b"with") {
+            index.checked_sub(1)
         } else {
-            index
+            Some(index)
+        };
+        let Some(first) = before else {
+            return false;
         };
         self.is(first, b"together")
             && self.is(plus(first, 1), b"with")
@@ -60,8 +63,7 @@ impl<'a> Pieces<'a> {
     /// The index after `all in`, or `both in`, at an index, after a mark and before the word for a section.
     pub fn after_all_in(&self, index: usize) -> usize {
         let next = plus(index, 2);
-        let before = index.saturating_sub(1);
-        let is_all = (self.is(before, b",") && matches!(self.kind(index), Kind::All))
+        let is_all = (self.follows(index, b",") && matches!(self.kind(index), Kind::All))
             || self.is(index, b"both");
         let is_all = is_all && self.is(plus(index, 1), b"in");
         if is_all && matches!(self.kind(next), Kind::Sec) {

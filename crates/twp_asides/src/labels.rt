@@ -18,8 +18,9 @@ impl<'a> Pieces<'a> {
         if let Some(end) = self.end_of_interest(index) {
             return Some(end);
         }
-        let before = index.saturating_sub(1);
-        let is_after_mark = self.is(before, b".") || self.is(before, b";") || self.is(before, b":");
+        let is_after_mark = self.follows(index, b".")
+            || self.follows(index, b";")
+            || self.follows(index, b":");
         if !self.begins_line(index) && !is_after_mark {
             return None;
         }
@@ -113,11 +114,12 @@ impl<'a> Pieces<'a> {
 
     /// Whether a section, with the word for it, is before an index, and an aliquot part after it.
     fn is_after_section(&self, index: usize) -> bool {
-        let number = index.saturating_sub(1);
-        let word = number.saturating_sub(1);
-        let is_section = matches!(self.kind(word), Kind::Sec)
-            || (self.is(word, b".") && matches!(self.kind(word.saturating_sub(1)), Kind::Sec));
-        is_section && self.number(number).is_some() && self.begins_part(plus(index, 1))
+        let is_section = matches!(self.kind_back(index, 2), Some(Kind::Sec))
+            || (self.is_back(index, 2, b".")
+                && matches!(self.kind_back(index, 3), Some(Kind::Sec)));
+        is_section
+            && matches!(self.kind_before(index), Some(Kind::Number(_)))
+            && self.begins_part(plus(index, 1))
     }
 
     /// Whether land follows the name of its column at an index. After lots, `Subdivision` may be that of a
@@ -188,7 +190,8 @@ impl<'a> Pieces<'a> {
             if matches!(self.kind(place), Kind::Sec) {
                 return Some(next);
             }
-            let is_tier = self.is_joined(place) && self.number(place.saturating_sub(1)).is_some();
+            let is_tier = self.is_joined(place)
+                && matches!(self.kind_before(place), Some(Kind::Number(_)));
             if self.may_be_land(place) && !is_tier {
                 return None;
             }

@@ -21,7 +21,7 @@ impl<'a> Pieces<'a> {
     /// Whether the fraction at an index is of a date, as in `6/1/2027`, or `1/4/82`.
     fn is_in_date(&self, index: usize) -> bool {
         let next = plus(index, 1);
-        let is_last = self.is_joined(index) && self.is(index.saturating_sub(1), b"/");
+        let is_last = self.is_joined(index) && self.follows(index, b"/");
         let is_first = self.is(next, b"/") && !self.is_joined(index);
         let year = plus(next, usize::from(is_first));
         (is_last || is_first)

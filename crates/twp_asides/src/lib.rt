@@ -12,6 +12,7 @@ mod interests;
 mod joints;
 mod labels;
 mod lands;
+mod limits;
 mod lowercase;
 mod marks;
 mod meridians;

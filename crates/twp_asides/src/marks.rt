@@ -21,15 +21,15 @@ pub(crate) fn is_title_of_other(pieces: &Pieces<'_>, index: usize) -> bool {
     let word = pieces.lower(index);
     is_feature(word)
         || is_doubtful_title(word)
-        || (is_same(word, b"sale") && pieces.is(index.saturating_sub(1), b"timber"))
+        || (is_same(word, b"sale") && pieces.follows(index, b"timber"))
 }
 
 /// Whether the number at an index is of the name of a well, which may have the numbers of two sections, as
 /// `Hatch 14-1`, and another with letters for a horizontal well, as `Kestrel 22-27 2HX`.
 pub(crate) fn is_of_well(pieces: &Pieces<'_>, index: usize) -> bool {
-    let before = index.saturating_sub(1);
     let next = plus(index, 1);
-    let is_pair = (matches!(pieces.kind(before), Kind::Other) || pieces.is(before, b"#"))
+    let is_pair = (matches!(pieces.kind_before(index), Some(Kind::Other))
+        || pieces.follows(index, b"#"))
         && pieces.is_dash(next)
         && pieces.is_joined(next)
         && pieces.is_joined(plus(index, 2));
@@ -58,7 +58,7 @@ pub(crate) fn is_initial(pieces: &Pieces<'_>, index: usize) -> bool {
 /// compared.
 pub(crate) fn is_homesite_of_acreage(pieces: &Pieces<'_>, index: usize) -> bool {
     pieces.is(index, b"homesite")
-        && is_acres(pieces.lower(index.saturating_sub(1)))
+        && matches!(pieces.lower_back(index, 1), Some(word) if is_acres(word))
         && pieces.begins_column(plus(index, 1))
 }
 

@@ -164,8 +164,9 @@ impl<'a> Pieces<'a> {
             }
             let is_letter = matches!(bytes, [byte] if byte.is_ascii_alphabetic())
                 && count < LETTERS_MOST;
-            let before = place.saturating_sub(1);
-            let follows = self.is_joined(place) || self.is(before, b".") || self.is(before, b"&");
+            let follows = self.is_joined(place)
+                || self.follows(place, b".")
+                || self.follows(place, b"&");
             if !is_letter
                 || (place > index && !follows)
                 || self.has_break_before(place) && place > index

@@ -123,6 +123,49 @@ impl<'a> Pieces<'a> {
         }
     }
 
+    /// Whether the piece before an index is this text. The first piece is after none.
+    #[inline(always)]
+    pub fn follows(&self, index: usize, text: &[u8]) -> bool {
+        self.is_back(index, 1, text)
+    }
+
+    /// Whether the piece so many pieces before an index is this text. Before the first piece there is none.
+    #[inline(always)]
+    pub fn is_back(&self, index: usize, count: usize, text: &[u8]) -> bool {
+        match index.checked_sub(count) {
+            Some(place) => self.is(place, text),
+            None => false,
+        }
+    }
+
+    /// What the piece before an index is. None if there is no such piece.
+    pub fn kind_before(&self, index: usize) -> Option<Kind> {
+        self.kind_back(index, 1)
+    }
+
+    /// What the piece so many pieces before an index is. None if there is no such piece.
+    pub fn kind_back(&self, index: usize, count: usize) -> Option<Kind> {
+        let place = index.checked_sub(count)?;
+        let piece = self.list.get(place)?;
+        Some(piece.kind)
+    }
+
+    /// The bytes of the piece so many pieces before an index, with letters in lowercase. None if there is no
+    /// such piece.
+    pub(crate) fn lower_back(&self, index: usize, count: usize) -> Option<&[u8]> {
+        let place = index.checked_sub(count)?;
+        let piece = self.list.get(place)?;
+        self.lower.get(piece.start..piece.end)
+    }
+
+    /// Whether the piece before an index is a hyphen or a dash.
+    pub fn is_after_dash(&self, index: usize) -> bool {
+        match index.checked_sub(1) {
+            Some(before) => self.is_dash(before),
+            None => false,
+        }
+    }
+
     /// Whether nothing separates the piece at an index from the one before it.
     pub fn is_joined(&self, index: usize) -> bool {
         match self.list.get(index) {
@@ -142,7 +185,7 @@ impl<'a> Pieces<'a> {
         self.begins_line(index)
             || index >= self.len()
             || self.is_edge_of_cell(index)
-            || self.is_edge_of_cell(index.saturating_sub(1))
+            || matches!(index.checked_sub(1), Some(before) if self.is_edge_of_cell(before))
     }
 
     /// Whether a bar, or the quote before a cell or after it, is at an index. Most pieces are of another
@@ -157,7 +200,7 @@ impl<'a> Pieces<'a> {
         let next = plus(index, 1);
         self.is(index, b"\"")
             && (self.begins_line(index)
-                || self.is(index.saturating_sub(1), b",")
+                || self.follows(index, b",")
                 || self.is(next, b",")
                 || next >= self.len()
                 || self.begins_line(next))

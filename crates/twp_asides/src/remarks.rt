@@ -1,17 +1,16 @@
 //! Remarks beside land: a cell, a line, a sentence, or parentheses that name no land.
+ghost use Rattle.std.specs.Prelude.{◌<◌};
 
+use crate::limits::{is_beyond_remark, limits_land_at};
 use crate::marks::{
-    begins_tract, has_no_title, is_homesite_of_acreage, is_initial, is_known_at,
-    is_metes_and_bounds, is_of_well, is_title_of_other,
+    begins_tract, is_homesite_of_acreage, is_initial, is_known_at, is_of_well, is_title_of_other,
 };
 use crate::pieces::{Pieces, plus};
 use crate::trailers::end_of_depths;
 use twp_grammar::Kind;
 use twp_words::{
-    adds_land, alters_land, begins_reference, begins_terms, has_side, is_acres, is_beyond_label,
-    is_boundary, is_glued, is_instrument, is_month, is_more, is_numeral, is_of_covering,
-    is_of_label, is_of_record, is_of_time, is_of_water, is_partial, is_round_acreage, limits_land,
-    may_be_corners, names_parcel, points_into,
+    adds_land, begins_reference, begins_terms, is_acres, is_boundary, is_instrument, is_more,
+    is_of_covering, is_of_time, is_of_water, names_parcel, points_into,
 };
 
 /// The most pieces of a remark.
@@ -74,10 +73,12 @@ pub fn end_of_remark(pieces: &Pieces<'_>, index: usize, position: Position) -> O
     None
 }
 
-/// Whether a remark from an index may end at a place: more would follow the end of the text, or its last
-/// word.
-fn may_end_remark(pieces: &Pieces<'_>, index: usize, place: usize, position: Position) -> bool {
-    let last = place.saturating_sub(1);
+/// Whether a remark from an index may end at a later place: more would follow the end of the text, or its
+/// last word.
+fn may_end_remark(pieces: &Pieces<'_>, index: usize, place: usize, position: Position) -> bool
+    requires { index < place }
+{
+    let last = place - 1;
     match position {
         Position::BeforeLand if place >= pieces.len() || is_title_of_other(pieces, last) => false,
         _ => place <= plus(index, 1) || !points_into(pieces.lower(last)),
@@ -107,11 +108,13 @@ fn leaves_remark(pieces: &Pieces<'_>, index: usize, place: usize, position: Posi
 
 /// Whether acreage may be of less than the land that follows: it is less than a quarter section.
 fn is_area_before_land(pieces: &Pieces<'_>, index: usize, place: usize) -> bool {
-    let figure = place.saturating_sub(1);
+    let is_large = matches!(
+        pieces.kind_before(place),
+        Some(Kind::Number(acres)) if acres >= QUARTER_ACRES
+    );
     is_acres(pieces.lower(place))
         && place > index
-        && (pieces.is(plus(place, 1), b"of")
-            || !(pieces.number(figure).unwrap_or(0) >= QUARTER_ACRES))
+        && (pieces.is(plus(place, 1), b"of") || !is_large)
 }
 
 /// Whether a word of water is part of a name in a column.
@@ -126,7 +129,7 @@ fn may_be_parcel(pieces: &Pieces<'_>, index: usize, place: usize) -> bool {
     place > index
         && names_parcel(pieces.lower(place))
         && !pieces.is(index, b"total")
-        && !pieces.is(place.saturating_sub(1), b"/")
+        && !pieces.follows(place, b"/")
 }
 
 /// Whether a number in a remark that begins at an index may be of the name of a well: before land, and not
@@ -138,24 +141,11 @@ fn may_be_well(pieces: &Pieces<'_>, index: usize, place: usize, position: Positi
 /// Whether a remark may begin at an index: first in a cell, or after a colon before any land; with a word, or
 /// a number that is that of no section.
 fn begins_remark(pieces: &Pieces<'_>, index: usize, position: Position) -> bool {
-    let before = index.saturating_sub(1);
-    let is_after_colon = position == Position::BeforeLand
-        && matches!(pieces.kind(before), Kind::Colon)
-        && !pieces.is_joined(index);
-    let is_after_comma = position == Position::BeforeLand && pieces.is(before, b",");
-    let is_after_stop = position == Position::AfterLand
-        && pieces.is(before, b".")
-        && pieces.is_joined(before)
-        && !pieces.is_joined(index);
-    let is_after_acreage = position == Position::AfterLand
-        && is_acres(pieces.lower(before))
-        && pieces.is(index.saturating_sub(3), b".")
-        && pieces.bytes(index.saturating_sub(2)).len() >= 2;
     let is_apart = pieces.begins_column(index)
-        || is_after_colon
-        || is_after_comma
-        || is_after_stop
-        || is_after_acreage;
+        || match position {
+            Position::BeforeLand => is_after_mark_of_label(pieces, index),
+            Position::AfterLand => is_after_sentence(pieces, index),
+        };
     if !is_apart && !pieces.is_share(index) {
         return false;
     }
@@ -182,6 +172,25 @@ fn begins_remark(pieces: &Pieces<'_>, index: usize, position: Position) -> bool 
     is_first && !is_new
 }
 
+/// Whether a colon, with white space after it, or a comma is before an index.
+fn is_after_mark_of_label(pieces: &Pieces<'_>, index: usize) -> bool {
+    pieces.follows(index, b",") || (pieces.follows(index, b":") && !pieces.is_joined(index))
+}
+
+/// Whether the period of a sentence, with white space after it, or acreage with decimals is before an index.
+fn is_after_sentence(pieces: &Pieces<'_>, index: usize) -> bool {
+    let Some(before) = index.checked_sub(1) else {
+        return false;
+    };
+    let is_after_stop = pieces.is(before, b".")
+        && pieces.is_joined(before)
+        && !pieces.is_joined(index);
+    let is_after_acreage = is_acres(pieces.lower(before))
+        && pieces.is_back(index, 3, b".")
+        && matches!(pieces.lower_back(index, 2), Some([_, _, ..]));
+    is_after_stop || is_after_acreage
+}
+
 /// Whether a remark ends before a piece, or with it, if it is a colon.
 fn ends_remark(pieces: &Pieces<'_>, index: usize, position: Position) -> bool {
     let is_mark = match position {
@@ -191,7 +200,7 @@ fn ends_remark(pieces: &Pieces<'_>, index: usize, position: Position) -> bool {
                 || (matches!(pieces.kind(index), Kind::Comma)
                     && pieces.begins_place(next)
                     && !matches!(pieces.kind(next), Kind::All))
-                || is_of_covering(pieces.lower(index.saturating_sub(1)))
+                || matches!(pieces.lower_back(index, 1), Some(word) if is_of_covering(word))
                 || matches!(pieces.kind(index), Kind::Semicolon)
                 || pieces.begins_register(index)
         }
@@ -199,90 +208,6 @@ fn ends_remark(pieces: &Pieces<'_>, index: usize, position: Position) -> bool {
     };
     let is_colon = position == Position::BeforeLand && matches!(pieces.kind(index), Kind::Colon);
     is_mark || is_colon || pieces.begins_column(index)
-}
-
-/// Whether the piece at an index is in no remark.
-fn is_beyond_remark(pieces: &Pieces<'_>, index: usize) -> bool {
-    (pieces.may_be_land(index) && !pieces.is_share(index))
-        || pieces.is_day_of_month(index)
-        || (is_of_calendar(pieces, index) && pieces.has_column_of_lots())
-        || pieces.is_township_word(index)
-        || pieces.is(index, b"?")
-        || (pieces.is(index, b"'") && pieces.number(index.saturating_sub(1)).is_some())
-        || may_be_corners(pieces.lower(index))
-        || (alters_land(pieces.lower(index)) && !is_homesite_of_acreage(pieces, index))
-        || is_glued(pieces.bytes(index))
-        || pieces.is_like_section(index)
-        || is_metes_and_bounds(pieces, index)
-        || (pieces.is(index, b"no") && has_no_title(pieces.lower(plus(index, 1))))
-        || (pieces.is(index, b"/")
-            && (pieces.is(plus(index, 1), b"2") || pieces.is(plus(index, 1), b"4"))
-            && !pieces.is_date(index.saturating_sub(1)))
-        || (pieces.is(index, b"tract") && pieces.number(plus(index, 1)).unwrap_or(0) > SECTIONS)
-        || ((is_partial(pieces.lower(index)) || is_beyond_label(pieces.lower(index)))
-            && !is_of_instrument(pieces, index))
-}
-
-/// Whether a date, or a month, is at an index.
-fn is_of_calendar(pieces: &Pieces<'_>, index: usize) -> bool {
-    pieces.is_date(index) || is_month(pieces.lower(index))
-}
-
-/// Whether the piece at an index may say, after land, which part of it is meant: a word for that, a side, a
-/// number, the acreage that land is called by, or a size, as in `300 x 300`.
-fn limits_land_at(pieces: &Pieces<'_>, index: usize) -> bool {
-    let word = pieces.lower(index);
-    let next = plus(index, 1);
-    let is_rest = pieces.is(index, b"net")
-        && (pieces.is(next, b"of") || pieces.number(next).is_some());
-    limits_land(word)
-        || is_rest
-        || (pieces.is(index, b"sale") && pieces.is(next, b"to"))
-        || has_side(word)
-        || (is_numeral(word) && adds_section(pieces, plus(index, 1)))
-        || is_size_or_acreage(pieces, index)
-}
-
-/// Whether the piece at an index is of a size, as in `300 x 300`, or the acreage that land is called by, as
-/// in `the Smith 80`.
-pub(crate) fn is_size_or_acreage(pieces: &Pieces<'_>, index: usize) -> bool {
-    let next = plus(index, 1);
-    let is_size = (pieces.is(index, b"x") || pieces.is(index, b"by"))
-        && pieces.number(next).is_some();
-    let label = pieces.lower(index.saturating_sub(1));
-    let is_record = is_of_label(label) || is_instrument(label) || is_of_record(label);
-    let is_called = is_round_acreage(pieces.number(index).unwrap_or(0))
-        && !is_record
-        && (!pieces.is_joined(index) || pieces.is(index.saturating_sub(1), b"("))
-        && (!pieces.is_joined(next) || pieces.is(next, b")"));
-    is_size || is_called
-}
-
-/// Whether a word at an index adds the section of the number before it, as in `Ten also`.
-fn adds_section(pieces: &Pieces<'_>, index: usize) -> bool {
-    pieces.is(index, b"as")
-        || pieces.is(index, b"also")
-        || pieces.is(index, b"entire")
-        || pieces.is(index, b"too")
-        || pieces.is(index, b"all")
-}
-
-/// Whether the word at an index is of `made a part of`, `only insofar`, `Fee minerals:`, or
-/// `Proposed Reinstatement of Terminated Oil and Gas Lease`, which limit no land.
-fn is_of_instrument(pieces: &Pieces<'_>, index: usize) -> bool {
-    let is_part = pieces.is(index, b"part")
-        && pieces.is(index.saturating_sub(1), b"a")
-        && pieces.is(index.saturating_sub(2), b"made");
-    let before = index.saturating_sub(1);
-    let next = plus(index, 1);
-    let is_only = pieces.is(index, b"only")
-        && (pieces.is(next, b"insofar") || pieces.is(before, b"int"));
-    let is_estate = pieces.is(index, b"minerals") && pieces.is(next, b":");
-    let is_proposed = pieces.is(index, b"proposed") && pieces.is(next, b"reinstatement");
-    let is_terminated = pieces.is(index, b"terminated")
-        && pieces.is(before, b"of")
-        && pieces.is(index.saturating_sub(2), b"reinstatement");
-    is_part || is_only || is_estate || is_proposed || is_terminated
 }
 
 /// Whether a colon at an index may end the label of other land: no word of two letters or more, and no price,

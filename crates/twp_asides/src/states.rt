@@ -140,9 +140,8 @@ impl<'a> Pieces<'a> {
     /// Whether a county is alone in a cell at an index: after a state and before another cell, with a bar
     /// between them.
     fn is_county_cell(&self, index: usize) -> bool {
-        let bar = index.saturating_sub(1);
-        self.is(bar, b"|")
+        self.follows(index, b"|")
             && self.is(plus(index, 1), b"|")
-            && is_state(self.lower(bar.saturating_sub(1)))
+            && matches!(self.lower_back(index, 2), Some(word) if is_state(word))
     }
 }

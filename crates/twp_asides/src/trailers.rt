@@ -1,8 +1,8 @@
 //! What is said after land, and isn't land: `limited to the Lance formation`, `recorded in Book 3`, `HBP`.
 
+use crate::limits::is_size_or_acreage;
 use crate::marks::is_metes_and_bounds;
 use crate::pieces::{Pieces, plus};
-use crate::remarks::is_size_or_acreage;
 use twp_grammar::Kind;
 use twp_words::{
     alters_land, begins_terms, is_beyond_depths, is_beyond_terms, is_boundary, is_conveyance,
@@ -94,7 +94,7 @@ fn is_beyond_trailer(pieces: &Pieces<'_>, trailer: Trailer, index: usize) -> boo
         _ => pieces.may_be_land(index) || is_boundary(word),
     };
     // `$2.00/acre` is a price.
-    let is_parcel = names_parcel(word) && !pieces.is(index.saturating_sub(1), b"/");
+    let is_parcel = names_parcel(word) && !pieces.follows(index, b"/");
     let is_part = trailer != Trailer::Office
         && (is_parcel || is_partial(word) || pieces.may_be_section(index));
     let is_beyond = match trailer {
@@ -238,14 +238,15 @@ fn may_be_land_beside_rights(pieces: &Pieces<'_>, index: usize) -> bool {
     let next = plus(index, 1);
     match pieces.kind(index) {
         Kind::Half | Kind::Quarter => {
-            let before = index.saturating_sub(1);
-            pieces.is_north_south(before) || pieces.is_east_west(before)
+            matches!(
+                index.checked_sub(1),
+                Some(before) if pieces.is_north_south(before) || pieces.is_east_west(before)
+            )
         }
         Kind::Other if pieces.is(index, b"half") || pieces.is(index, b"quarter") => {
-            let first = index.saturating_sub(4);
-            !(pieces.is(first, b"undivided")
-                || pieces.is(plus(first, 1), b"undivided")
-                || pieces.is(plus(first, 2), b"undivided"))
+            !(pieces.is_back(index, 2, b"undivided")
+                || pieces.is_back(index, 3, b"undivided")
+                || pieces.is_back(index, 4, b"undivided"))
         }
         Kind::Other if pieces.is_north_south(index) || pieces.is_east_west(index) => {
             matches!(
@@ -255,18 +256,16 @@ fn may_be_land_beside_rights(pieces: &Pieces<'_>, index: usize) -> bool {
         }
         Kind::All => false,
         Kind::Other if pieces.is(index, b"land") || pieces.is(index, b"lands") => {
-            let before = index.saturating_sub(2);
-            let word = plus(before, 1);
-            if pieces.is(word, b"any")
-                || pieces.is(word, b"other")
-                || pieces.is(word, b"railroad")
+            if pieces.follows(index, b"any")
+                || pieces.follows(index, b"other")
+                || pieces.follows(index, b"railroad")
             {
                 return true;
             }
-            pieces.is(word, b"the")
-                && !(pieces.is(before, b"in")
-                    || pieces.is(before, b"of")
-                    || pieces.is(before, b"under"))
+            pieces.follows(index, b"the")
+                && !(pieces.is_back(index, 2, b"in")
+                    || pieces.is_back(index, 2, b"of")
+                    || pieces.is_back(index, 2, b"under"))
         }
         Kind::Other if pieces.is(index, b"excepting") => !pieces.is(plus(next, 1), b"reserving"),
         _ => pieces.may_be_land(index),

@@ -1,96 +1,12 @@
 //! A draft: the phrases that were found in a text so far, and the changes in them.
 
-use crate::steps::Thereof;
+use crate::again::Again;
+use crate::numerals::WrittenNumber;
+use crate::phrase::{IndexRange, Placed};
+use crate::steps::{PlacedStep, Thereof};
 use std::alloc::{AllocError, Global};
-use std::mem;
 use twp_asides::{Pieces, plus};
 use twp_rules::{Change, Rule};
-
-/// What a phrase names.
-#[derive(Clone, Copy, PartialEq, Eq)]
-pub enum Names {
-    /// A township and range.
-    Heading,
-    /// A section, or several.
-    Sections,
-    /// An aliquot part.
-    Part,
-    /// Lots.
-    Lots,
-    /// All of a section.
-    All,
-    /// `except`, or words like it: what follows is not of the land.
-    Except,
-    /// Something that is left out.
-    Nothing(LeftOut),
-}
-
-/// What is left out, by the rule for it. It isn't the rule itself, since some rules contain two places, with which
-/// each phrase would be a third larger.
-#[derive(Clone, Copy, PartialEq, Eq)]
-pub enum LeftOut {
-    Word,
-    /// A mark or a letter of a heading, or the name of a column.
-    Heading,
-    MovedHeading,
-    Meridian,
-    Acreage,
-    Label,
-    /// Land that was named before.
-    Repeated,
-}
-
-impl LeftOut {
-    /// The rule by which it is left out.
-    pub fn rule(self) -> Rule {
-        match self {
-            LeftOut::Word => Rule::Word,
-            LeftOut::Heading => Rule::Heading,
-            LeftOut::MovedHeading => Rule::MovedHeading,
-            LeftOut::Meridian => Rule::Meridian,
-            LeftOut::Acreage => Rule::Acreage,
-            LeftOut::Label => Rule::Label,
-            LeftOut::Repeated => Rule::Repeated,
-        }
-    }
-}
-
-/// A phrase of a text. Its small fields are together, so that it takes less room.
-#[derive(Clone, Copy)]
-pub struct Phrase {
-    pub names: Names,
-    /// How it is written.
-    pub form: Form,
-    /// The index of its first piece.
-    pub first: usize,
-    /// The index after its last piece.
-    pub end: usize,
-    /// The changes in it: the index of the first one, and the one after the last.
-    pub changes: IndexRange,
-    /// Its steps, if it is an aliquot part.
-    pub steps: IndexRange,
-    /// Its numbers, if it names sections or lots, or a township and range.
-    pub numbers: IndexRange,
-}
-
-/// What becomes of a phrase.
-#[derive(Clone, Copy, PartialEq, Eq)]
-pub enum Role {
-    /// It stays, in the group of a section, which is counted.
-    Kept(usize),
-    /// It is left out.
-    LeftOut,
-}
-
-/// A phrase with what becomes of it.
-#[derive(Clone, Copy)]
-pub struct Placed {
-    pub phrase: Phrase,
-    pub role: Role,
-    /// The numbers of its section, which is written before it: it is left out where it is, or the land is
-    /// excepted.
-    pub section: Option<IndexRange>,
-}
 
 /// What the search has to know of the last phrase that names sections.
 #[derive(Clone, Copy)]
@@ -98,70 +14,6 @@ pub struct LastSection {
     /// The index of its first piece.
     pub first: usize,
     pub numbers: IndexRange,
-}
-
-/// From one index up to another.
-#[derive(Clone, Copy, PartialEq, Eq)]
-pub struct IndexRange {
-    pub first: usize,
-    pub end: usize,
-}
-
-/// What matters of how a phrase is written.
-#[derive(Clone, Copy, PartialEq, Eq)]
-pub enum Form {
-    /// Nothing does.
-    Plain,
-    /// An aliquot part with `of`.
-    WithOf,
-    /// Sections after a word in the plural.
-    Plural,
-    /// Sections whose numbers are not sure to be of sections.
-    Unsure,
-}
-
-/// A number: its value, and the pieces for it.
-#[derive(Clone, Copy)]
-pub struct WrittenNumber {
-    pub value: u16,
-    /// The index of the first piece.
-    pub first: usize,
-    /// The index of the last piece.
-    pub last: usize,
-    /// The index after what names the number, and repeats it in parentheses.
-    pub end: usize,
-}
-
-/// A step of an aliquot part.
-#[derive(Clone, Copy, PartialEq, Eq)]
-pub struct PlacedStep {
-    /// Where it begins.
-    pub start: usize,
-    /// Where it ends.
-    pub end: usize,
-    /// How it is written in a description.
-    pub written: &'static [u8],
-    /// Whether `of` is before it.
-    pub is_after_of: bool,
-}
-
-/// Land that is repeated, as in parentheses: the bytes of the text that name it.
-#[derive(Clone, Copy)]
-pub struct Said {
-    /// Where they begin.
-    pub start: usize,
-    /// Where they end.
-    pub end: usize,
-    /// The changes in them, among those of what is said again.
-    pub changes: IndexRange,
-}
-
-/// What phrases of a text say again.
-#[derive(Drop)]
-pub struct Again<'a> {
-    pub said: Vec<Said>,
-    /// The changes in it, whose places are counted from where it begins.
-    pub changes: Vec<Change<'a>>,
 }
 
 /// The phrases of a text so far.
@@ -304,48 +156,6 @@ impl<'a> Draft<'a> {
         }
     }
 
-    /// Notes that some pieces say land again, with the changes that were added after an extent.
-    pub fn add_said(&mut self, first: usize, end: usize, from: Extent) {
-        let start = self.pieces.start(first);
-        let before = self.again.changes.len();
-        for index in from.changes..self.changes.len() {
-            if let Some(change) = self.changes.get(index).copied() {
-                self.add_said_change(Change {
-                    start: change.start.saturating_sub(start),
-                    end: change.end.saturating_sub(start),
-                    ..change
-                });
-            }
-        }
-        let said = Said {
-            start,
-            end: self.pieces.end_before(end),
-            changes: IndexRange {
-                first: before,
-                end: self.again.changes.len(),
-            },
-        };
-        if self.again.said.push(said).is_err() {
-            self.lacks_memory = true;
-        }
-    }
-
-    /// Takes the repetitions out of the draft.
-    pub fn take_again(&mut self, alloc: Global) -> Again<'a> {
-        let nothing = Again {
-            said: Vec::new(alloc),
-            changes: Vec::new(alloc),
-        };
-        mem::replace(&mut self.again, nothing)
-    }
-
-    /// Adds a change in what is said again.
-    fn add_said_change(&mut self, change: Change<'a>) {
-        if self.again.changes.push(change).is_err() {
-            self.lacks_memory = true;
-        }
-    }
-
     /// Writes something instead of the bytes from one place up to another.
     pub fn write(&mut self, start: usize, end: usize, written: &'static [u8], rule: Rule) {
         self.add_change(Change {
@@ -356,12 +166,16 @@ impl<'a> Draft<'a> {
         });
     }
 
-    /// Writes bytes of the text, from one place up to another, at a place where they aren't.
+    /// Writes bytes of the text, from one place up to another, at a place where they aren't. If the text has
+    /// no such bytes, it isn't sure.
     pub(crate) fn copy(&mut self, place: usize, from: usize, to: usize) {
+        let Some(written) = self.pieces.text.get(from..to) else {
+            return self.doubt();
+        };
         self.add_change(Change {
             start: place,
             end: place,
-            written: self.pieces.text.get(from..to).unwrap_or(b""),
+            written,
             rule: Rule::Copied(from, to),
         });
     }
@@ -380,6 +194,23 @@ impl<'a> Draft<'a> {
         let start = pieces.start(first);
         let stop = pieces.end_before(end);
         self.write(start, stop, b"", rule)
+    }
+
+    /// Leaves out so many bytes at the beginning of a piece, or all of it if it has no more.
+    pub fn leave_out_front(&mut self, index: usize, count: usize, rule: Rule) {
+        let (start, end) = (self.pieces.start(index), self.pieces.end(index));
+        if start <= end {
+            let place = start + count.min(end - start);
+            self.write(start, place, b"", rule);
+        }
+    }
+
+    /// Leaves out the last byte of a piece.
+    pub fn leave_out_last(&mut self, index: usize, rule: Rule) {
+        let (start, end) = (self.pieces.start(index), self.pieces.end(index));
+        if start < end {
+            self.write(end - 1, end, b"", rule);
+        }
     }
 
     /// Leaves out each piece from one index up to another.

@@ -1,6 +1,8 @@
 //! Townships and ranges where they are written again: `T. 2 N., R. 3 W., `.
 
-use crate::draft::{Draft, Phrase, WrittenNumber};
+use crate::draft::Draft;
+use crate::numerals::WrittenNumber;
+use crate::phrase::Phrase;
 use twp_asides::plus;
 use twp_rules::Rule;
 

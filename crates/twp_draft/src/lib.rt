@@ -1,18 +1,20 @@
-//! What is found in a text that people write as a description of land: the phrases, what each of them names, and
-//! the changes in it. None of this is trusted: each change is checked against its rule, and the text that they
-//! make is read.
+//! What is found in a text that people write as a description of land: the phrases, what each of them names,
+//! and the changes in it. None of this is trusted: each change is checked against its rule, and the text that
+//! they make is read.
 #![tactic(auto)]
 
+mod again;
 mod draft;
 mod finds_phrases;
 mod headings;
 mod numerals;
+mod phrase;
 mod phrases;
 mod steps;
 
-pub use draft::{
-    Again, Draft, Extent, Form, IndexRange, LastSection, LeftOut, Names, Phrase, Placed,
-    PlacedStep, Role, Said, WrittenNumber,
-};
+pub use again::{Again, Said};
+pub use draft::{Draft, Extent, LastSection};
 pub use finds_phrases::FindsPhrases;
-pub use steps::Thereof;
+pub use numerals::WrittenNumber;
+pub use phrase::{Form, IndexRange, LeftOut, Names, Phrase, Placed, Role};
+pub use steps::{PlacedStep, Thereof};

@@ -1,7 +1,7 @@
 //! Numbers in digits and in words.
 
-use crate::draft::{Draft, WrittenNumber};
-use twp_asides::{plus, tens_of, value_of, value_of_count};
+use crate::draft::Draft;
+use twp_asides::{plus, tens_of, value_of_count};
 use twp_grammar::Kind;
 use twp_rules::Rule;
 
@@ -11,6 +11,18 @@ const ONE_DIGIT: &[u8] = b"123456789";
 /// The numbers from ten to twenty.
 const TWO_DIGITS: &[u8] = b"1011121314151617181920";
 
+/// A number: its value, and the pieces for it.
+#[derive(Clone, Copy)]
+pub struct WrittenNumber {
+    pub value: u16,
+    /// The index of the first piece.
+    pub first: usize,
+    /// The index of the last piece.
+    pub last: usize,
+    /// The index after what names the number, and repeats it in parentheses.
+    pub end: usize,
+}
+
 /// The number that one piece at an index is.
 fn one_piece(index: usize, value: u16) -> WrittenNumber {
     WrittenNumber {
@@ -18,6 +30,14 @@ fn one_piece(index: usize, value: u16) -> WrittenNumber {
         first: index,
         last: index,
         end: plus(index, 1),
+    }
+}
+
+/// The value of a word for a number up to twenty, or for thirty, in lowercase.
+fn value_of_word(word: &[u8]) -> Option<u16> {
+    match value_of_count(word)? {
+        value @ (1..=20 | 30) => Some(value as u16),
+        _ => None,
     }
 }
 
@@ -75,15 +95,15 @@ impl<'a> Draft<'a> {
             return number;
         }
         let digit = match pieces.number(next) {
-            Some(value) if pieces.has_digits(next, 1) => value,
-            Some(_) => return number,
-            None => match self.damaged_digit(next) {
-                Some(value) => value,
-                None => return number,
-            },
+            Some(value) if pieces.has_digits(next, 1) => Some(value),
+            Some(_) => None,
+            None => self.damaged_digit(next),
+        };
+        let Some(digit @ 0..=9) = digit else {
+            return number;
         };
         WrittenNumber {
-            value: number.value.saturating_mul(10).saturating_add(digit),
+            value: number.value * 10 + digit,
             last: next,
             end: plus(next, 1),
             ..number
@@ -94,35 +114,35 @@ impl<'a> Draft<'a> {
     fn numeral_in_words(&self, index: usize) -> Option<WrittenNumber> {
         let pieces = &self.pieces;
         let word = pieces.lower(index);
-        let value = value_of(digits_of(word)?);
-        let alone = one_piece(index, value);
+        let value = value_of_word(word)?;
         if tens_of(word).is_none() {
-            return Some(alone);
+            return Some(one_piece(index, value));
         }
         let mut next = plus(index, 1);
         if pieces.is(next, b"-") {
             next = plus(next, 1);
         }
-        match digits_of(pieces.lower(next)) {
-            Some(digits) if digits.len() == 1 => Some(WrittenNumber {
-                value: value.saturating_add(value_of(digits)),
+        match (value, value_of_word(pieces.lower(next))) {
+            (20 | 30, Some(digit @ 1..=9)) => Some(WrittenNumber {
+                value: value + digit,
                 first: index,
                 last: next,
                 end: plus(next, 1),
             }),
-            _ => Some(alone),
+            _ => Some(one_piece(index, value)),
         }
     }
 
     /// Where the digits of a number begin that aren't zeros before it.
     fn without_zeros(&self, index: usize) -> usize {
         let pieces = &self.pieces;
-        let digits = pieces.bytes(index);
-        if digits.first() != Some(&b'0') {
+        let [front @ .., _] = pieces.bytes(index) else {
+            return pieces.start(index);
+        };
+        if front.first() != Some(&b'0') {
             return pieces.start(index);
         }
-        let zeros = digits.iter().take_while(|digit| **digit == b'0').count();
-        let zeros = zeros.min(digits.len().saturating_sub(1));
+        let zeros = front.iter().take_while(|digit| **digit == b'0').count();
         plus(pieces.start(index), zeros)
     }
 
@@ -153,10 +173,14 @@ impl<'a> Draft<'a> {
         let mut from = start;
         if last > first {
             from = self.pieces.start(last);
-            let tens = tens_of(self.pieces.lower(first)).unwrap_or(b"");
+            let Some(tens) = tens_of(self.pieces.lower(first)) else {
+                return self.doubt();
+            };
             self.write(start, from, tens, Rule::Numeral);
         }
-        let digits = digits_of(self.pieces.lower(last)).unwrap_or(b"");
+        let Some(digits) = digits_of(self.pieces.lower(last)) else {
+            return self.doubt();
+        };
         let end = self.pieces.end(last);
         self.write(from, end, digits, Rule::Numeral)
     }
@@ -200,17 +224,23 @@ impl<'a> Draft<'a> {
         }
         if matches!(self.pieces.kind(first), Kind::Number(_)) {
             let from = self.without_zeros(first);
-            let to = self.pieces.end(first).saturating_sub(dropped);
-            return self.copy(place, from, to);
+            return match self.pieces.end(first).checked_sub(dropped) {
+                Some(to) => self.copy(place, from, to),
+                None => self.doubt(),
+            };
         }
         let mut from = self.pieces.start(first);
         if last > first {
             let to = self.pieces.start(last);
-            let tens = tens_of(self.pieces.lower(first)).unwrap_or(b"");
+            let Some(tens) = tens_of(self.pieces.lower(first)) else {
+                return self.doubt();
+            };
             self.write(place, place, tens, Rule::Copied(from, to));
             from = to;
         }
-        let digits = digits_of(self.pieces.lower(last)).unwrap_or(b"");
+        let Some(digits) = digits_of(self.pieces.lower(last)) else {
+            return self.doubt();
+        };
         let to = self.pieces.end(last);
         self.write(place, place, digits, Rule::Copied(from, to))
     }

@@ -1,6 +1,7 @@
 //! The phrases of a draft.
 
-use crate::draft::{Draft, Extent, Form, IndexRange, Names, Phrase, Placed, Role};
+use crate::draft::{Draft, Extent};
+use crate::phrase::{Form, IndexRange, Names, Phrase, Placed, Role};
 
 impl<'a> Draft<'a> {
     /// A phrase of some pieces, with what was added after an extent.
@@ -60,8 +61,9 @@ impl<'a> Draft<'a> {
 
     /// Forgets the phrase that was added last.
     pub fn drop_phrase(&mut self) {
-        let count = self.phrases.len().saturating_sub(1);
-        self.phrases.truncate(count);
+        if let Some(count) = self.phrases.len().checked_sub(1) {
+            self.phrases.truncate(count);
+        }
     }
 
     /// Notes how the phrase that was added last is written.

@@ -1,7 +1,21 @@
 //! The steps of aliquot parts, and whether those of two parts are the same.
 
-use crate::draft::{Draft, IndexRange, Phrase, PlacedStep};
+use crate::draft::Draft;
+use crate::phrase::{IndexRange, Phrase};
 use twp_asides::plus;
+
+/// A step of an aliquot part.
+#[derive(Clone, Copy, PartialEq, Eq)]
+pub struct PlacedStep {
+    /// Where it begins.
+    pub start: usize,
+    /// Where it ends.
+    pub end: usize,
+    /// How it is written in a description.
+    pub written: &'static [u8],
+    /// Whether `of` is before it.
+    pub is_after_of: bool,
+}
 
 /// An excepted part with `thereof` that ends with the steps of the part before it, as in
 /// `the SW1/4, except the N1/2 of the SW1/4 thereof`: it may be of the section, or of that part.

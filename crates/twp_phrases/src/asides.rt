@@ -109,7 +109,7 @@ impl<'a> Finder<'a> {
             }
         }
         if let Some(end) = pieces.end_of_acreage(index) {
-            let is_after_dash = pieces.is_dash(index.saturating_sub(1));
+            let is_after_dash = pieces.is_after_dash(index);
             let is_other = self.is_added(index) || (may_be_minus && is_after_dash);
             return if is_figure && is_other {
                 None
@@ -155,12 +155,11 @@ impl<'a> Finder<'a> {
     /// Whether a word or a mark before an index adds what follows, which may then be of other land.
     fn is_added(&self, index: usize) -> bool {
         let pieces = &self.draft.pieces;
-        let before = index.saturating_sub(1);
-        pieces.is(before, b"also")
-            || pieces.is(before, b"and")
-            || pieces.is(before, b"&")
-            || pieces.is(before, b"+")
-            || pieces.is(before, b"plus")
+        pieces.follows(index, b"also")
+            || pieces.follows(index, b"and")
+            || pieces.follows(index, b"&")
+            || pieces.follows(index, b"+")
+            || pieces.follows(index, b"plus")
     }
 
     /// The same, of what begins with a word for a column, or with a mark.

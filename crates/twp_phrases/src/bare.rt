@@ -29,9 +29,7 @@ impl<'a> Finder<'a> {
             return None;
         }
         if !is_after && self.may_be_half(index, heading) {
-            if self.draft.last_section.is_none()
-                || self.draft.pieces.is(index.saturating_sub(1), b";")
-            {
+            if self.draft.last_section.is_none() || self.draft.pieces.follows(index, b";") {
                 self.draft.doubt();
             }
             return None;
@@ -71,8 +69,8 @@ impl<'a> Finder<'a> {
             || pieces.is_section_before_land(index)
     }
 
-    /// Whether the letter and the number at an index, before a township that ends at another, may be a half or
-    /// a quarter of a section that was named, or of one that is missing: `S2`, unless land follows.
+    /// Whether the letter and the number at an index, before a township that ends at another, may be a half
+    /// or a quarter of a section that was named, or of one that is missing: `S2`, unless land follows.
     fn may_be_half(&self, index: usize, heading: Option<usize>) -> bool {
         let pieces = &self.draft.pieces;
         let digits = plus(index, 1);
@@ -95,9 +93,9 @@ impl<'a> Finder<'a> {
         if !matches!(pieces.kind(index), Kind::Number(_)) {
             return None;
         }
-        let before = index.saturating_sub(1);
         let is_list = last == Some(Names::All)
-            && (pieces.is(before, b"of") || matches!(pieces.kind(before), Kind::All));
+            && (pieces.follows(index, b"of")
+                || matches!(pieces.kind_before(index), Some(Kind::All)));
         if !is_list && !self.is_bare_section(index) {
             return None;
         }
@@ -138,19 +136,21 @@ impl<'a> Finder<'a> {
     /// Whether the number at an index is after a township, or after a section with its land in parentheses.
     fn is_after_land_of_section(&self, index: usize) -> bool {
         let pieces = &self.draft.pieces;
-        let mut before = index.saturating_sub(1);
+        let mut end = index;
         for _ in 0..2 {
-            if pieces.is(before, b",")
-                || pieces.is(before, b";")
-                || pieces.is(before, b"&")
-                || pieces.is(before, b"and")
-            {
-                before = before.saturating_sub(1);
+            if let Some(before) = end.checked_sub(1) {
+                if pieces.is(before, b",")
+                    || pieces.is(before, b";")
+                    || pieces.is(before, b"&")
+                    || pieces.is(before, b"and")
+                {
+                    end = before;
+                }
             }
         }
         match self.draft.last_names() {
             Some(Names::Heading) => true,
-            Some(Names::Part | Names::All | Names::Lots) => pieces.is(before, b")"),
+            Some(Names::Part | Names::All | Names::Lots) => pieces.follows(end, b")"),
             _ => false,
         }
     }
@@ -189,15 +189,14 @@ impl<'a> Finder<'a> {
 
     /// Whether the piece at an index begins a row.
     fn begins_row(&self, index: usize) -> bool {
-        self.draft.pieces.begins_line(index) || self.draft.pieces.is(index.saturating_sub(1), b";")
+        self.draft.pieces.begins_line(index) || self.draft.pieces.follows(index, b";")
     }
 
-    /// Whether the name of the column for a section, in the layers of the Public Land Survey System, is before
-    /// an index.
+    /// Whether the name of the column for a section, in the layers of the Public Land Survey System, is
+    /// before an index.
     fn is_after_label_of_division(&self, index: usize) -> bool {
         let pieces = &self.draft.pieces;
-        let label = index.saturating_sub(2);
-        pieces.is(label, b"frstdivno") || pieces.is(label, b"frstdivlab")
+        pieces.is_back(index, 2, b"frstdivno") || pieces.is_back(index, 2, b"frstdivlab")
     }
 
     /// Whether land in parentheses is after the number at an index.
@@ -219,13 +218,12 @@ impl<'a> Finder<'a> {
     fn is_section_by_marks(&self, index: usize) -> Option<bool> {
         let pieces = &self.draft.pieces;
         let next = plus(index, 1);
-        let before = index.saturating_sub(1);
         let last = self.draft.last_names();
         let is_first = matches!(last, None | Some(Names::Heading | Names::Nothing(_)));
-        let is_after_semicolon = pieces.is(before, b";");
+        let is_after_semicolon = pieces.follows(index, b";");
         let is_apart = is_after_semicolon
-            || pieces.is(before, b",")
-            || pieces.is_dash(before)
+            || pieces.follows(index, b",")
+            || pieces.is_after_dash(index)
             || pieces.begins_line(index);
         if pieces.is(next, b":") && (is_first || is_apart) {
             return Some(plus(next, 1) < pieces.len());
@@ -245,15 +243,14 @@ impl<'a> Finder<'a> {
         if is_next { Some(true) } else { None }
     }
 
-    /// Whether the place of the number at an index says that it is that of a section, or that it isn't: after a
-    /// township, at the beginning of a line, after a part.
+    /// Whether the place of the number at an index says that it is that of a section, or that it isn't: after
+    /// a township, at the beginning of a line, after a part.
     fn is_section_by_place(&self, index: usize) -> Option<bool> {
         let pieces = &self.draft.pieces;
         let next = plus(index, 1);
-        let before = index.saturating_sub(1);
         let is_after_heading = self.draft.last_names() == Some(Names::Heading);
-        let is_after_comma = pieces.is(before, b",");
-        if is_after_heading && !(is_after_comma && index > 0) {
+        let is_after_comma = pieces.follows(index, b",");
+        if is_after_heading && !is_after_comma {
             return Some(true);
         }
         if is_after_heading && pieces.is(next, b",") {
@@ -273,9 +270,9 @@ impl<'a> Finder<'a> {
         if self.draft.last_names() != Some(Names::Part)
             || pieces.is_joined(index)
             || is_after_comma
-            || pieces.is(before, b";")
-            || pieces.is(before, b":")
-            || pieces.is(before, b".")
+            || pieces.follows(index, b";")
+            || pieces.follows(index, b":")
+            || pieces.follows(index, b".")
         {
             return Some(false);
         }

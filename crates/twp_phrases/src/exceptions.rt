@@ -83,9 +83,8 @@ impl<'a> Finder<'a> {
     /// Whether `but` at an index is after all of a section, and before land, as in `all but Lot 4`.
     fn is_after_all_land(&self, index: usize) -> bool {
         let pieces = &self.draft.pieces;
-        let before = index.saturating_sub(1);
         let land = plus(index, 1);
-        (pieces.is(before, b"all") || pieces.is(before, b"everything"))
+        (pieces.follows(index, b"all") || pieces.follows(index, b"everything"))
             && (pieces.begins_part(land) || matches!(pieces.kind(land), Kind::Lot))
     }
 
@@ -131,11 +130,8 @@ impl<'a> Finder<'a> {
         let mut whole = Whole::Section;
         let mut is_first = true;
         let mut has_section = self.begins_with_section();
-        for back in 1..plus(self.draft.phrases.len(), 1) {
-            let place = self.draft.phrases.len().saturating_sub(back);
-            let Some(phrase) = self.draft.phrases.get(place).map(|placed| placed.phrase) else {
-                break;
-            };
+        for placed in self.draft.phrases.iter().rev() {
+            let phrase = placed.phrase;
             match phrase.names {
                 Names::Except if is_first => is_first = false,
                 Names::Nothing(_) | Names::Heading => {}

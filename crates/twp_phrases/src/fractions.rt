@@ -159,8 +159,8 @@ impl<'a> Finder<'a> {
         (pieces.is(next, b"/") || pieces.is(next, b"\xE2\x81\x84")) && pieces.is_joined(next)
     }
 
-    /// Whether the pieces at an index, of which the second is a slash, are a fraction: with what scanning makes of a `1`
-    /// or of a `2`, or two halves.
+    /// Whether the pieces at an index, of which the second is a slash, are a fraction: with what scanning
+    /// makes of a `1` or of a `2`, or two halves.
     fn is_slashed(&self, index: usize, size: Size) -> bool {
         let digit = plus(index, 2);
         if self.is_worn_one(index) {
@@ -185,7 +185,8 @@ impl<'a> Finder<'a> {
             || pieces.is(index, b"\xC2\xB9")
     }
 
-    /// Whether the lowered digit of a fraction is at an index, or the `z` that scanning makes of a `2` after a `1`.
+    /// Whether the lowered digit of a fraction is at an index, or the `z` that scanning makes of a `2` after
+    /// a `1`.
     fn is_worn_digit(&self, one: usize, digit: usize, size: Size) -> bool {
         let pieces = &self.draft.pieces;
         let is_lower = size.is_lowered(pieces.lower(digit));
@@ -200,8 +201,8 @@ impl<'a> Finder<'a> {
         let next = plus(index, 1);
         let digit = plus(index, 2);
         let is_of = pieces.is(plus(index, 3), b"of")
-            || pieces.is(index.saturating_sub(2), b"of")
-            || pieces.is(index.saturating_sub(3), b"of");
+            || pieces.is_back(index, 2, b"of")
+            || pieces.is_back(index, 3, b"of");
         is_of
             && pieces.is(index, b"1")
             && pieces.is(next, b"-")

@@ -66,8 +66,10 @@ impl<'a> Finder<'a> {
     /// The index of the range's number, after the side of the township and the word for the range.
     fn between_tiers(&mut self, index: usize, has_word: bool) -> Option<usize> {
         if self.draft.pieces.is(index, b"nr") || self.draft.pieces.is(index, b"sr") {
-            let place = self.draft.pieces.start(index).saturating_add(1);
-            self.draft.write(place, place, b" ", Rule::Heading);
+            // Between the two letters.
+            if let Some(place) = self.draft.pieces.end(index).checked_sub(1) {
+                self.draft.write(place, place, b" ", Rule::Heading);
+            }
             return Some(plus(index, 1));
         }
         if !self.draft.pieces.is_north_south(index) {
@@ -114,7 +116,8 @@ impl<'a> Finder<'a> {
             && pieces.is(close, b")");
         let value = self.draft.numbers.last().map(|last| last.value);
         let side = plus(index, 3);
-        let is_side = self.is_same_side(index.saturating_sub(1), side);
+        let is_side =
+            matches!(index.checked_sub(1), Some(before) if self.is_same_side(before, side));
         let is_letter = pieces.is(plus(index, 1), b"t") == pieces.is_north_south(side);
         let is_same = pieces.number(number) == value && value.is_some() && is_side && is_letter;
         if is_tier && is_same {
@@ -248,13 +251,9 @@ impl<'a> Finder<'a> {
             self.draft.doubt();
             return None;
         }
-        let start = self.draft.pieces.start(index);
-        let end = self.draft.pieces.end(index);
         let zeros: usize = if value < 100 { 2 } else { 1 };
-        self.draft
-            .write(start, start.saturating_add(zeros), b"", Rule::Zeros);
-        self.draft
-            .write(end.saturating_sub(1), end, b"", Rule::FractionDigit);
+        self.draft.leave_out_front(index, zeros, Rule::Zeros);
+        self.draft.leave_out_last(index, Rule::FractionDigit);
         self.draft.add_number(WrittenNumber {
             value: value / 10,
             first: index,

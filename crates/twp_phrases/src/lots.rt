@@ -27,10 +27,9 @@ impl<'a> Finder<'a> {
             return None;
         }
         self.draft.write_numeral(number);
-        let before = next.saturating_sub(1);
-        let is_plural = self.draft.pieces.is(before, b"lots")
-            || self.draft.pieces.is(before, b"lts")
-            || self.draft.pieces.is(before, b"iots");
+        let is_plural = self.draft.pieces.follows(next, b"lots")
+            || self.draft.pieces.follows(next, b"lts")
+            || self.draft.pieces.follows(next, b"iots");
         let end = self.numbers_after(number, Names::Lots, is_plural);
         Some(self.draft.add(Names::Lots, index, end, from))
     }
@@ -167,9 +166,9 @@ impl<'a> Finder<'a> {
     /// `LTS 2 3`. Other lots may be the first and the last of several.
     pub(crate) fn join_of_lots(&self, index: usize, last: WrittenNumber) -> Option<Joined> {
         let pieces = &self.draft.pieces;
-        let is_list = pieces.has_digits(index.saturating_sub(1), 1)
+        let is_list = matches!(index.checked_sub(1), Some(before) if pieces.has_digits(before, 1))
             && pieces.has_digits(index, 1)
-            && pieces.number(index) == Some(last.value.saturating_add(1))
+            && pieces.number(index) == last.value.checked_add(1)
             && !pieces.has_break_before(index)
             && !pieces.is_joined(index)
             && !pieces.is_dash(plus(index, 1))

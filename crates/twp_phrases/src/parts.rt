@@ -10,8 +10,8 @@ use twp_words::{Size, written_step};
 /// The most steps of a part: each halves a side of the section, which can be halved five times each way.
 const STEPS_MOST: usize = 10;
 
-/// An aliquot part that was read, and isn't added yet: the index after it, how it is written, and whether it is called
-/// fractional.
+/// An aliquot part that was read, and isn't added yet: the index after it, how it is written, and whether it
+/// is called fractional.
 #[derive(Clone, Copy)]
 pub(crate) struct ReadPart {
     pub(crate) end: usize,
@@ -113,10 +113,7 @@ impl<'a> Finder<'a> {
             return end;
         }
         let is_slash = self.draft.pieces.is(index, b"/")
-            && matches!(
-                self.draft.pieces.kind(index.saturating_sub(1)),
-                Kind::Corner(_)
-            )
+            && matches!(self.draft.pieces.kind_before(index), Some(Kind::Corner(_)))
             && matches!(self.draft.pieces.kind(plus(index, 1)), Kind::Corner(_));
         // Two parts may be meant, unless they would be the same.
         if is_slash && self.is_between_corners(index) {
@@ -138,7 +135,10 @@ impl<'a> Finder<'a> {
     /// Whether a slash is at an index between two corners without a fraction, which aren't the same: `NE/SE`.
     pub(crate) fn is_between_corners(&self, index: usize) -> bool {
         let pieces = &self.draft.pieces;
-        let (before, after) = (index.saturating_sub(1), plus(index, 1));
+        let Some(before) = index.checked_sub(1) else {
+            return false;
+        };
+        let after = plus(index, 1);
         pieces.is(index, b"/")
             && matches!(pieces.kind(before), Kind::Corner(_))
             && matches!(pieces.kind(after), Kind::Corner(_))
@@ -210,18 +210,20 @@ impl<'a> Finder<'a> {
     /// The run of corners at an index. The last one may lack its fraction.
     fn corners(&mut self, index: usize) -> Option<usize> {
         let pieces = &self.draft.pieces;
-        let start = pieces.start(index);
-        let count = pieces.bytes(index).len() / 2;
-        for number in 1..count.min(plus(STEPS_MOST, 2)) {
-            let place = start.saturating_add(number.saturating_mul(2));
-            let first = place.saturating_sub(2);
-            let corner = self.corner_before(place);
+        let end = pieces.end(index);
+        let (run, _) = pieces.bytes(index).as_chunks::<2>();
+        let [before @ .., last] = run else {
+            return None;
+        };
+        let mut place = pieces.start(index);
+        for letters in before.iter().take(STEPS_MOST + 1) {
+            let first = place;
+            place = plus(first, 2);
             self.draft.write(place, place, b"1/4", Rule::Quarter);
-            self.push_step_to(first, place, corner);
+            self.push_step_to(first, place, written_step(letters));
         }
-        let end = self.draft.pieces.end(index);
-        let first = end.saturating_sub(2);
-        let corner = self.corner_before(end);
+        let first = end.checked_sub(2)?;
+        let corner = written_step(last);
         let next = plus(index, 1);
         if let Some(after) = self.fraction(next, Size::Quarter) {
             self.push_step(first, after, corner);
@@ -230,12 +232,6 @@ impl<'a> Finder<'a> {
         self.draft.write(end, end, b"1/4", Rule::Quarter);
         self.push_step_to(first, end, corner);
         Some(next)
-    }
-
-    /// The quarter in the corner whose letters end at a place.
-    fn corner_before(&self, place: usize) -> &'static [u8] {
-        let letters = self.draft.pieces.text.get(place.saturating_sub(2)..place);
-        written_step(letters.unwrap_or(b""))
     }
 
     /// The corner at an index whose `S` was read as a `5`.

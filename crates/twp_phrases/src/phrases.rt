@@ -19,8 +19,8 @@ pub(crate) enum Beginning {
 }
 
 impl<'a> Finder<'a> {
-    /// Adds the phrases to the draft. Where a piece is in none, and doesn't join them, the text isn't sure, nor
-    /// where many pieces join two of them.
+    /// Adds the phrases to the draft. Where a piece is in none, and doesn't join them, the text isn't sure,
+    /// nor where many pieces join two of them.
     pub(crate) fn add_phrases(&mut self) {
         let mut index: usize = 0;
         for here in 0..self.draft.pieces.len() {
@@ -247,8 +247,8 @@ impl<'a> Finder<'a> {
         (is_short && pieces.is_north_south(next)) || pieces.begins_register(index)
     }
 
-    /// The row of a register, or the township and range, at an index. If a digit follows them at once, they are
-    /// part of a parcel's code.
+    /// The row of a register, or the township and range, at an index. If a digit follows them at once, they
+    /// are part of a parcel's code.
     #[inline(never)]
     pub(crate) fn register_or_heading(&mut self, index: usize) -> Option<usize> {
         let from = self.draft.extent();

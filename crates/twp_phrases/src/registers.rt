@@ -33,7 +33,7 @@ impl<'a> Finder<'a> {
         } else {
             next
         };
-        let is_after_row = pieces.is(index.saturating_sub(1), b";");
+        let is_after_row = pieces.follows(index, b";");
         let is_row = (pieces.begins_line(index) || is_after_label || is_after_row)
             && pieces.has_digits(tier, 4);
         let is_after_state = last == Some(Names::Nothing(LeftOut::Meridian));
@@ -83,14 +83,11 @@ impl<'a> Finder<'a> {
         }
         let word = pieces.start(index);
         let start = pieces.start(digits);
-        let end = pieces.end(digits);
         self.draft.write(word, start, b", sec. ", Rule::Heading);
         if value < 100 {
-            self.draft
-                .write(start, start.saturating_add(1), b"", Rule::Zeros);
+            self.draft.leave_out_front(digits, 1, Rule::Zeros);
         }
-        self.draft
-            .write(end.saturating_sub(1), end, b"", Rule::FractionDigit);
+        self.draft.leave_out_last(digits, Rule::FractionDigit);
         let next = plus(index, 3);
         self.draft.add_number(WrittenNumber {
             value: value / 10,

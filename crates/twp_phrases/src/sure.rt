@@ -79,11 +79,10 @@ impl<'a> Finder<'a> {
             end,
             usize::from(pieces.is(end, b",") || pieces.is(end, b"|")),
         );
-        let last = end.saturating_sub(1);
-        let word = last.saturating_sub(usize::from(pieces.is(last, b":")));
+        let back: usize = if pieces.follows(end, b":") { 2 } else { 1 };
         matches!(pieces.kind(next), Kind::Lot)
             && !pieces.is_label_of_tract(first)
-            && !(pieces.is(word, b"land") || pieces.is(word, b"lands"))
+            && !(pieces.is_back(end, back, b"land") || pieces.is_back(end, back, b"lands"))
             && !pieces.has_long_number(first, end)
     }
 
@@ -116,7 +115,7 @@ impl<'a> Finder<'a> {
             None => false,
         };
         let is_more = self.draft.last_names() != Some(Names::Sections)
-            || pieces.is(first.saturating_sub(1), b",");
+            || pieces.follows(first, b",");
         (!self.names_land && !self.is_before_section(end)) || (is_after_letter && is_more)
     }
 
@@ -165,7 +164,7 @@ impl<'a> Finder<'a> {
         match self.draft.phrases.last() {
             Some(Placed { phrase, .. }) => {
                 phrase.names == Names::Lots
-                    && phrase.numbers.end.saturating_sub(phrase.numbers.first) == 1
+                    && phrase.numbers.end == plus(phrase.numbers.first, 1)
                     && !(pieces.is(phrase.first, b"l") || pieces.is(phrase.first, b"lot"))
             }
             None => false,

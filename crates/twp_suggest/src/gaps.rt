@@ -276,7 +276,7 @@ impl<'p, 'a> ChangeWriter<'p, 'a> {
         let is_the = (pieces.is(index, b"the") || pieces.is(index, b"said"))
             && gap.end > index
             && rest.is_empty();
-        let is_of = pieces.is(index, b"of") && !pieces.is(index.saturating_sub(1), b"all");
+        let is_of = pieces.is(index, b"of") && !pieces.follows(index, b"all");
         let is_first = gap.first == 0
             && !(is_of || pieces.is(index, b"and") || pieces.is(index, b"&"));
         is_before_moved || is_and || is_the || is_first

@@ -236,12 +236,11 @@ impl<'p, 'a> ChangeWriter<'p, 'a> {
     /// Whether a word or a mark after the last phrase leads to more, which is missing.
     fn leads_nowhere(&self, last: usize) -> bool {
         let pieces = &self.plan.draft.pieces;
-        let word = last.saturating_sub(1);
-        if pieces.is(word, b"in")
-            || pieces.is(word, b"of")
-            || pieces.is(word, b"under")
-            || pieces.is(word, b"aliq")
-            || pieces.is(word, b"aliquot")
+        if pieces.follows(last, b"in")
+            || pieces.follows(last, b"of")
+            || pieces.follows(last, b"under")
+            || pieces.follows(last, b"aliq")
+            || pieces.follows(last, b"aliquot")
         {
             return true;
         }

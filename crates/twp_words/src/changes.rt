@@ -1,11 +1,11 @@
 // Made by tools/words.py from words.tsv and classes.tsv. To change a word, change its row there.
-//! Words that change which land is meant: corrections, doubts, parts of it, sizes, and what is reserved or granted with
-//! it.
+//! Words that change which land is meant: corrections, doubts, parts of it, sizes, and what is reserved or
+//! granted with it.
 
 use crate::same::is_among;
 
-/// Words that say that land is no longer meant, that other land or a part of it is meant, or that this is uncertain: no
-/// remark, label, or term contains them.
+/// Words that say that land is no longer meant, that other land or a part of it is meant, or that this is
+/// uncertain: no remark, label, or term contains them.
 pub fn alters_land(word: &[u8]) -> bool {
     match word.len() {
         2 => is_among(word, 0x80000_00400000, "vs"),
@@ -79,8 +79,8 @@ pub fn alters_land(word: &[u8]) -> bool {
     }
 }
 
-/// Words for sizes, places, and parts, and words that say that the text continues: no remark after land contains them,
-/// and no limit on depths.
+/// Words for sizes, places, and parts, and words that say that the text continues: no remark after land
+/// contains them, and no limit on depths.
 pub fn limits_land(word: &[u8]) -> bool {
     match word.len() {
         2 => is_among(word, 0x1040000_00140040, "fr rr tx"),

@@ -1,6 +1,6 @@
 // Made by tools/words.py from words.tsv and classes.tsv. To change a word, change its row there.
-//! Words for sides, corners, halves, and quarters, for sections with a slip, and for tens, with what is written for
-//! them.
+//! Words for sides, corners, halves, and quarters, for sections with a slip, and for tens, with what is
+//! written for them.
 
 use crate::same::{is_among, is_same};
 
@@ -73,7 +73,8 @@ pub fn is_worn_corner(word: &[u8]) -> bool {
     }
 }
 
-/// Words with which a step of a part begins, or which it has: sides, corners, halves, and quarters, also with a slip.
+/// Words with which a step of a part begins, or which it has: sides, corners, halves, and quarters, also with
+/// a slip.
 pub fn is_step_word(word: &[u8]) -> bool {
     match word.len() {
         4 => is_among(word, 0x100040_00800120, "east half west"),

@@ -1,4 +1,5 @@
-//! Words by their form: what they begin or end with, whatever else they are; and letters that scanning makes of digits.
+//! Words by their form: what they begin or end with, whatever else they are; and letters that scanning makes
+//! of digits.
 
 use crate::parties::{begins_exception, says_partial};
 use crate::same::is_same;
@@ -48,7 +49,7 @@ fn is_like_section(word: &[u8]) -> bool {
 /// Whether a word has the name of a side, or of a half or a quarter, in it, as `soeast`, or `whalf`.
 pub fn has_side(word: &[u8]) -> bool {
     for start in 0..word.len() {
-        let rest = word.get(start..).unwrap_or(b"");
+        let rest = &word[start..];
         if matches!(rest, [b'e' | b'h' | b'n' | b'q' | b's' | b'w', ..]) && begins_side(rest) {
             return true;
         }
@@ -79,7 +80,8 @@ pub fn may_be_corners(word: &[u8]) -> bool {
     }
 }
 
-/// Whether a word is a corner and a letter that scanning makes of a `1`, as in `NEl/4`, but not `Nev`, for Nevada.
+/// Whether a word is a corner and a letter that scanning makes of a `1`, as in `NEl/4`, but not `Nev`, for
+/// Nevada.
 pub fn is_damaged_corner(bytes: &[u8]) -> bool {
     match bytes {
         [b'N', b'e', b'v'] => false,
@@ -92,8 +94,8 @@ pub fn is_damaged_corner(bytes: &[u8]) -> bool {
     }
 }
 
-/// Whether a word is a side and a letter that scanning makes of a `1`, before a slash, as in `Wl/2`, or of `1/`, as in
-/// `WY2` or `WV2`.
+/// Whether a word is a side and a letter that scanning makes of a `1`, before a slash, as in `Wl/2`, or of
+/// `1/`, as in `WY2` or `WV2`.
 pub fn is_damaged_half(bytes: &[u8], rest: Option<&[u8]>) -> bool {
     match bytes {
         [b'N' | b'S' | b'E' | b'W', b'l' | b'I' | b'i'] => matches!(rest, Some([b'/', ..])),

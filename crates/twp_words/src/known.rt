@@ -1,6 +1,6 @@
 // Made by tools/words.py from words.tsv and classes.tsv. To change a word, change its row there.
-//! Words of remarks after land that are known to say nothing of which land is meant: agencies, offices, counties, what
-//! is known of leases and patents, and companies.
+//! Words of remarks after land that are known to say nothing of which land is meant: agencies, offices,
+//! counties, what is known of leases and patents, and companies.
 
 use crate::same::is_among;
 

@@ -1,6 +1,7 @@
-//! The words of what people write about land, in lowercase: those of labels, of terms, of acreage, of meridians, and of
-//! sides and corners. Each list says what its words are in a text. The lists are rows of `words.tsv`, of which
-//! `tools/words.py` makes their functions; written by hand are `forms`, `numbers`, `same`, and `steps`.
+//! The words of what people write about land, in lowercase: those of labels, of terms, of acreage, of
+//! meridians, and of sides and corners. Each list says what its words are in a text. The lists are rows of
+//! `words.tsv`, of which `tools/words.py` makes their functions; written by hand are `forms`, `numbers`,
+//! `same`, and `steps`.
 #![tactic(auto)]
 
 mod changes;
@@ -12,6 +13,7 @@ mod labels;
 mod meridians;
 mod numbers;
 mod parties;
+mod properties;
 mod requests;
 mod same;
 mod steps;
@@ -28,10 +30,9 @@ pub use figures::{
 pub use forms::{has_side, is_damaged_corner, is_damaged_half, is_partial, may_be_corners};
 pub use known::is_known;
 pub use labels::{
-    adds_land, begins_property, is_beyond_label, is_column, is_doubtful_title, is_feature,
-    is_field, is_instrument, is_more, is_of_covering, is_of_domain, is_of_label, is_of_other_land,
-    is_of_property, is_of_tract, is_of_water, is_range_name, is_township_name, is_township_word,
-    names_property, points_into,
+    adds_land, is_beyond_label, is_column, is_doubtful_title, is_feature, is_field, is_instrument,
+    is_more, is_of_covering, is_of_domain, is_of_label, is_of_other_land, is_of_tract, is_of_water,
+    is_range_name, is_township_name, is_township_word,
 };
 pub use meridians::{
     are_meridian_letters, is_bare_meridian, is_before_meridian, is_meridian, is_meridian_of_two,
@@ -42,6 +43,7 @@ pub use parties::{
     begins_exception, begins_reference, excepts_land, is_month, is_net_or_gross, is_of_record,
     is_of_time, is_owner, is_whose,
 };
+pub use properties::{begins_property, is_of_property, names_property, points_into};
 pub use requests::{begins_request, is_of_request};
 pub use same::{are_corners, is_glued, is_one_of, is_same, size_of_character};
 pub use steps::{Size, written_step};

@@ -115,8 +115,8 @@ pub fn are_meridian_letters(word: &[u8]) -> bool {
     }
 }
 
-/// States that have public land, their abbreviations, and the letters for them, but for those that are also words, or
-/// land.
+/// States that have public land, their abbreviations, and the letters for them, but for those that are also
+/// words, or land.
 pub fn is_state(word: &[u8]) -> bool {
     match word.len() {
         2 => is_among(

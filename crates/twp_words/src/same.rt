@@ -1,24 +1,25 @@
 //! Whether two texts are the same, whether a word is in a list, and whether letters are those of corners.
 
-/// Whether two texts are the same. A pattern of bytes would be proved byte by byte, which takes several times as long.
-/// The lengths are compared first: most of them differ, and that takes no call.
+/// Whether two texts are the same. A pattern of bytes would be proved byte by byte, which takes several times
+/// as long. The lengths are compared first: most of them differ, and that takes no call.
 #[inline(always)]
 pub fn is_same(word: &[u8], text: &[u8]) -> bool {
     word.len() == text.len() && word == text
 }
 
-/// Whether a word is one of these words, which all have as many bytes as it has, and a space between them. A list
-/// in code calls this with a row of words for each length: so only the few words of this length are compared, and
-/// they are proved at once, not one by one. Rows that a `match` returned would become a table of pointers, each of
-/// which is set at every start of the program. The number before the words has a bit for the first byte of each of
-/// them, and one for the last byte, which rules out most words before any is compared.
+/// Whether a word is one of these words, which all have as many bytes as it has, and a space between them. A
+/// list in code calls this with a row of words for each length: so only the few words of this length are
+/// compared, and they are proved at once, not one by one. Rows that a `match` returned would become a table
+/// of pointers, each of which is set at every start of the program. The number before the words has a bit for
+/// the first byte of each of them, and one for the last byte, which rules out most words before any is
+/// compared.
 #[inline(always)]
 pub(crate) fn is_among(word: &[u8], edges: u64, words: &str) -> bool {
     has_edges(word, edges) && has_row(word, words)
 }
 
-/// Whether a number has the bit of a word's first byte: that of the byte's low five bits; and 32 bits higher, that
-/// of its last byte.
+/// Whether a number has the bit of a word's first byte: that of the byte's low five bits; and 32 bits higher,
+/// that of its last byte.
 #[inline(always)]
 fn has_edges(word: &[u8], edges: u64) -> bool {
     match (word.first(), word.last()) {
@@ -33,7 +34,7 @@ fn has_edges(word: &[u8], edges: u64) -> bool {
 /// Whether a word is one of these words.
 #[inline(never)]
 fn has_row(word: &[u8], words: &str) -> bool {
-    for row in words.as_bytes().chunks(word.len().saturating_add(1)) {
+    for row in words.as_bytes().chunks(word.len() + 1) {
         if is_row(row, word) {
             return true;
         }
@@ -44,12 +45,10 @@ fn has_row(word: &[u8], words: &str) -> bool {
 /// Which of these words a word is, counted from 0.
 #[inline(never)]
 fn index_among(word: &[u8], words: &str) -> Option<usize> {
-    let mut index: usize = 0;
-    for row in words.as_bytes().chunks(word.len().saturating_add(1)) {
+    for (index, row) in words.as_bytes().chunks(word.len() + 1).enumerate() {
         if is_row(row, word) {
             return Some(index);
         }
-        index = index.saturating_add(1);
     }
     None
 }
@@ -88,8 +87,8 @@ pub fn are_corners(letters: &[u8]) -> bool {
     true
 }
 
-/// Whether a word begins with corners in capitals, and goes on as another word, from which a line end was lost, as in
-/// `NENWCanyon`.
+/// Whether a word begins with corners in capitals, and goes on as another word, from which a line end was
+/// lost, as in `NENWCanyon`.
 pub fn is_glued(word: &[u8]) -> bool {
     let mut rest = word;
     for _ in 0..4 {

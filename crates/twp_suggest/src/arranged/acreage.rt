@@ -31,9 +31,7 @@ impl<'a> Plan<'a> {
             return true;
         }
         for index in 0..list.len() {
-            let Some(placed) = list.get(index) else {
-                break;
-            };
+            let placed = &list[index];
             if placed.phrase.names != Names::Nothing(LeftOut::Acreage) {
                 continue;
             }
@@ -43,7 +41,8 @@ impl<'a> Plan<'a> {
             ) {
                 // A whole section, or what is after a dash or before its land, may be meant to be less.
                 let is_minus = self.draft.pieces.is_dash(placed.phrase.first);
-                let is_first = !self.is_after_land(list, index);
+                let before = &list[..index];
+                let is_first = !has_land(before);
                 let land = beside.area;
                 let least = if is_minus || is_first || land >= SECTION {
                     land / 4 * 3
@@ -53,7 +52,7 @@ impl<'a> Plan<'a> {
                     land / 4
                 };
                 self.acreage = Some(acreage);
-                let all = self.land_before(list, index);
+                let all = self.land_before(placed.phrase, before);
                 if acreage <= least || acreage <= all / 4 {
                     return false;
                 }
@@ -66,33 +65,23 @@ impl<'a> Plan<'a> {
     /// Whether an acreage is that of the part before it: a figure, and a word for acres.
     fn is_of_part(&self, acreage: Phrase) -> bool {
         let pieces = &self.draft.pieces;
-        let last = acreage.end.saturating_sub(1);
         let is_figure = matches!(pieces.kind(acreage.first), Kind::Number(_));
-        is_figure && is_acres(pieces.lower(last))
-    }
-
-    /// Whether a section or land is before a phrase.
-    fn is_after_land(&self, list: &[Placed], index: usize) -> bool {
-        for placed in list.get(..index).unwrap_or(&[]) {
-            if !matches!(placed.phrase.names, Names::Nothing(_) | Names::Heading) {
-                return true;
-            }
-        }
-        false
+        is_figure
+            && matches!(acreage.end.checked_sub(1), Some(last) if is_acres(pieces.lower(last)))
     }
 
     /// The area of the land before an acreage with a word for what it is of, as in `containing 80 acres`,
     /// from the acreage before it on.
-    fn land_before(&self, list: &[Placed], index: usize) -> u64 {
+    fn land_before(&self, acreage: Phrase, before: &[Placed]) -> u64 {
         let pieces = &self.draft.pieces;
         let mut sum: u64 = 0;
         let mut last: u64 = 0;
         let mut end: usize = usize::MAX;
-        let first = list.get(index).map_or(0, |placed| placed.phrase.first);
+        let first = acreage.first;
         if !(pieces.is(first, b"containing") || pieces.is(first, b"comprising")) {
             return 0;
         }
-        for placed in list.get(..index).unwrap_or(&[]) {
+        for placed in before {
             let phrase = placed.phrase;
             match phrase.names {
                 Names::Nothing(LeftOut::Acreage) => {
@@ -293,4 +282,14 @@ fn land_of(area: u64) -> Beside {
         area,
         is_lots: false,
     }
+}
+
+/// Whether a section or land is among some phrases.
+fn has_land(phrases: &[Placed]) -> bool {
+    for placed in phrases {
+        if !matches!(placed.phrase.names, Names::Nothing(_) | Names::Heading) {
+            return true;
+        }
+    }
+    false
 }

@@ -162,22 +162,22 @@ impl<'a> Plan<'a> {
     /// without a semicolon before it.
     fn is_after_of(&self, section: Phrase) -> bool {
         let pieces = &self.draft.pieces;
-        let before = section.first.saturating_sub(1);
-        pieces.is(before, b"of")
-            || pieces.is(before, b"in")
-            || pieces.is(before, b"said")
-            || ((pieces.is(section.first, b"said") || pieces.is(section.first, b"same"))
-                && !pieces.is(before, b";"))
+        let first = section.first;
+        pieces.follows(first, b"of")
+            || pieces.follows(first, b"in")
+            || pieces.follows(first, b"said")
+            || ((pieces.is(first, b"said") || pieces.is(first, b"same"))
+                && !pieces.follows(first, b";"))
     }
 
     /// Whether an exception is set apart from the land before it: it may be from the land of each section.
     fn is_set_apart(&self, exception: Phrase) -> bool {
         let pieces = &self.draft.pieces;
-        let before = exception.first.saturating_sub(1);
-        pieces.is(before, b";")
-            || pieces.is(before, b",")
-            || matches!(pieces.kind(before), Kind::Stop)
-            || pieces.has_before(exception.first, b'\n')
+        let first = exception.first;
+        pieces.follows(first, b";")
+            || pieces.follows(first, b",")
+            || matches!(pieces.kind_before(first), Some(Kind::Stop))
+            || pieces.has_before(first, b'\n')
     }
 
     /// Whether it is sure which land a group has: several sections have none, or all of it is said to be

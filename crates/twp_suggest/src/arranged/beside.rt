@@ -98,7 +98,7 @@ impl<'a> Plan<'a> {
 
     /// Whether a comma is before a phrase.
     fn is_after_comma(&self, phrase: &Phrase) -> bool {
-        phrase.first > 0 && self.draft.pieces.is(phrase.first.saturating_sub(1), b",")
+        self.draft.pieces.follows(phrase.first, b",")
     }
 
     /// Whether a word, or a mark, is in a phrase.

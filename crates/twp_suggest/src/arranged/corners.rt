@@ -34,10 +34,12 @@ impl<'a> Plan<'a> {
 
     /// Whether a phrase is a corner without its fraction.
     fn is_bare_corner(&self, phrase: Phrase) -> bool {
-        let last = phrase.end.saturating_sub(1);
         phrase.names == Names::Part
             && self.draft.steps_of(phrase).len() == 1
-            && matches!(self.draft.pieces.kind(last), Kind::Corner(_))
+            && matches!(
+                self.draft.pieces.kind_before(phrase.end),
+                Some(Kind::Corner(_))
+            )
     }
 
     /// Whether a phrase is a part that begins with a corner and its fraction.

@@ -15,9 +15,7 @@ impl<'a> Plan<'a> {
         let mut count: usize = 0;
         let mut is_first = false;
         for index in 0..list.len() {
-            let Some(phrase) = list.get(index).map(|placed| placed.phrase) else {
-                break;
-            };
+            let phrase = list[index].phrase;
             match phrase.names {
                 Names::Sections => count = 0,
                 Names::Nothing(_) | Names::Heading => {}
@@ -42,14 +40,12 @@ impl<'a> Plan<'a> {
     pub(crate) fn doubt_whole_exceptions(&mut self, list: &[Placed]) {
         let mut is_excepting = false;
         for index in 0..list.len() {
-            let Some(placed) = list.get(index).copied() else {
-                break;
-            };
+            let placed = list[index];
             match placed.phrase.names {
                 Names::Except => is_excepting = true,
                 Names::Sections => is_excepting = false,
                 Names::Part if is_excepting && !is_joined(list, index) => {
-                    if self.does_hold_one(list.get(..index).unwrap_or(&[]), placed) {
+                    if self.does_hold_one(&list[..index], placed) {
                         self.draft.doubt();
                     }
                 }
@@ -92,7 +88,7 @@ impl<'a> Plan<'a> {
 
 /// Whether a part is before the one at an index, or follows it, with white space alone between them.
 fn is_joined(list: &[Placed], index: usize) -> bool {
-    goes_on(list, index) || (index > 0 && goes_on(list, index.saturating_sub(1)))
+    goes_on(list, index) || matches!(index.checked_sub(1), Some(before) if goes_on(list, before))
 }
 
 /// Whether another phrase follows the one at an index, with white space alone between them.

@@ -183,14 +183,17 @@ impl<'a> Plan<'a> {
     fn are_tracts(&self, part: &Phrase) -> bool {
         let pieces = &self.draft.pieces;
         let is_before = match self.draft.last_section {
-            Some(section) => {
-                section.first < part.first
-                    && !pieces.is_label_of_tract(section.first.saturating_sub(3))
-                    && !pieces.is_label_of_tract(section.first.saturating_sub(4))
-            }
+            Some(section) => section.first < part.first && !self.is_after_label(section.first),
             None => false,
         };
         is_before && pieces.is_label_of_tract(part.end)
+    }
+
+    /// Whether the label of a tract is before an index: three pieces, as `Tract 2:`, or four, as `Tr. 2:`.
+    fn is_after_label(&self, index: usize) -> bool {
+        let pieces = &self.draft.pieces;
+        matches!(index.checked_sub(3), Some(label) if pieces.is_label_of_tract(label))
+            || matches!(index.checked_sub(4), Some(label) if pieces.is_label_of_tract(label))
     }
 
     /// Whether two corners without a fraction are in cells of their own: the second may be a part of the
@@ -198,27 +201,37 @@ impl<'a> Plan<'a> {
     fn are_bare_cells(&self, before: &Phrase, after: &Phrase) -> bool {
         let pieces = &self.draft.pieces;
         pieces.has_before(after.first, b'\t')
-            && matches!(pieces.kind(before.end.saturating_sub(1)), Kind::Corner(_))
-            && matches!(pieces.kind(after.end.saturating_sub(1)), Kind::Corner(_))
+            && matches!(pieces.kind_before(before.end), Some(Kind::Corner(_)))
+            && matches!(pieces.kind_before(after.end), Some(Kind::Corner(_)))
     }
 
     /// Whether two corners without a fraction are in cells of their own, with commas between the cells of
     /// their row, as in `2N,3W,14,NE,SE`: the second may be a part of the first.
     fn are_comma_cells(&self, before: &Phrase, after: &Phrase) -> bool {
         let pieces = &self.draft.pieces;
-        let comma = before.first.saturating_sub(1);
-        let number = before.first.saturating_sub(2);
-        let mark = before.first.saturating_sub(3);
-        let is_cell = pieces.is_east_west(number)
-            || (pieces.number(number).is_some() && pieces.is(mark, b",") && pieces.is_joined(mark));
-        is_cell
+        let Some(comma) = before.first.checked_sub(1) else {
+            return false;
+        };
+        self.is_after_cell(comma)
             && pieces.is(comma, b",")
             && pieces.is_joined(comma)
             && pieces.is_joined(before.first)
             && pieces.is_joined(before.end)
             && pieces.is_joined(after.first)
-            && matches!(pieces.kind(before.end.saturating_sub(1)), Kind::Corner(_))
-            && matches!(pieces.kind(after.end.saturating_sub(1)), Kind::Corner(_))
+            && matches!(pieces.kind_before(before.end), Some(Kind::Corner(_)))
+            && matches!(pieces.kind_before(after.end), Some(Kind::Corner(_)))
+    }
+
+    /// Whether the side of a range, or a number after the comma of another cell, is before an index.
+    fn is_after_cell(&self, index: usize) -> bool {
+        let pieces = &self.draft.pieces;
+        let Some(last) = index.checked_sub(1) else {
+            return false;
+        };
+        let is_number = pieces.number(last).is_some()
+            && pieces.follows(last, b",")
+            && matches!(last.checked_sub(1), Some(mark) if pieces.is_joined(mark));
+        is_number || pieces.is_east_west(last)
     }
 
     /// Whether other pieces than commas and semicolons between two lands may mean something else: only an

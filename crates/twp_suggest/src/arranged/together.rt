@@ -192,7 +192,7 @@ impl<'a> Plan<'a> {
     fn is_row(&self, heading: &Phrase) -> bool {
         let pieces = &self.draft.pieces;
         let first = heading.first;
-        first == 0 || pieces.has_before(first, b'\n') || pieces.is(first.saturating_sub(1), b";")
+        first == 0 || pieces.has_before(first, b'\n') || pieces.follows(first, b";")
     }
 
     /// Whether a part is of another one that was named before, as in `the N/2 of said NW/4`, unless that is a
@@ -207,10 +207,7 @@ impl<'a> Plan<'a> {
             }
             // Within a part, `said` is after an `of`.
             let is_said = (phrase.form == Form::WithOf && self.has_word(phrase, b"said"))
-                || self
-                    .draft
-                    .pieces
-                    .is(phrase.first.saturating_sub(1), b"said");
+                || self.draft.pieces.follows(phrase.first, b"said");
             if is_said && (parts != 1 || !self.is_of_whole(before, phrase)) {
                 return true;
             }
@@ -249,7 +246,7 @@ impl<'a> Plan<'a> {
                 Names::Sections => {
                     sections = plus(sections, 1);
                     is_aside = is_aside
-                        || pieces.is(phrase.first.saturating_sub(1), b"(")
+                        || pieces.follows(phrase.first, b"(")
                         || pieces.is(phrase.end, b")");
                     colon = if matches!(pieces.kind(phrase.end), Kind::Colon) {
                         Some(plus(phrase.end, 1))

@@ -71,8 +71,9 @@ fn write_phrases(
     ensures { IfOk result (λ _. Grows (string_bytes out.old) (string_bytes out.new)) }
 {
     let mut count: usize = 0;
-    for (index, change) in changes.iter().enumerate() {
-        let earlier = changes.get(..index).unwrap_or(&[]);
+    for index in 0..changes.len() {
+        let change = &changes[index];
+        let earlier = &changes[..index];
         if !assumes(text, change, assumption) || is_said(text, earlier, change, assumption) {
             continue;
         }

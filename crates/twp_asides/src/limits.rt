@@ -1,0 +1,97 @@
+//! What no remark contains, since it may name land, or limit it.
+
+use crate::marks::{has_no_title, is_homesite_of_acreage, is_metes_and_bounds};
+use crate::pieces::{Pieces, plus};
+use twp_grammar::Kind;
+use twp_words::{
+    alters_land, has_side, is_beyond_label, is_glued, is_instrument, is_month, is_numeral,
+    is_of_label, is_of_record, is_partial, is_round_acreage, limits_land, may_be_corners,
+};
+
+/// The number of a township's last section.
+const SECTIONS: u16 = 36;
+
+/// Whether the piece at an index is in no remark.
+pub(crate) fn is_beyond_remark(pieces: &Pieces<'_>, index: usize) -> bool {
+    (pieces.may_be_land(index) && !pieces.is_share(index))
+        || pieces.is_day_of_month(index)
+        || (is_of_calendar(pieces, index) && pieces.has_column_of_lots())
+        || pieces.is_township_word(index)
+        || pieces.is(index, b"?")
+        || (pieces.is(index, b"'") && matches!(pieces.kind_before(index), Some(Kind::Number(_))))
+        || may_be_corners(pieces.lower(index))
+        || (alters_land(pieces.lower(index)) && !is_homesite_of_acreage(pieces, index))
+        || is_glued(pieces.bytes(index))
+        || pieces.is_like_section(index)
+        || is_metes_and_bounds(pieces, index)
+        || (pieces.is(index, b"no") && has_no_title(pieces.lower(plus(index, 1))))
+        || (pieces.is(index, b"/")
+            && (pieces.is(plus(index, 1), b"2") || pieces.is(plus(index, 1), b"4"))
+            && !matches!(index.checked_sub(1), Some(before) if pieces.is_date(before)))
+        || (pieces.is(index, b"tract") && pieces.number(plus(index, 1)).unwrap_or(0) > SECTIONS)
+        || ((is_partial(pieces.lower(index)) || is_beyond_label(pieces.lower(index)))
+            && !is_of_instrument(pieces, index))
+}
+
+/// Whether a date, or a month, is at an index.
+fn is_of_calendar(pieces: &Pieces<'_>, index: usize) -> bool {
+    pieces.is_date(index) || is_month(pieces.lower(index))
+}
+
+/// Whether the piece at an index may say, after land, which part of it is meant: a word for that, a side, a
+/// number, the acreage that land is called by, or a size, as in `300 x 300`.
+pub(crate) fn limits_land_at(pieces: &Pieces<'_>, index: usize) -> bool {
+    let word = pieces.lower(index);
+    let next = plus(index, 1);
+    let is_rest = pieces.is(index, b"net")
+        && (pieces.is(next, b"of") || pieces.number(next).is_some());
+    limits_land(word)
+        || is_rest
+        || (pieces.is(index, b"sale") && pieces.is(next, b"to"))
+        || has_side(word)
+        || (is_numeral(word) && adds_section(pieces, plus(index, 1)))
+        || is_size_or_acreage(pieces, index)
+}
+
+/// Whether the piece at an index is of a size, as in `300 x 300`, or the acreage that land is called by, as
+/// in `the Smith 80`.
+pub(crate) fn is_size_or_acreage(pieces: &Pieces<'_>, index: usize) -> bool {
+    let next = plus(index, 1);
+    let is_size = (pieces.is(index, b"x") || pieces.is(index, b"by"))
+        && pieces.number(next).is_some();
+    let is_record = matches!(
+        pieces.lower_back(index, 1),
+        Some(label) if is_of_label(label) || is_instrument(label) || is_of_record(label)
+    );
+    let is_called = is_round_acreage(pieces.number(index).unwrap_or(0))
+        && !is_record
+        && (!pieces.is_joined(index) || pieces.follows(index, b"("))
+        && (!pieces.is_joined(next) || pieces.is(next, b")"));
+    is_size || is_called
+}
+
+/// Whether a word at an index adds the section of the number before it, as in `Ten also`.
+fn adds_section(pieces: &Pieces<'_>, index: usize) -> bool {
+    pieces.is(index, b"as")
+        || pieces.is(index, b"also")
+        || pieces.is(index, b"entire")
+        || pieces.is(index, b"too")
+        || pieces.is(index, b"all")
+}
+
+/// Whether the word at an index is of `made a part of`, `only insofar`, `Fee minerals:`, or
+/// `Proposed Reinstatement of Terminated Oil and Gas Lease`, which limit no land.
+fn is_of_instrument(pieces: &Pieces<'_>, index: usize) -> bool {
+    let is_part = pieces.is(index, b"part")
+        && pieces.follows(index, b"a")
+        && pieces.is_back(index, 2, b"made");
+    let next = plus(index, 1);
+    let is_only = pieces.is(index, b"only")
+        && (pieces.is(next, b"insofar") || pieces.follows(index, b"int"));
+    let is_estate = pieces.is(index, b"minerals") && pieces.is(next, b":");
+    let is_proposed = pieces.is(index, b"proposed") && pieces.is(next, b"reinstatement");
+    let is_terminated = pieces.is(index, b"terminated")
+        && pieces.follows(index, b"of")
+        && pieces.is_back(index, 2, b"reinstatement");
+    is_part || is_only || is_estate || is_proposed || is_terminated
+}
