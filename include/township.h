@@ -15,8 +15,8 @@
  *         printf("%.2f acres\n", (double)answer.hundredths / 100);
  *     }
  *
- * The example examples/acres.c is a complete program, and says how to link it. Debian's packages have it in
- * /usr/share/doc/township.
+ * The example examples/acres.c is a complete program, and says how to link it. The Debian packages install it
+ * in /usr/share/doc/township.
  *
  * No pointer may be NULL, even for zero bytes, and memory that a call writes must not overlap the memory of any other
  * argument. There is nothing to free, and nothing is kept from one call to the next: call any function from any
@@ -169,8 +169,8 @@ typedef struct township_plat {
     uint8_t east_west;   /* TOWNSHIP_EAST or TOWNSHIP_WEST */
 } township_plat;
 
-/* An answer. Fields that do not apply to the verdict are 0; with TOWNSHIP_NO_ROOM, the other fields are those of the
-   answer with a larger buffer. */
+/* An answer. Fields that do not apply to the verdict are 0; with TOWNSHIP_NO_ROOM, the other fields are as they would
+   be with a larger buffer. */
 typedef struct township_answer {
     uint32_t verdict;
     uint32_t number;       /* the refusal's number, such as TOWNSHIP_REFUSAL_LAND_OVERLAP */
@@ -178,9 +178,9 @@ typedef struct township_answer {
     uint32_t inner_number; /* the number and the place of the refusal of a tract's description */
     uint32_t inner_at;
     uint32_t line;         /* from a function that explains: the line and column of the fault, or of the
-                              place that a note is about, counted from 1, or both 0. A refused description
-                              has the line and column of the byte `at` or, if only white space follows, of
-                              the end of the text before it */
+                              place that a note is about, counted from 1, or both 0. For a refused
+                              description, they are those of the byte `at` or, if only white space follows,
+                              of the end of the text before it */
     uint32_t column;
     uint32_t reserved;     /* 0 */
     uint64_t hundredths;   /* of an acre, rounded once, half up */
@@ -203,7 +203,7 @@ typedef struct township_full_answer {
 
 /*
  * An exact area: `units` over `over`, in square thousandths of a chain (10,000,000 make an acre);
- * `over` is at least 1. The units are a 128-bit number in two halves, less than 10 to the 24th.
+ * `over` is at least 1. The units are a 128-bit number in two halves, less than 10 to the 24th power.
  */
 typedef struct township_fraction {
     uint64_t units_low;
@@ -217,8 +217,8 @@ typedef struct township_fraction {
 
 /*
  * The figures of a printed plat, in hundredths of an acre. Each is an exact area, rounded once, half up.
- * `lots[section - 1][lot - 1]` is the figure of a lot, or 0 if the section has no such lot;
- * `sections[section - 1]` is the figure of a section.
+ * `lots[section - 1][lot - 1]` is the figure for a lot, or 0 if the section has no such lot;
+ * `sections[section - 1]` is the figure for a section.
  */
 typedef struct township_plat_figures {
     uint64_t lots[TOWNSHIP_SECTIONS][TOWNSHIP_LOTS_MOST];
@@ -247,16 +247,16 @@ typedef struct township_totals {
     uint64_t remaining; /* of all other land in the township */
 } township_totals;
 
-/* The answer to a tract of a list: its acres, or its first refusal apart from overlaps (81 or 82, or 83 with the
-   refusal of its description). Its name is as in `township_tract`, but empty for 81, since the record is not a
-   tract. */
+/* The answer for a tract in a list: its acres, or its first refusal other than an overlap (81 or 82, or 83 with
+   the refusal of its description). Its name is as in `township_tract`, but empty for 81, since the record is not
+   a tract. */
 typedef struct township_tract_answer {
     township_answer answer;
     uint32_t name_length; /* 0 to TOWNSHIP_NAME_MOST */
     char name[TOWNSHIP_NAME_ROOM];
 } township_tract_answer;
 
-/* Two tracts of a list that overlap, by their records. */
+/* Two tracts in a list that overlap, identified by their records. */
 typedef struct township_overlap {
     uint32_t first;      /* the record of the earlier tract: 2 for the first tract of the list */
     uint32_t second;     /* the record of the later tract */
@@ -289,7 +289,7 @@ typedef struct township_land {
 
 /*
  * A lot table: the acreage that the approved plat returns for each lot, in hundredths of an acre: 1 to 99,999,
- * or 0 if the table lacks the lot. The lots are sorted by section number and then by lot number.
+ * or 0 if the table does not have the lot. The lots are sorted by section number and then by lot number.
  */
 typedef struct township_lots {
     uint32_t figures[TOWNSHIP_LOTS];
@@ -297,9 +297,9 @@ typedef struct township_lots {
 } township_lots;
 
 /*
- * A written part of land: an entry of its canonical text. `lot` is the lot's number, or 0 for a block of land that is
- * in no lot. The block (lots have one, too) is `columns` by `rows` places; its southeast corner is at column `column`,
- * counted from 0 in the east, and row `row`, counted from 0 in the south.
+ * A part of land as written: an entry in its canonical text. `lot` is the lot's number, or 0 for a block of land that
+ * is in no lot. The block (lots have one, too) is `columns` by `rows` places; its southeast corner is at column
+ * `column`, counted from 0 in the east, and row `row`, counted from 0 in the south.
  */
 typedef struct township_part {
     uint8_t section;
@@ -344,27 +344,27 @@ typedef struct township_part {
 #define TOWNSHIP_RULE_ACREAGE 25u        /* stated acreage is left out */
 #define TOWNSHIP_RULE_LABEL 26u          /* a label, which is not land, is left out */
 
-/* Assumptions that a change makes, although the text does not state them. "The words around the change" extend to white
-   space, a comma, a semicolon, a colon, or a vertical bar. */
+/* The assumptions of a change, which the text does not state. "The words around the change" extend to white space, a
+   comma, a semicolon, a colon, or a vertical bar. */
 #define TOWNSHIP_ASSUMES_SAME_MERIDIAN 1u    /* the text left out is the field notes' meridian, state, or county */
-#define TOWNSHIP_ASSUMES_SAME_ACREAGE 2u     /* the acreage left out is right; it is not compared */
+#define TOWNSHIP_ASSUMES_SAME_ACREAGE 2u     /* the acreage left out is correct; it is not checked */
 #define TOWNSHIP_ASSUMES_NOT_LAND 3u         /* the text left out is not land */
 #define TOWNSHIP_ASSUMES_SAID_BEFORE 4u      /* the text left out repeats the text before it */
 #define TOWNSHIP_ASSUMES_WRONG_LETTER 5u     /* a letter or a digit in the words around the change, or around the text
                                                 that it copies, is wrong: it was misread, or is a slip of the pen */
-#define TOWNSHIP_ASSUMES_NO_MISSING_COMMA 6u /* no comma is missing in the words around the change, and around the white
+#define TOWNSHIP_ASSUMES_NO_MISSING_COMMA 6u /* no comma is missing in the words around the change, or around the white
                                                 space that it leaves out: they are one part */
 
 /* Manners: how the text of a reading was derived from the changed text. */
 #define TOWNSHIP_CHANGED 0u    /* it is the changed text */
 #define TOWNSHIP_LOTS_NAMED 1u /* it is the canonical description of the land of the changed text, in which an aliquot
-                                  part includes lots: they are named in its place */
+                                  part includes lots: they are named instead of it */
 #define TOWNSHIP_REMAINDER 2u  /* it is the canonical description of the remaining land: the land before `except`
                                   minus the land after it */
 
 /*
- * A change that a reading makes: it replaces the bytes of the text from `start` to before `end`, possibly none, by the
- * `written_length` bytes that begin at bytes[written].
+ * A change that a reading makes: it replaces the bytes of the text from `start` up to `end` (exclusive), possibly none,
+ * with the `written_length` bytes that begin at bytes[written].
  */
 typedef struct township_change {
     uint64_t start;
@@ -394,8 +394,8 @@ typedef struct township_reading {
 /*
  * The sizes of the output of township_suggest, whether or not it was written. If there are no readings because lots
  * and aliquot parts can't describe the land, the reason, such as `a portion needs a survey`, is the `reason_length`
- * bytes that begin at bytes[reason], and the phrase that it is about is in the text from `beyond` to before
- * `beyond_end`. Otherwise these four are 0.
+ * bytes that begin at bytes[reason], and the phrase that it is about is in the text from `beyond` up to `beyond_end`
+ * (exclusive). Otherwise these four are 0.
  */
 typedef struct township_suggestion {
     uint64_t readings; /* the number of readings: at most TOWNSHIP_READINGS_MOST */
@@ -416,9 +416,9 @@ typedef struct township_suggestion {
 #define TOWNSHIP_WAYS_PART_OR_SECTION 6u    /* a part with `thereof`: of the part before it, or of the section */
 
 /*
- * Some bytes of a text, from `start` to before `end`. Of a text with the land of several townships: the part of one of
- * them. Of a text without readings: unread words, which no phrase contains that could be in a reading; or, if `ways` is
- * not 0, a phrase that can be read in two ways.
+ * A range of bytes in a text, from `start` up to `end` (exclusive). In a text with land in several townships: the part
+ * for one of them. In a text without readings: unread words, which belong to no phrase that could be in a reading; or,
+ * if `ways` is not 0, a phrase that can be read in two ways.
  */
 typedef struct township_stretch {
     uint64_t start;
@@ -455,8 +455,8 @@ township_answer township_report(const township_plat *plat, const uint8_t *list, 
                                 uint8_t *text, size_t room);
 
 /*
- * Writes the figures that township_report prints: to `tracts` a tract for each record after the heading, in the
- * order of the list, and to `totals` the totals. `length` is the number of tracts; if `room`, the number of
+ * Writes the figures that township_report prints: a tract for each record after the heading to `tracts`, in the
+ * order of the list, and the totals to `totals`. `length` is the number of tracts; if `room`, the number of
  * elements of `tracts`, is smaller, the verdict is TOWNSHIP_NO_ROOM. On any verdict other than
  * TOWNSHIP_ACCEPTED, `tracts` and `totals` are unchanged. An array of TOWNSHIP_TRACTS_MOST tracts always suffices.
  */
@@ -488,9 +488,9 @@ township_answer township_figures(const township_plat *plat, township_plat_figure
 
 /*
  * Answers many descriptions, stored one after another: the first description begins at offsets[0] and ends before
- * offsets[1], the next one begins there and ends before offsets[2], and so on, so there is one more offset than
- * descriptions. Each is answered as township_acres would, or with TOWNSHIP_NO_RANGE if its second offset is less than
- * its first one or more than `descriptions_length`. A refusal does not end the call: check the verdict of each
+ * offsets[1], the next one begins there and ends before offsets[2], and so on, so there is one more offset than there
+ * are descriptions. Each is answered as township_acres would, or with TOWNSHIP_NO_RANGE if its second offset is less
+ * than its first one or more than `descriptions_length`. A refusal does not end the call: check the verdict of each
  * answer. `length` is the number of descriptions; if `room`, the number of elements of `answers`, is smaller, the
  * verdict is TOWNSHIP_NO_ROOM, and nothing is written.
  */
@@ -511,11 +511,11 @@ township_answer township_answer_many(const township_plat *plat, const uint8_t *d
                                      township_full_answer *answers, size_t room);
 
 /*
- * Writes to `township` the township that a text names: `T. 2 N., R. 3 W.` as in the heading of a description, `T2N R3W`,
- * `T-2-N, R-3-W`, `Township 2 North, Range 3 West`, `2N-3W`, or `0020N 0030W` as in a register; docs/TOWNSHIPS.md
- * lists all spellings. Any other text is refused, including one that names land, too. The place of the refusal is the
- * byte at which the first word, number, or mark begins that no spelling has there, or the length of the text. On any
- * verdict other than TOWNSHIP_ACCEPTED, `township` is unchanged.
+ * Writes to `township` the township that a text names: `T. 2 N., R. 3 W.` as in the heading of a description,
+ * `T2N R3W`, `T-2-N, R-3-W`, `Township 2 North, Range 3 West`, `2N-3W`, or `0020N 0030W` as in a register;
+ * docs/TOWNSHIPS.md lists all spellings. Any other text is refused, including one that names land, too. The place of
+ * the refusal is the first byte of the first word, number, or mark that no spelling has there, or the length of the
+ * text. On any verdict other than TOWNSHIP_ACCEPTED, `township` is unchanged.
  */
 township_answer township_designation_read(const uint8_t *text, size_t text_length, township_designation *township);
 
@@ -540,7 +540,7 @@ township_answer township_land_area(const township_plat *plat, const township_lan
 township_answer township_land_text(const township_land *land, uint8_t *text, size_t room);
 
 /*
- * Writes the written parts of land, in the order of its canonical text. A section that the land contains wholly is
+ * Writes the parts of land, in the order of its canonical text. A section that the land contains wholly is
  * one block; for any other section, the lots come first, and then the other blocks. `length` is the number of parts;
  * if `room`, the number of elements of `parts`, is smaller, the verdict is TOWNSHIP_NO_ROOM, and nothing is written.
  */
@@ -599,11 +599,11 @@ township_answer township_lots_report(const township_lots *lots, const uint8_t *l
                                      township_tract *tracts, size_t room);
 
 /*
- * Explain why field notes, a description, or a list is refused. Each function returns the same verdict, with the line
- * and column of the fault, and writes the lines of text that the program would show; or the verdict is
- * TOWNSHIP_NO_ROOM. `name` is the file name that the text shows, in UTF-8; if it is empty or not valid UTF-8, the
- * text shows `input`. A text has at most 8 lines of at most 100 columns, not counting a name that is too long for the
- * first line.
+ * Explain why field notes, a description, or a list is refused. Each function returns the verdict of township_read,
+ * township_acres, or township_report, with the line and column of the fault, and writes the lines of text that the
+ * program would show; or the verdict is TOWNSHIP_NO_ROOM. `name` is the file name that the text shows, in UTF-8; if it
+ * is empty or not valid UTF-8, the text shows `input`. A text has at most 8 lines of at most 100 columns, not counting
+ * a name that is too long for the first line.
  *
  * If a description or a list is accepted, but a place in it can be read in two ways, the text is a note on the first
  * such place, with its line and column, and `number` is 0. For any other accepted input, there is no text, and
@@ -621,7 +621,7 @@ township_answer township_explain_list(const township_plat *plat, const uint8_t *
 /* The part of the input that an explanation shows. */
 #define TOWNSHIP_SHOWN_NOTHING 0u /* nothing: the fault is not at one place */
 #define TOWNSHIP_SHOWN_LINE 1u    /* a line, whose number is in the text; it contains the byte `start` */
-#define TOWNSHIP_SHOWN_BYTES 2u   /* the bytes from `start` to before `end`, which are underlined */
+#define TOWNSHIP_SHOWN_BYTES 2u   /* the bytes from `start` up to `end` (exclusive), which are underlined */
 
 /*
  * The parts of an explanation or of a note, in bytes: offsets in the input, and offsets and lengths in the text. A part
@@ -644,7 +644,7 @@ typedef struct township_explanation {
     uint64_t excerpt_length;
     uint64_t hints;           /* the lines that say how to correct it, or give related facts */
     uint64_t hints_length;
-    uint64_t repair;          /* the only reading of the text, at the end of the hints; missing if escaped there */
+    uint64_t repair;          /* the only reading of the text, at the end of the hints; omitted if escaped there */
     uint64_t repair_length;
 } township_explanation;
 
@@ -679,25 +679,25 @@ township_answer township_suggest(const uint8_t *description, size_t description_
                                  township_suggestion *suggestion);
 
 /*
- * Says what of a text is unread, for a text without readings: writes to `unread` the runs of unread words, from left to
- * right, and then at most 8 phrases that can be read in two ways. `length` is their number; if `room`, the number of
- * elements of `unread`, is smaller, the verdict is TOWNSHIP_NO_ROOM. On any verdict other than TOWNSHIP_ACCEPTED,
- * `unread` is unchanged.
+ * Finds the words of a text without readings that were not understood: writes to `unread` the runs of unread words,
+ * from left to right, and then at most 8 phrases that can be read in two ways. `length` is their number; if `room`, the
+ * number of elements of `unread`, is smaller, the verdict is TOWNSHIP_NO_ROOM. On any verdict other than
+ * TOWNSHIP_ACCEPTED, `unread` is unchanged.
  */
 township_answer township_unread(const uint8_t *description, size_t description_length,
                                 township_stretch *unread, size_t room);
 
 /*
- * Splits a text with the land of several townships, such as `T. 2 N., R. 3 W., sec. 5; T. 3 N., R. 3 W., sec. 31.`:
- * writes to `parts` where the part of each township begins and ends. A part begins with its heading, and ends before the
- * separator that the next heading follows: `;`, `; and`, or none. Each part is a description for the calls above, with
+ * Splits a text with land in several townships, such as `T. 2 N., R. 3 W., sec. 5; T. 3 N., R. 3 W., sec. 31.`: writes
+ * to `parts` where the part for each township begins and ends. A part begins with its heading, and ends before the
+ * separator in front of the next heading: `;`, `; and`, or none. Each part is a description for the calls above, with
  * places that are counted from its beginning. The first part begins at 0, and the last one ends at the end of the text,
  * so a text with only one township is its only part. `length` is the number of parts; if `room`, the number of elements
  * of `parts`, is smaller, the verdict is TOWNSHIP_NO_ROOM. On any verdict other than TOWNSHIP_ACCEPTED, `parts` is
  * unchanged.
  *
- * A text with a heading whose first land has none is refused at this heading; docs/SEVERAL-TOWNSHIPS.md explains the
- * refusals. A part may be refused when it is given to another call.
+ * A text is refused at its first heading if anything but white space precedes it; docs/SEVERAL-TOWNSHIPS.md explains
+ * the refusals. A part may be refused when it is passed to another call.
  */
 township_answer township_split(const uint8_t *description, size_t description_length, township_stretch *parts,
                                size_t room);
