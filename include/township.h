@@ -34,15 +34,15 @@ extern "C" {
 #endif
 
 /* Made by tools/header_names.py: */
-/* The version of this header. township_version returns that of the library. */
+/* The version of this header; township_version returns the version of the library. */
 #define TOWNSHIP_VERSION "1.0.0"
 #define TOWNSHIP_VERSION_MAJOR 1
 #define TOWNSHIP_VERSION_MINOR 0
 #define TOWNSHIP_VERSION_PATCH 0
-/* The same as one number, which can be compared: 1,000,000 * MAJOR + 1,000 * MINOR + PATCH. */
+/* The version as one number, for comparisons: 1,000,000 * MAJOR + 1,000 * MINOR + PATCH. */
 #define TOWNSHIP_VERSION_NUMBER 1000000
 
-/* The numbers of refusals, which docs/REFUSALS.md explains, and the pages that it names. */
+/* The numbers of refusals, explained in docs/REFUSALS.md and the pages that it names. */
 /* Field notes: */
 #define TOWNSHIP_REFUSAL_NOTES_TOO_LARGE 1u
 #define TOWNSHIP_REFUSAL_NOTES_EMPTY 2u

@@ -73,12 +73,12 @@ def the_only(pattern: str, file: Path) -> str:
 
 def version_lines(version: str) -> Iterator[str]:
     """Yield the version, as a text and as numbers."""
-    yield "/* The version of this header. township_version returns that of the library. */"
+    yield "/* The version of this header; township_version returns the version of the library. */"
     yield f'#define TOWNSHIP_VERSION "{version}"'
     numbers = [int(number) for number in version.split(".")]
     for name, number in zip(("MAJOR", "MINOR", "PATCH"), numbers):
         yield f"#define TOWNSHIP_VERSION_{name} {number}"
-    yield "/* The same as one number, which can be compared: 1,000,000 * MAJOR + 1,000 * MINOR + PATCH. */"
+    yield "/* The version as one number, for comparisons: 1,000,000 * MAJOR + 1,000 * MINOR + PATCH. */"
     major, minor, patch = numbers
     yield f"#define TOWNSHIP_VERSION_NUMBER {1_000_000 * major + 1_000 * minor + patch}"
 
@@ -89,7 +89,7 @@ def refusal_lines() -> Iterator[str]:
     for page in PAGES:
         rows += re.findall(r"^\| (\d+) `([A-Z][A-Za-z]*)` \|", page.read_text(), re.MULTILINE)
     refusals = {int(number): name for number, name in rows}
-    yield "/* The numbers of refusals, which docs/REFUSALS.md explains, and the pages that it names. */"
+    yield "/* The numbers of refusals, explained in docs/REFUSALS.md and the pages that it names. */"
     for group in GROUPS:
         yield f"/* {group.subject}: */"
         for number in sorted(set(group.numbers) & set(refusals)):
