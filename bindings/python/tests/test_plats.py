@@ -8,14 +8,27 @@ import random
 import re
 import subprocess
 import tempfile
+import time
 import unittest
 from decimal import Decimal
 from fractions import Fraction
 from pathlib import Path
-from typing import List
+from typing import Iterator, List
 
 from samples import EVEN_NOTES, NOTES, TOP, even, uneven
-from township import Land, Lands, Lots, LotsOverlap, MissingPlat, Plat, Plats, Refused, Township, rounded, split
+from township import (
+    Land,
+    Lands,
+    Lots,
+    LotsOverlap,
+    MissingPlat,
+    Plat,
+    Plats,
+    Refused,
+    Township,
+    rounded,
+    split,
+)
 
 HERE = Township(2, "N", 3, "W")
 NORTH = Township(3, "N", 3, "W")
@@ -151,6 +164,16 @@ class PlatsTest(unittest.TestCase):
                 Plats.open(folder)
 
 
+def many_texts(townships: List[Township]) -> Iterator[str]:
+    """500 descriptions in each of these townships, none of which overlap: 20 in each section without lots."""
+    quarters = ("NE1/4", "NW1/4", "SW1/4", "SE1/4")
+    parts = [f"{part}{quarter}" for quarter in quarters[:3] for part in quarters]
+    parts += [f"{half}{part}SE1/4" for part in quarters for half in ("N1/2", "S1/2")]
+    for township in townships:
+        for section in (*range(8, 18), *range(20, 30), *range(32, 37)):
+            yield from (f"{township}, sec. {section}, {part}" for part in parts)
+
+
 class ReportTest(unittest.TestCase):
     """Reports on tracts, and their overlaps."""
 
@@ -176,6 +199,54 @@ class ReportTest(unittest.TestCase):
             refused = caught.exception
             self.assertEqual((refused.number, refused.at, refused.inner), (number, 3, inner), second)
         self.assertEqual(str(refused), "tracts: record 3: `B` overlaps `A`: T. 2 N., R. 3 W., sec. 14, NE1/4.")
+
+    def test_many_tracts_take_no_time_per_pair(self) -> None:
+        townships = [Township(number, "N", 3, "W") for number in range(1, 21)]
+        plats = Plats(Lots.new(township) for township in townships)
+        tracts = [(str(index), text) for index, text in enumerate(many_texts(townships))]
+        self.assertEqual(len(tracts), 10_000)
+        begun = time.process_time()
+        report = plats.report(tracts)
+        self.assertEqual(report.total, sum(tract.acres for tract in report.tracts))
+        self.assertEqual(plats.overlaps(tracts), ())
+        again = plats.overlaps([*tracts, ("again", tracts[123][1])])
+        self.assertEqual([(each.first, each.second) for each in again], [(123, 10_000)])
+        with self.assertRaises(Refused) as caught:
+            plats.report([*tracts, ("again", tracts[123][1])])
+        self.assertEqual((caught.exception.number, caught.exception.at), (84, 10_002))
+        # At least 1,000 tracts a second. All 50 million pairs take some minutes for each call.
+        self.assertLess(time.process_time() - begun, 4 * 10)
+
+    def test_overlaps_are_those_of_all_pairs(self) -> None:
+        chance = random.Random(4)
+        parts = ["", ", N1/2", ", S1/2", ", NE1/4", ", SW1/4NW1/4", ", E1/2SE1/4", ", NW1/4SE1/4"]
+        texts = [
+            "; ".join(f"T{number}N R3W sec. {section}{chance.choice(parts)}" for number, section in chosen)
+            for chosen in (
+                sorted({(chance.randrange(2, 5), chance.randrange(8, 12)) for _ in range(chance.randrange(1, 4))})
+                for _ in range(60)
+            )
+        ]
+        lands = [Lands.of(text) for text in texts]
+        wanted = [
+            (first, second)
+            for second, later in enumerate(lands) for first, earlier in enumerate(lands[:second]) if earlier & later
+        ]
+        self.assertGreater(len(wanted), 100)
+        plats = Plats([uneven()])
+        found = plats.overlaps([("", text) for text in texts])
+        self.assertEqual([(each.first, each.second) for each in found], wanted)
+        self.assertEqual(plats.overlaps([("", land) for land in lands]), found)
+        for first, second, acres in found:
+            both = lands[first] & lands[second]
+            is_here = list(both.by_township()) == [HERE]
+            self.assertEqual(acres, plats.acres(both) if is_here else None)
+        # In one township, the library finds the same.
+        here = [(f"{index}", land.by_township().get(HERE, Land.empty(HERE))) for index, land in enumerate(lands)]
+        described = [(name, land) for name, land in here if land]
+        wanted_here = [(each.first, each.second, each.acres) for each in uneven().overlaps(described)]
+        found_here = plats.overlaps([(name, Lands([land])) for name, land in described])
+        self.assertEqual([tuple(each) for each in found_here], wanted_here)
 
     def test_overlaps(self) -> None:
         tracts = [

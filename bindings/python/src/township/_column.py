@@ -1,11 +1,11 @@
 """A column of descriptions or land, answered by many plats: what `township.pandas` does without pandas."""
 from __future__ import annotations
 
-from collections import defaultdict
-from typing import Any, Dict, Iterable, Iterator, List, NamedTuple, Optional, Sequence, Set, Tuple, Union
+from typing import Any, Dict, Iterable, Iterator, List, NamedTuple, Optional, Sequence, Union
 
 from . import _library
 from ._account import Account
+from ._earlier import EarlierLand
 from ._land import Land
 from ._lots import Lots
 from ._many import Answers
@@ -88,16 +88,9 @@ def lands_of(by: Basis, values: Iterable[Any]) -> Iterator[Optional[Land]]:
 
 def shared_lands(lands: Sequence[Optional[Land]]) -> Iterator[SharedLand]:
     """Yield what any two lands of a township have in common, in the order of the later one, and then of the earlier."""
-    by_section: Dict[int, List[int]] = defaultdict(list)
-    pairs: Set[Tuple[int, int]] = set()
-    for index, land in enumerate(lands):
+    earlier = EarlierLand()
+    for second, land in enumerate(lands):
         if land is not None:
-            for section in land._numbers():
-                pairs.update((index, earlier) for earlier in by_section[section])
-                by_section[section].append(index)
-    for second, first in sorted(pairs):
-        one, other = lands[first], lands[second]
-        assert one is not None and other is not None
-        both = one & other
-        if both:
-            yield SharedLand(first, second, both)
+            for first, both in earlier.shared(land):
+                yield SharedLand(first, second, both)
+            earlier.add(second, land)

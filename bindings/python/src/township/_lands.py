@@ -95,6 +95,14 @@ class Lands:
         """Return whether the two have no place in common."""
         return not self & other
 
+    def on_one_line(self) -> str:
+        """Return the canonical text on one line.
+
+        >>> township.Lands.of("T2N R3W sec. 14").on_one_line()
+        'T. 2 N., R. 3 W., sec. 14, all.'
+        """
+        return " ".join(str(self).split())
+
     def __or__(self, other: Lands) -> Lands:
         if not isinstance(other, Lands):
             return NotImplemented

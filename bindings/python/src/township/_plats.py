@@ -7,6 +7,7 @@ from typing import Dict, Iterable, Iterator, List, Mapping, NamedTuple, Optional
 
 from . import _library
 from ._account import Account, code_of
+from ._earlier import EarlierLands
 from ._explanation import Explained
 from ._land import Land
 from ._lands import Lands
@@ -172,12 +173,20 @@ class Plats(Mapping[Township, Basis]):
         ([('A', Decimal('39.18')), ('B', Decimal('39.03'))], Decimal('78.20'))
         """
         code_of(account)
-        seen: Dict[str, Lands] = {}
+        names: Dict[str, int] = {}
+        earlier = EarlierLands()
         figures: List[LocatedTract] = []
         total: Dict[Township, Fraction] = {}
         for index, (name, located) in enumerate(tracts):
-            land, areas = self._reported(index, name, located, account, seen)
-            seen[name] = land
+            if names.setdefault(name, index) != index:
+                raise _refused(_library.REFUSAL_NAME_REPEATED, index, f"an earlier tract has the name `{name}`")
+            land, areas = self._reported(index, located, account)
+            shared = next(earlier.shared(land), None)
+            if shared is not None:
+                other, both = shared
+                sentence = f"`{name}` overlaps `{figures[other].name}`: {both.on_one_line()}"
+                raise _refused(_library.REFUSAL_TRACTS_OVERLAP, index, sentence)
+            earlier.add(index, land)
             figures.append(LocatedTract(name, rounded(sum(areas.values(), Fraction(0))), _each_rounded(areas)))
             for township, area in areas.items():
                 total[township] = total.get(township, Fraction(0)) + area
@@ -192,13 +201,13 @@ class Plats(Mapping[Township, Basis]):
         >>> township.Plats([plat]).overlaps([("A", "T2N R3W sec. 14"), ("B", "T2N R3W sec. 14, NE1/4")])
         (LotsOverlap(first=0, second=1, acres=Decimal('160.00')),)
         """
-        lands = [_land_or_none(located) for _, located in tracts]
+        earlier = EarlierLands()
         found = []
-        for second, later in enumerate(lands):
-            for first, earlier in enumerate(lands[:second]):
-                both = earlier & later
-                if both:
-                    found.append(LotsOverlap(first, second, self._acres_or_none(both)))
+        for second, (_, located) in enumerate(tracts):
+            lands = _land_or_none(located)
+            for first, both in earlier.shared(lands):
+                found.append(LotsOverlap(first, second, self._acres_or_none(both)))
+            earlier.add(second, lands)
         return tuple(found)
 
     def _areas(self, located: Located, account: Account) -> Dict[Township, Fraction]:
@@ -216,23 +225,14 @@ class Plats(Mapping[Township, Basis]):
         except (MissingPlat, Refused):
             return None
 
-    def _reported(
-        self, index: int, name: str, located: Located, account: Account, seen: Mapping[str, Lands]
-    ) -> Tuple[Lands, Dict[Township, Fraction]]:
-        """Return the land and the areas of a tract. Raise `Refused` if these tracts come before it."""
-        if name in seen:
-            raise _refused(_library.REFUSAL_NAME_REPEATED, index, f"an earlier tract has the name `{name}`")
+    def _reported(self, index: int, located: Located, account: Account) -> Tuple[Lands, Dict[Township, Fraction]]:
+        """Return the land and the areas of a tract. Raise `Refused` if it is refused."""
         try:
             land = _lands_of(located)
-            areas = self._areas(land, account)
+            return land, self._areas(land, account)
         except Refused as refused:
             inner = Refusal(refused.number, refused.at)
             raise _refused(_library.REFUSAL_TRACT_REFUSED, index, str(refused), inner) from refused
-        for other, earlier in seen.items():
-            if earlier & land:
-                shared = " ".join(str(earlier & land).split())
-                raise _refused(_library.REFUSAL_TRACTS_OVERLAP, index, f"`{name}` overlaps `{other}`: {shared}")
-        return land, areas
 
 
 def _lands_of(located: Located) -> Lands:
