@@ -28,6 +28,8 @@ from township import (
     Township,
     rounded,
     split,
+    suggest,
+    suggest_parts,
 )
 
 HERE = Township(2, "N", 3, "W")
@@ -81,6 +83,8 @@ class AcresTest(unittest.TestCase):
         with self.assertRaises(Refused) as caught:
             plats().acres("T2N R3W sec. 14; T3N R3W sec. 31, lot 3")
         self.assertEqual((caught.exception.number, caught.exception.at), (94, 3103))
+        said = "T. 3 N., R. 3 W.: the lot table has no record for lot 3 of section 31"
+        self.assertEqual(str(caught.exception), said)
 
     def test_refused_parts(self) -> None:
         for text, number, at, source in (
@@ -266,6 +270,55 @@ class ReportTest(unittest.TestCase):
         ))
 
 
+class ReadingsTest(unittest.TestCase):
+    """The readings of a text with the land of several townships."""
+
+    def test_each_part_has_its_readings(self) -> None:
+        text = "T2N-R3W Sec 5: Lots 1 & 2; T3N-R3W Sec 32: S2; and T4N-R3W Sec 14: NE4"
+        parts = plats().suggest(text)
+        self.assertEqual([str(each.part.township) for each in parts], [
+            "T. 2 N., R. 3 W.", "T. 3 N., R. 3 W.", "T. 4 N., R. 3 W.",
+        ])
+        self.assertEqual([each.readings[0].acres for each in parts], [Decimal("81.00"), Decimal("320.00"), None])
+        self.assertEqual([each.readings[0].refused for each in parts], [None] * 3)
+        self.assertEqual([each.readings[0].text for each in parts], [
+            "T2N R3W Sec 5: Lots 1  and  2", "T3N R3W Sec 32: S1/2", "T4N R3W Sec 14: NE1/4",
+        ])
+        without = suggest_parts(text)
+        self.assertEqual([each.part for each in without], split(text))
+        for given, (part, readings) in zip(without, parts):
+            self.assertEqual(given.readings, suggest(part.text))
+            self.assertEqual([each.text for each in given.readings], [each.text for each in readings])
+
+    def test_several_readings_of_a_part(self) -> None:
+        first, second = plats().suggest("T2N R3W sec. 14: NE¼NE¼ SW¼SW¼; T3N R3W sec. 31, lot 1.")
+        self.assertEqual([each.acres for each in first.readings], [Decimal("80.00"), Decimal("2.50")])
+        self.assertEqual([each.acres for each in second.readings], [Decimal("38.97")])
+
+    def test_land_before_its_heading(self) -> None:
+        (part, readings), = plats().suggest("NENE, S2NE4 Sec 14-2N-3W")
+        self.assertEqual((part.start, part.end), (0, 24))
+        self.assertEqual([each.acres for each in readings], [Decimal("120.00")])
+        (part, readings), = plats().suggest("NE/4 of Section 14, T2N R3W")
+        self.assertEqual(part.text, "NE/4 of Section 14, T2N R3W")
+        self.assertEqual([each.acres for each in readings], [Decimal("160.00")])
+
+    def test_refused_readings(self) -> None:
+        (_, readings), = plats().suggest("T3N-R3W Sec 31: Lot 3")
+        self.assertEqual([each.refused and each.refused.number for each in readings], [94])
+        (_, readings), = plats().suggest("N2 Sec 14")
+        self.assertEqual([each.refused and each.refused.number for each in readings], [31])
+
+    def test_reasons(self) -> None:
+        land = "that portion of the NE/4 lying north of the road"
+        first, second = suggest_parts(f"T2N R3W sec. 14, {land}; T3N R3W sec. 1")
+        self.assertEqual((len(first.readings), first.readings.reason), (0, "a portion needs a survey"))
+        self.assertEqual(len(second.readings), 1)
+        with self.assertRaises(Refused) as caught:
+            suggest_parts("T2N R3W sec. 5".ljust(1_048_577))
+        self.assertEqual(caught.exception.number, 39)
+
+
 class LandsTest(unittest.TestCase):
     """Land in several townships as a value."""
 
@@ -294,10 +347,25 @@ class LandsTest(unittest.TestCase):
                 self.assertEqual((a - b) | (a & b), a)
                 self.assertEqual(a ^ b, (a - b) | (b - a))
                 self.assertTrue((a - b).isdisjoint(b))
+                self.assertEqual(a.isdisjoint(b), not a & b)
                 self.assertEqual(a <= b, a | b == b)
                 self.assertEqual(a < b, a <= b and a != b)
                 self.assertEqual(a >= b, b <= a)
                 self.assertEqual(a > b, b < a)
+
+    def test_representations_are_short(self) -> None:
+        lands = Lands.of("T2N R3W secs. 1 to 36; T3N R3W secs. 1 to 36")
+        self.assertLessEqual(len(repr(lands)), 130)
+        self.assertEqual(lands.on_one_line(), " ".join(str(lands).split()))
+
+    def test_headings_with_zeros(self) -> None:
+        # A description has `T. 0020 N.` for township 20.
+        plat = Plat.read(NOTES.replace(b"T,2,N,3,W", b"T,20,N,3,W"))
+        for text in ("T. 0020 N., R. 3 W., sec. 14", "T. 020 N., R. 0003 W., sec. 14", "T. 20 N., R. 03 W., sec. 14"):
+            self.assertEqual(plat.acres(text), Decimal("640.00"))
+            self.assertEqual(Plats([plat]).acres(text), Decimal("640.00"))
+            north = Plats([plat, TABLE])
+            self.assertEqual(north.acres(f"T3N R3W sec. 1, S1/2; {text}"), Decimal("960.00"))
 
     def test_values(self) -> None:
         for lands in self.LANDS:
@@ -347,7 +415,7 @@ class DocumentTest(unittest.TestCase):
         commands = re.findall(r"(?m)^    \$ (.*)$", self.PAGE)
         self.assertEqual(len(commands), 3)
         test = doctest.DocTestParser().get_doctest(self.PAGE, {}, "SEVERAL-TOWNSHIPS.md", None, 0)
-        self.assertEqual(len(test.examples), 6)
+        self.assertEqual(len(test.examples), 7)
         came_from = os.getcwd()
         self.addCleanup(os.chdir, came_from)
         with tempfile.TemporaryDirectory() as folder:

@@ -95,6 +95,11 @@ class SplitTest(unittest.TestCase):
         self.assertEqual((refused.number, refused.at), (39, 1_048_576))
         self.assertEqual(str(refused), "description: the text is longer than 1,048,576 bytes")
 
+    def test_representations_are_short(self) -> None:
+        part, = split("T2N R3W sec. 5, lots\n1 and 2")
+        self.assertEqual(repr(part), "<township.TownshipText 0 to 28: T2N R3W sec. 5, lots 1 and 2>")
+        self.assertLess(len(repr(split("T2N R3W sec. 5, " * 1_000)[0])), 150)
+
     def test_the_place_is_explained(self) -> None:
         with self.assertRaises(Refused) as caught:
             split("sec. 5, S½;\n  T2N R3W sec. 6")
@@ -110,6 +115,22 @@ class TownshipOfPartTest(unittest.TestCase):
     def test_the_heading(self) -> None:
         for text in ("T. 2 N., R. 3 W., sec. 14", "t2n r3w sec 14", "T2N R3W", " T 2 N R 3 W, lot 1"):
             self.assertEqual(split(text)[0].township, Township(2, "N", 3, "W"), text)
+
+    def test_zeros_before_a_number(self) -> None:
+        for text, township in (
+            ("T. 0020 N., R. 3 W., sec. 14", Township(20, "N", 3, "W")),
+            ("T. 02 N., R. 0030 W., sec. 14", Township(2, "N", 30, "W")),
+            ("T 0002 N R 0003 W", Township(2, "N", 3, "W")),
+        ):
+            self.assertEqual(split(text)[0].township, township, text)
+
+    def test_numbers_that_are_not_of_townships(self) -> None:
+        for text, number, at in (
+            ("T. 0 N.", 31, 3), ("T. 000 N.", 31, 3), ("T. 00100 N.", 31, 3), ("T. 20 N., R. 00100 W.", 33, 13),
+        ):
+            with self.assertRaises(Refused, msg=text) as caught:
+                split(text)[0].township
+            self.assertEqual((caught.exception.number, caught.exception.at), (number, at), text)
 
     def test_no_heading(self) -> None:
         for text, number in (("", 31), ("sec. 14", 31), ("T2N", 33), ("T. 2 N., R. 3, sec. 14", 34)):

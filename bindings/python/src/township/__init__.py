@@ -26,6 +26,7 @@ from ._lands import Lands
 from ._lots import Lots
 from ._many import Answers
 from ._note import Note
+from ._part_readings import PartReadings, suggest_parts
 from ._parts import Part
 from ._plat import Plat
 from ._plats import LocatedTract, MissingPlat, Plats, PlatsReport
@@ -57,6 +58,7 @@ __all__ = [
     "OtherPlace",
     "Overlap",
     "Part",
+    "PartReadings",
     "Plat",
     "Plats",
     "PlatsReport",
@@ -75,13 +77,14 @@ __all__ = [
     "rounded",
     "split",
     "suggest",
+    "suggest_parts",
     "version",
 ]
 
 for _public in (
     *(Answers, Change, Difference, Land, Lands, LocatedTract, Lots, LotsOverlap, LotsReport, MissingPlat, Note, Notes),
-    *(OtherPlace, Overlap, Part, Plat, Plats, PlatsReport, Reading, Readings, Refusal, Refused, Report, Section),
-    *(Township, TownshipText, Tract, TractAnswer, Unread),
+    *(OtherPlace, Overlap, Part, PartReadings, Plat, Plats, PlatsReport, Reading, Readings, Refusal, Refused, Report),
+    *(Section, Township, TownshipText, Tract, TractAnswer, Unread),
 ):
     # Tracebacks and pickles name each class as users import it.
     _public.__module__ = __name__

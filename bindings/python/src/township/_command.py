@@ -23,7 +23,7 @@ _JOBS_MOST = 1024
 
 _USAGE = """python -m township batch [options] NOTES LIST
        python -m township batch [options] --lots LOTS LIST
-       python -m township batch [options] --plats FOLDER LIST"""
+       python -m township batch [options] --plats FOLDER [--headings] LIST"""
 
 _BATCH = """\
 Gives the acreage of each description in a list.
@@ -31,7 +31,9 @@ Gives the acreage of each description in a list.
 The list is a CSV file, a workbook (.xlsx), or a Parquet file (.parquet). Its column `description` contains the
 descriptions. All are in the township of the field notes NOTES, or of the lot table LOTS; or, with --plats,
 the column `township` says in which township each is, as in T. 2 N., R. 3 W. The folder contains field notes
-and lot tables; if a township has both, the lot table controls. The same columns are written, and these:
+and lot tables; if a township has both, the lot table controls. With --headings, too, there is no such column:
+each description begins with its township, and can go on with land in others. The same columns are written,
+and these:
 
   acres      the acreage of the land described, if the description is accepted
   refusal    the number of the refusal, if it is refused
@@ -43,6 +45,10 @@ and lot tables; if a township has both, the lot table controls. The same columns
 With --plats, this one is added, too:
 
   plat       the file by which the acreage is computed, or `missing` if the township has none
+
+With --headings, this one is added, too:
+
+  by_township  the acreage in each township; `acres` is the exact total, rounded once
 
 With --suggest, these are added, too. They never change the columns above:
 
@@ -111,9 +117,10 @@ def _options_in(batch: argparse.ArgumentParser, asked: argparse.Namespace) -> Op
         notes=notes[0] if notes else None,
         lots=asked.lots,
         plats=asked.plats,
+        headings=asked.headings,
         account=asked.account or "exact",
         column=asked.column,
-        township=asked.township,
+        township=asked.township or "township",
         meridian=asked.meridian,
         sheet=asked.sheet,
         prefix=asked.prefix,
@@ -129,6 +136,10 @@ def _check_inputs(batch: argparse.ArgumentParser, asked: argparse.Namespace) -> 
     """If the command line does not name one list, and one thing by which to answer it, exit with status 2."""
     if asked.lots is not None and asked.plats is not None:
         batch.error("name a lot table with --lots, or a folder with --plats")
+    if asked.headings and asked.plats is None:
+        batch.error("--headings needs a folder, which --plats names")
+    if asked.headings and asked.township is not None:
+        batch.error("with --headings there is no column of the township")
     if asked.lots is not None and asked.account is not None:
         batch.error("with --lots there is only one account")
     named = "--plats" if asked.plats is not None else "--lots" if asked.lots is not None else None
@@ -197,6 +208,11 @@ def _add_inputs(batch: argparse.ArgumentParser) -> None:
         "meridian",
     )
     batch.add_argument(
+        "--headings",
+        action="store_true",
+        help="with --plats, take the townships of each description from its headings",
+    )
+    batch.add_argument(
         "--account",
         choices=sorted(ACCOUNTS),
         help="how a whole lot counts by field notes: at its exact area, or as printed on the plat (default: exact)",
@@ -211,7 +227,6 @@ def _add_inputs(batch: argparse.ArgumentParser) -> None:
     batch.add_argument(
         "--township",
         metavar="NAME",
-        default="township",
         help="with --plats, the column of the township (default: township)",
     )
     batch.add_argument(

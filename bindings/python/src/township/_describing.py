@@ -92,9 +92,7 @@ write a comma after NE1/4 (320.00 acres)
 
     def _measured_readings(self, text: Text, acres: Callable[[str], Decimal]) -> Readings:
         """Return the readings of a text, each with its acreage, or with the refusal of its description."""
-        found = suggest(text)
-        measured = [self._measured_reading(each, acres) for each in found]
-        return Readings(measured, found.reason, found.beyond, found.unread)
+        return suggest(text).measured(lambda reading: self._measured_reading(reading, acres))
 
     def _measured_reading(self, reading: Reading, acres: Callable[[str], Decimal]) -> Reading:
         try:

@@ -5,7 +5,7 @@ from decimal import Decimal
 from fractions import Fraction
 from textwrap import shorten
 from types import MappingProxyType
-from typing import TYPE_CHECKING, Any, Dict, Iterable, Iterator, Mapping, Tuple
+from typing import TYPE_CHECKING, Any, Dict, Iterable, Iterator, List, Mapping, Tuple
 
 from . import _library
 from ._account import Account
@@ -20,6 +20,13 @@ if TYPE_CHECKING:
 
 #: The most characters of a description in the representation of land.
 _SHOWN_MOST = 100
+
+#: The refusals of a text that is too long, which have no place in it.
+_TOO_LARGE = (
+    _library.REFUSAL_DESIGNATION_TOO_LARGE,
+    _library.REFUSAL_SPLIT_TOO_LARGE,
+    _library.REFUSAL_TEXT_TOO_LARGE,
+)
 
 
 class Lands:
@@ -65,15 +72,10 @@ class Lands:
             ...
         township.Refused: T. 3 N., R. 3 W.:1:14: there is no section 37: sections are 1 to 36
         """
-        given = encoded(text)
-        lands: Dict[Township, Land] = {}
-        for part in split(given):
-            land = _land_of(part)
-            before = lands.get(land.township)
-            if before is not None and not before.isdisjoint(land):
-                raise _named_before(given, part, before & land)
-            lands[land.township] = land if before is None else before | land
-        return cls(lands.values())
+        try:
+            return cls(land for _, land in parts_and_lands(encoded(text)))
+        except PartRefused as refused:
+            raise refused.refused from None
 
     def by_township(self) -> Mapping[Township, Land]:
         """Return the land in each township that has any, in the order of the canonical text.
@@ -93,7 +95,8 @@ class Lands:
 
     def isdisjoint(self, other: Lands) -> bool:
         """Return whether the two have no place in common."""
-        return not self & other
+        mine, others = self._by_township, other._by_township
+        return all(land.isdisjoint(others[township]) for township, land in mine.items() if township in others)
 
     def on_one_line(self) -> str:
         """Return the canonical text on one line.
@@ -173,6 +176,42 @@ class Lands:
 def _place_of(township: Township) -> Tuple[bool, int, bool, int]:
     """Return what townships are sorted by: north before south, and by number; then east before west, and by range."""
     return township.north_south != "N", township.number, township.east_west != "E", township.range
+
+
+class PartRefused(Exception):
+    """A part of a text is refused, or the text can't be split."""
+
+    def __init__(self, refused: Refused, start: int = 0) -> None:
+        super().__init__(refused, start)
+        self.refused = refused
+        #: Where the text begins that is refused: a byte of the whole text.
+        self.start = start
+
+    @property
+    def at(self) -> int:
+        """The location in the whole text. If the refused text is too long, it is the limit in bytes."""
+        return self.refused.at if self.refused.number in _TOO_LARGE else self.start + self.refused.at
+
+
+def parts_and_lands(given: bytes) -> List[Tuple[TownshipText, Land]]:
+    """Return the parts of a text, each with its land. Raise `PartRefused` if there are none, or one is refused."""
+    found: List[Tuple[TownshipText, Land]] = []
+    lands: Dict[Township, Land] = {}
+    try:
+        parts = split(given)
+    except Refused as refused:
+        raise PartRefused(refused) from None
+    for part in parts:
+        try:
+            land = _land_of(part)
+        except Refused as refused:
+            raise PartRefused(refused, part.start) from None
+        before = lands.get(land.township)
+        if before is not None and not before.isdisjoint(land):
+            raise PartRefused(_named_before(given, part, before & land))
+        lands[land.township] = land if before is None else before | land
+        found.append((part, land))
+    return found
 
 
 def _land_of(part: TownshipText) -> Land:

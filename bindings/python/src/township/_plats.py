@@ -12,12 +12,14 @@ from ._explanation import Explained
 from ._land import Land
 from ._lands import Lands
 from ._lots import Lots
+from ._part_readings import PartReadings, suggest_parts
 from ._plat import Plat
-from ._refused import LIST, Refusal, Refused
+from ._readings import Reading
+from ._refused import LIST, Refusal, Refused, refused_as_a_whole
 from ._report import FIRST_TRACT, LotsOverlap
 from ._rounding import rounded
-from ._spelling import Named, township_named
-from ._text import Path, Text
+from ._spelling import Named, township_in_heading, township_named
+from ._text import Path, Text, encoded
 from ._township import Township
 
 #: What a list of tracts is called in an explanation.
@@ -161,6 +163,22 @@ class Plats(Mapping[Township, Basis]):
         """
         return _each_rounded(self._areas(located, account))
 
+    def suggest(self, text: Text, account: Account = "exact") -> List[PartReadings]:
+        """Return the readings of each part of a text, as `suggest_parts` does, with their acreage.
+
+        Each is measured by the plat or the lot table of the township in its heading. Without one, it has no acreage. If
+        a reading has no heading, or is refused there, its `refused` says so.
+
+        >>> (part, readings), = township.Plats([plat]).suggest("T2N-R3W Sec 14: NE/4, S2NW4")
+        >>> print(readings[0].acres, readings[0].text)
+        240.00 T2N R3W Sec 14: NE1/4, S1/2NW1/4
+        """
+        code_of(account)
+        return [
+            part._replace(readings=part.readings.measured(lambda reading: self._measured(reading, account)))
+            for part in suggest_parts(text)
+        ]
+
     def report(self, tracts: Iterable[Tuple[str, Located]], account: Account = "exact") -> PlatsReport:
         """Return the report on tracts, each a name and its land: the acreage of each, and of all of them together.
 
@@ -216,8 +234,26 @@ class Plats(Mapping[Township, Basis]):
         return {land.township: self._area_in_one(land, account) for land in _lands_of(located)}
 
     def _area_in_one(self, land: Land, account: Account) -> Fraction:
+        """Return the exact area of land in one township. A refusal names the township."""
         by = self[land.township]
-        return by.area(land) if isinstance(by, Lots) else by.area(land, account)
+        if isinstance(by, Plat):
+            return by.area(land, account)
+        try:
+            return by.area(land)
+        except Refused as refused:
+            refusal = Refusal(refused.number, refused.at)
+            raise refused_as_a_whole(str(land.township), refusal, refused.sentence) from None
+
+    def _measured(self, reading: Reading, account: Account) -> Reading:
+        """Return a reading with its acreage, or with its refusal."""
+        try:
+            by = self[township_in_heading(encoded(reading.text))]
+            acres = by.acres(reading.text) if isinstance(by, Lots) else by.acres(reading.text, account)
+            return reading._replace(acres=acres, normal=by.normal(reading.text))
+        except Refused as refused:
+            return reading._replace(refused=refused)
+        except MissingPlat:
+            return reading
 
     def _acres_or_none(self, land: Lands) -> Optional[Decimal]:
         try:

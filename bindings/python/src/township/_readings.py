@@ -189,6 +189,10 @@ class Readings(Sequence[Reading]):
         self.beyond = beyond
         self.unread = tuple(unread)
 
+    def measured(self, measure: Callable[[Reading], Reading]) -> Readings:
+        """Return the same readings, each as `measure` returns it, such as with its acreage."""
+        return Readings([measure(reading) for reading in self], self.reason, self.beyond, self.unread)
+
     def __len__(self) -> int:
         return len(self._readings)
 

@@ -53,6 +53,46 @@ def township_spelled(spelling: str) -> Township:
     raise _refused(given, answer.number, answer.at)
 
 
+def township_in_heading(description: bytes) -> Township:
+    """Return the township in the heading of a description. Raise `Refused` if it does not begin with a heading.
+
+    In a heading, zeros before a number mean nothing, even if it has four digits, as the number of a register has.
+
+    >>> print(township_in_heading(b"T. 0020 N., R. 3 W., sec. 14, NE1/4."))
+    T. 20 N., R. 3 W.
+    """
+    given = description
+    while True:
+        parts = _library.Designation()
+        answer = _library.designation_read(given, len(given), byref(parts))
+        if answer.verdict == _library.ACCEPTED:
+            return township_of(parts)
+        if answer.verdict != _library.REFUSED:
+            raise failure_of(answer.verdict)
+        at = answer.at
+        if answer.number == _library.REFUSAL_DESIGNATION_AFTER:
+            # Land follows the township, at this place.
+            given = given[:at]
+            continue
+        without = _without_zeros(given, at)
+        if without == given:
+            raise _refused(description, answer.number, _start_of_number(description, at))
+        given = without
+
+
+def _without_zeros(given: bytes, at: int) -> bytes:
+    """Return a text with spaces for the zeros at the beginning of the number at a place."""
+    number = given[at:].lstrip(b"0")
+    return given[:at] + number.rjust(len(given) - at) if number[:1].isdigit() else given
+
+
+def _start_of_number(description: bytes, at: int) -> int:
+    """Return where the number begins of which there is a digit at a place, or the place itself."""
+    while at and description[at - 1 : at + 1].isdigit():
+        at -= 1
+    return at
+
+
 def _refused(given: bytes, number: int, at: int) -> Refused:
     """Return the refusal of a text that spells no township."""
     refusal = Refusal(number, at)

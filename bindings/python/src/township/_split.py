@@ -1,16 +1,20 @@
 """Splits a text with the land of several townships into their descriptions."""
 from __future__ import annotations
 
+from textwrap import shorten
 from typing import Any, List, NamedTuple
 
 from . import _library
 from ._refused import DESCRIPTION, Refusal, Refused, failure_of, refused_as_a_whole, refused_in
-from ._spelling import township_spelled
+from ._spelling import township_in_heading
 from ._text import Text, encoded
 from ._township import Township
 
 #: The room for parts in a first call.
 _PARTS = 64
+
+#: The most characters of a description in the representation of a part.
+_SHOWN_MOST = 100
 
 #: What a text with several parts is called in an explanation.
 SOURCE = DESCRIPTION.decode()
@@ -34,14 +38,15 @@ class TownshipText(NamedTuple):
 
     @property
     def township(self) -> Township:
-        """The township in its heading. Raise `Refused` if it does not begin with a heading."""
-        try:
-            return township_spelled(self.text)
-        except Refused as refused:
-            if refused.number != _library.REFUSAL_DESIGNATION_AFTER:
-                raise
-            # Land follows the township, at this place.
-            return township_spelled(encoded(self.text)[: refused.at].decode())
+        """The township in its heading. Raise `Refused` if it does not begin with a heading.
+
+        As in a description, zeros before a number mean nothing: `T. 0020 N.` is township 20.
+        """
+        return township_in_heading(encoded(self.text))
+
+    def __repr__(self) -> str:
+        shown = shorten(self.text, _SHOWN_MOST, placeholder=" ..")
+        return f"<township.TownshipText {self.start} to {self.end}: {shown}>"
 
 
 def split(text: Text) -> List[TownshipText]:

@@ -9,8 +9,8 @@ from typing import Iterator, List, Mapping, Optional, Tuple, Union
 import township
 import township.pandas
 from township import Account, Change, Difference, EastWest, Land, Lands, LocatedTract, Lots, LotsOverlap, MissingPlat
-from township import NorthSouth, Notes, Overlap, Part, Plat, Plats, PlatsReport, Reading, Readings, Refusal, Refused
-from township import Report, Section, Township, TownshipText, Tract, TractAnswer, split, suggest
+from township import NorthSouth, Notes, Overlap, Part, PartReadings, Plat, Plats, PlatsReport, Reading, Readings, Refusal
+from township import Refused, Report, Section, Township, TownshipText, Tract, TractAnswer, split, suggest, suggest_parts
 
 
 def answers(plat: Plat, account: Account) -> Iterator[Union[Decimal, Refused]]:
@@ -96,7 +96,9 @@ def townships(plat: Plat, lots: Lots, path: Path, error: MissingPlat) -> Optiona
     report: PlatsReport = plats.report([("A", lands), ("B", "T2N R3W sec. 14")])
     tracts: Tuple[LocatedTract, ...] = report.tracts
     overlaps: Tuple[LotsOverlap, ...] = plats.overlaps([("A", lands), ("B", b"T2N R3W sec. 14")])
-    is_less: bool = lands <= lands - lands and area > 0 and bool(by)
+    readings: List[PartReadings] = plats.suggest("T2N R3W sec. 14", account="plat") + suggest_parts(b"sec. 14")
+    part: TownshipText = readings[0].part
+    is_less: bool = lands <= lands - lands and area > 0 and bool(by) and bool(part.text)
     return overlaps[0].acres if is_less else lands.acres(plats) + figures[where] + tracts[0].by_township[where]
 
 

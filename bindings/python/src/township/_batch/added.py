@@ -2,7 +2,8 @@
 from __future__ import annotations
 
 import functools
-from typing import Any, Dict, List, Optional, Sequence
+from decimal import Decimal
+from typing import Any, Dict, List, NamedTuple, Optional, Sequence
 
 from .._figures import acres_of_hundredths
 from .columns import ADDED
@@ -18,17 +19,37 @@ acres_of = functools.lru_cache(_CACHED)(acres_of_hundredths)
 acres_text_of = functools.lru_cache(_CACHED)(lambda hundredths: str(acres_of_hundredths(hundredths)))
 
 
+class Located(NamedTuple):
+    """The answer to a description of land in several townships that is accepted."""
+
+    acres: Decimal
+    canonical: str
+    #: The note on the first place that can be read in two ways, if there is one.
+    note: Optional[str]
+    #: The files by which it is answered, and the acreage in each township.
+    files: str
+    figures: str
+
+
 class Added:
     """The fields that are added to some records.
 
     Nearly all descriptions are accepted, and have an acreage and a canonical description, and nothing else.
     """
 
-    def __init__(self, hundredths: List[int], canonical: List[str], files: Optional[List[str]] = None) -> None:
+    def __init__(
+        self,
+        hundredths: List[int],
+        canonical: List[str],
+        files: Optional[List[str]] = None,
+        figures: Optional[List[str]] = None,
+    ) -> None:
         self.hundredths = hundredths
         self.canonical = canonical
         #: The file by which each is answered. `None` if the answers do not name files.
         self.files = files
+        #: The acreage of each in each township. `None` if the answers do not name townships.
+        self.figures = figures
         #: All fields of the other records, by their index.
         self.others: Dict[int, List[Any]] = {}
 
@@ -55,12 +76,32 @@ class Added:
             self.others[index] = [None, number, at, found.fault, None, None, *self._file_of(index)]
 
     def _file_of(self, index: int) -> List[Any]:
-        """Return the field of the file, if there is one."""
-        return [] if self.files is None else [self.files[index] or None]
+        """Return the fields of the file and of the acreage in each township, if there are any."""
+        return [each[index] or None for each in (self.files, self.figures) if each is not None]
 
     def put_refusal(self, index: int, number: int, at: int, sentence: str) -> None:
         """Put the refusal of a description."""
         self.others[index] = [None, number, at, sentence, None, None, *self._file_of(index)]
+
+    def put_located(self, index: int, located: Located) -> None:
+        """Put the answer to a description that is accepted."""
+        for kept, given in ((self.files, located.files), (self.figures, located.figures)):
+            if kept is not None:
+                kept[index] = given
+        fields = [located.acres, None, None, None, located.note, located.canonical]
+        self.others[index] = [*fields, *self._file_of(index)]
+
+    def put_figures(self, indexes: Sequence[int], township: str) -> None:
+        """Put the acreage in their only township for those that are accepted, if the answers name townships."""
+        if self.figures is None:
+            return
+        for index in indexes:
+            fields = self.others.get(index)
+            acres = acres_text_of(self.hundredths[index]) if fields is None else fields[0]
+            if acres is not None:
+                self.figures[index] = f"{township}: {acres}"
+                if fields is not None:
+                    self.others[index] = [*fields[:-1], self.figures[index]]
 
     def put_note(self, index: int, note: str) -> None:
         """Put the note on a description that is accepted."""

@@ -72,12 +72,17 @@ class Answers:
         rows = rows_of([record], "")
         self.find_first_meridian(rows)
         if self.plats.names_files and added[len(ADDED) : len(ADDED) + 1] == [MISSING]:
-            fields, = self._plat_fields(rows)
-            self.counts.add_missing(self.plats.plat_of(*fields).fault, 1)
+            for sentence in self._missing_in(rows):
+                self.counts.add_missing(sentence, 1)
         if added[:1] != [""]:
             self.counts.accepted += 1
         else:
             self.counts.refused += 1
+
+    def _missing_in(self, rows: Rows) -> List[str]:
+        """Return the sentences on the townships of a record for which there is no file."""
+        fields, = self._plat_fields(rows)
+        return [self.plats.plat_of(*fields).fault]
 
     def find_first_meridian(self, rows: Rows) -> None:
         """Look for the first meridian in records that are not answered here."""
@@ -93,19 +98,33 @@ class Answers:
 
     def added_to_all(self, rows: Rows) -> Added:
         """Return the fields that are added to records."""
-        files = [""] * rows.number if self.plats.names_files else None
-        added = Added([0] * rows.number, [""] * rows.number, files)
+        added = self._nothing_added(rows.number)
         for index, fault in rows.faults.items():
             self._put_unanswered(Found(None, fault=fault), [index], added)
-        descriptions = rows.column(self._column)
-        if isinstance(rows, ReadRows):
-            descriptions = list(map(_description, descriptions))
-        for found, indexes in self._by_plat(rows):
-            if found.by is None:
-                self._put_unanswered(found, indexes, added)
-            else:
-                self._answer(found.by, found.file, descriptions, indexes, added)
+        self._answer_rows(rows, self._descriptions(rows), added)
         return added
+
+    def _nothing_added(self, number: int) -> Added:
+        """Return the fields of so many records, before any of them is answered."""
+        files = [""] * number if self.plats.names_files else None
+        return Added([0] * number, [""] * number, files)
+
+    def _descriptions(self, rows: Rows) -> Sequence[str]:
+        """Return the descriptions of records."""
+        descriptions = rows.column(self._column)
+        return list(map(_description, descriptions)) if isinstance(rows, ReadRows) else descriptions
+
+    def _answer_rows(self, rows: Rows, descriptions: Sequence[str], added: Added) -> None:
+        """Answer the records without a fault, and count them."""
+        for found, indexes in self._by_plat(rows):
+            self._answer_by(found, descriptions, indexes, added)
+
+    def _answer_by(self, found: Found, descriptions: Sequence[str], indexes: Sequence[int], added: Added) -> None:
+        """Answer the records with these indexes by what is found for them, if anything is, and count them."""
+        if found.by is None:
+            self._put_unanswered(found, indexes, added)
+        else:
+            self._answer(found.by, found.file, descriptions, indexes, added)
 
     def _put_unanswered(self, found: Found, indexes: Sequence[int], added: Added) -> None:
         """Put the reason why records are not answered, and count them."""
@@ -145,29 +164,38 @@ class Answers:
             added.put_note(indexes[place], answers.sentence(place))
         for place in answers.refused:
             added.put_refusal(indexes[place], *answers.refusal(place), answers.sentence(place))
-            self.counts.undecoded += any("\udc80" <= each <= "\udcff" for each in chosen[place])
+            self.counts.undecoded += is_undecoded(chosen[place])
         self.counts.refused += len(answers.refused)
         self.counts.accepted += len(chosen) - len(answers.refused)
         if self._suggests:
             for index, description in zip(indexes, chosen):
-                added.extend(index, self._suggested(by, description))
+                added.extend(index, suggested_fields(self._readings(by, description)))
 
     def _full_answers(self, by: Basis, descriptions: Sequence[str]) -> FullAnswers:
         """Return the answers to descriptions. Only on a plat is there a choice of accounts."""
         return by._full_answers(descriptions, self._account) if isinstance(by, Plat) else by._full_answers(descriptions)
 
-    def _suggested(self, by: Basis, description: str) -> List[Any]:
-        """Return the fields on the readings of a description. Only if it has one reading does that have fields, and only
-        if it has none is something unread."""
-        readings = by.suggest(description, self._account) if isinstance(by, Plat) else by.suggest(description)
-        if len(readings) != 1:
-            return [None, len(readings), None, None, _why_none(readings)]
-        reading, = readings
-        assumed = "; ".join(dict.fromkeys(reading.assumptions)) or None
-        return [tidy(reading.text), 1, assumed, reading.acres, None]
+    def _readings(self, by: Basis, description: str) -> Readings:
+        """Return the readings of a description. Only on a plat is there a choice of accounts."""
+        return by.suggest(description, self._account) if isinstance(by, Plat) else by.suggest(description)
 
 
-def _why_none(readings: Readings) -> Optional[str]:
+def suggested_fields(readings: Readings) -> List[Any]:
+    """Return the fields on the readings of a description. Only if it has one reading does that have fields, and only if
+    it has none is something unread."""
+    if len(readings) != 1:
+        return [None, len(readings), None, None, why_none(readings)]
+    reading, = readings
+    assumed = "; ".join(dict.fromkeys(reading.assumptions)) or None
+    return [tidy(reading.text), 1, assumed, reading.acres, None]
+
+
+def is_undecoded(description: str) -> bool:
+    """Return whether a description has bytes that are not valid in the encoding of the list."""
+    return any("\udc80" <= each <= "\udcff" for each in description)
+
+
+def why_none(readings: Readings) -> Optional[str]:
     """Return why a description has no reading, in words, or `None` if nothing is known."""
     reason = [f"not expressible: {readings.reason}"] if readings.reason else []
     return "; ".join([*reason, *map(str, readings.unread)]) or None

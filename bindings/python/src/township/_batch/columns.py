@@ -13,6 +13,9 @@ ADDED = ("acres", "refusal", "at", "sentence", "note", "canonical")
 #: The column of the file by which a description is answered, which it adds after them if there are several files.
 PLAT = "plat"
 
+#: The column of the acreage in each township, which it adds after that one if descriptions begin with their townships.
+BY_TOWNSHIP = "by_township"
+
 #: The columns on readings, which it adds after all of these if it is asked to suggest readings.
 SUGGESTED = ("reading", "readings", "assumes", "reading_acres", "unread")
 
@@ -62,9 +65,10 @@ def optional_column_in(heading: Sequence[str], name: str, option: str, place: st
     return None
 
 
-def added_names(names_files: bool, suggests: bool) -> List[str]:
+def added_names(names_files: bool, names_townships: bool, suggests: bool) -> List[str]:
     """Return the names of the added columns, in their order."""
-    return [*ADDED, *([PLAT] if names_files else ()), *(SUGGESTED if suggests else ())]
+    located = [*([PLAT] if names_files else ()), *([BY_TOWNSHIP] if names_townships else ())]
+    return [*ADDED, *located, *(SUGGESTED if suggests else ())]
 
 
 def added_to(heading: Sequence[str], prefix: str, place: str, added: Sequence[str]) -> List[str]:

@@ -20,6 +20,8 @@ class Options(NamedTuple):
     lots: Optional[str] = None
     #: The name of the folder of field notes and lot tables.
     plats: Optional[str] = None
+    #: Whether the descriptions begin with their townships.
+    headings: bool = False
     account: Account = "exact"
     #: The names of the columns that are read.
     column: str = "description"

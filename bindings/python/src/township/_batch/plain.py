@@ -44,6 +44,9 @@ class PlainRows(NamedTuple):
         if added.files is not None:
             names = {name: self.separator + _written(name, self.separator) for name in set(added.files)}
             canonical = [description + names[name] for description, name in zip(canonical, added.files)]
+        if added.figures is not None:
+            figures = _written_all(added.figures, self.separator)
+            canonical = [f"{one}{self.separator}{figure}" for one, figure in zip(canonical, figures)]
         before, between = self.separator, self.separator * 5
         rows = [
             f"{text}{before}{acreage}{between}{description}\n"

@@ -7,6 +7,7 @@ from typing import Any, NamedTuple, Optional, Protocol, Sequence, Union
 from .._refused import Refusal, Refused
 from .._spelling import township_spelled
 from .._text import shown
+from .._township import Township
 from .cells import text_of
 from .files import Basis
 from .folder import NO_MERIDIAN, Folder, Townships, meridian_key
@@ -87,7 +88,8 @@ class OnePlat:
 class Key(NamedTuple):
     """The columns that give the township of a record."""
 
-    township: int
+    #: `None` if it is in the description.
+    township: Optional[int]
     #: `None` if the list has no such column.
     meridian: Optional[int]
 
@@ -143,6 +145,10 @@ class FolderPlats:
             township = township_spelled(spelling)
         except Refused as refused:
             return Found(None, fault=str(refused), refusal=Refusal(refused.number, refused.at))
+        return self._found_in(townships, township)
+
+    def _found_in(self, townships: Townships, township: Township) -> Found:
+        """Return what is in the folder for a township."""
         files = townships.get(township)
         if files is None:
             fault = f"there are no field notes and no lot table for {township} in {self._shown}"
@@ -176,3 +182,34 @@ class FolderPlats:
             return Found(None, fault=fault)
         return next(iter(self._folder.meridians.values()), {})
 
+
+class HeadedPlats(FolderPlats):
+    """The same for descriptions that begin with their townships. Only the meridian can be in a column."""
+
+    def __init__(self, folder: Folder, meridian: Optional[int]) -> None:
+        super().__init__(folder, Key(None, meridian))
+        self._remembered_in = functools.lru_cache(maxsize=_SPELLINGS)(self._find_township)
+
+    def begin(self, first_meridian: str) -> None:
+        """Go on with records before which this is the first meridian."""
+        if first_meridian != self.first_meridian:
+            self._remembered_in.cache_clear()
+        super().begin(first_meridian)
+
+    def plat_of(self, *fields: Any) -> Found:
+        """Return why no record with this meridian is answered, or an empty answer if there are townships on it."""
+        townships = self._townships_on(_meridian_in(fields))
+        return townships if isinstance(townships, Found) else Found(None)
+
+    def plat_in(self, township: Township, *fields: Any) -> Found:
+        """Return what land in a township is answered by, in a record with these fields in the columns."""
+        return self._remembered_in(township, _meridian_in(fields))
+
+    def _find_township(self, township: Township, meridian: str) -> Found:
+        townships = self._townships_on(meridian)
+        return townships if isinstance(townships, Found) else self._found_in(townships, township)
+
+
+def _meridian_in(fields: Sequence[Any]) -> str:
+    """Return the meridian in the only column that is used, if there is one."""
+    return text_of(fields[0]).strip() if fields else ""

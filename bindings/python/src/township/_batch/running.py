@@ -15,7 +15,7 @@ from .files import Basis, lots_in, plat_in
 from .folder import Folder
 from .interrupts import Interrupts
 from .options import Options
-from .plats import FolderPlats, Key, OnePlat, Plats
+from .plats import FolderPlats, HeadedPlats, Key, OnePlat, Plats
 from .progress import Progress, bar_of
 from .records import Records
 from .resuming import Earlier
@@ -39,7 +39,7 @@ def run_batch(options: Options) -> Status:
     plats = _Plats(options)
     _check_output(options.output, [options.list, *plats.files])
     with source_of(options) as source:
-        answers = Answers(plats.plats_for(source, options), source.shape.column, options.account, options.suggest)
+        answers = _answers_by(plats.plats_for(source, options), source, options)
         try:
             with Interrupts() as interrupts:
                 _answer(source, answers, options, interrupts)
@@ -50,6 +50,16 @@ def run_batch(options: Options) -> Status:
     if interrupted:
         return Status.INTERRUPTED
     return Status.REFUSED if answers.counts.refused or plats.refused else Status.ACCEPTED
+
+
+def _answers_by(plats: Plats, source: Source, options: Options) -> Answers:
+    """Return what answers the records of a list."""
+    if isinstance(plats, HeadedPlats):
+        # Few batches need what answers land in several townships.
+        from .headed_answers import HeadedAnswers
+
+        return HeadedAnswers(plats, source.shape.column, options.account, options.suggest)
+    return Answers(plats, source.shape.column, options.account, options.suggest)
 
 
 class _Plats:
@@ -81,6 +91,8 @@ class _Plats:
             return OnePlat(self._one)
         if self._folder is None:
             raise ValueError("a batch takes field notes, a lot table, or a folder of them")
+        if options.headings:
+            return HeadedPlats(self._folder, _meridian_in(source, options))
         township = column_in(source.heading, options.township, "--township", source.place)
         return FolderPlats(self._folder, Key(township, _meridian_in(source, options)))
 
@@ -102,7 +114,7 @@ def _check_output(output: Optional[str], inputs: Sequence[str]) -> None:
 
 def _answer(source: Source, answers: Answers, options: Options, interrupts: Interrupts) -> None:
     """Write the list with its answers."""
-    added = added_names(answers.plats.names_files, options.suggest)
+    added = added_names(answers.plats.names_files, options.headings, options.suggest)
     heading = [*source.heading, *added_to(source.heading, options.prefix, source.place, added)]
     begun = options.resume and _skip_earlier(source, heading, answers, options, interrupts)
     # They are forked before the output is opened, so that they have no part of it to write.
