@@ -13,6 +13,8 @@ use std::fmt;
 mod combining;
 mod text;
 
+pub(crate) use self::text::shortened;
+
 /// The places of a township: 32 rows for each section, in the order of their numbers.
 ///
 /// The rows of a section are in order from the south. In a row, bit `k`, counted from the lowest, is
@@ -107,13 +109,23 @@ impl Land {
         township: Township,
         description: &[u8],
     ) -> Result<Land, Refused> {
+        Land::read_as(DESCRIPTION, plat, township, description)
+    }
+
+    /// The same. An explanation calls the description by this name.
+    pub(crate) fn read_as(
+        name: &str,
+        plat: &ffi::Plat,
+        township: Township,
+        description: &[u8],
+    ) -> Result<Land, Refused> {
         let (answer, data) = ffi::land_read(&township.designation(), description);
         match answer.accepted() {
             Ok(_) => Ok(Land {
                 data: Box::new(data),
             }),
             Err(fault) => Err(Refused::explained(fault, |room| {
-                ffi::explain_description_parts(plat, description, DESCRIPTION.as_bytes(), room)
+                ffi::explain_description_parts(plat, description, name.as_bytes(), room)
             })),
         }
     }
@@ -243,6 +255,11 @@ impl Land {
     /// Returns whether this land contains all of another, which is in the same township.
     pub fn contains(&self, other: &Land) -> bool {
         self >= other
+    }
+
+    /// Returns whether the two share land, also if they are the same or one contains the other.
+    pub fn overlaps(&self, other: &Land) -> bool {
+        !self.is_disjoint(other)
     }
 
     /// Returns whether the two share no land.

@@ -38,17 +38,20 @@ mod area;
 #[cfg(feature = "serde")]
 mod data;
 mod difference;
+mod earlier;
 mod explanation;
 #[allow(unsafe_code)]
 mod ffi;
 mod figures;
 mod land;
+mod lands;
 mod lot_faults;
 mod lots;
 mod note;
 mod parse;
 mod part;
 mod plat;
+mod plats;
 mod readings;
 mod refused;
 mod report;
@@ -65,16 +68,20 @@ pub use self::difference::Difference;
 pub use self::explanation::OtherPlace;
 pub use self::figures::{Figures, Section};
 pub use self::land::{Comparison, Land, NoLand, Rows};
+pub use self::lands::Lands;
 pub use self::lots::{Lots, NoLandAcres};
 pub use self::note::Note;
 pub use self::parse::ParseError;
 pub use self::part::Part;
 pub use self::plat::{NoPlat, Plat, LINES};
+pub use self::plats::{Basis, DifferentPlats, NoAcres, OpenError, Plats, PlatsReport, PlatsTract};
 pub use self::readings::{
     suggest, Assumption, Beyond, Change, Manner, Reading, Rule, Suggestion, Unread, Ways,
 };
 pub use self::refused::{Refusal, Refused};
-pub use self::report::{LotsReport, Overlap, Report, Tract, TractAnswer, TractRefusal};
+pub use self::report::{
+    LotsOverlap, LotsReport, Overlap, Report, Tract, TractAnswer, TractRefusal,
+};
 pub use self::split::{split, TownshipText};
 pub use self::township::{EastWest, NorthSouth, Township};
 

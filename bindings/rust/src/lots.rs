@@ -13,6 +13,7 @@ use std::error::Error;
 use std::fmt;
 
 mod list;
+mod many;
 mod text;
 
 /// The acreage of a quarter-quarter section, in hundredths.

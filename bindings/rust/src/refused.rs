@@ -134,6 +134,34 @@ impl Refused {
         }
     }
 
+    /// Returns the refusal of a record of a list, with a sentence that is not the library's.
+    pub(crate) fn of_record(fault: Fault, list: &str, record: usize, sentence: String) -> Refused {
+        let location = format!("{list}: record {record}");
+        Refused::new(fault, explained_as(location, sentence, None))
+    }
+
+    /// Returns this refusal, which is on no line, as that of a source with this name.
+    pub(crate) fn of_source(&self, source: &str) -> Refused {
+        let fault = Fault {
+            refusal: Refusal {
+                number: self.number,
+                at: self.at,
+            },
+            inner: self.inner,
+        };
+        Refused::new(
+            fault,
+            explained_as(source.to_owned(), self.sentence(), None),
+        )
+    }
+
+    /// Returns this refusal with one more hint at the end of its explanation.
+    pub(crate) fn with_hint(mut self, hint: String) -> Refused {
+        self.explanation.push_str(&format!("  {hint}\n"));
+        self.parts.hints.push(hint);
+        self
+    }
+
     /// Returns the refusal for a fault, without an explanation.
     pub(crate) fn unexplained(fault: Fault) -> Refused {
         Refused::new(fault, Explained::default())

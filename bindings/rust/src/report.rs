@@ -89,8 +89,22 @@ pub struct Overlap {
     pub acres: Acres,
 }
 
+/// Two tracts of a list that overlap, or two tracts in several townships, by their indexes.
+#[derive(Clone, Copy, Debug, PartialEq, Eq, Hash)]
+#[cfg_attr(feature = "serde", derive(serde::Serialize, serde::Deserialize))]
+#[non_exhaustive]
+pub struct LotsOverlap {
+    /// The index of the earlier tract.
+    pub first: usize,
+    /// The index of the later one.
+    pub second: usize,
+    /// The acreage of the land in both. `None` if the lot table lacks one of its lots, or if there is no
+    /// plat and no lot table for one of its townships.
+    pub acres: Option<Acres>,
+}
+
 /// The record of the first tract of a list.
-const FIRST_TRACT: usize = 2;
+pub(crate) const FIRST_TRACT: usize = 2;
 
 impl Overlap {
     pub(crate) fn from_data(overlap: &ffi::Overlap) -> Overlap {

@@ -4,12 +4,10 @@ use crate::answer::{out_of_memory, Fault, Verdict};
 use crate::ffi;
 use crate::refused::{refused_in, Refusal, Refused, DESCRIPTION};
 use crate::township::Township;
+use crate::township_faults::refused_township;
 
 /// The room for parts in a first call.
 const USUAL_PARTS: usize = 64;
-
-/// The number of the refusal of a township that land follows, at the land.
-const LAND_AFTER: u32 = ffi::REFUSAL_DESIGNATION_AFTER;
 
 /// The part of a text that is about one township. See [`split`].
 #[derive(Clone, Copy, Debug, PartialEq, Eq, Hash)]
@@ -27,26 +25,59 @@ pub struct TownshipText<'a> {
 impl TownshipText<'_> {
     /// Returns the township in its heading. It is refused if it does not begin with a heading.
     ///
+    /// As in a description, zeros before a number mean nothing: `T. 0020 N.` is township 20.
+    ///
     /// ```
     /// let parts = township::split("T2N R3W sec. 5; T3N R3W sec. 31")?;
     /// assert_eq!(parts[1].township()?.to_string(), "T. 3 N., R. 3 W.");
     /// # Ok::<(), township::Refused>(())
     /// ```
     pub fn township(&self) -> Result<Township, Refused> {
-        match self.text.parse() {
-            Err(Refused {
-                number: LAND_AFTER,
-                at,
-                ..
-            }) => {
-                let heading = usize::try_from(at)
-                    .ok()
-                    .and_then(|end| self.text.get(..end));
-                heading.unwrap_or_default().parse()
+        let mut given = self.text.as_bytes().to_vec();
+        loop {
+            let (answer, parts) = ffi::designation_read(&given);
+            let fault = match answer.accepted() {
+                Ok(_) => {
+                    let read = Township::from_designation(&parts);
+                    return Ok(read.expect("what is read is a township"));
+                }
+                Err(fault) => fault,
+            };
+            let at = usize::try_from(fault.refusal.at).expect("a place is in the text");
+            if fault.refusal.number == ffi::REFUSAL_DESIGNATION_AFTER {
+                // Land follows the township, at this place.
+                given.truncate(at);
+            } else if !blank_zeros(&mut given, at) {
+                let refusal = Refusal {
+                    at: start_of_number(self.text.as_bytes(), fault.refusal.at),
+                    ..fault.refusal
+                };
+                return Err(refused_township(Fault { refusal, ..fault }, self.text));
             }
-            other => other,
         }
     }
+}
+
+/// Writes spaces for the zeros at the beginning of the number at a place. Returns whether there are any.
+fn blank_zeros(given: &mut [u8], at: usize) -> bool {
+    let rest = given.get_mut(at..).unwrap_or_default();
+    let zeros = rest.iter().take_while(|&&byte| byte == b'0').count();
+    let has_more = rest.get(zeros).is_some_and(u8::is_ascii_digit);
+    if has_more {
+        rest[..zeros].fill(b' ');
+    }
+    has_more && zeros > 0
+}
+
+/// Returns where the number begins of which there is a digit at a place, or the place itself.
+fn start_of_number(text: &[u8], at: u32) -> u32 {
+    let end = usize::try_from(at).expect("a place is in the text");
+    if !text.get(end).is_some_and(u8::is_ascii_digit) {
+        return at;
+    }
+    let before = text[..end].iter().rev();
+    let digits = before.take_while(|byte| byte.is_ascii_digit()).count();
+    u32::try_from(end - digits).expect("it is before the place")
 }
 
 /// Splits a text with the land of several townships into their descriptions.

@@ -13,7 +13,7 @@ use std::str::FromStr;
 const MOST: u8 = 99;
 
 /// A quarter mile, in thousandths of a chain.
-const NOMINAL_QUARTER: u32 = 20_000;
+pub(crate) const NOMINAL_QUARTER: u32 = 20_000;
 
 /// The side of the base line on which a township lies. It is displayed as one letter.
 #[derive(Clone, Copy, Debug, PartialEq, Eq, PartialOrd, Ord, Hash)]

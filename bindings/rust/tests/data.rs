@@ -7,7 +7,8 @@ use samples::{even, uneven};
 use serde::{de::DeserializeOwned, Serialize};
 use std::fmt::Debug;
 use township::{
-    Account, Acres, EastWest, Land, Lots, NorthSouth, Plat, Refusal, Refused, Township,
+    Account, Acres, Basis, EastWest, Land, Lands, Lots, NorthSouth, Plat, Plats, Refusal, Refused,
+    Township,
 };
 
 /// A value is written as this text, and read back from it.
@@ -82,6 +83,35 @@ fn lands() {
         let message = "these places contain part of a lot";
         assert!(error.to_string().starts_with(message), "{error}");
     }
+}
+
+#[test]
+fn several_townships() {
+    let lands = Lands::read("T3N R3W sec. 31; T2N R3W sec. 14").unwrap();
+    let written = serde_json::to_string(&lands).unwrap();
+    assert!(written.starts_with(r#"[{"township":"T. 2 N., R. 3 W.","rows":{"14":["#));
+    assert_eq!(serde_json::from_str::<Lands>(&written).unwrap(), lands);
+    both_ways(Lands::empty(), "[]");
+
+    let table = "section,lot,acres\nT,3,N,3,W\n5,1,40.45\n";
+    let lots: Lots = table.parse().unwrap();
+    let plats = Plats::new([Basis::from(lots)]).unwrap();
+    both_ways(plats.clone(), &format!(r#"[{{"Lots":{table:?}}}]"#));
+    both_ways(
+        plats.report([("A", "T3N R3W sec. 14")]).unwrap(),
+        r#"{"tracts":[{"name":"A","acres":"640.00","by_township":[["T. 3 N., R. 3 W.","640.00"]]}],"total":"640.00","by_township":[["T. 3 N., R. 3 W.","640.00"]]}"#,
+    );
+    both_ways(
+        plats.overlaps([("A", "T3N R3W sec. 5, lot 2"), ("B", "T3N R3W sec. 5")])[0],
+        r#"{"first":0,"second":1,"acres":null}"#,
+    );
+    let error = plats.acres("T4N R3W sec. 14").unwrap_err();
+    both_ways(error, r#"{"MissingPlat":"T. 4 N., R. 3 W."}"#);
+    let error = Plats::new([even(), uneven()]).unwrap_err();
+    both_ways(
+        error,
+        r#"{"township":"T. 2 N., R. 3 W.","are_lot_tables":false}"#,
+    );
 }
 
 #[test]

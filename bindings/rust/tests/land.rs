@@ -160,6 +160,7 @@ fn compared() {
         let is_disjoint = wanted == Comparison::Disjoint || first.is_empty();
         assert_eq!(first.is_disjoint(&second), is_disjoint);
         assert_eq!(second.is_disjoint(&first), is_disjoint);
+        assert_eq!(first.overlaps(&second), !is_disjoint);
     }
 }
 

@@ -314,3 +314,77 @@ fn differences() {
     let other: Lots = "section,lot,acres\nT,3,N,3,W\n".parse().unwrap();
     assert!(even().differences(&other).is_err());
 }
+
+#[test]
+fn descriptions() {
+    assert_eq!(table().land("sec. 5, lot 3."), Ok(land("sec. 5, lot 3.")));
+    let normal = "T. 2 N., R. 3 W.,\nsec. 5, lots 1, 3.\n";
+    assert_eq!(
+        table().normal("sec. 5, lots 3 and 1."),
+        Ok(normal.to_owned())
+    );
+    let notes = table().notes("sec. 14, NE1/4 SE1/4.").unwrap();
+    assert_eq!((notes[0].line, notes[0].column), (1, 16));
+    assert_eq!(table().notes("sec. 14."), Ok(vec![]));
+    assert_eq!(table().land("sec. 37.").unwrap_err().number, 62);
+}
+
+#[test]
+fn many_descriptions() {
+    let descriptions = [
+        "sec. 5, lot 1.",
+        "sec. 5, lot 3.",
+        "sec. 5, lot 5.",
+        "sec. 36.",
+    ];
+    let answers = table().acres_many(&descriptions);
+    assert_eq!(answers[0], Ok(acres(4_045)));
+    assert_eq!(answers[1].as_ref().unwrap_err().number, 94);
+    assert_eq!(answers[2].as_ref().unwrap_err().number, 64);
+    assert_eq!(answers[3], Ok(acres(64_000)));
+    let table = table();
+    let one_by_one: Vec<_> = table.acres_of(descriptions).collect();
+    assert_eq!(one_by_one, answers);
+    let texts = table.normal_many(&descriptions);
+    for (text, description) in texts.iter().zip(descriptions) {
+        assert_eq!(*text, table.normal(description));
+    }
+}
+
+#[test]
+fn each_of_many_tracts() {
+    let tracts = [
+        ("A", "sec. 5, lots 2 and 3."),
+        ("B", "sec. 5, lot 3."),
+        ("C", "sec. 5, lot 2."),
+        ("D", "sec. 37."),
+        ("A", "sec. 14."),
+    ];
+    let answers = table().report_each(tracts).unwrap();
+    let refusals: Vec<_> = answers
+        .iter()
+        .map(|each| each.answer.err().map(|error| (error.refusal, error.inner)))
+        .collect();
+    let refusal = |number, at| Refusal { number, at };
+    assert_eq!(
+        refusals,
+        [
+            Some((refusal(83, 2), Some(refusal(94, 503)))),
+            Some((refusal(83, 3), Some(refusal(94, 503)))),
+            None,
+            Some((refusal(83, 5), Some(refusal(62, 5)))),
+            Some((refusal(82, 6), None)),
+        ]
+    );
+    assert_eq!(answers[2].answer, Ok(acres(4_050)));
+    let overlaps: Vec<_> = table()
+        .overlaps(tracts)
+        .unwrap()
+        .iter()
+        .map(|each| (each.first, each.second, each.acres))
+        .collect();
+    assert_eq!(overlaps, [(0, 1, None), (0, 2, Some(acres(4_050)))]);
+    let many = (0..1_001).map(|index| (index.to_string(), "sec. 14."));
+    assert_eq!(table().report_each(many.clone()).unwrap_err().number, 85);
+    assert_eq!(table().overlaps(many).unwrap_err().number, 85);
+}

@@ -53,6 +53,14 @@ fn the_township_of_a_part() {
     for text in ["T. 2 N., R. 3 W., sec. 14", "t2n r3w sec 14", "T2N R3W"] {
         assert_eq!(split(text).unwrap()[0].township(), Ok(township));
     }
+    // In a description, zeros before a number mean nothing.
+    for (text, township) in [
+        ("T. 0020 N., R. 3 W., sec. 14", "20N-3W"),
+        ("T. 02 N., R. 0030 W., sec. 14", "2N-30W"),
+    ] {
+        let found = split(text).unwrap()[0].township();
+        assert_eq!(found, township.parse(), "{text}");
+    }
     for (text, number) in [
         ("", 31),
         ("sec. 14", 31),
@@ -61,6 +69,10 @@ fn the_township_of_a_part() {
     ] {
         let refused = split(text).unwrap()[0].township().unwrap_err();
         assert_eq!(refused.number, number, "{text}");
+    }
+    for (text, at) in [("T. 0 N.", 3), ("T. 000 N.", 3), ("T. 00100 N.", 3)] {
+        let refused = split(text).unwrap()[0].township().unwrap_err();
+        assert_eq!((refused.number, refused.at), (31, at), "{text}");
     }
 }
 

@@ -59,7 +59,7 @@ impl fmt::Debug for Land {
 }
 
 /// Returns a text, or as many of its first words as can be shown.
-fn shortened(text: &str) -> String {
+pub(crate) fn shortened(text: &str) -> String {
     if text.len() <= SHOWN_MOST {
         return text.to_owned();
     }
