@@ -60,6 +60,17 @@ class Lines(RefusalCase):
         self.assertEqual(notes["W,6,"], notes["W,,6"])
         self.assertIn("N,5,4", notes)
 
+    def test_keys_of_parts(self):
+        notes = township.Notes("T. 2 N., R. 3 W.")
+        notes["N", 4, 5] = (40, "80.20")
+        notes["W", 6, None] = (40, "79.40")
+        self.assertEqual(notes["N,4,5"], (Decimal("40.00"), Decimal("80.20")))
+        self.assertEqual(notes["N", 5, 4], notes["N,4,5"])
+        self.assertEqual(notes["W,6,"], (Decimal("40.00"), Decimal("79.40")))
+        for line in (("N", 4), ("N", 4, 6), ("N", None, None), (4, 5), ("N", 4, 5, None), ()):
+            with self.assertRaises(KeyError):
+                notes[line]
+
     def test_no_such_line(self):
         # Sections 4 and 6 are not next to each other, 4 and 5 are side by side, and 14 is inside the township.
         for line in ("", "N", "N,4", "N,4,6", "W,4,5", "N,14,", "N,,", "n,4,5", "N, 4,5", "N,4,5,", "E,4,5", 52, None):

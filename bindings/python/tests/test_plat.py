@@ -128,6 +128,16 @@ class Printed(unittest.TestCase):
             for lot, acres in section.lots.items():
                 self.assertEqual(acres, uneven().acres(f"sec. {number}, lot {lot}."))
 
+    def test_figures(self):
+        figures = uneven().figures
+        self.assertEqual(len(figures), 47)
+        for (section, lot), acres in figures.items():
+            self.assertEqual(acres, uneven().sections[section].lots[lot])
+        # A lot table has the same keys.
+        table = township.Lots.of_figures(uneven().township, figures)
+        self.assertEqual(dict(table.figures), dict(figures))
+        self.assertEqual(uneven().differences(table), [])
+
     def test_total(self):
         self.assertEqual(uneven().total, Decimal("23037.57"))
 

@@ -348,10 +348,21 @@ class LandsTest(unittest.TestCase):
                 self.assertEqual(a ^ b, (a - b) | (b - a))
                 self.assertTrue((a - b).isdisjoint(b))
                 self.assertEqual(a.isdisjoint(b), not a & b)
+                self.assertEqual((a.disjoint(b), a.overlaps(b)), (not a & b, bool(a & b)))
+                self.assertEqual(a.contains(b), b <= a)
                 self.assertEqual(a <= b, a | b == b)
                 self.assertEqual(a < b, a <= b and a != b)
                 self.assertEqual(a >= b, b <= a)
                 self.assertEqual(a > b, b < a)
+
+    def test_union(self) -> None:
+        self.assertEqual(Lands.union(self.LANDS), self.LANDS[0] | self.LANDS[1] | self.LANDS[2])
+        self.assertEqual(Lands.union([]), Lands())
+        lands = self.LANDS[0]
+        lands |= self.LANDS[1]
+        self.assertEqual(lands, self.LANDS[0] | self.LANDS[1])
+        self.assertTrue(lands.contains("T3N R3W sec. 31, lot 1; T2N R3W sec. 14, NE1/4"))
+        self.assertFalse(lands.contains("T3N R3W sec. 31, lot 1; T4N R3W sec. 14, NE1/4"))
 
     def test_representations_are_short(self) -> None:
         lands = Lands.of("T2N R3W secs. 1 to 36; T3N R3W secs. 1 to 36")

@@ -4,7 +4,7 @@ import pickle
 import unittest
 from decimal import Decimal
 
-from township import Land, Overlap, Refusal, Refused, TractAnswer, _library
+from township import Land, Lots, Overlap, Plats, Refusal, Refused, TractAnswer, _library
 from township._written import text_by
 
 from samples import TRACTS, even, uneven
@@ -56,6 +56,19 @@ class Reports(unittest.TestCase):
             with self.subTest(land=land), self.assertRaises(Refused) as refused:
                 plat.report([("A", land)])
             self.assertEqual((refused.exception.number, refused.exception.inner.number), (83, number))
+
+    def test_land_that_is_too_long_for_a_list(self):
+        # A checkerboard in each section without lots.
+        rows = {section: [0x55555555, 0xAAAAAAAA] * 16 for section in (*range(8, 18), *range(20, 30))}
+        land = Land.of_rows(uneven().township, rows)
+        self.assertGreater(len(land.text), 65_536)
+        lots = Lots.new(uneven().township)
+        for call in (uneven().report, uneven().report_each, uneven().overlaps, lots.report, lots.report_each, lots.overlaps):
+            with self.assertRaisesRegex(ValueError, "longer than 65,536 bytes, the limit of a description"):
+                call([("A", land), ("B", "sec. 36.")])
+        overlaps = Plats([uneven()]).overlaps([("A", land), ("B", land), ("C", "T2N R3W sec. 8, NE1/4")])
+        self.assertEqual([(each.first, each.second) for each in overlaps], [(0, 1), (0, 2), (1, 2)])
+        self.assertEqual(overlaps[0].acres, uneven().acres(land))
 
     def test_no_tracts(self):
         report = uneven().report([])

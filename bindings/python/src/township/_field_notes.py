@@ -2,7 +2,7 @@
 from __future__ import annotations
 
 from decimal import Decimal
-from typing import Dict, FrozenSet, Iterator, List, Mapping, Optional, Tuple
+from typing import Dict, FrozenSet, Iterator, List, Mapping, Optional, Tuple, Union
 
 from ._decimals import Number, scaled
 from ._plat import Plat
@@ -11,6 +11,10 @@ from ._township import NOMINAL_QUARTER, Township
 
 #: The distances from the start of a section line: to its quarter corner, and to its end.
 Distances = Tuple[Decimal, Decimal]
+
+#: A section line: its name, or its direction and the sections on either side, of which the second one is `None` on the
+#: boundary.
+Line = Union[str, Tuple[str, int, Optional[int]]]
 
 #: The numbers of the sections, row by row from the north, and each row from the east.
 _GRID = [list(range(first, first + 6))[:: -1 if row % 2 else 1] for row, first in enumerate(range(1, 37, 6))]
@@ -67,7 +71,7 @@ class Notes(Mapping[str, Distances]):
     At first, all half miles are 40 chains long. To change a section line, assign both of its distances, in
     chains from the start of the line: to the quarter corner, and to the end of the line. A line is named as in
     a record of field notes (see `docs/NOTES-FORMAT.md`): `N,4,5` runs north between sections 4 and 5, and
-    `W,6,` runs west on the north boundary of section 6.
+    `W,6,` runs west on the north boundary of section 6. `("N", 4, 5)` and `("W", 6, None)` are these lines, too.
 
     >>> notes = township.Notes("T. 2 N., R. 3 W.")
     >>> notes["N,4,5"] = (40, "80.20")
@@ -99,10 +103,10 @@ class Notes(Mapping[str, Distances]):
         """The township's designation."""
         return self._township
 
-    def __getitem__(self, line: str) -> Distances:
+    def __getitem__(self, line: Line) -> Distances:
         return self._lines[_name_of(line)]
 
-    def __setitem__(self, line: str, distances: Tuple[Number, Number]) -> None:
+    def __setitem__(self, line: Line, distances: Tuple[Number, Number]) -> None:
         name = _name_of(line)
         if isinstance(distances, str) or len(distances) != 2:
             raise ValueError("a section line has two distances: to its quarter corner, and to its end")
@@ -160,9 +164,10 @@ to 40.250
         return f"<township.Notes of {self._township}>"
 
 
-def _name_of(line: str) -> str:
+def _name_of(line: Line) -> str:
     """Return the name of a section line in its usual order. Raise `KeyError` if there is no such line."""
-    name = _NAME_OF.get(_key(line)) if isinstance(line, str) and line.count(",") == 2 else None
+    text = ",".join("" if each is None else str(each) for each in line) if isinstance(line, tuple) else line
+    name = _NAME_OF.get(_key(text)) if isinstance(text, str) and text.count(",") == 2 else None
     if name is None:
         raise KeyError(
             f"no section line is named {line!r}: write its direction, N or W, and the sections on either side, "

@@ -5,7 +5,7 @@ from decimal import Decimal
 from fractions import Fraction
 from textwrap import shorten
 from types import MappingProxyType
-from typing import TYPE_CHECKING, Any, Dict, Iterable, Iterator, List, Mapping, Tuple
+from typing import TYPE_CHECKING, Any, Dict, Iterable, Iterator, List, Mapping, Tuple, Union
 
 from . import _library
 from ._account import Account
@@ -77,6 +77,15 @@ class Lands:
         except PartRefused as refused:
             raise refused.refused from None
 
+    @classmethod
+    def union(cls, lands: Iterable[Lands]) -> Lands:
+        """Return the land that is in any of several of these values, as `|` does for two. Of none, it is no land.
+
+        >>> township.Lands.union(township.Lands.of(f"T{number}N R3W sec. 14") for number in (2, 3))
+        <township.Lands: T. 2 N., R. 3 W., sec. 14, all. T. 3 N., R. 3 W., sec. 14, all.>
+        """
+        return cls(land for each in lands for land in each)
+
     def by_township(self) -> Mapping[Township, Land]:
         """Return the land in each township that has any, in the order of the canonical text.
 
@@ -97,6 +106,27 @@ class Lands:
         """Return whether the two have no place in common."""
         mine, others = self._by_township, other._by_township
         return all(land.isdisjoint(others[township]) for township, land in mine.items() if township in others)
+
+    def disjoint(self, other: Lands) -> bool:
+        """Return whether the two have no place in common: `isdisjoint`, by the name that it has for shapes."""
+        return self.isdisjoint(other)
+
+    def overlaps(self, other: Lands) -> bool:
+        """Return whether the two have a place in common, also if they are the same or one contains the other.
+
+        >>> lease = township.Lands.of("T2N R3W sec. 14; T3N R3W sec. 31")
+        >>> lease.overlaps(township.Lands.of("T3N R3W sec. 31, lot 1; T4N R3W sec. 1"))
+        True
+        """
+        return not self.isdisjoint(other)
+
+    def contains(self, other: Union[Lands, Text]) -> bool:
+        """Return whether each place of the other value, or of a text, is in this one.
+
+        >>> township.Lands.of("T2N R3W sec. 14; T3N R3W sec. 31").contains("T2N R3W sec. 14, N1/2")
+        True
+        """
+        return (other if isinstance(other, Lands) else Lands.of(other)) <= self
 
     def on_one_line(self) -> str:
         """Return the canonical text on one line.

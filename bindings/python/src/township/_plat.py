@@ -178,6 +178,16 @@ class Plat(Answering):
         return self._printed_figures()[0]
 
     @property
+    def figures(self) -> Mapping[Tuple[int, int], Decimal]:
+        """The acreage of each lot on the printed plat, by section and lot, as in `Lots.figures`.
+
+        >>> plat.figures[5, 1], len(plat.figures)
+        (Decimal('40.45'), 47)
+        """
+        lots = ((each.number, each.lots) for each in self.sections.values())
+        return MappingProxyType({(number, lot): acres for number, each in lots for lot, acres in each.items()})
+
+    @property
     def total(self) -> Decimal:
         """The acreage of the township.
 

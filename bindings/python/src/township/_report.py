@@ -158,13 +158,24 @@ def _tract_of(tract: _library.Tract) -> Tract:
 def list_of(tracts: Iterable[Tuple[Text, Described]]) -> bytes:
     """Return the list of tracts (CSV) with these names and descriptions. Every field is quoted.
 
-    Land is described by its canonical text.
+    Land is described by its canonical text. Raise `ValueError` if that is too long for a description: it would be
+    refused like one that is wrong.
     """
     records = [b"name,description"]
     for name, given in tracts:
-        description = given.text if isinstance(given, Land) else given
-        records.append(_quoted(name) + b"," + _quoted(description))
+        records.append(_quoted(name) + b"," + _quoted(_text_of(given) if isinstance(given, Land) else given))
     return b"\n".join(records) + b"\n"
+
+
+def _text_of(land: Land) -> str:
+    """Return the canonical text of land that is in a list of tracts."""
+    text = land.text
+    if len(text) > _library.DESCRIPTION_MOST:
+        raise ValueError(
+            f"this land has so many parts that its text is longer than {_library.DESCRIPTION_MOST:,} bytes, the limit "
+            "of a description in a list of tracts; Plats has no such limit"
+        )
+    return text
 
 
 def _quoted(field: Text) -> bytes:

@@ -24,12 +24,13 @@ def figures(path: Path) -> Optional[Decimal]:
     area: Fraction = again.area(b"sec. 14.")
     total: Decimal = township.rounded(sum([area, area]))
     sections: Mapping[int, Section] = plat.sections
+    lots: Mapping[Tuple[int, int], Decimal] = plat.figures
     report: Report = plat.report([("A", "sec. 14.")])
     tracts: List[Tract] = list(report.tracts)
     where: Township = plat.township
     sides: "tuple[NorthSouth, EastWest]" = (where.north_south, where.east_west)
     text: str = plat.text + plat.normal("sec. 14.") + township.version() + township.__version__ + sides[0]
-    return max(acres, total, sections[1].total, tracts[0].acres) if text and area else None
+    return max(acres, total, sections[1].total, tracts[0].acres, lots[1, 1]) if text and area else None
 
 
 def lists(plat: Plat, listed: bytes) -> Optional[Decimal]:
@@ -52,6 +53,7 @@ def notes(length: Decimal) -> Plat:
     notes = Notes((2, "N", 3, "W"))
     notes["N,4,5"] = (40, "80.20")
     notes["W,6,7"] = 40.0, length
+    notes["W", 6, None] = notes["N", 4, 5]
     return notes.plat()
 
 
@@ -98,7 +100,8 @@ def townships(plat: Plat, lots: Lots, path: Path, error: MissingPlat) -> Optiona
     overlaps: Tuple[LotsOverlap, ...] = plats.overlaps([("A", lands), ("B", b"T2N R3W sec. 14")])
     readings: List[PartReadings] = plats.suggest("T2N R3W sec. 14", account="plat") + suggest_parts(b"sec. 14")
     part: TownshipText = readings[0].part
-    is_less: bool = lands <= lands - lands and area > 0 and bool(by) and bool(part.text)
+    lands |= Lands.union([lands, lands])
+    is_less: bool = lands <= lands - lands and area > 0 and bool(by) and lands.contains(part.text)
     return overlaps[0].acres if is_less else lands.acres(plats) + figures[where] + tracts[0].by_township[where]
 
 
