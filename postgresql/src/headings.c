@@ -125,12 +125,12 @@ township_designation twpg_township_of(const text *given) {
     twpg_bytes bytes = twpg_bytes_of_text(given);
     township_designation township;
     township_answer answer = township_designation_read(bytes.start, bytes.length, &township);
-    twpg_explanation explained = {0, 0, "this is no township", NULL, "Write it as in T. 2 N., R. 3 W."};
+    twpg_explanation explained = {0, 0, "this isn't a township", NULL, "Write it as in T. 2 N., R. 3 W."};
     uint32_t index = answer.number - TOWNSHIP_REFUSAL_DESIGNATION_NUMBER;
 
     if (answer.verdict == TOWNSHIP_REFUSED) {
         if (index < lengthof(expected_there)) {
-            explained.sentence = psprintf("this is no township: %s", expected_there[index]);
+            explained.sentence = psprintf("this isn't a township: %s", expected_there[index]);
         }
         twpg_refuse(answer, &explained);
     }

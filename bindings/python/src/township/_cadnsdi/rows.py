@@ -113,22 +113,29 @@ class RowReader:
         lot = _lot_of(values) if is_lot else ""
         listed = Unused(line, township, section, lot, values.quarter_quarter, values.acres, values.note, "")
         fault = "the row has more fields than the heading" if len(fields) > self._width else ""
-        if is_lot:
-            return _lot_row(listed, values, division, fault or _lot_fault(values))
-        return _other_row(listed, values, division, fault, is_there=not is_marked)
+        known: Optional[PlssId] = None
+        try:
+            known = plss_id_of(township)
+            _check_fault(fault or (_lot_fault(values) if is_lot else ""))
+            number = _section(section, values, division)
+            if is_lot:
+                return _lot_row(listed, values, known, number)
+            place = quarter_quarter_of(values.quarter, values.quarter_quarter)
+            return OtherRow(known, number, place, not is_marked, listed)
+        except Unusable as unusable:
+            # An aliquot part that is not a quarter-quarter does not matter.
+            return BadRow(known, listed._replace(reason=str(unusable))) if is_lot or is_marked else None
 
 
-def _lot_row(listed: Unused, values: _Values, division: Optional[Division], fault: str) -> Said:
-    """Return the row of a lot."""
-    township = None
-    try:
-        township = plss_id_of(listed.plss_id)
-        if fault:
-            raise Unusable(fault)
-        section = _section(listed.section, values, division)
-        number = _lot_number(listed.lot)
-    except Unusable as unusable:
-        return BadRow(township, listed._replace(reason=str(unusable)))
+def _check_fault(fault: str) -> None:
+    """Raise `Unusable` if there is a fault."""
+    if fault:
+        raise Unusable(fault)
+
+
+def _lot_row(listed: Unused, values: _Values, township: PlssId, section: int) -> LotRow:
+    """Return the row of a lot. Raise `Unusable` if its number is not known."""
+    number = _lot_number(listed.lot)
     place, hundredths = "", None
     try:
         place = quarter_quarter_of(values.quarter, values.quarter_quarter)
@@ -136,20 +143,6 @@ def _lot_row(listed: Unused, values: _Values, division: Optional[Division], faul
     except Unusable as unusable:
         listed = listed._replace(reason=str(unusable))
     return LotRow(township, section, number, place, hundredths, listed)
-
-
-def _other_row(listed: Unused, values: _Values, division: Optional[Division], fault: str, is_there: bool) -> Said:
-    """Return the row of land that is in no lot. Without a quarter-quarter, an aliquot part does not matter."""
-    township = None
-    try:
-        township = plss_id_of(listed.plss_id)
-        if fault:
-            raise Unusable(fault)
-        section = _section(listed.section, values, division)
-        place = quarter_quarter_of(values.quarter, values.quarter_quarter)
-    except Unusable as unusable:
-        return None if is_there else BadRow(township, listed._replace(reason=str(unusable)))
-    return OtherRow(township, section, place, is_there, listed)
 
 
 def _value(field: str) -> str:
