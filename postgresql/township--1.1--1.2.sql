@@ -176,3 +176,46 @@ CREATE FUNCTION unread(description text) RETURNS text[]
 AS 'MODULE_PATHNAME', 'twpg_unread' LANGUAGE C IMMUTABLE STRICT PARALLEL SAFE COST 1000;
 COMMENT ON FUNCTION unread(text)
 IS 'what of a text without readings is not understood, or can be read in two ways; empty if it has readings';
+
+-- Texts with the land of several townships.
+
+CREATE FUNCTION lands(description text) RETURNS SETOF land
+AS 'MODULE_PATHNAME', 'twpg_lands' LANGUAGE C IMMUTABLE STRICT PARALLEL SAFE COST 100 ROWS 2;
+COMMENT ON FUNCTION lands(text) IS 'the land of a text in each of its townships';
+
+CREATE FUNCTION lands_or_none(description text) RETURNS SETOF land
+AS 'MODULE_PATHNAME', 'twpg_lands_or_none' LANGUAGE C IMMUTABLE STRICT PARALLEL SAFE COST 100 ROWS 2;
+COMMENT ON FUNCTION lands_or_none(text)
+IS 'the land of a text in each of its townships; no rows if the text is refused';
+
+CREATE FUNCTION lands_refusal(
+    description text,
+    OUT number int4, OUT at int4, OUT line_number int4, OUT column_number int4,
+    OUT message text, OUT excerpt text, OUT help text
+) AS 'MODULE_PATHNAME', 'twpg_lands_refusal' LANGUAGE C IMMUTABLE STRICT PARALLEL SAFE COST 200;
+COMMENT ON FUNCTION lands_refusal(text)
+IS 'why a text with the land of several townships is refused, or NULL if it is accepted';
+
+-- The exact sum of areas. The state is a fraction in lowest terms, or NULL once an area is missing. These functions name
+-- nothing of the extension, which may not be on the path.
+
+CREATE FUNCTION areas_add(state numeric[], numerator numeric, denominator numeric) RETURNS numeric[] AS $$
+    SELECT CASE WHEN sum.n IS NOT NULL THEN ARRAY[div(sum.n, gcd(sum.n, sum.d)), div(sum.d, gcd(sum.n, sum.d))] END
+    FROM (SELECT state[1] * denominator + numerator * state[2] AS n, state[2] * denominator AS d) AS sum
+$$ LANGUAGE sql IMMUTABLE PARALLEL SAFE;
+
+CREATE FUNCTION areas_combine(first numeric[], second numeric[]) RETURNS numeric[] AS $$
+    SELECT CASE WHEN sum.n IS NOT NULL THEN ARRAY[div(sum.n, gcd(sum.n, sum.d)), div(sum.d, gcd(sum.n, sum.d))] END
+    FROM (SELECT first[1] * second[2] + second[1] * first[2] AS n, first[2] * second[2] AS d) AS sum
+$$ LANGUAGE sql IMMUTABLE PARALLEL SAFE;
+
+CREATE FUNCTION areas_rounded(state numeric[]) RETURNS numeric AS $$
+    SELECT div(200 * state[1] + state[2], 2 * state[2]) * 0.01
+$$ LANGUAGE sql IMMUTABLE PARALLEL SAFE;
+
+CREATE AGGREGATE total_acres(numerator numeric, denominator numeric) (
+    SFUNC = areas_add, STYPE = numeric[], INITCOND = '{0,1}', COMBINEFUNC = areas_combine, FINALFUNC = areas_rounded,
+    PARALLEL = SAFE
+);
+COMMENT ON AGGREGATE total_acres(numeric, numeric)
+IS 'the exact sum of areas, rounded once to hundredths; NULL if any of them is missing';

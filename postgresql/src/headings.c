@@ -120,18 +120,23 @@ static const char *const expected_there[] = {
     "expected nothing after the township", "the text exceeds 65,536 bytes",
 };
 
+/* What is wrong with a text that spells no township, by the number of its refusal. */
+char *twpg_no_township(uint32_t number) {
+    uint32_t index = number - TOWNSHIP_REFUSAL_DESIGNATION_NUMBER;
+
+    return index < lengthof(expected_there) ? psprintf("this isn't a township: %s", expected_there[index])
+                                            : pstrdup("this isn't a township");
+}
+
 /* The same, but a text that spells none is an error. */
 township_designation twpg_township_of(const text *given) {
     twpg_bytes bytes = twpg_bytes_of_text(given);
     township_designation township;
     township_answer answer = township_designation_read(bytes.start, bytes.length, &township);
-    twpg_explanation explained = {0, 0, "this isn't a township", NULL, "Write it as in T. 2 N., R. 3 W."};
-    uint32_t index = answer.number - TOWNSHIP_REFUSAL_DESIGNATION_NUMBER;
+    twpg_explanation explained = {0, 0, NULL, NULL, "Write it as in T. 2 N., R. 3 W."};
 
     if (answer.verdict == TOWNSHIP_REFUSED) {
-        if (index < lengthof(expected_there)) {
-            explained.sentence = psprintf("this isn't a township: %s", expected_there[index]);
-        }
+        explained.sentence = twpg_no_township(answer.number);
         twpg_refuse(answer, &explained);
     }
     if (answer.verdict != TOWNSHIP_ACCEPTED) {

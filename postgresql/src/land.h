@@ -90,6 +90,7 @@ void twpg_find_lots(const township_designation *township, twpg_lot_numbers *lots
 twpg_heading twpg_find_heading(twpg_bytes given, township_designation *township, size_t *end);
 bool twpg_read_heading(twpg_bytes given, township_designation *township, size_t *end);
 bool twpg_find_township(const text *given, township_designation *township);
+char *twpg_no_township(uint32_t number);
 township_designation twpg_township_of(const text *given);
 
 /* land_reading.c: lands of descriptions, without a plat, and their texts. */

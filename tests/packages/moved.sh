@@ -61,7 +61,11 @@ leases 5
 lot_tables 2
 meridians 2
 parcels 3
+permit_areas 6
+permit_lands 6
+permits 4
 plats 1
+returned 1
 tracts 2
 lands 505
 leases 2
