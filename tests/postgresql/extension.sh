@@ -19,12 +19,16 @@ END
 
 new_database kinds
 # All functions are immutable, parallel safe, and strict, except for the planner's and those of aggregates.
-shows 'what kinds of functions there are' 'land_joinsel
+shows 'what kinds of functions there are' 'areas_add
+areas_combine
+areas_rounded
+land_joinsel
 land_overlaps_add
 land_overlaps_pairs
 max
 min
 overlaps
+total_acres
 union_of' sql -d kinds << 'END'
 SELECT proname FROM pg_proc JOIN pg_depend ON objid = pg_proc.oid AND classid = 'pg_proc'::regclass
 WHERE deptype = 'e' AND refobjid = (SELECT oid FROM pg_extension WHERE extname = 'township')
