@@ -23,6 +23,7 @@ use Rattle.twp_answers.specs.declared.names.NamesSoFar.{NamesSoFar}
 use Rattle.twp_answers.specs.declared.tract_fault.TractFault.{TractFault}
 use Rattle.twp_answers.specs.declared.tract_fault.TractFault.TheVariants as fault
 use Rattle.twp_answers.proofs.TractLands.{earlier_or_last, either_way, with_left, with_right}
+use Rattle.twp_grid.specs.Lands.{STANDARD_LOTS}
 
 -- one more answer
 pub answers_next : (plat : TownshipPlat) (rows : List Fields) (count : ℕ) (answers : List TractAnswer)
@@ -131,7 +132,7 @@ module _ (township : Designation) (rows : List Fields) (index : ℕ) where
 
   -- its name is new, but its description is refused
   pub refused : IsTractRecord (record_at rows index) → ¬ IsNameRepeated rows index → (inner : Refusal)
-      → IsNoDescription township (description_in (record_at rows index)) inner
+      → IsNoDescription STANDARD_LOTS township (description_in (record_at rows index)) inner
       → HasOwnFault township rows index (fault.TractRefused (index + 2) inner)
   refused is anew inner none = record { has = (refl, none); own = omega arith; first = least }
     where

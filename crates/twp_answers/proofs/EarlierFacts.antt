@@ -85,8 +85,8 @@ module _ (township : Designation) (rows : List Fields) (count : ℕ) (old new : 
   apart earlier index first below overlap = elim (earlier_or_last count index below) [
     | inl known ↦ before.tracts.apart earlier index first known overlap
     | inr next ↦
-        let land : Describe township (description_in (record_at rows count)) overlap.more =
-        subst (λ i. Describe township (description_in (record_at rows i)) overlap.more) next
+        let land : Describe STANDARD_LOTS township (description_in (record_at rows count)) overlap.more =
+        subst (λ i. Describe STANDARD_LOTS township (description_in (record_at rows i)) overlap.more) next
         overlap.other_land in
         let same : overlap.more ≡ more =
         one_land township (description_in (record_at rows count)) overlap.more more land

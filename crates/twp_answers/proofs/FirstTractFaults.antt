@@ -21,6 +21,7 @@ use Rattle.twp_answers.specs.declared.stop.Verdict.TheVariants.{Accepted, Refuse
 use Rattle.twp_answers.specs.declared.tract_fault.TractFault.{TractFault}
 use Rattle.twp_answers.specs.declared.tract_fault.TractFault.TheVariants as fault
 use Rattle.twp_answers.proofs.OneAnswer.{not_described}
+use Rattle.twp_grid.specs.Lands.{STANDARD_LOTS}
 
 -- the next record is refused, for its first fault
 module _ (township : Designation) (rows : List Fields) (count : ℕ) (known : TractsSoFar)
@@ -95,7 +96,7 @@ module _ (township : Designation) (rows : List Fields) (count : ℕ) (known : Tr
   turn_of_name (is, anew) fault.Memory has = absurd has
 
   pub turn_of_land : IsNamedAnew (record_at rows count) known → (more : ℕ → ℕ → ℕ → Bool)
-      → Describe township (description_in (record_at rows count)) more
+      → Describe STANDARD_LOTS township (description_in (record_at rows count)) more
       → (other : TractFault) → HasAt township rows count other → 4 ≤ turn_of other
   turn_of_land (is, anew) more land (fault.TractRow n) (e, bad) = absurd (bad is)
   turn_of_land (is, anew) more land (fault.NameRepeated n) (e, repeated) = absurd (not_repeated anew repeated)

@@ -24,6 +24,7 @@ use Rattle.twp_answers.specs.LotLands.{HasLotArea}
 use Rattle.twp_answers.specs.LotTractFaults.{LacksLotAt}
 use Rattle.twp_answers.specs.steps.LotTaking.{LackNoLots, TakesByLots}
 use Rattle.twp_answers.proofs.UnitedFigures.{united_figures}
+use Rattle.twp_grid.specs.Lands.{STANDARD_LOTS}
 
 -- no figures
 pub no_figures : (table : ReturnedLots) (rows : List Fields) → AreFiguresByLots table rows 0 []
@@ -69,7 +70,7 @@ figure_is table fields old new area figure hundredths takes rounded name_is hund
 
 -- a tract whose land has figures lacks no lot
 pub returns_all : (table : ReturnedLots) (rows : List Fields) (index : ℕ) (more : ℕ → ℕ → ℕ → Bool)
-    → Describe table.township (description_in (record_at rows index)) more
+    → Describe STANDARD_LOTS table.township (description_in (record_at rows index)) more
     → HasFigures PLACE_DIGITS table more → (other : TractFault) → LacksLotAt table rows index other → ⊥
 returns_all table rows index more land has (fault.TractRefused number inner) (at_record, lacks) =
     let same : lacks.places ≡ more =

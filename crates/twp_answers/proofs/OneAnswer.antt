@@ -43,8 +43,8 @@ one_plat notes plat plat' are are' =
 
 -- a description names only one land
 pub one_land : (township : Designation) (description : List ℕ) (places places' : ℕ → ℕ → ℕ → Bool)
-    → Describe township description places
-    → Describe township description places' → places ≡ places'
+    → Describe STANDARD_LOTS township description places
+    → Describe STANDARD_LOTS township description places' → places ≡ places'
 one_land township description places places' is is' =
     let same : is.items ≡ is'.items = texts.one_reading description is.items is'.items is.read is'.read in
     let land : place_faults.IsLandOfItems STANDARD_LOTS township is'.items places = rw same at is.land in
@@ -70,8 +70,8 @@ not_platted notes refusal plat (inr is) are =
 
 -- bytes that are not a description of land describe none
 pub not_described : (township : Designation) (d : List ℕ) (refusal : Refusal) (places : ℕ → ℕ → ℕ → Bool)
-    → IsNoDescription township d refusal
-    → Describe township d places → ⊥
+    → IsNoDescription STANDARD_LOTS township d refusal
+    → Describe STANDARD_LOTS township d places → ⊥
 not_described township d refusal places (inl is) land =
     texts.no_fault d land.items is.fault land.read is.first.is
 not_described township d refusal places (inr is) land =
@@ -100,7 +100,7 @@ one_plat_refusal notes r r' (inr is) (inr is') =
 
 -- only one refusal of a description is the first
 pub one_description_refusal : (township : Designation) (d : List ℕ) (r r' : Refusal)
-    → IsNoDescription township d r → IsNoDescription township d r' → r ≡ r'
+    → IsNoDescription STANDARD_LOTS township d r → IsNoDescription STANDARD_LOTS township d r' → r ≡ r'
 one_description_refusal township d r r' (inl is) (inl is') =
     let refusals : Some r ≡ Some r' =
     sym is.refusal_is ∙ texts.one_refusal d is.fault is'.fault is.first is'.first ∙ is'.refusal_is in
@@ -126,4 +126,4 @@ one_refusal notes d r r' (inr is) (inl is') = absurd (not_platted notes r' is.pl
 one_refusal notes d r r' (inr is) (inr is') =
     let same : is.plat ≡ is'.plat = one_plat notes is.plat is'.plat is.platted is'.platted in
     one_description_refusal is'.plat.township d r r'
-    (subst (λ (p : TownshipPlat). IsNoDescription p.township d r) same is.refused) is'.refused
+    (subst (λ (p : TownshipPlat). IsNoDescription STANDARD_LOTS p.township d r) same is.refused) is'.refused

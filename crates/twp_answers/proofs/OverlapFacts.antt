@@ -114,11 +114,11 @@ as_overlap plat fields other places more (Some hundredths) one two has =
 
 -- a tract's description that is refused names no land
 pub no_tract : (township : Designation) (fields : Fields) (description : List ℕ) (inner : Refusal)
-    → description ≡ description_in fields → IsNoDescription township description inner
+    → description ≡ description_in fields → IsNoDescription STANDARD_LOTS township description inner
     → ¬ IsTract township fields
 no_tract township fields description inner same none = λ is.
     not_described township (description_in fields) inner is.places
-    (subst (λ d. IsNoDescription township d inner) same none) is.land
+    (subst (λ d. IsNoDescription STANDARD_LOTS township d inner) same none) is.land
 
 -- each land has whole lots
 pub whole_lands : {L : Type 0} (places : L → ℕ → ℕ → ℕ → Bool) (township : Designation) (rows : List Fields)

@@ -8,6 +8,7 @@ use Rattle.twp_notes.specs.Records.{Fields, record_at}
 use Rattle.twp_answers.specs.Answers.{Describe}
 use Rattle.twp_answers.specs.Tracts.{description_in, IsInTract, IsLandOfTracts}
 use Rattle.twp_answers.proofs.OneAnswer.{one_land}
+use Rattle.twp_grid.specs.Lands.{STANDARD_LOTS}
 
 -- an index is either earlier or the last
 pub earlier_or_last : (count index : ℕ) → index < count + 1 → (index < count) ⊎ (index ≡ count)
@@ -38,7 +39,7 @@ no_land township rows section column row = (
 -- one more tract
 pub land_next : (township : Designation) (rows : List Fields) (count : ℕ) (places more : ℕ → ℕ → ℕ → Bool)
     → IsLandOfTracts township rows count places
-    → Describe township (description_in (record_at rows count)) more
+    → Describe STANDARD_LOTS township (description_in (record_at rows count)) more
     → IsLandOfTracts township rows (count + 1) (union places more)
 land_next township rows count places more land next section column row = (
   λ held. elim (either_way (places section column row) (more section column row) held) [
@@ -57,8 +58,9 @@ land_next township rows count places more land next section column row = (
       held = is.held;
     }))
     | inr last ↦
-        let described : Describe township (description_in (record_at rows count)) is.places =
-        subst (λ i. Describe township (description_in (record_at rows i)) is.places) last is.land in
+        let described : Describe STANDARD_LOTS township (description_in (record_at rows count)) is.places =
+        subst (λ i. Describe STANDARD_LOTS township (description_in (record_at rows i)) is.places) last
+        is.land in
         let same : is.places ≡ more =
         one_land township (description_in (record_at rows count)) is.places more described next in
         with_right (places section column row) (more section column row)

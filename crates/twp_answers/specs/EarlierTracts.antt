@@ -43,7 +43,7 @@ pub record ReadsTract (township : Designation) (fields : Fields) (old new : Trac
   pub names_are : (other : List ℕ)
       → has_name new.names other ≡ (bytes_eq (name_in fields) other || has_name old.names other)
   pub places_are : new.places ≡ old.places
-  pub land : Describe township (description_in fields) more
+  pub land : Describe STANDARD_LOTS township (description_in fields) more
   pub whole : HasWholeLots STANDARD_LOTS more
 
 -- this land, which shares no place with the tracts so far, was added
@@ -63,7 +63,7 @@ pub record TakesLand (township : Designation) (fields : Fields) (old new : Tract
 pub record OverlapsEarlierLand (township : Designation) (fields : Fields) (earlier : TractsSoFar)
     : Type 0 where
   pub more : ℕ → ℕ → ℕ → Bool
-  pub land : Describe township (description_in fields) more
+  pub land : Describe STANDARD_LOTS township (description_in fields) more
   pub shared : SharePlace earlier.places more
 
 -- the record is a tract's, with a name that no tract so far has
@@ -79,7 +79,7 @@ IsUnread township fields earlier number (fault.NameRepeated at_) =
     (at_ ≡ number) × IsTractRecord fields × (has_name earlier.names (name_in fields) ≡ true)
 IsUnread township fields earlier number (fault.TractRefused at_ inner) =
     (at_ ≡ number) × IsNamedAnew fields earlier
-    × IsNoDescription township (description_in fields) inner
+    × IsNoDescription STANDARD_LOTS township (description_in fields) inner
 IsUnread township fields earlier number fault.Memory = ⊤
 IsUnread township fields earlier number other = ⊥
 

@@ -9,6 +9,7 @@ use Rattle.twp_plat.specs.LotTables.{ReturnedLots}
 use Rattle.twp_plat.specs.LotsFaults.{lacking_refusal}
 use Rattle.twp_answers.specs.Answers.{IsNoDescription}
 use Rattle.twp_answers.specs.OnLands.{IsLandOf}
+use Rattle.twp_grid.specs.Lands.{STANDARD_LOTS}
 
 -- the set contains a lot that the table lacks, and this is the refusal of the first one
 pub record IsLackingLot (table : ReturnedLots) (places : ℕ → ℕ → ℕ → Bool) (refusal : Refusal)
@@ -28,7 +29,7 @@ pub record HasLotArea (table : ReturnedLots) (places : ℕ → ℕ → ℕ → B
 pub record OfLandDescribed (table : ReturnedLots) (description : List ℕ)
     (Holds : (ℕ → ℕ → ℕ → Bool) → Type 0) : Type 0 where
   pub places : ℕ → ℕ → ℕ → Bool
-  pub described : IsLandOf table.township description places
+  pub described : IsLandOf STANDARD_LOTS table.township description places
   pub holds : Holds places
 
 -- the land described has this area by the table
@@ -45,4 +46,4 @@ LacksLotOf table description refusal =
 -- lacks a lot of the land
 abbrev pub HasNoLotAreaOf : ReturnedLots → List ℕ → Refusal → Type 0
 HasNoLotAreaOf table description refusal =
-    IsNoDescription table.township description refusal ⊎ LacksLotOf table description refusal
+    IsNoDescription STANDARD_LOTS table.township description refusal ⊎ LacksLotOf table description refusal

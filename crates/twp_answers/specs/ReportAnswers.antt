@@ -15,6 +15,7 @@ use Rattle.twp_answers.specs.TractFaults.{IsFirstTractFault, verdict_of}
 use Rattle.twp_answers.specs.declared.tract_fault.TractFault.{TractFault}
 use Rattle.twp_answers.specs.declared.stop.Verdict.{Verdict}
 use Rattle.twp_answers.specs.declared.stop.Verdict.TheVariants.{Accepted, Refused, TractRefused}
+use Rattle.twp_grid.specs.Lands.{STANDARD_LOTS}
 
 -- the line of a tract, such as `tract A: 39.18 acres`
 abbrev pub tract_line : List ℕ → ℕ → List ℕ
@@ -23,7 +24,7 @@ tract_line name hundredths = codes "tract " ++ name ++ codes ": " ++ acres_line 
 -- the line of a tract's record: its name, and the acres of its land
 pub record IsTractLine (plat : TownshipPlat) (fields : Fields) (line : List ℕ) : Type 0 where
   pub places : ℕ → ℕ → ℕ → Bool
-  pub land : Describe plat.township (description_in fields) places
+  pub land : Describe STANDARD_LOTS plat.township (description_in fields) places
   pub hundredths : ℕ
   pub acres : AreHundredthsOf plat places hundredths
   pub line_is : line ≡ tract_line (name_in fields) hundredths

@@ -12,6 +12,7 @@ use Rattle.twp_answers.specs.declared.stop.Verdict.{Verdict}
 use Rattle.twp_answers.specs.declared.stop.Verdict.TheVariants.{Refused, TractRefused}
 use Rattle.twp_answers.specs.declared.tract_fault.TractFault.{TractFault}
 use Rattle.twp_answers.specs.declared.tract_fault.TractFault.TheVariants as fault
+use Rattle.twp_grid.specs.Lands.{STANDARD_LOTS}
 
 -- the number of the fault and its place; none if memory ran out
 abbrev pub refusal_of : TractFault → Option Refusal
@@ -48,7 +49,7 @@ HasAt township rows index (fault.TractRow number) =
 HasAt township rows index (fault.NameRepeated number) =
     (number ≡ index + 2) × IsNameRepeated rows index
 HasAt township rows index (fault.TractRefused number inner) = (number ≡ index + 2)
-    × IsNoDescription township (description_in (record_at rows index)) inner
+    × IsNoDescription STANDARD_LOTS township (description_in (record_at rows index)) inner
 HasAt township rows index (fault.TractsOverlap number) =
     (number ≡ index + 2) × OverlapsEarlier township rows index
 HasAt township rows index other = ⊥

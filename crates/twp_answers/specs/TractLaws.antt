@@ -11,6 +11,7 @@ use Rattle.twp_plat.specs.LandAreaLaws.{township_places}
 use Rattle.twp_answers.specs.Laws.{IsOne}
 use Rattle.twp_answers.specs.Tracts.{description_in, tract_records, IsTractList, IsLandOfTracts}
 use Rattle.twp_answers.specs.ReportAnswers.{other_places, IsReportAnswer}
+use Rattle.twp_grid.specs.Lands.{STANDARD_LOTS}
 
 -- the area of a set of places and the area of all others add up to the area of the township
 abbrev pub RestAddsUp : Type 0
@@ -23,7 +24,7 @@ RestAddsUp = (plat : TownshipPlat) (places : ℕ → ℕ → ℕ → Bool) (area
 -- the area of the land of a tract's record
 pub record IsTractArea (plat : TownshipPlat) (fields : Fields) (area : Fraction) : Type 0 where
   pub places : ℕ → ℕ → ℕ → Bool
-  pub land : Describe plat.township (description_in fields) places
+  pub land : Describe STANDARD_LOTS plat.township (description_in fields) places
   pub area_is : IsLandArea PLACE_DIGITS plat places area
 
 -- the areas of the first of these tracts, up to this number

@@ -7,6 +7,7 @@ use Rattle.twp_grid.specs.Townships.{Designation}
 use Rattle.twp_notes.specs.Records.{Fields, field, record_at, record_numbered, records_of}
 use Rattle.twp_grid.specs.Lands.{SharePlace}
 use Rattle.twp_answers.specs.Answers.{Describe}
+use Rattle.twp_grid.specs.Lands.{STANDARD_LOTS}
 
 -- the most bytes of a list of tracts
 abbrev pub TRACTS_LIMIT : ℕ
@@ -54,14 +55,14 @@ pub record IsTractRecord (fields : Fields) : Type 0 where
 pub record IsTract (township : Designation) (fields : Fields) : Type 0 where
   pub is_record : IsTractRecord fields
   pub places : ℕ → ℕ → ℕ → Bool
-  pub land : Describe township (description_in fields) places
+  pub land : Describe STANDARD_LOTS township (description_in fields) places
 
 -- the land of two tracts shares a place
 pub record Overlap (township : Designation) (fields other : Fields) : Type 0 where
   pub places : ℕ → ℕ → ℕ → Bool
   pub more : ℕ → ℕ → ℕ → Bool
-  pub land : Describe township (description_in fields) places
-  pub other_land : Describe township (description_in other) more
+  pub land : Describe STANDARD_LOTS township (description_in fields) places
+  pub other_land : Describe STANDARD_LOTS township (description_in other) more
   pub shared : SharePlace places more
 
 -- The first of these records, up to this number, are tracts with different names, and no place is
@@ -86,7 +87,7 @@ pub record IsInTract (township : Designation) (rows : List Fields) (count sectio
   pub index : ℕ
   pub within : index < count
   pub places : ℕ → ℕ → ℕ → Bool
-  pub land : Describe township (description_in (record_at rows index)) places
+  pub land : Describe STANDARD_LOTS township (description_in (record_at rows index)) places
   pub held : places section column row ≡ true
 
 -- the set of all places in the first tracts, up to this number

@@ -15,7 +15,7 @@ use crate::tract_fault::TractFault;
 use csv::ByteRecord;
 use std::alloc::Global;
 use twp_grid::Township;
-use twp_land::Land;
+use twp_land::{Land, StandardLots};
 use twp_read::Clarity;
 
 /// The names and the land of the tracts of a list so far. One land is reused for each tract in turn,
@@ -70,7 +70,13 @@ impl<L: Land> EarlierTracts<L> {
         if !self.names.add(tract.name)? {
             return Err(TractFault::NameRepeated(number));
         }
-        match describe_into(alloc, &mut self.tract, township, tract.description) {
+        match describe_into(
+            alloc,
+            &mut self.tract,
+            township,
+            tract.description,
+            &StandardLots,
+        ) {
             Ok(clarity) => {
                 self.clarity = both(self.clarity, clarity);
                 Ok(tract.name)

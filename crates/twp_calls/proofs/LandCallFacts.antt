@@ -41,12 +41,14 @@ agree Holds township other found same answer found_is is true_is holds =
 -- a description that is refused in a township, or for which memory ran out
 pub stops_in : (given : TownshipDesignation) (township : Designation) → IsGivenTownship given township
     → (Accepted : Designation → TownshipAnswer → Type 0) (description : List ℕ) (stopping : Stop)
-    (answer : TownshipAnswer) → answer ≡ stopped stopping → StopsOn township description stopping
+    (answer : TownshipAnswer) → answer ≡ stopped stopping
+    → StopsOn STANDARD_LOTS township description stopping
     → InTownship given (λ township. Answers (Accepted township)
-    (IsRefusedFor (IsNoDescription township description))) answer
+    (IsRefusedFor (IsNoDescription STANDARD_LOTS township description))) answer
 stops_in given township is Accepted description stopping answer same stops =
     in_township township is
-    (subst (Answers (Accepted township) (IsRefusedFor (IsNoDescription township description))) (sym same)
+    (subst (Answers (Accepted township) (IsRefusedFor (IsNoDescription STANDARD_LOTS township description)))
+    (sym same)
     (stopped_on (Accepted township) township description stopping stops))
 
 -- the land that an operation makes has whole lots

@@ -25,6 +25,7 @@ use Rattle.twp_calls.specs.Answers.{ACCEPTED, IsRefused, bare, refused, verdict_
 use Rattle.twp_calls.specs.Calls.{Answers, IsPut, OnPlat}
 use Rattle.twp_calls.specs.declared.answer.TownshipAnswer.{TownshipAnswer}
 use Rattle.twp_calls.specs.declared.plat.TownshipPlat.{TownshipPlat as GivenPlat}
+use Rattle.twp_grid.specs.Lands.{STANDARD_LOTS}
 
 -- an answer with a line and a column
 abbrev pub located_at : TownshipAnswer → ℕ → ℕ → TownshipAnswer
@@ -129,7 +130,7 @@ pub data IsWhereRefused (text : List ℕ) (refusal : Refusal) (line column : ℕ
 -- the refusal of the description is explained, with the line and the column of its place
 pub record IsExplainedDescription (township : Designation) (description old new : List ℕ)
     (answer : TownshipAnswer) : Type 0 where
-  pub explained : IsExplainedRefusal (IsNoDescription township description) old new answer
+  pub explained : IsExplainedRefusal (IsNoDescription STANDARD_LOTS township description) old new answer
   pub place : IsWhereRefused description explained.refusal answer.line answer.column
 
 abbrev pub ExplainsDescription : GivenPlat → List ℕ → List ℕ → List ℕ → TownshipAnswer → Type 0

@@ -54,14 +54,14 @@ pub data InOneTownship (township other : Designation) (Answers : TownshipAnswer 
 pub record IsLandRead (township : Designation) (description : List ℕ) (new : GivenLand)
     (answer : TownshipAnswer) : Type 0 where
   pub places : ℕ → ℕ → ℕ → Bool
-  pub named : IsLandOf township description places
+  pub named : IsLandOf STANDARD_LOTS township description places
   pub given : IsGivenLand new township places
   pub answer_is : answer ≡ bare ACCEPTED
 
 abbrev pub IsLandReadCall : TownshipDesignation → List ℕ → GivenLand → TownshipAnswer → Type 0
 IsLandReadCall given description new = InTownship given (λ township.
     Answers (IsLandRead township description new)
-    (IsRefusedFor (IsNoDescription township description)))
+    (IsRefusedFor (IsNoDescription STANDARD_LOTS township description)))
 
 -- what a call answers for land on a plat, by an account
 abbrev pub OnPlatAndLand : GivenPlat → GivenLand → ℕ

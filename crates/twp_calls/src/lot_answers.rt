@@ -14,6 +14,7 @@ use crate::verdict::{ACCEPTED, NO_LAND, NO_LOTS, OTHER_TOWNSHIP};
 use std::alloc::Global;
 use twp_answers::{Stop, land_of};
 use twp_grid::Bytes;
+use twp_land::StandardLots;
 use twp_measure::Area;
 use twp_plat::{LotTable, area_by_lots};
 
@@ -116,7 +117,7 @@ pub fn township_lots_land_area(
 fn area_described(alloc: Global, table: &LotTable, description: &[u8]) -> Result<Area, Stop>
     ensures { AnswersByLots table.now description.now result }
 {
-    let land = land_of(alloc, table.township(), description)?;
+    let land = land_of(alloc, table.township(), description, &StandardLots)?;
     match area_by_lots(table, &land) {
         Ok(area) => Ok(area),
         Err(lot) => Err(Stop::Refused(lot.refusal())),

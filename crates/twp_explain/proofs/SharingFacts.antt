@@ -12,11 +12,12 @@ use Rattle.twp_answers.proofs.TractLands.{earlier_or_last}
 use Rattle.twp_diagnose.specs.RecordFields.{number_listed, IsListedAt}
 use Rattle.twp_diagnose.specs.declared.listed.Listed.{Listed}
 use Rattle.twp_explain.specs.steps.Sharing.{IsFirstOverlapping, IsFirstSharingRecord}
+use Rattle.twp_grid.specs.Lands.{STANDARD_LOTS}
 
 -- two tracts whose lands have no place in common don't overlap
 pub no_overlap : (township : Designation) (fields next : Fields) (places more : ℕ → ℕ → ℕ → Bool)
-    → Describe township (description_in fields) places
-    → Describe township (description_in next) more
+    → Describe STANDARD_LOTS township (description_in fields) places
+    → Describe STANDARD_LOTS township (description_in next) more
     → (SharePlace places more → ⊥) → Overlap township fields next → ⊥
 no_overlap township fields next places more is is' apart overlap =
     let same : overlap.places ≡ places =

@@ -23,6 +23,7 @@ use Rattle.twp_answers.proofs.runs.OneAnswer.{one_hundredths}
 use Rattle.twp_answers.proofs.OneAnswer.{one_description_refusal, not_platted}
 use Rattle.twp_answers.proofs.TractLands.{one_land_of_tracts}
 use Rattle.twp_answers.proofs.FirstTractFaults.{none_before}
+use Rattle.twp_grid.specs.Lands.{STANDARD_LOTS}
 
 -- a tract has only one line
 one_line : (plat : TownshipPlat) (fields : Fields) (line line' : List ℕ) → IsTractLine plat fields line
@@ -110,7 +111,9 @@ same_fault township bytes (fault.TractRefused n inner) (fault.TractRefused n' in
     let index : is.index ≡ is'.index = omega arith in
     let same : inner ≡ inner' =
     one_description_refusal township (description_in (record_at (tract_records bytes) is'.index)) inner inner'
-    (subst (λ i. IsNoDescription township (description_in (record_at (tract_records bytes) i)) inner) index
+    (subst
+    (λ i. IsNoDescription STANDARD_LOTS township (description_in (record_at (tract_records bytes) i)) inner)
+    index
     is.has.1)
     is'.has.1 in
     ap (λ k. fault.TractRefused k inner) at_ ∙ ap (λ r. fault.TractRefused n' r) same

@@ -15,6 +15,7 @@ use Rattle.twp_answers.specs.declared.tract_fault.TractFault.{TractFault}
 use Rattle.twp_answers.specs.declared.tract_fault.TractFault.TheVariants as fault
 use Rattle.twp_answers.specs.LotLands.{HasLotArea, HasNoLotAreaOf}
 use Rattle.twp_answers.specs.LotTractFaults.{LacksLotAt}
+use Rattle.twp_grid.specs.Lands.{STANDARD_LOTS}
 
 -- the tracts so far grew by the tract of the record, which has this area by the table
 pub record TakesByLots (table : ReturnedLots) (fields : Fields) (old new : TractsSoFar) (area : Fraction)
@@ -26,7 +27,7 @@ pub record TakesByLots (table : ReturnedLots) (fields : Fields) (old new : Tract
 -- the record's land, for whose lots the table has figures, contains a place of the tracts so far
 pub record OverlapsByLots (table : ReturnedLots) (fields : Fields) (earlier : TractsSoFar) : Type 0 where
   pub more : ℕ → ℕ → ℕ → Bool
-  pub land : Describe table.township (description_in fields) more
+  pub land : Describe STANDARD_LOTS table.township (description_in fields) more
   pub figures : HasFigures PLACE_DIGITS table more
   pub shared : SharePlace earlier.places more
 

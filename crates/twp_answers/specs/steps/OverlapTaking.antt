@@ -16,7 +16,7 @@ use Rattle.twp_answers.specs.declared.overlaps.TractOverlap.{TractOverlap}
 -- the record is a tract, whose land is this
 pub record IsTractLand (township : Designation) (fields : Fields) (places : ℕ → ℕ → ℕ → Bool) : Type 0 where
   pub is_record : IsTractRecord fields
-  pub land : Describe township (description_in fields) places
+  pub land : Describe STANDARD_LOTS township (description_in fields) places
   pub whole : HasWholeLots STANDARD_LOTS places
 
 -- the record is a tract with this land, or no tract

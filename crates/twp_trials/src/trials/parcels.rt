@@ -125,7 +125,7 @@ fn print_pair(rt: &HostRuntime, plat: &Plat, first: &str, second: &str) -> io::R
 
 /// The land of a description on a plat.
 fn parcel(rt: &HostRuntime, plat: &Plat, text: &str) -> Result<Lanes, Stop> {
-    land_of(rt.alloc(), plat.township(), text.as_bytes())
+    land_of(rt.alloc(), plat.township(), text.as_bytes(), &StandardLots)
 }
 
 /// The name of a comparison.
@@ -151,7 +151,7 @@ fn print_parcel(rt: &HostRuntime, plat: &Plat, lead: &str, land: &Lanes) -> io::
     rt.print(acres_of(plat, &land, Account::Plat))?;
     rt.print(" hundredths of an acre; its text is ")?;
     let text = spell(rt.alloc(), &land, plat.township(), &StandardLots)?;
-    match land_of(rt.alloc(), plat.township(), text.as_slice()) {
+    match land_of(rt.alloc(), plat.township(), text.as_slice(), &StandardLots) {
         Ok(again) => rt.println(name_of(compare(&again, &land))),
         Err(stop) => rt.println(stop),
     }
@@ -205,7 +205,7 @@ fn print_by_lots(rt: &HostRuntime, plat: &Plat, table: &LotTable, text: &str) ->
     rt.print("by the lot table, `")?;
     rt.print(text)?;
     rt.print("`: ")?;
-    let land = match land_of(rt.alloc(), plat.township(), text.as_bytes()) {
+    let land = match land_of(rt.alloc(), plat.township(), text.as_bytes(), &StandardLots) {
         Ok(land) => land,
         Err(stop) => return rt.println(stop),
     };
