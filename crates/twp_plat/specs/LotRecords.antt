@@ -6,7 +6,9 @@ use Rattle.twp_measure.specs.LengthTexts.{IsShortNumber, point}
 use Rattle.twp_grid.specs.Winding.{IsSection}
 use Rattle.twp_notes.specs.Records.{Fields, field, records_of, record_numbered}
 use Rattle.twp_notes.specs.FieldNotes.{IsTownshipRecord, IsSectionNumber}
-use Rattle.twp_plat.specs.LotTables.{ReturnedLots, IsLotTable, IsLotNumber, figure_of}
+use Rattle.twp_grid.specs.Lands.{STANDARD_LAYOUT, lotting}
+use Rattle.twp_plat.specs.LotTables.{IsLotNumber, figure_of, lots_of}
+use Rattle.twp_plat.specs.declared.lots.table.LotTable.{LotTable}
 
 -- the most bytes of a lot table
 abbrev pub LOTS_TEXT_MOST : ℕ
@@ -54,22 +56,23 @@ abbrev pub IsLotNamed : List Fields → ℕ → ℕ → Type 0
 IsLotNamed records section lot = (number : ℕ) × IsRowNumber records number
     × NamesLot (record_numbered records number) section lot
 
--- The records are this table: the heading, the township, and at most one record for each lot; the
--- other lots are lacking.
-pub record AreLotRecords (records : List Fields) (table : ReturnedLots) : Type 0 where
+-- The records are this table: the heading, the township, and at most one record for each of the standard
+-- lots; the other lots are lacking.
+pub record AreLotRecords (records : List Fields) (table : LotTable) : Type 0 where
   pub heading_is : record_numbered records 1 ≡ lots_heading
   pub township_is : IsTownshipRecord (record_numbered records 2) table.township
   pub each : (number : ℕ) → IsRowNumber records number
       → (section : ℕ) × (lot : ℕ)
-      × IsLotRecord (record_numbered records number) section lot (figure_of table section lot)
+      × IsLotRecord (record_numbered records number) section lot (figure_of table.lots section lot)
   pub once : (number other section lot : ℕ) → IsRowNumber records number
       → IsRowNumber records other → NamesLot (record_numbered records number) section lot
       → NamesLot (record_numbered records other) section lot → number ≡ other
-  pub others : (section lot : ℕ) → IsSection section → IsLotNumber section lot
-      → ¬ IsLotNamed records section lot → figure_of table section lot ≡ 0
-  pub table_is : IsLotTable table
+  pub others : (section lot : ℕ) → IsSection section → 1 ≤ lot
+      → ¬ IsLotNamed records section lot → figure_of table.lots section lot ≡ 0
+  pub lots_are : lots_of table.lots ≡ lotting STANDARD_LAYOUT
+  pub date_is : table.date ≡ 0
 
 -- the bytes are this lot table
-pub record AreLots (bytes : List ℕ) (table : ReturnedLots) : Type 0 where
+pub record AreLots (bytes : List ℕ) (table : LotTable) : Type 0 where
   pub size : length bytes ≤ LOTS_TEXT_MOST
   pub records_are : AreLotRecords (records_of bytes) table

@@ -6,7 +6,7 @@ use Rattle.std.specs.Option.{option_map_or}
 use Rattle.twp_grid.specs.declared.refusal.Refusal.{Refusal}
 use Rattle.twp_notes.specs.Records.{Fields, field, records_of, record_numbered}
 use Rattle.twp_notes.specs.FieldNotes.{IsTownshipRecord}
-use Rattle.twp_plat.specs.LotTables.{ReturnedLots}
+use Rattle.twp_plat.specs.declared.lots.table.LotTable.{LotTable}
 use Rattle.twp_plat.specs.LotRecords.{LOTS_TEXT_MOST, LOT_FIELDS, lots_heading, IsAcresText}
 use Rattle.twp_plat.specs.LotRecords.{NamesLot, IsRowNumber, AreLots}
 use Rattle.twp_plat.specs.declared.lots.fault.LotsFault.{LotsFault}
@@ -102,6 +102,6 @@ pub record IsFirstFault (bytes : List ℕ) (fault : LotsFault) : Type 0 where
       → IsFrom (stage_of fault) (place_of fault) (number_of fault) other
 
 -- the lot table in the bytes, or their first fault
-abbrev pub AnswersLots : List ℕ → Result ReturnedLots LotsFault → Type 0
+abbrev pub AnswersLots : List ℕ → Result LotTable LotsFault → Type 0
 AnswersLots bytes (Ok table) = AreLots bytes table
 AnswersLots bytes (Err fault) = IfSome (refusal_of fault) (λ _. IsFirstFault bytes fault)

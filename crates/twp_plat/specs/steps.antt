@@ -1,3 +1,4 @@
+pub mod Appending
 pub mod LineFaults
 pub mod SideLimits
 pub mod Accounts

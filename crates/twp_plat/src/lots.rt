@@ -7,8 +7,11 @@ mod lacking;
 mod parsing;
 mod reading;
 mod record;
+mod returned;
 mod table;
 
 pub use area::area_by_lots;
 pub use fault::LotsFault;
-pub use table::{LOTS, LotTable};
+pub use lacking::LackingLot;
+pub use returned::{BOUNDS, FIGURE_MOST, LOT_MOST, LOTS, RETURNED_MOST, ReturnedLots};
+pub use table::LotTable;

@@ -1,15 +1,19 @@
 -- The first fault of a lot table whose records are checked one after another.
 use Rattle.std.proofs.Common.{◌≡◌, ◌≢◌, ◌⊎◌, ℕ, ◌+◌, ◌≤◌, ◌<◌, List, length, inl, inr, zero, suc, Err}
 use Rattle.std.proofs.Common.{IfSome, refl, subst, sym, ◌∙◌, arith}
-use Rattle.std.proofs.Common.{Option, Some}
-use Rattle.std.specs.Option.{SomeIff}
+use Rattle.std.proofs.Common.{ap, true, false, nat_le, if◌then◌else◌}
+use Rattle.std.proofs.lemmas.Bool.Decides.{nat_tests}
 use Rattle.std.proofs.lemmas.Bool.{cases_lt, cases_eq}
-use Rattle.twp_grid.specs.Townships.{Designation}
 use Rattle.twp_grid.specs.Winding.{IsSection}
 use Rattle.twp_notes.specs.Records.{Fields, records_of, record_at}
 use Rattle.twp_notes.specs.declared.reading.ReadFault.{ReadFault}
 use Rattle.twp_notes.specs.declared.reading.ReadFault.TheVariants as reading
-use Rattle.twp_plat.specs.LotTables.{ReturnedLots, returned_lots, IsLotTable, IsLotNumber, lot_index}
+use Rattle.twp_grid.specs.Lots.{number_of_lots}
+use Rattle.twp_grid.specs.Lands.{STANDARD_LAYOUT, lotting}
+use Rattle.twp_land.specs.LotMaps.{layout_of_plat}
+use Rattle.twp_plat.specs.LotTables.{FIGURE_MOST, IsLotNumber, figure_of, figure_within, lot_index}
+use Rattle.twp_plat.specs.LotTables.{standard_figure}
+use Rattle.twp_plat.specs.declared.lots.returned.ReturnedLots.{ReturnedLots}
 use Rattle.twp_plat.specs.LotRecords.{LOTS_TEXT_MOST, LOT_FIELDS, NamesLot, IsRowNumber, IsLotNamed, AreLots}
 use Rattle.twp_plat.specs.LotsFaults.{NamesNoLot, HasNoAcres, HasOnRow, IsLotRepeated, HasFault, IsFrom}
 use Rattle.twp_plat.specs.LotsFaults.{IsFirstFault, AnswersLots, refusal_of}
@@ -217,10 +221,17 @@ named_of bytes rows figures section lot after entered range number some =
     let is = on_row (λ (f : Fields). NamesLot f section lot) bytes rows by.place after by.within names in
     (by.place + 3, is.0, is.1)
 
+-- the lots are the standard ones, and have the figures that were entered
+pub record AreStandard (figures : List ℕ) (lots : ReturnedLots) : Type 0 where
+  pub layout : layout_of_plat lots.plat.mapped lots.plat.map.positions lots.plat.map.divided ≡ STANDARD_LAYOUT
+  pub figures_are : (section number : ℕ) → IsSection section → 1 ≤ number
+      → figure_of lots section number ≡ standard_figure figures section number
+
 -- if all records were entered, they are a lot table
-pub lots_of_entries : (bytes : List ℕ) (rows : List Fields) (figures : List ℕ) (after : AreAfter bytes rows)
-    → AreEntered rows (length rows) figures → AreLots bytes (returned_lots after.township figures)
-lots_of_entries bytes rows figures after entered = record {
+pub lots_of_entries : (bytes : List ℕ) (rows : List Fields) (figures : List ℕ) (lots : ReturnedLots)
+    (after : AreAfter bytes rows) → AreEntered rows (length rows) figures → AreStandard figures lots
+    → AreLots bytes (record { township = after.township; date = 0; lots = lots })
+lots_of_entries bytes rows figures lots after entered are = record {
   size = after.size;
   records_are = record {
     heading_is = rw after.split after.heading_is;
@@ -228,7 +239,11 @@ lots_of_entries bytes rows figures after entered = record {
     each = λ number is.
         let at : IsPlaced bytes rows number = placed bytes rows number after is in
         let entry : IsEntered (record_at rows at.place) figures = entered.each at.place at.within in
-        (entry.section, entry.lot, rw at.is (rw entry.entered entry.is));
+        let names = entry.is.names in
+        let figure =
+        are.figures_are entry.section entry.lot names.section_is.1 names.has.0
+        ∙ entered_is entry.section entry.lot names.has in
+        (entry.section, entry.lot, rw at.is (rw figure (rw entry.entered entry.is)));
     once = λ number other section lot is is' names names'.
         let at : IsPlaced bytes rows number = placed bytes rows number after is in
         let at' : IsPlaced bytes rows other = placed bytes rows other after is' in
@@ -236,16 +251,39 @@ lots_of_entries bytes rows figures after entered = record {
         (subst (λ (f : Fields). NamesLot f section lot) at.is names)
         (subst (λ (f : Fields). NamesLot f section lot) at'.is names') in
         omega (arith, at.number_is, at'.number_is);
-    others = λ section lot range number unnamed.
-        none_left (entry_of figures (lot_index section lot)) (λ some.
-        unnamed (named_of bytes rows figures section lot after entered range number some));
-    table_is = record { count = entered.size; most = λ index below. entered.most index };
+    others =
+        λ section lot range some unnamed. are.figures_are section lot range some ∙ other section lot range
+        some unnamed;
+    lots_are = ap lotting are.layout;
+    date_is = refl;
   };
 }
   where
     none_left : (n : ℕ) → (0 < n → ⊥) → n ≡ 0
     none_left zero none = refl
     none_left (suc n) none = absurd (none (omega arith))
+
+    -- no figure that was entered is greater than the greatest
+    entered_is : (section lot : ℕ) → IsLotNumber section lot
+        → standard_figure figures section lot ≡ entry_of figures (lot_index section lot)
+    entered_is section lot number =
+        let within : nat_le lot (number_of_lots section) ≡ true = grind (arith, nat_tests, number.1) in
+        let most : nat_le (entry_of figures (lot_index section lot)) FIGURE_MOST ≡ true =
+        grind (arith, nat_tests, entered.most (lot_index section lot)) in
+        rw (within, most) refl
+
+    other : (section lot : ℕ) → IsSection section → 1 ≤ lot → ¬ IsLotNamed (records_of bytes) section lot
+        → standard_figure figures section lot ≡ 0
+    other section lot range some unnamed = elim (cases_lt (number_of_lots section) lot) [
+      | inl more ↦
+          let beyond : nat_le lot (number_of_lots section) ≡ false = grind (arith, nat_tests, more) in
+          rw beyond refl
+      | inr few ↦
+          let number : IsLotNumber section lot = (some, omega (arith, few)) in
+          entered_is section lot number
+          ∙ none_left (entry_of figures (lot_index section lot)) (λ more.
+          unnamed (named_of bytes rows figures section lot after entered range number more))
+    ]
 
 -- a failure to read is not a refusal
 pub answers_reading : (bytes : List ℕ) (fault : ReadFault) → AnswersLots bytes (Err (lots_fault_of fault))
@@ -267,10 +305,3 @@ too_large_first bytes large = record { is = large; first = λ other has. before 
     before (fault.Repeated at) = inl (omega arith)
     before fault.Read = inl (omega arith)
     before fault.Memory = inl (omega arith)
-
--- the table that is made of a township and figures
-pub table_is : (township : Designation) (figures : List ℕ) (found : Option ReturnedLots)
-    (table : ReturnedLots)
-    → SomeIff found (IsLotTable (returned_lots township figures)) (returned_lots township figures)
-    → found ≡ Some table → table ≡ returned_lots township figures
-table_is township figures found table is there = (rw there at is).1

@@ -8,7 +8,8 @@ ghost use Rattle.twp_plat.specs.steps.LotEntries.{IsLotRefusedAfter};
 
 use crate::lots::fault::LotsFault;
 use crate::lots::record::{LOT_FIELDS, hundredths_of, is_heading, lot_of};
-use crate::lots::table::{LOTS, LotTable, lot_index};
+use crate::lots::returned::{LOTS, ReturnedLots};
+use crate::lots::table::{LotTable, lot_index};
 use csv::ByteRecord;
 use std::alloc::Global;
 use twp_notes::{FIELDS, Records, field, township_of};
@@ -42,7 +43,11 @@ pub fn parse(alloc: Global, bytes: &[u8]) -> Result<LotTable, LotsFault>
         return Err(LotsFault::Township);
     };
     let figures = enter_lots(records, &mut row)?;
-    Ok(LotTable::new(township, &figures).unwrap())
+    Ok(LotTable {
+        township,
+        date: 0,
+        lots: ReturnedLots::standard(&figures),
+    })
 }
 
 /// Enters the remaining records, each of a lot.

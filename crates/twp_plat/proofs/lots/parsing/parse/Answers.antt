@@ -6,7 +6,7 @@ use Rattle.twp_notes.specs.Records.{records_of, records_left}
 use Rattle.twp_notes.proofs.RecordFacts.{few_records}
 use Rattle.twp_plat.specs.steps.LotEntries.{IsLotRefusedAfter}
 use Rattle.twp_plat.proofs.lots.RowPlaces.{after_of_word}
-use Rattle.twp_plat.proofs.lots.FirstLotFaults.{answer_refused, lots_of_entries, table_is}
+use Rattle.twp_plat.proofs.lots.FirstLotFaults.{answer_refused, lots_of_entries}
 use Rattle.twp_plat.proofs.lots.parsing.parse.Goals as goal
 
 pub enter_lots-requires-clause-few : goal.enter_lots-requires-clause-few
@@ -51,5 +51,6 @@ returns-clause-answer c =
     let after =
     after_of_word c.args.bytes.now _ _ _ _ _ c.in-Some.township c.requires c.new.ensures.all one.0
     two.0 (c.is_heading.ensures.0 c.if-not-is_heading.false) c.in-Some.ensures.0 in
-    rw (table_is _ _ _ _ c.new-2.ensures c.unwrap.ensures)
-    (lots_of_entries c.args.bytes.now _ c.in_ok-figures.figures after c.in_ok-figures.ensures.entered)
+    lots_of_entries c.args.bytes.now _ c.in_ok-figures.figures c.standard.result after
+    c.in_ok-figures.ensures.entered
+    (record { layout = c.standard.ensures.layout; figures_are = c.standard.ensures.figures })
