@@ -1,6 +1,6 @@
 -- Lot tables: the lots of a township's approved plat, and the acreage that it returns for each. The limits
 -- are this project's.
-use Rattle.std.specs.Prelude.{◌≡◌, ℕ, zero, suc, ◌+◌, ◌-◌, ◌<◌, ◌≤◌, ◌==◌, nat_le, nat_lt, List, [], get_or}
+use Rattle.std.specs.Prelude.{◌≡◌, ℕ, zero, suc, ◌+◌, ◌-◌, ◌≤◌, ◌==◌, nat_le, nat_lt, List, [], get_or}
 use Rattle.std.specs.Prelude.{if◌then◌else◌, count_by}
 use Rattle.twp_grid.specs.Winding.{IsSection, SECTION_COUNT}
 use Rattle.twp_grid.specs.Lots.{Lot, lots, number_of_lots}

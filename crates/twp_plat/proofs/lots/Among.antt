@@ -1,14 +1,12 @@
 -- The figure of a lot among those of its section, and what is appended to them.
 use Rattle.std.proofs.Common.{◌≡◌, ◌≢◌, ◌==◌, ℕ, zero, suc, ◌+◌, ◌-◌, ◌<◌, ◌≤◌, ◌&&◌, Bool, true, false, List}
-use Rattle.std.proofs.Common.{Option}
-use Rattle.std.proofs.Common.{Some, None, get_or, set, length, if◌then◌else◌, nat_le, nat_lt, refl, sym, ap}
+use Rattle.std.proofs.Common.{get_or, set, length, if◌then◌else◌, nat_le, nat_lt, refl, ap}
 use Rattle.std.proofs.Common.{◌∙◌}
 use Rattle.std.proofs.Common.{inl, inr, arith, ◌⊎◌}
-use Rattle.std.specs.Option.{SomeIff}
-use Rattle.std.proofs.lemmas.Bool.{cases_Bool, cases_lt, cases_eq, eqb-true, eq-eqb, ne_eqb}
+use Rattle.std.proofs.lemmas.Bool.{cases_Bool, cases_eq, eq-eqb, ne_eqb}
 use Rattle.std.proofs.lemmas.Bool.Decides.{nat_tests}
 use Rattle.std.proofs.lemmas.List.{get_or-set_same, get_or-set_other, get_or_past}
-use Rattle.twp_plat.specs.LotTables.{FIGURE_MOST, figure_among, figure_within}
+use Rattle.twp_plat.specs.LotTables.{figure_among, figure_within}
 
 -- one number after another
 pub among_next : (figures numbers : List ℕ) (number index end : ℕ) → index < end

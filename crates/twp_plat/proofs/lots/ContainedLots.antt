@@ -1,15 +1,15 @@
 -- Which lots a set contains, and the units of those of a section.
-use Rattle.std.proofs.Common.{◌≡◌, ◌≢◌, ◌==◌, ℕ, suc, ◌+◌, ◌-◌, ◌*◌, ◌<◌, ◌≤◌, ◌&&◌, nat_lt, Bool, true}
+use Rattle.std.proofs.Common.{◌≡◌, ◌≢◌, ◌==◌, ℕ, ◌+◌, ◌-◌, ◌*◌, ◌<◌, ◌≤◌, ◌&&◌, nat_lt, Bool, true}
 use Rattle.std.proofs.Common.{false, Some, None}
-use Rattle.std.proofs.Common.{Option, refl, sym, ap, ◌∙◌, arith, inl, inr, if◌then◌else◌, ◌⊎◌}
+use Rattle.std.proofs.Common.{Option, refl, sym, ap, ◌∙◌, arith, inl, inr, ◌⊎◌}
 use Rattle.std.specs.Option.{option_map_or}
 use Rattle.std.proofs.lemmas.Bool.{and_parts, cases_Bool, cases_lt, eqb-true, eq-eqb, ne_eqb, false≢true}
 use Rattle.std.proofs.lemmas.Bool.Decides.{nat_tests}
 use Rattle.twp_grid.specs.Places.{IsPlace, is_place}
-use Rattle.twp_grid.specs.Spans.{total, whole_block}
+use Rattle.twp_grid.specs.Spans.{total}
 use Rattle.twp_grid.specs.Lands.{AreLots, HasLot, IsLastLot, IsLotHeld, IsNextLot, IsWholeOrNot}
 use Rattle.twp_grid.specs.Lands.{LOT_NUMBER_MOST}
-use Rattle.twp_grid.specs.Lands.{Lotting, count_held, intersection, lot_places, off_lots}
+use Rattle.twp_grid.specs.Lands.{Lotting, intersection, lot_places}
 use Rattle.twp_grid.proofs.PlaceTests.{place_of_test, test_of_place}
 use Rattle.twp_grid.proofs.TotalFacts.{total-add, total-all_zero, total-next}
 use Rattle.twp_land.specs.LotMaps.{land_off_lots}
@@ -17,8 +17,7 @@ use Rattle.twp_plat.specs.LotAreas.{Lacks, contains_lot, count_of_lot, count_off
 use Rattle.twp_plat.specs.LotAreas.{size_of_lot}
 use Rattle.twp_plat.specs.LotAreas.{units_of_lots}
 use Rattle.twp_plat.specs.steps.SectionUnits.{section_units}
-use Rattle.twp_plat.specs.steps.Bounds.{REGULAR_PLACE_UNITS}
-use Rattle.twp_plat.proofs.CountFacts.{SomePlace, some_counted, counted_some, counted_none, count-ext}
+use Rattle.twp_plat.proofs.CountFacts.{some_counted, counted_some, counted_none, count-ext}
 
 -- the places of a lot
 pub of_lot : (lots : Lotting) (section number c r : ℕ) → lot_places lots section number section c r ≡ true

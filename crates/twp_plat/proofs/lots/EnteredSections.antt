@@ -1,15 +1,15 @@
 -- The figures that are entered, section after section.
-use Rattle.std.proofs.Common.{◌≡◌, ◌≢◌, ℕ, ◌+◌, ◌-◌, ◌<◌, ◌≤◌, List, [], get_or, set, length, nat_lt, nat_le}
-use Rattle.std.proofs.Common.{refl, sym, ap, ◌∙◌, inl, inr, arith, if◌then◌else◌, true, false}
+use Rattle.std.proofs.Common.{◌≡◌, ◌≢◌, ℕ, ◌+◌, ◌-◌, ◌<◌, ◌≤◌, List, [], get_or, set, length, nat_lt}
+use Rattle.std.proofs.Common.{refl, sym, ◌∙◌, inl, inr, arith, true}
 use Rattle.std.proofs.lemmas.Bool.{cases_lt}
 use Rattle.std.proofs.lemmas.Bool.Decides.{nat_tests}
 use Rattle.std.proofs.lemmas.List.{get_or-set_same, get_or-set_other}
-use Rattle.twp_grid.specs.Winding.{IsSection, SECTION_COUNT}
+use Rattle.twp_grid.specs.Winding.{SECTION_COUNT}
 use Rattle.twp_grid.specs.Spans.{total, one_where}
 use Rattle.twp_grid.specs.Lands.{LOT_NUMBER_MOST}
 use Rattle.twp_grid.proofs.TotalFacts.{total-ext, total-next, total-add, total-zero}
 use Rattle.twp_plat.specs.LotTables.{RETURNED_MOST, AreReturned, entered_count, entered_for, figure_among}
-use Rattle.twp_plat.specs.LotTables.{figure_of, figure_within}
+use Rattle.twp_plat.specs.LotTables.{figure_within}
 use Rattle.twp_plat.specs.steps.Appending.{Appends, count_entered}
 use Rattle.twp_plat.specs.declared.lots.returned.ReturnedLots.{ReturnedLots}
 use Rattle.twp_plat.proofs.lots.Among.{among-ext, among_is}

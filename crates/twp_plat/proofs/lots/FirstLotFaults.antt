@@ -1,7 +1,7 @@
 -- The first fault of a lot table whose records are checked one after another.
 use Rattle.std.proofs.Common.{◌≡◌, ◌≢◌, ◌⊎◌, ℕ, ◌+◌, ◌≤◌, ◌<◌, List, length, inl, inr, zero, suc, Err}
 use Rattle.std.proofs.Common.{IfSome, refl, subst, sym, ◌∙◌, arith}
-use Rattle.std.proofs.Common.{ap, true, false, nat_le, if◌then◌else◌}
+use Rattle.std.proofs.Common.{ap, true, false, nat_le}
 use Rattle.std.proofs.lemmas.Bool.Decides.{nat_tests}
 use Rattle.std.proofs.lemmas.Bool.{cases_lt, cases_eq}
 use Rattle.twp_grid.specs.Winding.{IsSection}
@@ -11,7 +11,7 @@ use Rattle.twp_notes.specs.declared.reading.ReadFault.TheVariants as reading
 use Rattle.twp_grid.specs.Lots.{number_of_lots}
 use Rattle.twp_grid.specs.Lands.{STANDARD_LAYOUT, lotting}
 use Rattle.twp_land.specs.LotMaps.{layout_of_plat}
-use Rattle.twp_plat.specs.LotTables.{FIGURE_MOST, IsLotNumber, figure_of, figure_within, lot_index}
+use Rattle.twp_plat.specs.LotTables.{FIGURE_MOST, IsLotNumber, figure_of, lot_index}
 use Rattle.twp_plat.specs.LotTables.{standard_figure}
 use Rattle.twp_plat.specs.declared.lots.returned.ReturnedLots.{ReturnedLots}
 use Rattle.twp_plat.specs.LotRecords.{LOTS_TEXT_MOST, LOT_FIELDS, NamesLot, IsRowNumber, IsLotNamed, AreLots}

@@ -1,16 +1,15 @@
 -- The figures of the standard lots, whose numbers follow each other in each section.
-use Rattle.std.proofs.Common.{◌≡◌, ◌≢◌, ◌==◌, ℕ, zero, suc, ◌+◌, ◌-◌, ◌<◌, ◌≤◌, ◌||◌, true, false, List, []}
+use Rattle.std.proofs.Common.{◌≡◌, ◌==◌, ℕ, zero, suc, ◌+◌, ◌-◌, ◌<◌, ◌≤◌, ◌||◌, true, false, List, []}
 use Rattle.std.proofs.Common.{◌∷◌}
-use Rattle.std.proofs.Common.{get_or, nat_le, nat_lt, refl, sym, ap, ◌∙◌, inl, inr, arith, if◌then◌else◌, ◌⊎◌}
+use Rattle.std.proofs.Common.{get_or, nat_le, refl, sym, ap, ◌∙◌, inl, inr, arith, if◌then◌else◌, ◌⊎◌}
 use Rattle.std.proofs.lemmas.Bool.{cases_lt, cases_eq, eqb-true, eq-eqb, ne_eqb}
 use Rattle.std.proofs.lemmas.Bool.Decides.{nat_tests}
 use Rattle.twp_grid.specs.Winding.{IsSection}
 use Rattle.twp_grid.specs.Lots.{lots, number_of_lots}
 use Rattle.twp_grid.proofs.LotFacts.{each, each_of_three, either, a_section}
 use Rattle.twp_land.proofs.LotFacts.{few_lots}
-use Rattle.twp_plat.specs.LotTables.{LOT_COUNT, figure_among, figure_within, lot_index, lots_before}
+use Rattle.twp_plat.specs.LotTables.{LOT_COUNT, figure_among, figure_within, lots_before}
 use Rattle.twp_plat.specs.LotTables.{standard_figure}
-use Rattle.twp_plat.proofs.lots.Among.{among_next, among_here, among_none}
 use Rattle.twp_plat.proofs.lots.IndexFacts.{before_by_code, before_is, end_is}
 
 -- the code's table of numbers

@@ -3,7 +3,6 @@ use Rattle.std.proofs.Common.{◌≡◌, ℕ, ◌+◌, ◌-◌, ◌*◌, ◌<◌
 use Rattle.std.proofs.Common.{inr, ◌⊎◌}
 use Rattle.std.proofs.lemmas.Bool.{cases_Bool, cases_eq, cases_lt}
 use Rattle.twp_measure.specs.Areas.{Fraction}
-use Rattle.twp_grid.specs.Places.{PLACE_DIGITS}
 use Rattle.twp_grid.specs.Spans.{total}
 use Rattle.twp_grid.specs.Lands.{Layout, LieWithin, Lotting, lotting, no_places}
 use Rattle.twp_grid.proofs.TotalFacts.{total-all_zero, total-both, total-next, total-scale}

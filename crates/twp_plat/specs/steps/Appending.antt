@@ -1,5 +1,5 @@
 -- The figures of one section after those of another. No public contract cites this module.
-use Rattle.std.specs.Prelude.{◌≡◌, ℕ, ◌+◌, ◌-◌, ◌≤◌, ◌<◌, nat_lt, List, get_or}
+use Rattle.std.specs.Prelude.{◌≡◌, ℕ, ◌-◌, ◌≤◌, ◌<◌, nat_lt, List, get_or}
 use Rattle.twp_grid.specs.Spans.{total, one_where}
 use Rattle.twp_grid.specs.Lands.{LOT_NUMBER_MOST}
 use Rattle.twp_plat.specs.LotTables.{figure_among, figure_within}

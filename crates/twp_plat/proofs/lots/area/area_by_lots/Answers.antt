@@ -1,5 +1,5 @@
 -- The sections before that of the first lot that is lacking have none.
-use Rattle.std.proofs.Common.{◌≡◌, arith, refl}
+use Rattle.std.proofs.Common.{arith}
 use Rattle.twp_land.specs.LotMaps.{layout_of_plat}
 use Rattle.twp_land.proofs.LandRanges.{nothing_within}
 use Rattle.twp_land.proofs.LotFacts.{section_is}

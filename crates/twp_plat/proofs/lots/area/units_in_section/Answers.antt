@@ -1,5 +1,5 @@
 -- The next lot by number counts if the land contains it; the numbers between are those of no lot.
-use Rattle.std.proofs.Common.{◌≡◌, ◌<◌, ◌+◌, ◌*◌, ◌≤◌, ℕ, zero, suc, arith, refl, sym, ◌∙◌}
+use Rattle.std.proofs.Common.{◌≡◌, ◌<◌, ◌+◌, ◌*◌, ℕ, zero, suc, arith, refl, sym, ◌∙◌}
 use Rattle.std.proofs.lemmas.Bool.{false≢true}
 use Rattle.twp_land.specs.LotMaps.{land_off_lots}
 use Rattle.twp_land.specs.steps.PlatLotsLots.{plat_are_lots}

@@ -1,5 +1,5 @@
 -- A figure more is appended if something is entered for the next lot.
-use Rattle.std.proofs.Common.{◌≡◌, ◌≢◌, ◌+◌, ◌∙◌, arith, refl, sym, ap, subst}
+use Rattle.std.proofs.Common.{◌≡◌, ◌∙◌, arith, refl, subst}
 use Rattle.std.proofs.lemmas.List.{get_or-set_other, length-set}
 use Rattle.twp_grid.proofs.TotalFacts.{total-zero}
 use Rattle.twp_plat.proofs.lots.Among.{AreAppended, appended_all, appended_more, appended_none, appended_skip}

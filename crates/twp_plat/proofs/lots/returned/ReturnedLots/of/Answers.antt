@@ -1,5 +1,5 @@
 -- Section after section, what is entered is appended.
-use Rattle.std.proofs.Common.{◌≡◌, ◌∙◌, ◌<◌, ◌+◌, arith, refl, subst}
+use Rattle.std.proofs.Common.{◌≡◌, ◌∙◌, ◌+◌, arith, refl, subst}
 use Rattle.std.proofs.lemmas.List.{length-set}
 use Rattle.twp_plat.specs.declared.lots.returned.ReturnedLots.{ReturnedLots}
 use Rattle.twp_plat.proofs.lots.EnteredSections.{AreSectionsEntered, sections_all, sections_count}
