@@ -11,3 +11,11 @@ pub mod RecordFacts
 pub mod RowPlaces
 pub mod Entering
 pub mod FirstLotFaults
+pub mod LandTrees
+pub mod PaintedParts
+pub mod LandReading
+pub mod EntryFacts
+pub mod RowFacts
+pub mod LandEntering
+pub mod FirstLandFaults
+pub mod LandRowFacts

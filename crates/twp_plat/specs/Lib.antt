@@ -16,4 +16,7 @@ pub mod LotAreas
 pub mod LotRecords
 pub mod LotsFaults
 pub mod LotAreaLaws
+pub mod LandTexts
+pub mod LandRecords
+pub mod LandFaults
 pub mod steps

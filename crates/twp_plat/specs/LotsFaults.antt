@@ -22,6 +22,12 @@ refusal_of fault.Township = Some (record { number = 90; at = 2 })
 refusal_of (fault.NoLot record_number) = Some (record { number = 91; at = record_number })
 refusal_of (fault.Acres record_number) = Some (record { number = 92; at = record_number })
 refusal_of (fault.Repeated record_number) = Some (record { number = 93; at = record_number })
+refusal_of (fault.Land record_number) = Some (record { number = 96; at = record_number })
+refusal_of (fault.TooFine record_number) = Some (record { number = 97; at = record_number })
+refusal_of (fault.Shared record_number) = Some (record { number = 98; at = record_number })
+refusal_of (fault.TooMany record_number) = Some (record { number = 99; at = record_number })
+refusal_of (fault.Unfilled record_number) = Some (record { number = 100; at = record_number })
+refusal_of (fault.Divided record_number) = Some (record { number = 101; at = record_number })
 refusal_of fault.Read = None
 refusal_of fault.Memory = None
 
@@ -72,12 +78,21 @@ HasFault bytes (fault.NoLot number) = HasOnRow bytes number NamesNoLot
 HasFault bytes (fault.Acres number) = HasOnRow bytes number HasNoAcres
 HasFault bytes (fault.Repeated number) = IsRowNumber (records_of bytes) number
     × IsLotRepeated (records_of bytes) number
+HasFault bytes (fault.Land number) = ⊥
+HasFault bytes (fault.TooFine number) = ⊥
+HasFault bytes (fault.Shared number) = ⊥
+HasFault bytes (fault.TooMany number) = ⊥
+HasFault bytes (fault.Unfilled number) = ⊥
+HasFault bytes (fault.Divided number) = ⊥
 HasFault bytes fault.Read = ⊥
 HasFault bytes fault.Memory = ⊥
 
--- The size of the table comes first, then its records one after another.
+-- The size of the table comes first, then its records one after another, and then what is wrong with all of
+-- them together.
 abbrev pub stage_of : LotsFault → ℕ
 stage_of fault.TooLarge = 0
+stage_of (fault.Unfilled record_number) = 2
+stage_of (fault.Divided record_number) = 3
 stage_of other = 1
 
 -- the number of a fault's refusal

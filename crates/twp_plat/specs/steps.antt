@@ -7,3 +7,6 @@ pub mod SectionUnits
 pub mod LackingSteps
 pub mod PassedLotFaults
 pub mod LotEntries
+pub mod LandWalk
+pub mod LandPaints
+pub mod LandEntries

@@ -4,6 +4,14 @@
 mod area;
 mod fault;
 mod lacking;
+mod land_entries;
+mod land_parsing;
+mod land_record;
+mod land_row;
+mod land_rows;
+mod land_text;
+mod land_trial;
+mod land_unfilled;
 mod parsing;
 mod reading;
 mod record;

@@ -110,6 +110,12 @@ none_before bytes rows count number figures after entered good most (fault.Acres
     (λ place below none. none _ (entered.each place below).is.returns) good.acres has
 none_before bytes rows count number figures after entered good most (fault.Repeated at) (is, again) =
     not_repeated bytes rows count number at figures after entered most is again
+none_before bytes rows count number figures after entered good most (fault.Land at) has = absurd has
+none_before bytes rows count number figures after entered good most (fault.TooFine at) has = absurd has
+none_before bytes rows count number figures after entered good most (fault.Shared at) has = absurd has
+none_before bytes rows count number figures after entered good most (fault.TooMany at) has = absurd has
+none_before bytes rows count number figures after entered good most (fault.Unfilled at) has = absurd has
+none_before bytes rows count number figures after entered good most (fault.Divided at) has = absurd has
 none_before bytes rows count number figures after entered good most fault.Read has = absurd has
 none_before bytes rows count number figures after entered good most fault.Memory has = absurd has
 
@@ -303,5 +309,11 @@ too_large_first bytes large = record { is = large; first = λ other has. before 
     before (fault.NoLot at) = inl (omega arith)
     before (fault.Acres at) = inl (omega arith)
     before (fault.Repeated at) = inl (omega arith)
+    before (fault.Land at) = inl (omega arith)
+    before (fault.TooFine at) = inl (omega arith)
+    before (fault.Shared at) = inl (omega arith)
+    before (fault.TooMany at) = inl (omega arith)
+    before (fault.Unfilled at) = inl (omega arith)
+    before (fault.Divided at) = inl (omega arith)
     before fault.Read = inl (omega arith)
     before fault.Memory = inl (omega arith)

@@ -34,6 +34,24 @@ pub enum LotsFault {
     /// 93, at the record: an earlier record is for the same lot.
     #[error("record {0} is for a lot that an earlier record is for")]
     Repeated(u32),
+    /// 96, at the record: its land is not a sequence of aliquot parts.
+    #[error("record {0} has no land: aliquot parts of the section, as `N1/2NE1/4, SE1/4NE1/4`")]
+    Land(u32),
+    /// 97, at the record: one of its aliquot parts is too small.
+    #[error("record {0} has an aliquot part that halves a side of one place")]
+    TooFine(u32),
+    /// 98, at the record: a place is in two parts, of the record or of it and an earlier one.
+    #[error("record {0} has land that is in another part, of this record or of an earlier one")]
+    Shared(u32),
+    /// 99, at the record: there are as many lots as a section or a township can have.
+    #[error("record {0} is for one lot more than 64 in a section, or 1,024 in the township")]
+    TooMany(u32),
+    /// 100, at the record of a lot: it lies in a quarter-quarter that also contains other land.
+    #[error("record {0} is for a lot in a quarter-quarter that is not all lots and missing land")]
+    Unfilled(u32),
+    /// 101, at the last record: too many quarter-quarters are divided.
+    #[error("more than 128 quarter-quarters are divided among lots and other land")]
+    Divided(u32),
     /// The reader failed.
     #[error("cannot read")]
     Read,
@@ -59,6 +77,12 @@ impl LotsFault {
             LotsFault::NoLot(record) => (91, record),
             LotsFault::Acres(record) => (92, record),
             LotsFault::Repeated(record) => (93, record),
+            LotsFault::Land(record) => (96, record),
+            LotsFault::TooFine(record) => (97, record),
+            LotsFault::Shared(record) => (98, record),
+            LotsFault::TooMany(record) => (99, record),
+            LotsFault::Unfilled(record) => (100, record),
+            LotsFault::Divided(record) => (101, record),
             LotsFault::Read | LotsFault::Memory => return None,
         };
         Some(Refusal { number, at })
