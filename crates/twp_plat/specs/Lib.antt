@@ -12,6 +12,7 @@ pub mod PlatAccounts
 pub mod LandAreaLaws
 pub mod PlatAccountLaws
 pub mod LotTables
+pub mod LotDates
 pub mod LotAreas
 pub mod LotRecords
 pub mod LotsFaults

@@ -1,12 +1,14 @@
--- Lot tables as bytes: a heading, the township's designation, and a record for each lot. The layout
+-- Lot tables as bytes: a heading, the township's designation and the date of its plat, and a record for each lot. The layout
 -- is this project's.
-use Rattle.std.specs.Prelude.{◌≡◌, ℕ, ◌+◌, ◌*◌, ◌≤◌, ◌<◌, List, [], ◌∷◌, ◌++◌, length, codes}
+use Rattle.std.specs.Prelude.{◌≡◌, ◌⊎◌, ℕ, ◌+◌, ◌*◌, ◌≤◌, ◌<◌, List, [], ◌∷◌, ◌++◌, length, codes, take}
 use Rattle.std.specs.Str.Parse.{IsNumeral, digits_value}
 use Rattle.twp_measure.specs.LengthTexts.{IsShortNumber, point}
 use Rattle.twp_grid.specs.Winding.{IsSection}
 use Rattle.twp_notes.specs.Records.{Fields, field, records_of, record_numbered}
-use Rattle.twp_notes.specs.FieldNotes.{IsTownshipRecord, IsSectionNumber}
+use Rattle.twp_notes.specs.FieldNotes.{FIELDS, IsTownshipRecord, IsSectionNumber}
 use Rattle.twp_grid.specs.Lands.{STANDARD_LAYOUT, lotting}
+use Rattle.twp_grid.specs.Townships.{Designation}
+use Rattle.twp_plat.specs.LotDates.{IsDateText}
 use Rattle.twp_plat.specs.LotTables.{IsLotNumber, figure_of, lots_of}
 use Rattle.twp_plat.specs.declared.lots.table.LotTable.{LotTable}
 
@@ -51,6 +53,16 @@ pub record IsLotRecord (fields : Fields) (section number hundredths : ℕ) : Typ
 abbrev pub IsRowNumber : List Fields → ℕ → Type 0
 IsRowNumber records number = (3 ≤ number) × (number ≤ length records)
 
+-- the date in a township's record: that of its sixth field, or 0 if it has five
+abbrev pub IsDateIn : Fields → ℕ → Type 0
+IsDateIn fields date = ((length fields ≡ FIELDS) × (date ≡ 0))
+    ⊎ ((length fields ≡ FIELDS + 1) × IsDateText (field fields FIELDS) date)
+
+-- the record is that of a plat: its township's five fields, and the date of its approval, if there is one
+pub record IsPlatRecord (fields : Fields) (township : Designation) (date : ℕ) : Type 0 where
+  pub township_is : IsTownshipRecord (take FIELDS fields) township
+  pub date_is : IsDateIn fields date
+
 -- one of the records of lots names the lot
 abbrev pub IsLotNamed : List Fields → ℕ → ℕ → Type 0
 IsLotNamed records section lot = (number : ℕ) × IsRowNumber records number
@@ -60,7 +72,7 @@ IsLotNamed records section lot = (number : ℕ) × IsRowNumber records number
 -- lots; the other lots are lacking.
 pub record AreLotRecords (records : List Fields) (table : LotTable) : Type 0 where
   pub heading_is : record_numbered records 1 ≡ lots_heading
-  pub township_is : IsTownshipRecord (record_numbered records 2) table.township
+  pub plat_is : IsPlatRecord (record_numbered records 2) table.township table.date
   pub each : (number : ℕ) → IsRowNumber records number
       → (section : ℕ) × (lot : ℕ)
       × IsLotRecord (record_numbered records number) section lot (figure_of table.lots section lot)
@@ -70,7 +82,6 @@ pub record AreLotRecords (records : List Fields) (table : LotTable) : Type 0 whe
   pub others : (section lot : ℕ) → IsSection section → 1 ≤ lot
       → ¬ IsLotNamed records section lot → figure_of table.lots section lot ≡ 0
   pub lots_are : lots_of table.lots ≡ lotting STANDARD_LAYOUT
-  pub date_is : table.date ≡ 0
 
 -- the bytes are this lot table
 pub record AreLots (bytes : List ℕ) (table : LotTable) : Type 0 where

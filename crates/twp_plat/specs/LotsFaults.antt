@@ -1,11 +1,12 @@
 -- What can be wrong with a lot table, with each fault as a statement about all its records, and
 -- which fault is reported.
-use Rattle.std.specs.Prelude.{◌≡◌, ◌≢◌, ◌⊎◌, ℕ, ◌+◌, ◌*◌, ◌≤◌, ◌<◌, List, [], length, Option, Some, None}
+use Rattle.std.specs.Prelude.{◌≡◌, ◌≢◌, ◌⊎◌, ℕ, ◌+◌, ◌*◌, ◌≤◌, ◌<◌, List, [], length, take, Option, Some, None}
 use Rattle.std.specs.Prelude.{IfSome, Result, Ok, Err}
 use Rattle.std.specs.Option.{option_map_or}
 use Rattle.twp_grid.specs.declared.refusal.Refusal.{Refusal}
 use Rattle.twp_notes.specs.Records.{Fields, field, records_of, record_numbered}
-use Rattle.twp_notes.specs.FieldNotes.{IsTownshipRecord}
+use Rattle.twp_notes.specs.FieldNotes.{FIELDS, IsTownshipRecord}
+use Rattle.twp_plat.specs.LotDates.{IsDateText}
 use Rattle.twp_plat.specs.declared.lots.table.LotTable.{LotTable}
 use Rattle.twp_plat.specs.LotRecords.{LOTS_TEXT_MOST, LOT_FIELDS, lots_heading, IsAcresText}
 use Rattle.twp_plat.specs.LotRecords.{NamesLot, IsRowNumber, AreLots}
@@ -22,6 +23,7 @@ refusal_of fault.Township = Some (record { number = 90; at = 2 })
 refusal_of (fault.NoLot record_number) = Some (record { number = 91; at = record_number })
 refusal_of (fault.Acres record_number) = Some (record { number = 92; at = record_number })
 refusal_of (fault.Repeated record_number) = Some (record { number = 93; at = record_number })
+refusal_of fault.Date = Some (record { number = 95; at = 2 })
 refusal_of (fault.Land record_number) = Some (record { number = 96; at = record_number })
 refusal_of (fault.TooFine record_number) = Some (record { number = 97; at = record_number })
 refusal_of (fault.Shared record_number) = Some (record { number = 98; at = record_number })
@@ -59,11 +61,12 @@ pub record IsLotRepeated (records : List Fields) (number : ℕ) : Type 0 where
   pub earlier_names : NamesLot (record_numbered records earlier) section lot
   pub names : NamesLot (record_numbered records number) section lot
 
--- the second record does not have the five fields of a township's, or a later one the three of a
--- lot's
+-- the second record does not have the five fields of a township's, or the six of one with a date, or a
+-- later one the three of a lot's
 abbrev pub HasWrongColumns : List Fields → ℕ → Type 0
 HasWrongColumns records number =
-    ((number ≡ 2) × (2 ≤ length records) × (length (record_numbered records 2) ≢ 5))
+    ((number ≡ 2) × (2 ≤ length records) × (length (record_numbered records 2) ≢ FIELDS)
+    × (length (record_numbered records 2) ≢ FIELDS + 1))
     ⊎ (IsRowNumber records number × (length (record_numbered records number) ≢ LOT_FIELDS))
 
 -- the fault is present
@@ -73,11 +76,13 @@ HasFault bytes fault.Empty = records_of bytes ≡ []
 HasFault bytes fault.Heading = record_numbered (records_of bytes) 1 ≢ lots_heading
 HasFault bytes (fault.Columns number) = HasWrongColumns (records_of bytes) number
 HasFault bytes fault.Township = (township : _)
-    → ¬ IsTownshipRecord (record_numbered (records_of bytes) 2) township
+    → ¬ IsTownshipRecord (take FIELDS (record_numbered (records_of bytes) 2)) township
 HasFault bytes (fault.NoLot number) = HasOnRow bytes number NamesNoLot
 HasFault bytes (fault.Acres number) = HasOnRow bytes number HasNoAcres
 HasFault bytes (fault.Repeated number) = IsRowNumber (records_of bytes) number
     × IsLotRepeated (records_of bytes) number
+HasFault bytes fault.Date = (length (record_numbered (records_of bytes) 2) ≡ FIELDS + 1)
+    × ((date : ℕ) → ¬ IsDateText (field (record_numbered (records_of bytes) 2) FIELDS) date)
 HasFault bytes (fault.Land number) = ⊥
 HasFault bytes (fault.TooFine number) = ⊥
 HasFault bytes (fault.Shared number) = ⊥

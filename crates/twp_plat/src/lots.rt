@@ -2,6 +2,7 @@
 //! bytes or refused for their first fault; and the area of land by it.
 
 mod area;
+mod date;
 mod fault;
 mod lacking;
 mod land_entries;

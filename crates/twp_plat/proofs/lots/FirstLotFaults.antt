@@ -95,13 +95,15 @@ none_before bytes rows count number figures after entered good most fault.Empty 
 none_before bytes rows count number figures after entered good most fault.Heading has =
     absurd (has (rw after.split after.heading_is))
 none_before bytes rows count number figures after entered good most (fault.Columns at)
-    (inl (e, two, wrong)) =
-    absurd (wrong (rw after.split after.township_is.columns))
+    (inl (e, two, not_five, not_six)) = elim after.plat_is.date_is [
+      | inl five ↦ absurd (not_five (rw after.split five.0))
+      | inr six ↦ absurd (not_six (rw after.split six.0))
+    ]
 none_before bytes rows count number figures after entered good most (fault.Columns at) (inr has) =
     from_here (λ (f : Fields). length f ≢ LOT_FIELDS) bytes rows count number 89 at after
     (λ place below wrong. wrong (entered.each place below).is.names.columns) good.columns has
 none_before bytes rows count number figures after entered good most fault.Township has =
-    absurd (has after.township (rw after.split after.township_is))
+    absurd (has after.township (rw after.split after.plat_is.township_is))
 none_before bytes rows count number figures after entered good most (fault.NoLot at) has =
     from_here NamesNoLot bytes rows count number 91 at after
     (λ place below none. none _ _ (entered.each place below).is.names) good.names has
@@ -110,6 +112,12 @@ none_before bytes rows count number figures after entered good most (fault.Acres
     (λ place below none. none _ (entered.each place below).is.returns) good.acres has
 none_before bytes rows count number figures after entered good most (fault.Repeated at) (is, again) =
     not_repeated bytes rows count number at figures after entered most is again
+none_before bytes rows count number figures after entered good most fault.Date has = elim after.plat_is.date_is [
+  | inl five ↦
+      let six : length after.second ≡ 6 = rw after.split at has.0 in
+      absurd (omega (arith, five.0, six))
+  | inr six ↦ absurd (has.1 after.date (rw after.split six.1))
+]
 none_before bytes rows count number figures after entered good most (fault.Land at) has = absurd has
 none_before bytes rows count number figures after entered good most (fault.TooFine at) has = absurd has
 none_before bytes rows count number figures after entered good most (fault.Shared at) has = absurd has
@@ -236,12 +244,12 @@ pub record AreStandard (figures : List ℕ) (lots : ReturnedLots) : Type 0 where
 -- if all records were entered, they are a lot table
 pub lots_of_entries : (bytes : List ℕ) (rows : List Fields) (figures : List ℕ) (lots : ReturnedLots)
     (after : AreAfter bytes rows) → AreEntered rows (length rows) figures → AreStandard figures lots
-    → AreLots bytes (record { township = after.township; date = 0; lots = lots })
+    → AreLots bytes (record { township = after.township; date = after.date; lots = lots })
 lots_of_entries bytes rows figures lots after entered are = record {
   size = after.size;
   records_are = record {
     heading_is = rw after.split after.heading_is;
-    township_is = rw after.split after.township_is;
+    plat_is = rw after.split after.plat_is;
     each = λ number is.
         let at : IsPlaced bytes rows number = placed bytes rows number after is in
         let entry : IsEntered (record_at rows at.place) figures = entered.each at.place at.within in
@@ -261,7 +269,6 @@ lots_of_entries bytes rows figures lots after entered are = record {
         λ section lot range some unnamed. are.figures_are section lot range some ∙ other section lot range
         some unnamed;
     lots_are = ap lotting are.layout;
-    date_is = refl;
   };
 }
   where
@@ -309,6 +316,7 @@ too_large_first bytes large = record { is = large; first = λ other has. before 
     before (fault.NoLot at) = inl (omega arith)
     before (fault.Acres at) = inl (omega arith)
     before (fault.Repeated at) = inl (omega arith)
+    before fault.Date = inl (omega arith)
     before (fault.Land at) = inl (omega arith)
     before (fault.TooFine at) = inl (omega arith)
     before (fault.Shared at) = inl (omega arith)

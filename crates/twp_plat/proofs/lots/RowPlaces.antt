@@ -3,8 +3,7 @@ use Rattle.std.proofs.Common.{◌≡◌, ℕ, ◌+◌, ◌-◌, ◌≤◌, ◌<�
 use Rattle.std.proofs.Common.{arith}
 use Rattle.twp_grid.specs.Townships.{Designation}
 use Rattle.twp_notes.specs.Records.{Fields, records_of, record_at, record_numbered}
-use Rattle.twp_notes.specs.FieldNotes.{IsTownshipRecord}
-use Rattle.twp_plat.specs.LotRecords.{LOTS_TEXT_MOST, lots_heading, IsRowNumber}
+use Rattle.twp_plat.specs.LotRecords.{LOTS_TEXT_MOST, lots_heading, IsPlatRecord, IsRowNumber}
 use Rattle.twp_plat.specs.LotsFaults.{HasOnRow}
 
 -- the bytes are not too many, and these records come after the heading and the township's record
@@ -15,22 +14,24 @@ pub record AreAfter (bytes : List ℕ) (rows : List Fields) : Type 0 where
   pub township : Designation
   pub split : records_of bytes ≡ first ∷ second ∷ rows
   pub heading_is : first ≡ lots_heading
-  pub township_is : IsTownshipRecord second township
+  pub date : ℕ
+  pub plat_is : IsPlatRecord second township date
 
 -- the first two records were read, and are valid
 abbrev pub after_of_word : (bytes : List ℕ) (first second : Fields) (start after rest : List Fields)
-    (township : Designation)
+    (township : Designation) (date : ℕ)
     → length bytes ≤ LOTS_TEXT_MOST → start ≡ records_of bytes
     → start ≡ first ∷ after → after ≡ second ∷ rest → first ≡ lots_heading
-    → IsTownshipRecord second township → AreAfter bytes rest
-after_of_word bytes first second start after rest township size all one two heading_is township_is = record {
+    → IsPlatRecord second township date → AreAfter bytes rest
+after_of_word bytes first second start after rest township date size all one two heading_is plat_is = record {
   size = size;
   first = first;
   second = second;
   township = township;
   split = sym all ∙ one ∙ ap (λ (more : List Fields). first ∷ more) two;
   heading_is = heading_is;
-  township_is = township_is;
+  date = date;
+  plat_is = plat_is;
 }
 
 -- a lot's record by its index after the first two records

@@ -19,8 +19,9 @@ pub enum LotsFault {
     /// 88, at record 1: this is not the heading.
     #[error("record 1 isn't the heading `section,lot,acres`")]
     Heading,
-    /// 89, at the record: record 2 does not have five fields, or a later one does not have three.
-    #[error("record {0} doesn't have the fields of its kind: five in record 2, three in others")]
+    /// 89, at the record: record 2 does not have five or six fields, or a later one does not have
+    /// three.
+    #[error("record {0} doesn't have the fields of its kind: five or six in record 2, three in others")]
     Columns(u32),
     /// 90, at record 2: it is not a township, or is missing.
     #[error("record 2 isn't a township, as `T,2,N,3,W`: numbers 1 to 99, in one or two digits")]
@@ -34,6 +35,9 @@ pub enum LotsFault {
     /// 93, at the record: an earlier record is for the same lot.
     #[error("record {0} is for a lot that an earlier record is for")]
     Repeated(u32),
+    /// 95, at record 2: its sixth field is not a date.
+    #[error("record 2 has no date: a day that there is, as `1912-03-04`")]
+    Date,
     /// 96, at the record: its land is not a sequence of aliquot parts.
     #[error("record {0} has no land: aliquot parts of the section, as `N1/2NE1/4, SE1/4NE1/4`")]
     Land(u32),
@@ -77,6 +81,7 @@ impl LotsFault {
             LotsFault::NoLot(record) => (91, record),
             LotsFault::Acres(record) => (92, record),
             LotsFault::Repeated(record) => (93, record),
+            LotsFault::Date => (95, 2),
             LotsFault::Land(record) => (96, record),
             LotsFault::TooFine(record) => (97, record),
             LotsFault::Shared(record) => (98, record),

@@ -1,11 +1,14 @@
-ghost use Rattle.std.specs.Prelude.{◌≡◌, ◌≢◌, ◌+◌, ◌^◌, ◌≤◌, ◌<◌, ℕ, length, IfOk, IfErr, OnOk};
+ghost use Rattle.std.specs.Prelude.{◌≡◌, ◌≢◌, ◌⊎◌, ◌+◌, ◌^◌, ◌≤◌, ◌<◌, ℕ, length, IfOk, IfErr, OnOk};
 ghost use Rattle.csv.specs.Records.{fields_of};
 ghost use Rattle.twp_notes.specs.Records.{records_left, IsBetweenRecords};
-ghost use Rattle.twp_plat.specs.LotRecords.{LOTS_TEXT_MOST};
+ghost use Rattle.twp_grid.specs.Finding.{Finds};
+ghost use Rattle.twp_notes.specs.FieldNotes.{FIELDS};
+ghost use Rattle.twp_plat.specs.LotRecords.{IsDateIn, LOTS_TEXT_MOST};
 ghost use Rattle.twp_plat.specs.LotsFaults.{AnswersLots};
 ghost use Rattle.twp_plat.specs.steps.LotEntries.{Enters, IsNotEntered, AreEntered};
 ghost use Rattle.twp_plat.specs.steps.LotEntries.{IsLotRefusedAfter};
 
+use crate::lots::date::date_of;
 use crate::lots::fault::LotsFault;
 use crate::lots::record::{LOT_FIELDS, hundredths_of, is_heading, lot_of};
 use crate::lots::returned::{LOTS, ReturnedLots};
@@ -17,6 +20,9 @@ use twp_notes::{FIELDS, Records, field, township_of};
 /// The number of the record after the heading and the township's record, which is the first record
 /// of a lot.
 const FIRST_LOT: u32 = 3;
+
+/// The number of fields of a township with a date.
+const DATED_FIELDS: usize = FIELDS + 1;
 
 /// The lot table in the bytes, which are no more than a lot table can have.
 pub fn parse(alloc: Global, bytes: &[u8]) -> Result<LotTable, LotsFault>
@@ -36,18 +42,34 @@ pub fn parse(alloc: Global, bytes: &[u8]) -> Result<LotTable, LotsFault>
     if !records.read(&mut row)? {
         return Err(LotsFault::Township);
     }
-    if row.len() != FIELDS {
+    if row.len() != FIELDS && row.len() != DATED_FIELDS {
         return Err(LotsFault::Columns(2));
     }
+    let date = date_in(&row);
+    row.truncate(FIELDS);
     let Some(township) = township_of(&row) else {
         return Err(LotsFault::Township);
+    };
+    let Some(date) = date else {
+        return Err(LotsFault::Date);
     };
     let figures = enter_lots(records, &mut row)?;
     Ok(LotTable {
         township,
-        date: 0,
+        date,
         lots: ReturnedLots::standard(&figures),
     })
+}
+
+/// The date in the record of a township: 0 if the record has none, and `None` if it is no date.
+fn date_in(row: &ByteRecord) -> Option<u32>
+    requires { (length (fields_of row.now) ≡ FIELDS) ⊎ (length (fields_of row.now) ≡ FIELDS + 1) }
+    ensures { Finds result (IsDateIn (fields_of row.now)) }
+{
+    if row.len() == FIELDS {
+        return Some(0);
+    }
+    date_of(field(row, FIELDS))
 }
 
 /// Enters the remaining records, each of a lot.
