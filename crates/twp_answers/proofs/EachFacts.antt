@@ -107,7 +107,7 @@ module _ (township : Designation) (rows : List Fields) (index : ℕ) where
       → HasOwnFault township rows index (fault.TractRow (index + 2))
   no_record bad = record { has = (refl, bad); own = omega arith; first = least }
     where
-      least : (other : TractFault) → HasAt township rows index other → 1 ≤ turn_of other
+      least : (other : TractFault) → HasAt STANDARD_LOTS township rows index other → 1 ≤ turn_of other
       least (fault.TractRow n) has = omega arith
       least (fault.NameRepeated n) has = omega arith
       least (fault.TractRefused n inner) has = omega arith
@@ -121,7 +121,7 @@ module _ (township : Designation) (rows : List Fields) (index : ℕ) where
       → HasOwnFault township rows index (fault.NameRepeated (index + 2))
   repeated is again = record { has = (refl, again); own = omega arith; first = least }
     where
-      least : (other : TractFault) → HasAt township rows index other → 2 ≤ turn_of other
+      least : (other : TractFault) → HasAt STANDARD_LOTS township rows index other → 2 ≤ turn_of other
       least (fault.TractRow n) (e, bad) = absurd (bad is)
       least (fault.NameRepeated n) has = omega arith
       least (fault.TractRefused n inner) has = omega arith
@@ -136,7 +136,7 @@ module _ (township : Designation) (rows : List Fields) (index : ℕ) where
       → HasOwnFault township rows index (fault.TractRefused (index + 2) inner)
   refused is anew inner none = record { has = (refl, none); own = omega arith; first = least }
     where
-      least : (other : TractFault) → HasAt township rows index other → 3 ≤ turn_of other
+      least : (other : TractFault) → HasAt STANDARD_LOTS township rows index other → 3 ≤ turn_of other
       least (fault.TractRow n) (e, bad) = absurd (bad is)
       least (fault.NameRepeated n) (e, again) = absurd (anew again)
       least (fault.TractRefused n inner) has = omega arith

@@ -56,7 +56,7 @@ pub record IsAccount (plat : TownshipPlat) (rows : List Fields) (text : List ℕ
   pub lines : List (List ℕ)
   pub lines_are : AreTractLines plat rows (length rows) lines
   pub places : ℕ → ℕ → ℕ → Bool
-  pub land : IsLandOfTracts plat.township rows (length rows) places
+  pub land : IsLandOfTracts STANDARD_LOTS plat.township rows (length rows) places
   pub total : ℕ
   pub total_is : AreHundredthsOf plat places total
   pub remaining : ℕ
@@ -65,7 +65,7 @@ pub record IsAccount (plat : TownshipPlat) (rows : List Fields) (text : List ℕ
 
 -- the bytes are a list of tracts on the plat, and this is its account
 pub record IsAccountOf (plat : TownshipPlat) (bytes text : List ℕ) : Type 0 where
-  pub list : IsTractList plat.township bytes
+  pub list : IsTractList STANDARD_LOTS plat.township bytes
   pub account : IsAccount plat (tract_records bytes) text
 
 -- the lines of the refusal of a list of tracts: one, or two if a tract's description is refused
@@ -79,7 +79,7 @@ refusal_lines (TractRefused at_ inner) =
 pub record IsListRefused (plat : TownshipPlat) (bytes answer : List ℕ) (verdict : Verdict)
     : Type 0 where
   pub tract_fault : TractFault
-  pub first : IsFirstTractFault plat.township bytes tract_fault
+  pub first : IsFirstTractFault STANDARD_LOTS plat.township bytes tract_fault
   pub verdict_is : verdict_of tract_fault ≡ Some verdict
   pub lines_are : answer ≡ refusal_lines verdict
 

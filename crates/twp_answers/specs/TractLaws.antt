@@ -37,9 +37,9 @@ pub record AreTractAreas (plat : TownshipPlat) (rows : List Fields) (count : ℕ
 abbrev pub TractsAddUp : Type 0
 TractsAddUp = (plat : TownshipPlat) (bytes : List ℕ) (areas : ℕ → Fraction)
     (places : ℕ → ℕ → ℕ → Bool) (area : Fraction)
-    → IsTractList plat.township bytes
+    → IsTractList STANDARD_LOTS plat.township bytes
     → AreTractAreas plat (tract_records bytes) (length (tract_records bytes)) areas
-    → IsLandOfTracts plat.township (tract_records bytes) (length (tract_records bytes)) places
+    → IsLandOfTracts STANDARD_LOTS plat.township (tract_records bytes) (length (tract_records bytes)) places
     → IsLandArea PLACE_DIGITS plat places area
     → area.units ≡ total (length (tract_records bytes)) (λ index. (areas index).units)
 

@@ -146,7 +146,7 @@ fn normal_in_all(alloc: Global, plat: &Plat, description: &Description) -> Resul
 /// The text of the account of a list of tracts on a plat, or the list's first fault.
 pub fn account_on(alloc: Global, plat: &Plat, list: &[u8]) -> Result<Vec<u8>, TractFault>
     ensures account { IfOk result (λ text. IsAccountOf plat.now list.now text.items) }
-    ensures fault { IfErr result (AnswersFault plat.now.township list.now) }
+    ensures fault { IfErr result (AnswersFault STANDARD_LOTS plat.now.township list.now) }
 {
     if list.len() > TRACTS_LIMIT as usize {
         return Err(TractFault::TractsTooLarge);

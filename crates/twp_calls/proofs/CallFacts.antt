@@ -47,7 +47,7 @@ stopped_notes Accepted notes (stop.Failed cause) is = no_memory refl
 -- a list that is refused, or for which memory ran out
 stopped_by : (Accepted : TownshipAnswer → Type 0) (plat : TownshipPlat) (list : List ℕ)
     (is : TractFault) (found : Option Verdict) → verdict_of is ≡ found
-    → IfSome found (λ verdict. IsFirstTractFault plat.township list is)
+    → IfSome found (λ verdict. IsFirstTractFault STANDARD_LOTS plat.township list is)
     → Answers Accepted (IsRefusedList plat list) (answer_of_verdict found)
 stopped_by Accepted plat list is (Some verdict) same first =
     refused_for (record {
@@ -60,7 +60,7 @@ stopped_by Accepted plat list is (Some verdict) same first =
 stopped_by Accepted plat list is None same first = no_memory refl
 
 pub stopped_list : (Accepted : TownshipAnswer → Type 0) (plat : TownshipPlat) (list : List ℕ)
-    (is : TractFault) → AnswersFault plat.township list is
+    (is : TractFault) → AnswersFault STANDARD_LOTS plat.township list is
     → Answers Accepted (IsRefusedList plat list) (answer_of_fault is)
 stopped_list Accepted plat list is first =
     stopped_by Accepted plat list is (verdict_of is) refl first
@@ -134,7 +134,7 @@ refused_by fault.Memory refusal same = cc same
 -- a list that is refused, and its explanation
 pub explained_list : (plat : TownshipPlat) (list old new : List ℕ) (explained answer : TownshipAnswer)
     (is : TractFault) (refusal : Refusal) → refusal_of is ≡ Some refusal
-    → AnswersFault plat.township list is → explained ≡ answer_of_fault is
+    → AnswersFault STANDARD_LOTS plat.township list is → explained ≡ answer_of_fault is
     → IsExplained (IsOfFirstFault plat list) explained old new answer
     → Answers (IsOfAccount plat list old new) (IsExplainedFault plat list old new) answer
 explained_list plat list old new explained answer is refusal same first explained_is put =
@@ -142,7 +142,8 @@ explained_list plat list old new explained answer is refusal same first explaine
     refused_for (record {
       fault = is;
       first =
-          subst (λ found. IfSome found (λ verdict. IsFirstTractFault plat.township list is)) known.1 first;
+          subst (λ found. IfSome found (λ verdict. IsFirstTractFault STANDARD_LOTS plat.township list is))
+          known.1 first;
       verdict = known.0;
       verdict_is = known.1;
       explained =

@@ -135,7 +135,7 @@ refused_where township text old new file stopping r explanation explained answer
     let such_text : IsNoDescription STANDARD_LOTS township text explanation.refusal =
     subst (λ bytes. IsNoDescription STANDARD_LOTS township bytes explanation.refusal) same such in
     let alike : explanation.refusal ≡ r =
-    one_description_refusal township text explanation.refusal r such_text refused_text in
+    one_description_refusal STANDARD_LOTS township text explanation.refusal r such_text refused_text in
     let explained_refused : PutsExplanation (refused r) explanation old new answer =
     subst (λ explained. PutsExplanation explained explanation old new answer) explained_is is_told in
     record {

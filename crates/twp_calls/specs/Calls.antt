@@ -130,7 +130,7 @@ IsPrintCall given old new = OnPlat given (λ plat.
 pub record IsRefusedList (plat : TownshipPlat) (list : List ℕ) (answer : TownshipAnswer)
     : Type 0 where
   pub fault : TractFault
-  pub first : IsFirstTractFault plat.township list fault
+  pub first : IsFirstTractFault STANDARD_LOTS plat.township list fault
   pub verdict : Verdict
   pub verdict_is : verdict_of fault ≡ Some verdict
   pub answer_is : answer ≡ verdict_answer verdict

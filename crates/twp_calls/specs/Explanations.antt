@@ -92,7 +92,7 @@ pub record IsExplainedRefusal (HasFirst : Refusal → Type 0) (old new : List �
 -- the refusal is that of the first fault of the list
 pub record IsOfFirstFault (plat : TownshipPlat) (list : List ℕ) (refusal : Refusal) : Type 0 where
   pub fault : TractFault
-  pub first : IsFirstTractFault plat.township list fault
+  pub first : IsFirstTractFault STANDARD_LOTS plat.township list fault
   pub refusal_is : refusal_of fault ≡ Some refusal
 
 -- `township_explain_notes`: of notes that make a plat nothing is explained
@@ -148,7 +148,7 @@ pub record IsOfAccount (plat : TownshipPlat) (list old new : List ℕ) (answer :
 pub record IsExplainedFault (plat : TownshipPlat) (list old new : List ℕ) (answer : TownshipAnswer)
     : Type 0 where
   pub fault : TractFault
-  pub first : IsFirstTractFault plat.township list fault
+  pub first : IsFirstTractFault STANDARD_LOTS plat.township list fault
   pub verdict : Verdict
   pub verdict_is : verdict_of fault ≡ Some verdict
   pub explained : IsExplained (IsOfFirstFault plat list) (verdict_answer verdict) old new answer

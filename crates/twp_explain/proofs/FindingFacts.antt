@@ -142,7 +142,7 @@ land_is_none notes description plat verdict are land refusal (inl none) said =
     not_platted notes refusal plat none are
 land_is_none notes description plat verdict are land refusal (inr is) said =
     let same : is.plat ≡ plat = one_plat notes is.plat plat is.platted are in
-    not_described plat.township description refusal land.0
+    not_described STANDARD_LOTS plat.township description refusal land.0
     (subst (λ (p : TownshipPlat). IsNoDescription STANDARD_LOTS p.township description refusal) same
     is.refused)
     land.1

@@ -43,7 +43,7 @@ pub record IsRefusalOfList (notes tracts : List ℕ) (verdict : Verdict) (refusa
   pub plat : TownshipPlat
   pub platted : ArePlatted notes plat
   pub fault : TractFault
-  pub first : IsFirstTractFault plat.township tracts fault
+  pub first : IsFirstTractFault STANDARD_LOTS plat.township tracts fault
   pub verdict_is : verdict_of fault ≡ Some verdict
   pub refusal_is : refusal_of fault ≡ Some refusal
 

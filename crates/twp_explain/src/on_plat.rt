@@ -68,7 +68,7 @@ pub fn explain_tracts<S: Suggests>(
     tracts: &Given<'_>,
 ) -> Result<Option<ExplainedFault>, AllocError>
     ensures first { IfOk result (λ explained. IfSome explained (λ it.
-        IsFirstTractFault plat.now.township tracts.now.bytes.now it.fault)) }
+        IsFirstTractFault STANDARD_LOTS plat.now.township tracts.now.bytes.now it.fault)) }
     ensures refusal { IfOk result (λ explained. IfSome explained (λ it.
         refusal_of it.fault ≡ Some it.explanation.refusal)) }
     ensures none { IfOk result (λ explained. explained ≡ None → HasAccount plat.now tracts.now.bytes.now) }

@@ -173,7 +173,7 @@ refusal_on_is_of_notes notes d plat refusal platted = (
 
 pub answered_or_refused_on : AnsweredOrRefusedOn
 answered_or_refused_on d plat account area refusal has is =
-    not_described plat.township d refusal has.places is has.described
+    not_described STANDARD_LOTS plat.township d refusal has.places is has.described
 
 one_area_by : (account : Account) (plat : TownshipPlat) (places : ℕ → ℕ → ℕ → Bool) (area area' : Fraction)
     → IsAreaBy account PLACE_DIGITS plat places area → IsAreaBy account PLACE_DIGITS plat places area'
@@ -185,7 +185,7 @@ one_area_by Plat plat places area area' is is' = one_plat_area PLACE_DIGITS plat
 pub one_area_on : OneAreaOn
 one_area_on d plat account area area' has has' =
     let same : has.places ≡ has'.places =
-    one_land plat.township d has.places has'.places has.described has'.described in
+    one_land STANDARD_LOTS plat.township d has.places has'.places has.described has'.described in
     one_area_by account plat has'.places area area'
     (subst (λ p. IsAreaBy account PLACE_DIGITS plat p area) same has.area_is) has'.area_is
 

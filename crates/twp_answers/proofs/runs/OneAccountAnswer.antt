@@ -34,7 +34,7 @@ one_plat_acres notes d h h' is is' =
     let described : Describe STANDARD_LOTS is'.plat.township d is.places =
     subst (λ (q : TownshipPlat). Describe STANDARD_LOTS q.township d is.places) p is.land.described in
     let l : is.places ≡ is'.places =
-    one_land is'.plat.township d is.places is'.places described is'.land.described in
+    one_land STANDARD_LOTS is'.plat.township d is.places is'.places described is'.land.described in
     let on_plat : ArePlatHundredthsOf is'.plat is.places h =
     subst (λ q. ArePlatHundredthsOf q is.places h) p is.acres in
     one_plat_hundredths is'.plat is'.places h h'

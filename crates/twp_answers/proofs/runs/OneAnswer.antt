@@ -28,7 +28,8 @@ acres_of_land notes d h plat places land is =
     let p : is.plat ≡ plat = one_plat notes is.plat plat is.land.platted land.platted in
     let described : Describe STANDARD_LOTS plat.township d is.places =
     subst (λ (q : TownshipPlat). Describe STANDARD_LOTS q.township d is.places) p is.land.described in
-    let l : is.places ≡ places = one_land plat.township d is.places places described land.described in
+    let l : is.places ≡ places =
+    one_land STANDARD_LOTS plat.township d is.places places described land.described in
     subst (λ q. AreHundredthsOf plat q h) l (subst (λ q. AreHundredthsOf q is.places h) p is.acres)
 
 pub one_acres : (notes d : List ℕ) (h h' : ℕ) → HasAcres notes d h → HasAcres notes d h' → h ≡ h'
@@ -42,7 +43,7 @@ pub not_land : (notes d : List ℕ) (refusal : Refusal) (plat : TownshipPlat) (p
 not_land notes d refusal plat places (inl none) land = not_platted notes refusal plat none land.platted
 not_land notes d refusal plat places (inr is) land =
     let same : is.plat ≡ plat = one_plat notes is.plat plat is.platted land.platted in
-    not_described plat.township d refusal places
+    not_described STANDARD_LOTS plat.township d refusal places
     (subst (λ (p : TownshipPlat). IsNoDescription STANDARD_LOTS p.township d refusal) same is.refused)
     land.described
 

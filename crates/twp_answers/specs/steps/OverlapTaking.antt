@@ -22,7 +22,7 @@ pub record IsTractLand (township : Designation) (fields : Fields) (places : ℕ 
 -- the record is a tract with this land, or no tract
 abbrev pub IsLandOfRecord : {L : Type 0} → (L → ℕ → ℕ → ℕ → Bool) → Designation → Fields → Option L → Type 0
 IsLandOfRecord places township fields (Some land) = IsTractLand township fields (places land)
-IsLandOfRecord places township fields None = ¬ IsTract township fields
+IsLandOfRecord places township fields None = ¬ IsTract STANDARD_LOTS township fields
 
 -- these are the lands of the first records, up to this number
 pub record AreLandsTo {L : Type 0} (places : L → ℕ → ℕ → ℕ → Bool) (township : Designation)
