@@ -1,7 +1,8 @@
 //! Whether a rule allows a change.
 ghost use Rattle.std.specs.Prelude.{◌≡◌, ◌≤◌, ◌||◌, length, slice_range};
 ghost use Rattle.twp_rules.specs.Edges.{without_white};
-ghost use Rattle.twp_rules.specs.Rules.{allows, are_digits, begins_exception, is_among, is_copied, is_no_exception};
+ghost use Rattle.twp_rules.specs.Rules.{allows, are_digits, begins_exception, is_among, is_copied};
+ghost use Rattle.twp_rules.specs.Rules.{is_no_exception};
 ghost use Rattle.twp_rules.specs.Rules.{is_number, is_numeral, is_worn};
 ghost use Rattle.twp_rules.specs.Tables.{halves, worn_halves, quarters, quarter_abbreviations, worn_quarters};
 ghost use Rattle.twp_rules.specs.Tables.{little_words};
@@ -181,7 +182,8 @@ fn is_mark(seen: &[u8], written: &[u8]) -> bool
 
 /// Whether a text is a word that means nothing.
 fn is_little_word(seen: &[u8], written: &[u8]) -> bool
-    ensures { result ≡ (is_among seen.now written.now little_words || is_among seen.now written.now more_little_words
+    ensures { result ≡ (is_among seen.now written.now little_words
+        || is_among seen.now written.now more_little_words
         || is_among seen.now written.now joining_words) }
 {
     is_in_little_words(seen, written)

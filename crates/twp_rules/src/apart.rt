@@ -4,7 +4,8 @@ ghost use Rattle.twp_rules.specs.Changes.{AreChangesFrom, seen};
 ghost use Rattle.twp_rules.specs.Edges.{is_one_of};
 ghost use Rattle.twp_rules.specs.Rules.{solid_before};
 ghost use Rattle.twp_rules.specs.Words.{apart_marks};
-ghost use Rattle.twp_rules.specs.Apart.{first_seam, inserts_comma, keep_apart, parts_run, begins_with_step, ends_after, ends_step};
+ghost use Rattle.twp_rules.specs.Apart.{first_seam, inserts_comma, keep_apart, parts_run, begins_with_step};
+ghost use Rattle.twp_rules.specs.Apart.{ends_after, ends_step};
 ghost use Rattle.twp_rules.specs.Apart.{is_article, is_apart_at, is_blank, is_within_part};
 ghost use Rattle.twp_rules.specs.Apart.{loses, loses_by, loses_seen};
 ghost use Rattle.twp_rules.specs.Apart.{seam_after, seam_with};
@@ -43,8 +44,8 @@ pub(crate) fn keep_apart(text: &[u8], changes: &[Change<'_>]) -> bool
     is_apart_at(seam, after(text, at))
 }
 
-/// Whether the text before a change, and the text that the change writes, are each kept apart from what was written
-/// before them, and no run of steps is split.
+/// Whether the text before a change, and the text that the change writes, are each kept apart from what was
+/// written before them, and no run of steps is split.
 fn is_apart(text: &[u8], seam: Seam, near: Seam, gap: &[u8], change: &Change<'_>) -> bool
     requires { change.now.start ≤ length text.now }
     ensures { result ≡ (is_apart_at seam gap.now && is_apart_at near change.now.written.now

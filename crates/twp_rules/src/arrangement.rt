@@ -20,8 +20,8 @@ use crate::words::sections::is_in_section_names;
 use std::alloc::{AllocError, Global};
 use twp_grammar::Item;
 
-/// Whether all land of a changed text lies with the section that the text gives it to. The items are those of the changed
-/// text from an offset on.
+/// Whether all land of a changed text lies with the section that the text gives it to. The items are those of
+/// the changed text from an offset on.
 #[tactic(auto, using(crate::proofs::AloneFacts::alone_lies))]
 pub fn lie_with_sections(
     alloc: Global,

@@ -1,7 +1,9 @@
 //! What is beside a change: numbers, marks, and words before it and after it.
 ghost use Rattle.std.specs.Prelude.{◌≡◌, ◌≤◌, ◌-◌, drop, length, take};
-ghost use Rattle.twp_rules.specs.Rules.{are_leading, is_after_three_digits, is_between_numbers, is_fraction_digit};
-ghost use Rattle.twp_rules.specs.Rules.{is_township, is_whole_numeral, is_whole_word, solid_before, without_spaces};
+ghost use Rattle.twp_rules.specs.Rules.{are_leading, is_after_three_digits, is_between_numbers};
+ghost use Rattle.twp_rules.specs.Rules.{is_fraction_digit};
+ghost use Rattle.twp_rules.specs.Rules.{is_township, is_whole_numeral, is_whole_word, solid_before};
+ghost use Rattle.twp_rules.specs.Rules.{without_spaces};
 
 use crate::endings::beside::*;
 use crate::figures::{from, is_white, without_white};

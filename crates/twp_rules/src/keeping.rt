@@ -3,7 +3,8 @@ ghost use Rattle.std.specs.Prelude.{◌≡◌, ◌≤◌, ◌&&◌, IsTrue, true
 ghost use Rattle.twp_rules.specs.Changes.{AreChangesFrom, seen};
 ghost use Rattle.twp_rules.specs.declared.role.NumberRole.TheVariants.{Nothing};
 ghost use Rattle.twp_rules.specs.declared.rule.Rule.TheVariants.{Heading};
-ghost use Rattle.twp_rules.specs.Keeping.{after_fraction_digit, after_parenthesis, begins_whole_copy, copied_by, ends_whole_copy};
+ghost use Rattle.twp_rules.specs.Keeping.{after_fraction_digit, after_parenthesis, begins_whole_copy};
+ghost use Rattle.twp_rules.specs.Keeping.{copied_by, ends_whole_copy};
 ghost use Rattle.twp_rules.specs.Keeping.{fits_by, fits_copy};
 ghost use Rattle.twp_rules.specs.Keeping.{has_its_side, is_copy, is_damaged_digit, is_said_at};
 ghost use Rattle.twp_rules.specs.Keeping.{is_said_if_section, keep_numbers, next_copies_at, next_copies_from};
@@ -101,7 +102,8 @@ fn fits(
     more: &[Change<'_>],
 ) -> bool
     requires { change.now.start ≤ length text.now }
-    ensures { result ≡ fits_by text.now role place copied (seen change.now) (map seen more.now) change.now.rule }
+    ensures { result ≡ fits_by text.now role place copied (seen change.now) (map seen more.now)
+        change.now.rule }
 {
     match change.rule {
         Rule::Copied(from, to) => {

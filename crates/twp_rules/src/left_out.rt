@@ -4,8 +4,10 @@ ghost use Rattle.twp_rules.specs.declared.saying.Saying.TheVariants.{Remark};
 ghost use Rattle.twp_rules.specs.Edges.{ends_with_one, is_one_of, without_white};
 ghost use Rattle.twp_rules.specs.Endings.{digits, meridian_letters};
 ghost use Rattle.twp_rules.specs.Naming.{has_no_bare_number, has_no_land};
-ghost use Rattle.twp_rules.specs.Rules.{is_acreage, is_meridian, is_moved_heading, is_moved_section, is_no_land_word};
-ghost use Rattle.twp_rules.specs.Rules.{is_apart_from_digit, is_place_name, is_row_number, is_township, may_be_left_out};
+ghost use Rattle.twp_rules.specs.Rules.{is_acreage, is_meridian, is_moved_heading, is_moved_section};
+ghost use Rattle.twp_rules.specs.Rules.{is_no_land_word};
+ghost use Rattle.twp_rules.specs.Rules.{is_apart_from_digit, is_place_name, is_row_number, is_township};
+ghost use Rattle.twp_rules.specs.Rules.{may_be_left_out};
 ghost use Rattle.twp_rules.specs.Sayings.{has_no_limit};
 
 use crate::context::{is_township, less, without_spaces};
@@ -103,8 +105,8 @@ fn is_meridian(seen: &[u8], after: &[u8]) -> bool
         && names_only_place(seen, after)
 }
 
-/// Whether a text names no land; limits none, unless it is the letters of a meridian; and has no number that may be
-/// that of a section, unless it is a meridian's code before a township. Most such texts are remarks.
+/// Whether a text names no land; limits none, unless it is the letters of a meridian; and has no number that
+/// may be that of a section, unless it is a meridian's code before a township. Most such texts are remarks.
 #[tactic(auto, using(crate::proofs::SayingFacts::remark_names_place))]
 fn names_only_place(seen: &[u8], after: &[u8]) -> bool
     ensures { result ≡ (has_no_land seen.now

@@ -1,26 +1,27 @@
 //! Whether what is left out where it is written elsewhere is written.
 ghost use Rattle.std.specs.Prelude.{◌≡◌, ◌≤◌, length, map};
 ghost use Rattle.twp_rules.specs.Changes.{AreChangesFrom, seen};
-ghost use Rattle.twp_rules.specs.Moves.{are_written_from, copies_place, digits_alone, end_of_number, first_place, grown, is_digit_at, is_copied_by};
-ghost use Rattle.twp_rules.specs.Moves.{is_named_last, is_number_at, is_same_number, is_written_at, is_written_by, keep_moved, named_after, named_by};
-ghost use Rattle.twp_rules.specs.Moves.{named_with, nothing_named, number_at, role_named_by, side_by, value_from};
+ghost use Rattle.twp_rules.specs.Moves.{are_written_from, copies_place, digits_alone, end_of_number};
+ghost use Rattle.twp_rules.specs.Moves.{first_place, is_copied_by, is_digit_at, is_named_last, is_number_at};
+ghost use Rattle.twp_rules.specs.Moves.{is_same_number, is_written_at, is_written_by, keep_moved};
+ghost use Rattle.twp_rules.specs.Moves.{named_after};
+ghost use Rattle.twp_rules.specs.Moves.{nothing_named, number_at, value_from};
 ghost use Rattle.std.specs.Prelude.{◌<◌, drop, slice_range};
 ghost use Rattle.twp_rules.specs.steps.Moved.{are_copied_from, are_moved_copied, is_copied_at, moves};
 
 use crate::change::{Change, between};
 use crate::context::{before, is_fraction_digit, less};
 use crate::keeping::{rest_of, side_after, without_zeros};
-use crate::named::Named;
+use crate::named::{Named, grown, named_after};
 use crate::naming::{begins_word, byte_at, byte_before, digits_of, word_of};
 use crate::role::NumberRole;
 use crate::roles::is_north_south_word;
 use crate::rule::Rule;
 use crate::same::begins_with;
 use crate::words::numbers::*;
-use crate::words::sections::*;
 
-/// Whether each number of the text that is moved is written elsewhere. In most texts, each is copied, or nothing is
-/// moved, and then it doesn't matter what was named last.
+/// Whether each number of the text that is moved is written elsewhere. In most texts, each is copied, or
+/// nothing is moved, and then it doesn't matter what was named last.
 #[tactic(auto, using(crate::proofs::ChangeFacts::next_moved, crate::proofs::ChangeFacts::not_written, crate::proofs::ChangeFacts::start_within, crate::proofs::ChangeFacts::end_within, crate::proofs::MoveFacts::all_are_copied))]
 pub(crate) fn is_moved_text_written(text: &[u8], changes: &[Change<'_>]) -> bool
     requires { AreChangesFrom 0 text.now (map seen changes.now) }
@@ -69,7 +70,8 @@ fn are_moved_copied(text: &[u8], changes: &[Change<'_>]) -> bool
 fn are_copied(text: &[u8], changes: &[Change<'_>], start: usize, end: usize) -> bool
     requires order { start ≤ end }
     requires within { end ≤ length text.now }
-    ensures { result ≡ are_copied_from text.now (map seen changes.now) start start (slice_range text.now start end) }
+    ensures { result ≡ are_copied_from text.now (map seen changes.now) start start
+        (slice_range text.now start end) }
 {
     let left_out = &text[start..end];
     for index in 0..left_out.len() {
@@ -105,7 +107,8 @@ fn is_written_by(
 ) -> bool
     requires order { start ≤ end }
     requires within { end ≤ length text.now }
-    ensures { result ≡ is_written_by text.now (map seen changes.now) it start (slice_range text.now start end) rule }
+    ensures { result ≡ is_written_by text.now (map seen changes.now) it start
+        (slice_range text.now start end) rule }
 {
     match rule {
         Rule::MovedSection => are_written(text, changes, NumberRole::Section, it, start, end),
@@ -126,7 +129,8 @@ fn are_written(
 ) -> bool
     requires order { start ≤ end }
     requires within { end ≤ length text.now }
-    ensures { result ≡ are_written_from text.now (map seen changes.now) role it start start (slice_range text.now start end) }
+    ensures { result ≡ are_written_from text.now (map seen changes.now) role it start start
+        (slice_range text.now start end) }
 {
     let left_out = &text[start..end];
     for index in 0..left_out.len() {
@@ -184,7 +188,8 @@ fn first_place(text: &[u8], at: usize) -> usize
     at
 }
 
-/// Whether the number at a place is that of the section named last, or of the township or range with its side.
+/// Whether the number at a place is that of the section named last, or of the township or range with its
+/// side.
 fn is_named_last(text: &[u8], role: NumberRole, it: Named, at: usize) -> bool
     requires { at < length text.now }
     ensures { result ≡ is_named_last text.now role it at }
@@ -255,16 +260,6 @@ fn value_of(digits: &[u8]) -> u16
     value
 }
 
-/// A number with one more digit, of at most four.
-fn grown(value: u16, digit: u8) -> u16
-    ensures { result ≡ grown value digit }
-{
-    if value < 1_000 {
-        return value * 10 + u16::from(digit.saturating_sub(b'0'));
-    }
-    value
-}
-
 /// Whether some change copies the byte at a place.
 fn is_copied_by(changes: &[Change<'_>], at: usize) -> bool
     ensures { result ≡ is_copied_by (map seen changes.now) at }
@@ -284,91 +279,5 @@ fn copies_place(at: usize, rule: Rule) -> bool
     match rule {
         Rule::Copied(from, to) => from <= at && at < to,
         _ => false,
-    }
-}
-
-/// What is named after more bytes.
-fn named_after(it: Named, bytes: &[u8]) -> Named
-    ensures { result ≡ named_after it bytes.now }
-{
-    let mut named = it;
-    for at in 0..bytes.len() {
-        named = named_with(named, rest_of(bytes, at));
-    }
-    named
-}
-
-/// What is named after the first byte of a text.
-fn named_with(it: Named, rest: &[u8]) -> Named
-    ensures { result ≡ named_with it rest.now }
-{
-    let byte = byte_at(rest, 0);
-    if byte.is_ascii_digit() {
-        return Named {
-            section: named_by(NumberRole::Section, it.next, it.section, it.before, byte),
-            tier: named_by(NumberRole::Tier, it.next, it.tier, it.before, byte),
-            range: named_by(NumberRole::Range, it.next, it.range, it.before, byte),
-            before: byte,
-            ..it
-        };
-    }
-    if byte.is_ascii_alphabetic() && !it.before.is_ascii_alphabetic() {
-        return Named {
-            next: role_named_by(it.next, word_of(rest)),
-            tier_side: side_by(NumberRole::Tier, it.next, it.tier_side, byte),
-            range_side: side_by(NumberRole::Range, it.next, it.range_side, byte),
-            before: byte,
-            ..it
-        };
-    }
-    Named { before: byte, ..it }
-}
-
-/// What a number is that follows a word.
-fn role_named_by(next: NumberRole, word: &[u8]) -> NumberRole
-    ensures { result ≡ role_named_by next word.now }
-{
-    if is_in_section_names(word) {
-        return NumberRole::Section;
-    }
-    if is_in_tier_words(word) {
-        return NumberRole::Tier;
-    }
-    if is_in_range_words(word) {
-        return NumberRole::Range;
-    }
-    if is_in_list_words(word) {
-        return next;
-    }
-    NumberRole::Nothing
-}
-
-/// The number that is named last after a digit, if it is of this role.
-fn named_by(wanted: NumberRole, next: NumberRole, value: u16, before: u8, digit: u8) -> u16
-    ensures { result ≡ named_by wanted next value before digit }
-{
-    let is_named = matches!(
-        (wanted, next),
-        (NumberRole::Section, NumberRole::Section)
-            | (NumberRole::Tier, NumberRole::Tier)
-            | (NumberRole::Range, NumberRole::Range)
-    );
-    if !is_named {
-        return value;
-    }
-    if before.is_ascii_digit() {
-        return grown(value, digit);
-    }
-    u16::from(digit.saturating_sub(b'0'))
-}
-
-/// The side that is named last after a word, if it is of this role.
-fn side_by(wanted: NumberRole, next: NumberRole, side: u8, byte: u8) -> u8
-    ensures { result ≡ side_by wanted next side byte }
-{
-    match (wanted, next) {
-        (NumberRole::Tier, NumberRole::Tier) | (NumberRole::Range, NumberRole::Range) =>
-            byte.to_ascii_lowercase(),
-        _ => side,
     }
 }

@@ -86,8 +86,8 @@ pub(crate) fn has_no_bare_number(seen: &[u8]) -> bool
     true
 }
 
-/// Whether a number at a place, if there is one, belongs to something other than a section or a lot. The word before it
-/// is the one with which `named` begins.
+/// Whether a number at a place, if there is one, belongs to something other than a section or a lot. The word
+/// before it is the one with which `named` begins.
 pub(crate) fn is_explained_at(seen: &[u8], at: usize, named: &[u8]) -> bool
     requires { at ≤ length seen.now }
     ensures { result ≡ is_explained_at seen.now at (word_of named.now) (drop at seen.now) }
@@ -167,7 +167,8 @@ pub(crate) fn are_corners(word: &[u8]) -> bool
 
 /// Whether a letter may be the first of a corner, or the second.
 fn is_of_corner(is_first: bool, byte: u8) -> bool
-    ensures { result ≡ (if is_first then is_one_of (byte ∷ []) north_south else is_one_of (byte ∷ []) east_west) }
+    ensures { result ≡ (if is_first then is_one_of (byte ∷ []) north_south
+        else is_one_of (byte ∷ []) east_west) }
 {
     if is_first {
         is_north_south(byte)

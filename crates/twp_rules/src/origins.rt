@@ -1,7 +1,8 @@
 //! Where what a changed text names comes from in the text.
 ghost use Rattle.std.specs.Prelude.{◌≡◌, ◌+◌, ◌-◌, ◌≤◌, ◌++◌, ◌∷◌, [], IfOk, IfSome, drop, map};
 ghost use Rattle.twp_rules.specs.Changes.{seen};
-ghost use Rattle.twp_rules.specs.Origins.{land_mark, marks_of, marks_of_item, origin, origin_of, section_mark};
+ghost use Rattle.twp_rules.specs.Origins.{land_mark, marks_of, marks_of_item, origin, origin_of};
+ghost use Rattle.twp_rules.specs.Origins.{section_mark};
 ghost use Rattle.twp_rules.specs.steps.Followed.{IsFollowed};
 
 use crate::change::Change;
@@ -18,8 +19,8 @@ pub(crate) struct FollowedPlace {
     pub(crate) cursor: Cursor,
 }
 
-/// What items name, with its places in the text. The items are those of the changed text from an offset on. None if they
-/// don't go from left to right.
+/// What items name, with its places in the text. The items are those of the changed text from an offset on.
+/// None if they don't go from left to right.
 pub(crate) fn marks_of(
     alloc: Global,
     changes: &[Change<'_>],
@@ -111,8 +112,8 @@ fn add_land(
     Ok(Some(spot.cursor))
 }
 
-/// The origin of the byte at an offset, and how far the changed text was followed for it. None if that offset is before
-/// what was followed.
+/// The origin of the byte at an offset, and how far the changed text was followed for it. None if that offset
+/// is before what was followed.
 pub(crate) fn found(
     changes: &[Change<'_>],
     base: usize,
@@ -158,7 +159,8 @@ fn advanced(changes: &[Change<'_>], from: Cursor, offset: usize) -> Cursor
     cursor
 }
 
-/// The origin of the byte at an offset, if that is before the end of what the next change writes, or after all changes.
+/// The origin of the byte at an offset, if that is before the end of what the next change writes, or after
+/// all changes.
 fn place_from(changes: &[Change<'_>], from: Cursor, offset: usize) -> Option<usize>
     requires followed { IsFollowed changes.now from }
     requires order { from.offset ≤ offset }

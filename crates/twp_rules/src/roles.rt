@@ -2,9 +2,12 @@
 ghost use Rattle.std.specs.Prelude.{◌≡◌, ◌≤◌, drop, length};
 ghost use Rattle.twp_rules.specs.Edges.{byte_before};
 ghost use Rattle.twp_rules.specs.Naming.{word_of};
-ghost use Rattle.twp_rules.specs.Roles.{begins_list, begins_whole, begins_with_tier, byte_before_spaces, ends_whole};
-ghost use Rattle.twp_rules.specs.Roles.{goes_on_with_list, is_apart, is_before_land_mark, is_before_township, is_in_list};
-ghost use Rattle.twp_rules.specs.Roles.{is_north_south_word, is_of_register, is_said_section, is_section_sign_at};
+ghost use Rattle.twp_rules.specs.Roles.{begins_list, begins_whole, begins_with_tier, byte_before_spaces};
+ghost use Rattle.twp_rules.specs.Roles.{ends_whole};
+ghost use Rattle.twp_rules.specs.Roles.{goes_on_with_list, is_apart, is_before_land_mark, is_before_township};
+ghost use Rattle.twp_rules.specs.Roles.{is_in_list};
+ghost use Rattle.twp_rules.specs.Roles.{is_north_south_word, is_of_register, is_said_section};
+ghost use Rattle.twp_rules.specs.Roles.{is_section_sign_at};
 ghost use Rattle.twp_rules.specs.Roles.{without_location_marks, without_township_word};
 
 use crate::context::{are_leading, before, is_fraction_digit, less, solid_before, without_spaces};

@@ -1,8 +1,10 @@
 //! What a phrase says that names no land, and whether a word in it limits land.
 ghost use Rattle.std.specs.Prelude.{◌≡◌, ◌≤◌, ◌&&◌, drop, length};
 ghost use Rattle.twp_rules.specs.Naming.{word_of};
-ghost use Rattle.twp_rules.specs.Sayings.{begins_whole_word, has_no_limit, has_only_columns_from, is_mentioned};
-ghost use Rattle.twp_rules.specs.Sayings.{is_more_or_less, is_remark, is_said_of_interests, is_said_of_land, is_said_of_rights};
+ghost use Rattle.twp_rules.specs.Sayings.{begins_whole_word, has_no_limit, has_only_columns_from};
+ghost use Rattle.twp_rules.specs.Sayings.{is_mentioned};
+ghost use Rattle.twp_rules.specs.Sayings.{is_more_or_less, is_remark, is_said_of_interests, is_said_of_land};
+ghost use Rattle.twp_rules.specs.Sayings.{is_said_of_rights};
 ghost use Rattle.twp_rules.specs.Sayings.{is_said_of_terms, limits_land, may_contain, mentions_from, says};
 ghost use Rattle.twp_rules.specs.Sayings.{is_possessive};
 
@@ -19,7 +21,8 @@ use crate::words::limits::*;
 use crate::words::sections::*;
 use crate::words::sides::*;
 
-/// Whether a text is a remark. Land, numbers, and limits are looked for at once, where a word or a number begins.
+/// Whether a text is a remark. Land, numbers, and limits are looked for at once, where a word or a number
+/// begins.
 #[tactic(auto, using(crate::proofs::SayingFacts::nothing_begins, crate::proofs::SayingFacts::goes_on_here, crate::proofs::SayingFacts::land_begins, crate::proofs::SayingFacts::bare_begins, crate::proofs::SayingFacts::limit_begins))]
 pub fn is_remark(seen: &[u8]) -> bool
     ensures { result ≡ is_remark seen.now }

@@ -1,7 +1,8 @@
 //! What is beside words of an exception, numbers in words, and hyphens; and meridians of letters alone.
 ghost use Rattle.std.specs.Prelude.{◌≡◌};
 ghost use Rattle.twp_rules.specs.Edges.{begins_with_one, ends_with_one, is_one_of};
-ghost use Rattle.twp_rules.specs.Endings.{all_but, before_articles, but_what, dash_marks, first_exceptions, meridian_letters, tens_ends, words_apart};
+ghost use Rattle.twp_rules.specs.Endings.{all_but, before_articles, but_what, dash_marks, first_exceptions};
+ghost use Rattle.twp_rules.specs.Endings.{meridian_letters, tens_ends, words_apart};
 
 use crate::rows::{begins_with_one, ends_with_one, is_one_of};
 

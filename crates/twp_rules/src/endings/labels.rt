@@ -1,7 +1,8 @@
 //! What acreage, labels, and what is said twice end with, and what they begin with.
 ghost use Rattle.std.specs.Prelude.{◌≡◌};
 ghost use Rattle.twp_rules.specs.Edges.{begins_with_one, ends_with_one};
-ghost use Rattle.twp_rules.specs.Endings.{acreage_ends, acreage_fronts, being_fronts, depths, less_ends, records, reservations};
+ghost use Rattle.twp_rules.specs.Endings.{acreage_ends, acreage_fronts, being_fronts, depths, less_ends};
+ghost use Rattle.twp_rules.specs.Endings.{records, reservations};
 ghost use Rattle.twp_rules.specs.Endings.{estates, interest_fronts, number_fronts, parenthesis_ends};
 ghost use Rattle.twp_rules.specs.Endings.{property_fronts, rights, terms};
 
