@@ -1,17 +1,15 @@
 -- Positions whose places have the same mark, and the bytes of positions so far.
-use Rattle.std.proofs.Common.{◌≡◌, ℕ, zero, suc, ◌+◌, ◌-◌, ◌*◌, ◌/◌, ◌%◌, ◌<◌, ◌≤◌, ◌==◌, ◌&&◌, not, Bool}
+use Rattle.std.proofs.Common.{◌≡◌, ℕ, zero, suc, ◌+◌, ◌-◌, ◌*◌, ◌/◌, ◌%◌, ◌<◌, ◌≤◌, ◌==◌, ◌&&◌, Bool}
 use Rattle.std.proofs.Common.{true, false}
-use Rattle.std.proofs.Common.{List, [], get_or, set, length, min, if◌then◌else◌, nat_lt, refl, sym, ap, subst}
+use Rattle.std.proofs.Common.{List, [], get_or, set, length, min, nat_lt, refl, sym, ap, subst}
 use Rattle.std.proofs.Common.{◌∙◌, inl, inr, arith}
 use Rattle.std.proofs.lemmas.List.{get_or-set_same, get_or-set_other}
 use Rattle.std.proofs.lemmas.Bool.{and_parts, cases_Bool, cases_lt, eqb-true}
 use Rattle.std.proofs.lemmas.Bool.Decides.{nat_tests}
-use Rattle.twp_grid.specs.Winding.{IsSection, SECTION_COUNT}
 use Rattle.twp_grid.specs.Spans.{total, one_where}
 use Rattle.twp_grid.proofs.TotalFacts.{total-next, total-zero}
-use Rattle.twp_land.specs.LotMaps.{NO_LAND, mark_in, mark_of}
-use Rattle.twp_land.specs.LotMarks.{HasMarks, all_below, are_alike, is_divided, divided_count, marks_of}
-use Rattle.twp_land.specs.steps.Marked.{PLACES}
+use Rattle.twp_land.specs.LotMaps.{NO_LAND, mark_in}
+use Rattle.twp_land.specs.LotMarks.{HasMarks, all_below, are_alike, is_divided, divided_count}
 
 -- a test that holds for all numbers below one, and for it
 pub all_more : (n : ℕ) (test : ℕ → Bool) → all_below n test ≡ true → test n ≡ true

@@ -7,6 +7,8 @@ pub mod CommonLands
 pub mod JoinedLands
 pub mod JoinFacts
 pub mod LaneFacts
+pub mod LeftFacts
+pub mod LeftMarks
 pub mod LotBlocks
 pub mod LotFacts
 pub mod LottingFacts
@@ -21,6 +23,7 @@ pub mod CombinedLots
 pub mod CompareFacts
 pub mod DividingFacts
 pub mod PaintFacts
+pub mod PlatLayouts
 pub mod RelationFacts
 pub mod LotSections
 pub mod MadeLands

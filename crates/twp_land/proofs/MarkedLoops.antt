@@ -1,6 +1,6 @@
 -- What is known of the marked places of a section after the blocks so far.
-use Rattle.std.proofs.Common.{◌≡◌, ℕ, ◌<◌, ◌≤◌, ◌==◌, ◌&&◌, ◌||◌, Bool, true, false, ◌⊎◌}
-use Rattle.std.proofs.Common.{nat_le, nat_lt, refl, sym, ap, subst, ◌∙◌, inl, inr, arith}
+use Rattle.std.proofs.Common.{◌≡◌, ℕ, ◌<◌, ◌==◌, ◌&&◌, ◌||◌, Bool, true, false}
+use Rattle.std.proofs.Common.{nat_lt, refl, sym, ap, subst, ◌∙◌, inl, inr, arith}
 use Rattle.std.proofs.Math.Path.{fun_ext}
 use Rattle.std.proofs.lemmas.Bool.{and_parts, cases_lt, cases_Bool, eqb-true, eq-eqb, false≢true}
 use Rattle.std.proofs.lemmas.Bool.Decides.{nat_tests}
@@ -26,7 +26,7 @@ pub each_left : (set : ℕ → ℕ → Bool) (from : ℕ) (Is : ℕ → ℕ → 
 each_left set from Is none so_far c r here = so_far c r here (none c r here)
 
 -- the places so far, and those of the next block
-below_next : (set : ℕ → ℕ → Bool) (from : ℕ) (block : Rectangle) (end c r : ℕ) → IsNext set from block end
+pub below_next : (set : ℕ → ℕ → Bool) (from : ℕ) (block : Rectangle) (end c r : ℕ) → IsNext set from block end
     → (below set from c r || in_rectangle block c r) ≡ below set end c r
 below_next set from block end c r next = elim (cases_Bool (in_rectangle block c r)) [
   | inl inside ↦

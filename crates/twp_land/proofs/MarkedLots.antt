@@ -1,7 +1,7 @@
 -- The marks of lots, of land, and of places without land.
 use Rattle.std.proofs.Common.{◌≡◌, ℕ, ◌<◌, ◌≤◌, ◌==◌, ◌&&◌, Bool, true, false, not, get_or, min, ◌-◌, ◌+◌}
 use Rattle.std.proofs.Common.{◌*◌, ◌/◌, ◌%◌, List, Option, Some, None, IsSome}
-use Rattle.std.proofs.Common.{nat_le, nat_lt, if◌then◌else◌, refl, sym, ap, subst, ◌∙◌, inl, inr, arith}
+use Rattle.std.proofs.Common.{nat_le, nat_lt, refl, ap, ◌∙◌, inl, inr, arith}
 use Rattle.std.specs.Option.{option_map_or}
 use Rattle.std.specs.Prelude.{MatchOption, IsTrue, is_some}
 use Rattle.twp_grid.specs.Spans.{Rectangle, IsDyadic, in_rectangle}
@@ -9,7 +9,7 @@ use Rattle.std.proofs.Math.Path.{fun_ext}
 use Rattle.std.proofs.lemmas.Bool.{cases_Bool, cases_lt, eqb-true, false≢true}
 use Rattle.std.proofs.lemmas.Bool.Decides.{nat_tests}
 use Rattle.twp_grid.specs.Places.{PLACE_DIGITS, IsPlace, is_place}
-use Rattle.twp_grid.specs.Lands.{HasLand, HasLot, lotting, lot_places, section_places}
+use Rattle.twp_grid.specs.Lands.{HasLot, lotting, lot_places, section_places}
 use Rattle.twp_grid.proofs.PlaceTests.{place_of_test, test_of_place}
 use Rattle.twp_land.specs.LotMaps.{NO_LAND, layout_of_bytes, mark_in, mark_of, marked_lot, place_number}
 use Rattle.twp_land.specs.steps.Marked.{in_section, marked, NoneLeft, IsNext}
@@ -151,7 +151,7 @@ no_land_of_marked positions divided s c r is =
     rw (place, most) refl
 
 -- no mark is greater than that of places without land
-mark_most : (positions divided : List ℕ) (s number : ℕ) → mark_of positions divided s number ≤ NO_LAND
+pub mark_most : (positions divided : List ℕ) (s number : ℕ) → mark_of positions divided s number ≤ NO_LAND
 mark_most positions divided s number =
     by (get_or positions ((s - 1) * 16 + number / 64) 0)
   where

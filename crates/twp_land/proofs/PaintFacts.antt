@@ -1,12 +1,12 @@
 -- Marks that are painted place by place and row by row.
-use Rattle.std.proofs.Common.{◌≡◌, ◌≢◌, ℕ, ◌+◌, ◌<◌, ◌≤◌, ◌&&◌, Bool, true, false, List, get_or, set, length}
-use Rattle.std.proofs.Common.{nat_le, nat_lt, if◌then◌else◌, refl, sym, ap, subst, ◌-◌, ◌∙◌, inl, inr, arith}
+use Rattle.std.proofs.Common.{◌≡◌, ◌≢◌, ℕ, ◌+◌, ◌<◌, ◌≤◌, Bool, true, false, List, get_or, set, length}
+use Rattle.std.proofs.Common.{if◌then◌else◌, refl, sym, ap, subst, ◌-◌, ◌∙◌, inl, inr, arith}
 use Rattle.std.proofs.Common.{◌⊎◌}
 use Rattle.std.proofs.lemmas.List.{get_or-set_same, get_or-set_other}
-use Rattle.std.proofs.lemmas.Bool.{cases_Bool, cases_lt}
+use Rattle.std.proofs.lemmas.Bool.{cases_Bool}
 use Rattle.std.proofs.lemmas.Bool.Decides.{nat_tests}
 use Rattle.twp_grid.specs.Places.{PLACE_DIGITS, IsPlace}
-use Rattle.twp_grid.specs.Spans.{Interval, rectangle, span_from, in_span, in_rectangle}
+use Rattle.twp_grid.specs.Spans.{Interval, rectangle, span_from, in_rectangle}
 use Rattle.twp_land.specs.LotMaps.{place_number}
 use Rattle.twp_land.specs.LotMarks.{mark_at, HasMark, IsPainted}
 

@@ -1,12 +1,11 @@
 -- Where the lots of a plat lie, and where it has no land, as bytes. A section has 16 positions, and a
 -- position 64 places; both are numbered by row from the south, and in a row by column from the east.
-use Rattle.std.specs.Prelude.{◌≡◌, ℕ, ◌+◌, ◌-◌, ◌*◌, ◌/◌, ◌%◌, ◌≤◌, ◌<◌, ◌==◌, ◌&&◌, nat_le, nat_lt, not}
+use Rattle.std.specs.Prelude.{ℕ, zero, suc, ◌+◌, ◌-◌, ◌*◌, ◌/◌, ◌%◌, ◌&&◌, nat_le, nat_lt, not}
 use Rattle.std.specs.Prelude.{Bool}
 use Rattle.std.specs.Prelude.{List, Option, Some, None, get_or, min, if◌then◌else◌}
 use Rattle.twp_grid.specs.Lots.{POSITIONS, POSITIONS_ACROSS}
-use Rattle.twp_grid.specs.Places.{PLACE_DIGITS, IsPlace, is_place, places_to_position}
-use Rattle.twp_grid.specs.Spans.{Rectangle, in_rectangle}
-use Rattle.twp_grid.specs.Lands.{Layout}
+use Rattle.twp_grid.specs.Places.{PLACE_DIGITS, is_place}
+use Rattle.twp_grid.specs.Lands.{Layout, Lotting, STANDARD_LAYOUT, off_lots}
 
 -- the mark of a place without land; 0 marks land in no lot, and a number between them the lot
 abbrev pub NO_LAND : ℕ
@@ -51,3 +50,13 @@ layout_of_bytes positions divided = record {
       not (is_place PLACE_DIGITS column row
       && nat_le NO_LAND (mark_of positions divided section (place_number column row)));
 }
+
+-- the layout of a plat's lots: 0 stands for that of a regular township, other numbers for that of bytes
+abbrev pub layout_of_plat : ℕ → List ℕ → List ℕ → Layout
+layout_of_plat zero positions divided = STANDARD_LAYOUT
+layout_of_plat (suc _) positions divided = layout_of_bytes positions divided
+
+-- the places of a set in one section that are land in no lot
+abbrev pub land_off_lots : Lotting → ℕ → (ℕ → ℕ → Bool) → ℕ → ℕ → Bool
+land_off_lots lots section held column row =
+    off_lots lots section held column row && lots.has_land section column row

@@ -7,3 +7,4 @@ pub mod Relating
 pub mod StandardLots
 pub mod Marked
 pub mod LotMapLots
+pub mod PlatLotsLots

@@ -37,6 +37,7 @@ pub const DIVIDED_BYTES: usize = 128 * PLACES_OF_POSITION;
 /// lot with this number, and 100 if the plat has no land there. A greater byte is for a position of
 /// several of these: it names one of the divided positions, which has such a byte for each place.
 /// Any bytes are a lotting.
+#[repr(C)]
 #[derive(Clone, Drop)]
 pub struct LotMap {
     positions: [u8; POSITION_BYTES],
@@ -270,6 +271,17 @@ impl Lotting for LotMap {
             from = found.end;
         }
         false
+    }
+
+    // What is marked as a lot, or as no land, is subtracted.
+    fn off_lots_count<S: PlaceSet>(&self, set: &S, section: Section) -> u32 {
+        let mut count = set.count(section, Block::whole());
+        let mut from = 0;
+        while let Some(found) = self.next(section, from, 1, NO_LAND) {
+            count -= set.count(section, found.block);
+            from = found.end;
+        }
+        count
     }
 }
 

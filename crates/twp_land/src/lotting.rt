@@ -3,6 +3,9 @@ ghost use Rattle.twp_grid.specs.Places.{PLACE_DIGITS};
 ghost use Rattle.twp_grid.specs.Lands.{Layout, STANDARD_LAYOUT, lotting, HasLot, HasLots, HoldsLotPlace};
 ghost use Rattle.twp_grid.specs.Lands.{IsLotHeld, HasLand, IsOfLots, LacksLand, HoldsEach, section_places};
 ghost use Rattle.twp_grid.specs.Lands.{AreLots, IsLastLot, IsNextLot, lot_places, union, SharePlace};
+ghost use Rattle.twp_grid.specs.Lands.{count_held};
+ghost use Rattle.twp_grid.specs.Spans.{whole_block};
+ghost use Rattle.twp_land.specs.LotMaps.{land_off_lots};
 
 use crate::lots::holds_of_lot;
 use crate::place_set::PlaceSet;
@@ -81,6 +84,11 @@ pub trait Lotting {
         ensures { IsTrue result
             ↔ IsLotHeld (lotting (layout self.now)) section (S.places set.now section) number };
 
+    /// How many of the places that a set contains in a section are land in no lot.
+    fn off_lots_count<S: PlaceSet>(&self, set: &S, section: Section) -> u32
+        ensures { result ≡ count_held (land_off_lots (lotting (layout self.now)) section
+            (S.places set.now section)) (whole_block PLACE_DIGITS) };
+
     /// Each lot is land of its section, and has a number from 1 to 99.
     ghost lots: { (lots : Self) → AreLots (lotting (layout lots)) };
 }
@@ -152,6 +160,15 @@ impl Lotting for StandardLots {
     #[inline(always)]
     fn meets_lot<S: PlaceSet>(&self, set: &S, section: Section, number: u8) -> bool {
         set.meets(section, Block::of_lot(section, number).unwrap())
+    }
+
+    #[inline(always)]
+    fn off_lots_count<S: PlaceSet>(&self, set: &S, section: Section) -> u32 {
+        let mut count = set.count(section, Block::whole());
+        for lot in 1..lot_count(section) + 1 {
+            count -= set.count(section, Block::of_lot(section, lot).unwrap());
+        }
+        count
     }
 
     #[inline(always)]

@@ -1,8 +1,8 @@
 -- The lots of bytes are land of their section, and have numbers from 1 to 99: the proof of a law of
 -- `Lotting`.
-use Rattle.std.proofs.Common.{◌≡◌, ℕ, ◌<◌, ◌&&◌, Bool, List, Option, Some, None, true, false, not, nat_le}
+use Rattle.std.proofs.Common.{◌≡◌, ℕ, ◌<◌, ◌&&◌, Bool, List, Some, None, true, false, not, nat_le}
 use Rattle.std.proofs.Common.{nat_lt, inl, inr, arith}
-use Rattle.std.proofs.Common.{if◌then◌else◌, refl, sym, ap, ◌∙◌}
+use Rattle.std.proofs.Common.{refl}
 use Rattle.std.proofs.lemmas.Bool.{cases_Bool}
 use Rattle.std.proofs.lemmas.Bool.Decides.{nat_tests}
 use Rattle.twp_grid.specs.Places.{PLACE_DIGITS, IsPlace, is_place}

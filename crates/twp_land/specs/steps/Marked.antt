@@ -2,7 +2,6 @@
 use Rattle.std.specs.Prelude.{◌≡◌, ℕ, ◌≤◌, ◌<◌, ◌==◌, ◌&&◌, nat_le, nat_lt, Bool, true, List}
 use Rattle.twp_grid.specs.Places.{PLACE_DIGITS, is_place}
 use Rattle.twp_grid.specs.Spans.{Rectangle, in_rectangle}
-use Rattle.twp_grid.specs.Lands.{Lotting, HasLot}
 use Rattle.twp_land.specs.LotMaps.{mark_of, place_number}
 
 -- the number of places in a section

@@ -1,4 +1,4 @@
-use Rattle.std.proofs.Common.{◌≡◌, ◌-◌, ◌≤◌}
+use Rattle.std.proofs.Common.{◌-◌, ◌≤◌}
 use Rattle.twp_grid.specs.Spans.{rectangle, span_from}
 use Rattle.twp_land.specs.LotMarks.{IsPainted}
 use Rattle.twp_land.proofs.lot_marks.paint_block.Given as goal
