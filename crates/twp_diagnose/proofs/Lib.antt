@@ -4,6 +4,7 @@ pub mod MarkFacts
 pub mod HeadingFacts
 pub mod NearFacts
 pub mod PartFacts
+pub mod SectionLotFacts
 pub mod SightFacts
 pub mod SignFacts
 pub mod OriginFacts

@@ -5,12 +5,12 @@ use Rattle.twp_grammar.specs.declared.item.Item.{Item}
 use Rattle.twp_resolve.specs.SharedLand.{AreFirstSharing}
 use Rattle.twp_spell.specs.CanonicalText.{IsCanonicalText}
 use Rattle.twp_diagnose.specs.declared.shared_land.SharedLand.{SharedLand}
-use Rattle.twp_grid.specs.Lands.{standard_lots}
+use Rattle.twp_grid.specs.Lands.{Lotting}
 
 -- the items are refused for the later of the two; the earlier is the first that names a place of
 -- it, and the text is the one spelling of the places that both name
-pub record TellsShared (g : ℕ) (township : Designation) (items : List Item) (explained : SharedLand)
+pub record TellsShared (lots : Lotting) (township : Designation) (items : List Item) (explained : SharedLand)
     : Type 0 where
   pub places : ℕ → ℕ → ℕ → Bool
-  pub both : AreFirstSharing (standard_lots g) township items explained.items places
-  pub text_is : IsCanonicalText (standard_lots g) township places explained.text.items
+  pub both : AreFirstSharing lots township items explained.items places
+  pub text_is : IsCanonicalText lots township places explained.text.items

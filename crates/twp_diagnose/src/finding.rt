@@ -6,20 +6,17 @@ ghost use Rattle.twp_diagnose.specs.ShownMessages.{ShowsIn};
 ghost use Rattle.twp_diagnose.specs.Spots.{IsSpotOf};
 ghost use Rattle.twp_grid.specs.Places.{PLACE_DIGITS};
 ghost use Rattle.twp_grid.specs.Cuts.{AreWithin};
-ghost use Rattle.twp_grid.specs.Lots.{number_of_lots};
-ghost use Rattle.twp_grid.specs.Winding.{IsSection};
-ghost use Rattle.twp_grid.specs.Lands.{difference};
-ghost use Rattle.twp_grid.specs.Lands.{STANDARD_LOTS};
+ghost use Rattle.twp_grid.specs.Lands.{lotting};
 ghost use Rattle.twp_grammar.specs.ItemPlaces.{cuts_of};
-ghost use Rattle.twp_resolve.specs.steps.ResolvingSteps.{lots_from};
-ghost use Rattle.twp_diagnose.specs.PartOfLots.{IsPartOfLots};
+ghost use Rattle.twp_diagnose.specs.PartOfLots.{IsPartOfLots, land_off_lots};
 
 use crate::explanation::{Explanation, OtherPlace};
 use crate::location::{Given, Located, Location, message_at};
+use crate::section_lots::{fill_with_lots, fill_with_section, holds_whole_lots};
 use std::alloc::{AllocError, Global};
 use twp_grammar::Steps;
-use twp_grid::{Block, Refusal, Section, Township, lot_count};
-use twp_land::{Land, Lanes, StandardLots};
+use twp_grid::{Refusal, Section, Township};
+use twp_land::{Land, Lanes, Lotting};
 use twp_resolve::chain_block;
 use twp_spell::{held_lots, spell};
 
@@ -121,46 +118,52 @@ pub struct PartOfLots {
     pub section: Section,
     /// The lots of which it holds some place, by rising number.
     pub lots: Vec<u8>,
-    /// The one spelling of what it holds besides.
+    /// Whether it holds each of these lots wholly, and cuts none.
+    pub are_whole: bool,
+    /// The one spelling of the land that it holds besides.
     pub rest: Vec<u8>,
 }
 
-/// The lots of which an aliquot part of a section holds some place, and what it holds besides. None
+/// The lots of which an aliquot part of a section holds some place, and the land that it holds besides. None
 /// where one of its steps would halve a side of one place.
 #[tactic(auto, using(crate::proofs::PartFacts::part_found))]
 #[inline(never)]
-pub fn part_of_lots(
+pub fn part_of_lots<P: Lotting>(
     alloc: Global,
     township: Township,
     section: Section,
     steps: &Steps,
+    lots: &P,
 ) -> Result<Option<PartOfLots>, AllocError>
     ensures { IfOk result (λ explained. MatchOption explained (¬ AreWithin PLACE_DIGITS (cuts_of steps.now))
-        (IsPartOfLots PLACE_DIGITS township section steps.now)) }
+        (IsPartOfLots (lotting (P.layout lots.now)) township section steps.now)) }
 {
     let Some(block) = chain_block(steps) else {
         return Ok(None);
     };
     let mut land = Lanes::empty();
     land.add(section, block);
-    let lots = held_lots(alloc, &land, section, &StandardLots)?;
-    remove_lots(&mut land, section);
-    let rest = spell(alloc, &land, township, &StandardLots)?;
+    let held = held_lots(alloc, &land, section, lots)?;
+    let are_whole = holds_whole_lots(&land, section, lots);
+    keep_off_lots(&mut land, section, lots);
+    let rest = spell(alloc, &land, township, lots)?;
     Ok(Some(PartOfLots {
         section,
-        lots,
+        lots: held,
+        are_whole,
         rest,
     }))
 }
 
-/// Takes away the places of a section's lots.
-fn remove_lots<L: Land>(land: &mut L, section: Section)
-    ensures left { L.places land.new ≡ difference (L.places land.old)
-        (lots_from STANDARD_LOTS section 1 (number_of_lots section)) }
-    ensures section { IsSection section }
+/// Keeps of a set the places of a section at which the plat has land that is in no lot.
+#[inline(never)]
+fn keep_off_lots<L: Land, P: Lotting>(land: &mut L, section: Section, lots: &P)
+    ensures { L.places land.new
+        ≡ land_off_lots (lotting (P.layout lots.now)) section (L.places land.old section) }
 {
-    for lot in 1..lot_count(section) + 1 {
-        let block = Block::of_lot(section, lot).unwrap();
-        land.remove(section, block);
-    }
+    let mut places = L::empty();
+    fill_with_lots(&mut places, section, lots);
+    land.take_away(&places);
+    fill_with_section(&mut places, section, lots);
+    land.keep_common(&places);
 }

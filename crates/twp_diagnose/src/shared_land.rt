@@ -1,13 +1,12 @@
 //! The land that a description names twice.
 ghost use Rattle.std.specs.Prelude.{IfOk, MatchOption};
-ghost use Rattle.twp_grid.specs.Places.{PLACE_DIGITS};
 ghost use Rattle.twp_resolve.specs.SharedLand.{AreRefusedForOverlap};
 ghost use Rattle.twp_diagnose.specs.SharedText.{TellsShared};
-ghost use Rattle.twp_grid.specs.Lands.{STANDARD_LOTS};
+ghost use Rattle.twp_grid.specs.Lands.{lotting};
 
 use std::alloc::{AllocError, Global};
 use twp_grid::Township;
-use twp_land::{Land, Lanes, StandardLots};
+use twp_land::{Land, Lanes, Lotting};
 use twp_read::Description;
 use twp_resolve::{SharingItems, shared_into};
 use twp_spell::spell;
@@ -24,19 +23,20 @@ pub struct SharedLand {
 /// Of a description that is refused because it names land twice: the two items, and the spelling of
 /// the land that both name. None where it isn't refused for that.
 #[inline(never)]
-pub fn shared_land_text(
+pub fn shared_land_text<P: Lotting>(
     alloc: Global,
     description: &Description,
     township: Township,
+    lots: &P,
 ) -> Result<Option<SharedLand>, AllocError>
     ensures { IfOk result (λ explained. MatchOption explained
-        (¬ AreRefusedForOverlap STANDARD_LOTS township description.now)
-        (TellsShared PLACE_DIGITS township description.now)) }
+        (¬ AreRefusedForOverlap (lotting (P.layout lots.now)) township description.now)
+        (TellsShared (lotting (P.layout lots.now)) township description.now)) }
 {
     let mut land = Lanes::empty();
-    let Some(items) = shared_into(&mut land, description, township, &StandardLots) else {
+    let Some(items) = shared_into(&mut land, description, township, lots) else {
         return Ok(None);
     };
-    let text = spell(alloc, &land, township, &StandardLots)?;
+    let text = spell(alloc, &land, township, lots)?;
     Ok(Some(SharedLand { items, text }))
 }

@@ -2,4 +2,4 @@
 use Rattle.twp_diagnose.proofs.shared_land.shared_land_text.Goals as goal
 
 pub returns : goal.returns
-returns c = record { places = _; both = c.in-Some.ensures; text_is = c.in_ok-text.ensures.text }
+returns g c = record { places = _; both = c.in-Some.ensures; text_is = c.in_ok-text.ensures.text }
