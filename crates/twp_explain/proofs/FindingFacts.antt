@@ -174,7 +174,7 @@ pub items_show : (stopped : SearchStop) (origin : Origin) (township : Designatio
     → IsReadAs bytes items → place_faults.IsFirstPlaceFault STANDARD_LOTS township items fault
     → IfFound stopped (λ found. place_faults.refusal_of fault ≡ Some found) → IfShown origin bytes stopped
     → IfFinds stopped (λ finding. EndsWithFault origin bytes items fault finding.place)
-    → IfFinds stopped (λ finding. IsOtherPlace origin bytes township items fault finding.other)
+    → IfFinds stopped (λ finding. IsOtherPlace STANDARD_LOTS origin bytes township items fault finding.other)
     → IfFinds stopped (ShowsFound origin township bytes)
 items_show (stop.Found finding) origin township bytes items fault read first is begins ends other =
     record {

@@ -44,7 +44,7 @@ pub record IsOfItems (origin : Origin) (township : Designation) (text : List ℕ
   pub first : place_faults.IsFirstPlaceFault STANDARD_LOTS township items fault
   pub refusal_is : place_faults.refusal_of fault ≡ Some refusal
   pub ends : EndsWithFault origin text items fault place
-  pub other_is : IsOtherPlace origin text township items fault other
+  pub other_is : IsOtherPlace STANDARD_LOTS origin text township items fault other
 
 -- of a refused description, its first fault is shown: from the refusal's place on, up to the end of what is
 -- at fault

@@ -131,6 +131,14 @@ pub(crate) fn describe<S: Suggests>(
     };
     match resolve::<Lanes, StandardLots>(&description, township, &StandardLots) {
         Ok(_) => Ok(()),
-        Err(fault) => Err(stop_of_places(alloc, origin, bytes, &description, township, fault)),
+        Err(fault) => Err(stop_of_places(
+            alloc,
+            origin,
+            bytes,
+            &description,
+            township,
+            &StandardLots,
+            fault,
+        )),
     }
 }

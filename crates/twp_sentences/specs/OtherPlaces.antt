@@ -1,7 +1,6 @@
 -- The other place that the explanation of an overlap names: where the land was named before.
 use Rattle.std.specs.Prelude.{◌≡◌, ℕ, Bool, List, Option, Some, None, MatchOption, slice_get}
 use Rattle.twp_excerpt.specs.declared.spot.Span.{Span}
-use Rattle.twp_grid.specs.Places.{PLACE_DIGITS}
 use Rattle.twp_grid.specs.Townships.{Designation}
 use Rattle.twp_grammar.specs.declared.item.Item.{Item}
 use Rattle.twp_resolve.specs.SharedLand.{AreFirstSharing, AreRefusedForOverlap}
@@ -12,7 +11,7 @@ use Rattle.twp_diagnose.specs.Origins.{place_of}
 use Rattle.twp_diagnose.specs.declared.explanation.OtherPlace.{OtherPlace}
 use Rattle.twp_diagnose.specs.declared.location.Origin.{Origin}
 use Rattle.twp_sentences.specs.Underlined.{IsItemSpan}
-use Rattle.twp_grid.specs.Lands.{STANDARD_LOTS}
+use Rattle.twp_grid.specs.Lands.{Lotting}
 
 -- the other place is where these bytes of a text are in its file; it is in no record of its own
 pub record IsSpanInFile (origin : Origin) (span : Span) (other : OtherPlace) : Type 0 where
@@ -35,23 +34,24 @@ pub record IsAtItem (origin : Origin) (text : List ℕ) (items : List Item) (ind
 
 -- Of items that are refused for an overlap, the other place is that of the earlier of the two items that
 -- share land: the first that does.
-pub data IsEarlierPlace (origin : Origin) (text : List ℕ) (township : Designation) (items : List Item)
-    (other : Option OtherPlace) : Type 0 where
-  no_overlap : ¬ AreRefusedForOverlap STANDARD_LOTS township items → other ≡ None
-      → IsEarlierPlace origin text township items other
+pub data IsEarlierPlace (lots : Lotting) (origin : Origin) (text : List ℕ) (township : Designation)
+    (items : List Item) (other : Option OtherPlace) : Type 0 where
+  no_overlap : ¬ AreRefusedForOverlap lots township items → other ≡ None
+      → IsEarlierPlace lots origin text township items other
   overlap : (pair : SharingItems) (places : ℕ → ℕ → ℕ → Bool)
-      → AreFirstSharing STANDARD_LOTS township items pair places
+      → AreFirstSharing lots township items pair places
       → MatchOption other (slice_get items pair.earlier ≡ None) (IsAtItem origin text items pair.earlier)
-      → IsEarlierPlace origin text township items other
+      → IsEarlierPlace lots origin text township items other
 
 -- the other place of a fault of items: an overlap has one, and no other fault has
-abbrev pub IsOtherPlace : Origin → List ℕ → Designation → List Item → PlaceFault → Option OtherPlace → Type 0
-IsOtherPlace origin text township items (fault.OtherTownship at) other = other ≡ None
-IsOtherPlace origin text township items (fault.NoSection at) other = other ≡ None
-IsOtherPlace origin text township items (fault.Backward at) other = other ≡ None
-IsOtherPlace origin text township items (fault.NoLot at) other = other ≡ None
-IsOtherPlace origin text township items (fault.TooFine at) other = other ≡ None
-IsOtherPlace origin text township items (fault.OnLot at) other = other ≡ None
-IsOtherPlace origin text township items (fault.NoLand at) other = other ≡ None
-IsOtherPlace origin text township items (fault.Overlap at) other =
-    IsEarlierPlace origin text township items other
+abbrev pub IsOtherPlace : Lotting → Origin → List ℕ → Designation → List Item → PlaceFault → Option OtherPlace
+    → Type 0
+IsOtherPlace lots origin text township items (fault.OtherTownship at) other = other ≡ None
+IsOtherPlace lots origin text township items (fault.NoSection at) other = other ≡ None
+IsOtherPlace lots origin text township items (fault.Backward at) other = other ≡ None
+IsOtherPlace lots origin text township items (fault.NoLot at) other = other ≡ None
+IsOtherPlace lots origin text township items (fault.TooFine at) other = other ≡ None
+IsOtherPlace lots origin text township items (fault.OnLot at) other = other ≡ None
+IsOtherPlace lots origin text township items (fault.NoLand at) other = other ≡ None
+IsOtherPlace lots origin text township items (fault.Overlap at) other =
+    IsEarlierPlace lots origin text township items other

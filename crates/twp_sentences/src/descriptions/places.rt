@@ -1,6 +1,7 @@
 //! Why a description names no land on the plat.
 ghost use Rattle.std.specs.Prelude.{◌≡◌, None, IfOk, MatchOption};
 ghost use Rattle.twp_diagnose.specs.Marks.{IsTokenSpan, IsChainSpan, IsHeadingSpan};
+ghost use Rattle.twp_grid.specs.Lands.{lotting};
 ghost use Rattle.twp_sentences.specs.OtherPlaces.{IsEarlierPlace, IsOtherPlace};
 ghost use Rattle.twp_sentences.specs.ShownPlaces.{BeginsAt};
 ghost use Rattle.twp_sentences.specs.Underlined.{EndsLike, EndsWithFault, IsFaultSpan, IsItemAt};
@@ -16,7 +17,7 @@ use crate::descriptions::places::items::{
 };
 pub use crate::descriptions::places::words::write_land;
 use crate::descriptions::places::words::{
-    turned_range, write_heading, write_lots_and_rest, write_lots_cut, write_lots_of,
+    turned_range, write_heading, write_lots_and_rest, write_lots_cut, write_lots_of, write_no_land,
     write_township, write_whole_lots,
 };
 use std::alloc::{AllocError, Global};
@@ -25,21 +26,20 @@ use twp_diagnose::{
     token_span,
 };
 use twp_excerpt::Span;
-use twp_grammar::{Item, Step, Steps};
-use twp_grid::{Refusal, Section, Side, Township};
+use twp_grammar::Item;
+use twp_grid::{Refusal, Section, Township};
+use twp_land::Lotting;
 use twp_read::Description;
 use twp_resolve::PlaceFault;
 
-/// The most steps of a part that are counted: more halve a side of the section more than five times.
-const HALVINGS: usize = 10;
-
-/// A description that was read from a text, and the township that it should be of.
+/// A description that was read from a text, the township that it should be of, and the lots of its plat.
 #[derive(Drop)]
-struct Described<'a> {
+struct Described<'a, P: Lotting> {
     origin: &'a Origin<'a>,
     text: &'a [u8],
     description: &'a Description,
     township: Township,
+    lots: &'a P,
 }
 
 /// The explanation of one fault: where what is underlined of the text ends, which begins at the fault's
@@ -52,13 +52,15 @@ struct Explained {
     other: Option<OtherPlace>,
 }
 
-/// The explanation of a description, read from a text, that has a fault on the plat of a township.
-pub(crate) fn find(
+/// The explanation of a description, read from a text, that has a fault on the plat of a township with these
+/// lots.
+pub(crate) fn find<P: Lotting>(
     alloc: Global,
     origin: &Origin<'_>,
     text: &[u8],
     description: &Description,
     township: Township,
+    lots: &P,
     fault: PlaceFault,
     refusal: Refusal,
 ) -> Result<Finding, AllocError>
@@ -67,13 +69,15 @@ pub(crate) fn find(
     ensures end { IfOk result (λ finding.
         EndsWithFault origin.now text.now description.now fault finding.place) }
     ensures other { IfOk result (λ finding.
-        IsOtherPlace origin.now text.now township description.now fault finding.other) }
+        IsOtherPlace (lotting (P.layout lots.now)) origin.now text.now township description.now fault
+        finding.other) }
 {
     let described = Described {
         origin,
         text,
         description,
         township,
+        lots,
     };
     let explained = described.explain(alloc, fault)?;
     let span = Span {
@@ -90,13 +94,14 @@ pub(crate) fn find(
     })
 }
 
-impl<'a> Described<'a> {
+impl<'a, P: Lotting> Described<'a, P> {
     /// The explanation of a fault.
     fn explain(&self, alloc: Global, fault: PlaceFault) -> Result<Explained, AllocError>
         ensures span { IfOk result (λ explained.
             EndsLike (IsFaultSpan self.now.text.now self.now.description.now fault) explained.end) }
-        ensures other { IfOk result (λ explained. IsOtherPlace self.now.origin.now self.now.text.now
-            self.now.township self.now.description.now fault explained.other) }
+        ensures other { IfOk result (λ explained. IsOtherPlace (lotting (P.layout self.now.lots.now))
+            self.now.origin.now self.now.text.now self.now.township self.now.description.now fault
+            explained.other) }
     {
         match fault {
             PlaceFault::OtherTownship { at } => self.explain_heading(alloc, at),
@@ -202,7 +207,7 @@ impl<'a> Described<'a> {
     {
         let mut sentence = String::new(alloc);
         if let Some(section) = section_of_number(self.description.items(), at) {
-            write_lots_of(section, &mut sentence)?;
+            write_lots_of(section, self.lots, &mut sentence)?;
         }
         Ok(Explained {
             end: token_span(self.text, at as usize).end,
@@ -240,12 +245,11 @@ impl<'a> Described<'a> {
         let mut sentence = String::new(alloc);
         let mut help = String::new(alloc);
         if let Some(part) = self.part_at(alloc, at)? {
-            let cuts_lots = self.cuts_lots(at);
-            write_whole_lots(part.lots.len(), cuts_lots, &mut sentence)?;
-            if cuts_lots {
-                write_lots_cut(&part, &mut help)?;
-            } else {
+            write_whole_lots(&part, &mut sentence)?;
+            if part.are_whole {
                 write_lots_and_rest(&part, &mut help)?;
+            } else {
+                write_lots_cut(&part, &mut help)?;
             }
         }
         Ok(Explained {
@@ -256,28 +260,7 @@ impl<'a> Described<'a> {
         })
     }
 
-    /// Whether the sides of the aliquot part at a place can cut a lot: whether one of the section's
-    /// sides is halved more than twice. Lots fill whole quarters of quarters.
-    fn cuts_lots(&self, at: u32) -> bool {
-        let Some(Item::Chain { steps, .. }) = self.item_at(at) else {
-            return false;
-        };
-        let mut across: u32 = 0;
-        let mut along: u32 = 0;
-        for index in 0..steps.len().min(HALVINGS) {
-            match steps.get(index) {
-                Some(Step::Half(Side::N | Side::S)) => along = along.saturating_add(1),
-                Some(Step::Half(_)) => across = across.saturating_add(1),
-                _ => {
-                    along = along.saturating_add(1);
-                    across = across.saturating_add(1);
-                }
-            }
-        }
-        along > 2 || across > 2
-    }
-
-    /// The lots that the aliquot part at a place includes, whole or in part.
+    /// The lots that the aliquot part at a place includes, whole or in part, and the rest of its land.
     fn part_at(&self, alloc: Global, at: u32) -> Result<Option<PartOfLots>, AllocError> {
         let Some(section) = self.section_at(at) else {
             return Ok(None);
@@ -285,15 +268,16 @@ impl<'a> Described<'a> {
         let Some(Item::Chain { steps, .. }) = self.item_at(at) else {
             return Ok(None);
         };
-        part_of_lots(alloc, self.township, section, steps)
+        part_of_lots(alloc, self.township, section, steps, self.lots)
     }
 
     /// Land that was named before.
     fn explain_overlap(&self, alloc: Global, at: u32) -> Result<Explained, AllocError>
         ensures span { IfOk result (λ explained.
             EndsLike (IsSpanAt self.now.text.now self.now.description.now at) explained.end) }
-        ensures other { IfOk result (λ explained. IsEarlierPlace self.now.origin.now self.now.text.now
-            self.now.township self.now.description.now explained.other) }
+        ensures other { IfOk result (λ explained. IsEarlierPlace (lotting (P.layout self.now.lots.now))
+            self.now.origin.now self.now.text.now self.now.township self.now.description.now
+            explained.other) }
     {
         let mut sentence = String::new(alloc);
         sentence.push_str("this land was named before")?;
@@ -313,14 +297,20 @@ impl<'a> Described<'a> {
         ensures other { IfOk result (λ explained. explained.other ≡ None) }
     {
         let mut sentence = String::new(alloc);
-        sentence.push_str(match self.item_at(at) {
-            Some(Item::Chain { .. }) => "the plat doesn't have all of this land",
-            _ => "the plat has no land in this section",
-        })?;
+        let mut help = String::new(alloc);
+        match self.part_at(alloc, at)? {
+            Some(part) => {
+                write_no_land(&part, &mut sentence)?;
+                if !part.rest.is_empty() {
+                    write_lots_and_rest(&part, &mut help)?;
+                }
+            }
+            None => sentence.push_str("the plat has no land in this section")?,
+        }
         Ok(Explained {
             end: self.span_at(at).end,
             sentence,
-            help: String::new(alloc),
+            help,
             other: None,
         })
     }

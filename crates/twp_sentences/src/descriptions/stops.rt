@@ -4,6 +4,7 @@ ghost use Rattle.twp_read.specs.TextFaults.{refusal_of as refusal_of_text};
 ghost use Rattle.twp_resolve.specs.PlaceFaults.{refusal_of as refusal_of_places};
 ghost use Rattle.twp_read.specs.declared.fault.TextFault.TheVariants.{TooLarge};
 ghost use Rattle.twp_diagnose.specs.Findings.{IfFinds, IfFound};
+ghost use Rattle.twp_grid.specs.Lands.{lotting};
 ghost use Rattle.twp_sentences.specs.OtherPlaces.{IsOtherPlace};
 ghost use Rattle.twp_sentences.specs.ShownPlaces.{IfShown};
 ghost use Rattle.twp_diagnose.specs.Suggestions.{NamesLandOf};
@@ -13,6 +14,7 @@ use crate::descriptions::{places, text};
 use std::alloc::Global;
 use twp_diagnose::{Origin, SearchStop, Suggests};
 use twp_grid::Township;
+use twp_land::Lotting;
 use twp_read::{Description, TextFault};
 use twp_resolve::PlaceFault;
 
@@ -44,15 +46,16 @@ pub fn stop_of_text<S: Suggests>(
     )
 }
 
-/// What is wrong with a description that names no land on the plat of the township.
+/// What is wrong with a description that names no land on the plat of the township with these lots.
 #[tactic(auto, using(twp_diagnose::proofs::FindingFacts::of_fault, twp_diagnose::proofs::FindingFacts::of_found, crate::proofs::ShownFacts::items_shown))]
 #[inline(never)]
-pub fn stop_of_places(
+pub fn stop_of_places<P: Lotting>(
     alloc: Global,
     origin: &Origin<'_>,
     bytes: &[u8],
     description: &Description,
     township: Township,
+    lots: &P,
     fault: PlaceFault,
 ) -> SearchStop
     ensures refusal { IfFound result (λ refusal. refusal_of_places fault ≡ Some refusal) }
@@ -60,13 +63,23 @@ pub fn stop_of_places(
     ensures ends { IfFinds result (λ finding.
         EndsWithFault origin.now bytes.now description.now fault finding.place) }
     ensures other { IfFinds result (λ finding.
-        IsOtherPlace origin.now bytes.now township description.now fault finding.other) }
+        IsOtherPlace (lotting (P.layout lots.now)) origin.now bytes.now township description.now fault
+        finding.other) }
 {
     let Some(refusal) = fault.refusal() else {
         return SearchStop::Memory;
     };
     SearchStop::of(
         refusal,
-        places::find(alloc, origin, bytes, description, township, fault, refusal),
+        places::find(
+            alloc,
+            origin,
+            bytes,
+            description,
+            township,
+            lots,
+            fault,
+            refusal,
+        ),
     )
 }

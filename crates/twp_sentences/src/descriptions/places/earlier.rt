@@ -1,5 +1,6 @@
 //! Where the land of an item was named before.
 ghost use Rattle.std.specs.Prelude.{◌≡◌, None, IfOk, MatchOption, slice_get};
+ghost use Rattle.twp_grid.specs.Lands.{lotting};
 ghost use Rattle.twp_sentences.specs.OtherPlaces.{IsEarlierPlace, IsSpanInFile, IsSpanOfItem};
 
 use crate::descriptions::places::Described;
@@ -8,6 +9,7 @@ use crate::descriptions::places::words::write_land;
 use std::alloc::{AllocError, Global};
 use twp_diagnose::{OtherPlace, shared_land_text, spot_in, write_quoted};
 use twp_excerpt::Span;
+use twp_land::Lotting;
 
 /// What was named before: what is said of it, and where it is.
 #[derive(Drop)]
@@ -16,14 +18,16 @@ pub(crate) struct EarlierItem {
     pub(crate) other: Option<OtherPlace>,
 }
 
-impl Described<'_> {
+impl<P: Lotting> Described<'_, P> {
     /// What was named before, and where, if the description is refused for an overlap.
     pub(super) fn earlier(&self, alloc: Global) -> Result<EarlierItem, AllocError>
-        ensures { IfOk result (λ earlier. IsEarlierPlace self.now.origin.now self.now.text.now
-            self.now.township self.now.description.now earlier.other) }
+        ensures { IfOk result (λ earlier. IsEarlierPlace (lotting (P.layout self.now.lots.now))
+            self.now.origin.now self.now.text.now self.now.township self.now.description.now
+            earlier.other) }
     {
         let mut help = String::new(alloc);
-        let Some(shared) = shared_land_text(alloc, self.description, self.township)? else {
+        let Some(shared) = shared_land_text(alloc, self.description, self.township, self.lots)?
+        else {
             return Ok(EarlierItem { help, other: None });
         };
         let Some(span) = self.span_of(shared.items.earlier) else {

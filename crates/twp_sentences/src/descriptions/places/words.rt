@@ -1,13 +1,15 @@
 //! How townships, lots, and land are written in explanations.
-ghost use Rattle.std.specs.Prelude.{◌≡◌, ◌≤◌, ◌++◌, length, drop, codes, count_by, string_bytes, IfOk};
+ghost use Rattle.std.specs.Prelude.{◌≡◌, ◌≤◌, ◌<◌, ◌++◌, length, drop, codes, count_by, string_bytes, IfOk, IfSome};
 ghost use Rattle.std.specs.Fmt.{decimal};
 ghost use Rattle.twp_diagnose.specs.RecordFields.{is_comma};
+ghost use Rattle.twp_grid.specs.Lands.{LOT_NUMBER_MOST, HasLot, lotting};
 
 use std::alloc::{AllocError, Global};
 use twp_diagnose::PartOfLots;
 use twp_excerpt::write_escaped;
 use twp_grammar::Item;
-use twp_grid::{EastWest, NorthSouth, Section, Township, lot_count};
+use twp_grid::{EastWest, NorthSouth, Section, Township};
+use twp_land::Lotting;
 
 /// The most bytes of a land that are shown.
 const LAND_MOST: usize = 150;
@@ -72,38 +74,121 @@ pub(crate) fn turned_range(alloc: Global, first: u16, last: u16) -> Result<Strin
     format!(in alloc; "write {last} to {first}")
 }
 
-/// Appends which lots a section has.
-pub(crate) fn write_lots_of(section: Section, out: &mut String) -> Result<(), AllocError> {
-    let count = lot_count(section);
-    if count == 0 {
-        return write!(out, "section {} has no lots", section.number());
+/// Appends which lots a section of the plat has.
+pub(crate) fn write_lots_of<P: Lotting>(
+    section: Section,
+    lots: &P,
+    out: &mut String,
+) -> Result<(), AllocError> {
+    let number = section.number();
+    let Some(first) = lots.next_lot(section, 0) else {
+        return write!(out, "section {} has no lots", number);
+    };
+    if lots.next_lot(section, first).is_none() {
+        return write!(out, "section {} has only lot {}", number, first);
     }
-    write!(out, "section {} has lots 1 to {}", section.number(), count)
+    write!(out, "section {} has lots ", number)?;
+    write_ranges(section, lots, out)
+}
+
+/// Lots of a section, from the first to the last of a range without a gap.
+#[derive(Clone, Copy)]
+struct LotRange {
+    first: u8,
+    last: u8,
+}
+
+/// Appends the lots of a section, as `1 to 4, 7, and 9`.
+fn write_ranges<P: Lotting>(
+    section: Section,
+    lots: &P,
+    out: &mut String,
+) -> Result<(), AllocError> {
+    let mut last = 0;
+    let mut count: usize = 0;
+    while let Some(range) = next_range(section, last, lots) {
+        last = range.last;
+        let is_end = lots.next_lot(section, last).is_none();
+        out.push_str(separator(count, is_end))?;
+        write_range(range, out)?;
+        count = count.saturating_add(1);
+    }
+    Ok(())
+}
+
+/// What comes between an entry of a list and those before it, of which there are this many.
+fn separator(count: usize, is_end: bool) -> &'static str {
+    match (count, is_end) {
+        (0, _) => "",
+        (1, true) => " and ",
+        (_, true) => ", and ",
+        _ => ", ",
+    }
+}
+
+/// The lots of a section after a number, up to the next gap. Of two lots, only the first.
+fn next_range<P: Lotting>(section: Section, after: u8, lots: &P) -> Option<LotRange>
+    ensures { IfSome result (λ range. (after < range.last) × (range.last ≤ LOT_NUMBER_MOST)) }
+{
+    let first = lots.next_lot(section, after)?;
+    let last = before_gap(section, first, lots);
+    if last == first + 1 {
+        return Some(LotRange { first, last: first });
+    }
+    Some(LotRange { first, last })
+}
+
+/// The last of a section's lots from this one on before a gap.
+fn before_gap<P: Lotting>(section: Section, lot: u8, lots: &P) -> u8
+    requires { HasLot (lotting (P.layout lots.now)) section lot }
+    ensures from { lot ≤ result }
+    ensures most { result ≤ LOT_NUMBER_MOST }
+{
+    let mut last = lot;
+    while lots.has_lot(section, u16::from(last) + 1) {
+        last += 1;
+    }
+    last
+}
+
+/// Appends a range of lots, as `3`, or `1 to 4`.
+fn write_range(range: LotRange, out: &mut String) -> Result<(), AllocError> {
+    if range.first == range.last {
+        return write!(out, "{}", range.first);
+    }
+    write!(out, "{} to {}", range.first, range.last)
 }
 
 /// Appends that a part includes lots, which have to be named instead, or that it cuts them.
-pub(crate) fn write_whole_lots(
-    count: usize,
-    cuts_lots: bool,
-    out: &mut String,
-) -> Result<(), AllocError> {
-    out.push_str(match (cuts_lots, count) {
-        (false, 1) => "this part includes a lot; name the lot instead",
-        (false, _) => "this part includes lots; name the lots instead",
-        (true, 1) => "this part cuts a lot; lots can only be named whole",
-        (true, _) => "this part cuts lots; lots can only be named whole",
+pub(crate) fn write_whole_lots(part: &PartOfLots, out: &mut String) -> Result<(), AllocError> {
+    out.push_str(match (part.are_whole, part.lots.len()) {
+        (true, 1) => "this part includes a lot; name the lot instead",
+        (true, _) => "this part includes lots; name the lots instead",
+        (false, 1) => "this part cuts a lot; lots can only be named whole",
+        (false, _) => "this part cuts lots; lots can only be named whole",
     })
 }
 
-/// Appends what to write for a part that includes whole lots: its section, the lots, and the rest of
-/// its land.
+/// Appends that the plat has no land in a part, or in some of it.
+pub(crate) fn write_no_land(part: &PartOfLots, out: &mut String) -> Result<(), AllocError> {
+    out.push_str(if part.rest.is_empty() {
+        "the plat has no land in this part"
+    } else {
+        "the plat has no land in some of this part; name the rest instead"
+    })
+}
+
+/// Appends what to write for a part that includes whole lots, or places without land: its section, the lots,
+/// and the rest of its land.
 pub(crate) fn write_lots_and_rest(part: &PartOfLots, out: &mut String) -> Result<(), AllocError> {
     write!(out, "write sec. {}, ", part.section.number())?;
-    write_lots(&part.lots, out)?;
-    if part.rest.is_empty() {
-        return Ok(());
+    if !part.lots.is_empty() {
+        write_lots(&part.lots, out)?;
+        if part.rest.is_empty() {
+            return Ok(());
+        }
+        out.push_str(", ")?;
     }
-    out.push_str(", ")?;
     write_escaped(list_of_section(&part.rest), out)
 }
 

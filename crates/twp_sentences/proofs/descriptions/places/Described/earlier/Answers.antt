@@ -3,12 +3,12 @@ use Rattle.twp_sentences.specs.OtherPlaces.{overlap}
 use Rattle.twp_sentences.proofs.descriptions.places.Described.earlier.Goals as goal
 
 pub returns-in_default-span_of : goal.returns-in_default-span_of
-returns-in_default-span_of c =
+returns-in_default-span_of g c =
     let shared = rw c.in-Some.is at c.in_ok-shared.ensures in
     overlap c.in-Some.shared.items shared.places shared.both c.in_default-span_of.ensures
 
 pub returns : goal.returns
-returns c =
+returns g c =
     let shared = rw c.in-Some.is at c.in_ok-shared.ensures in
     overlap c.in-Some.shared.items shared.places shared.both
     (record {

@@ -3,4 +3,4 @@ use Rattle.std.proofs.Common.{refl}
 use Rattle.twp_sentences.proofs.descriptions.places.Described.explain_no_land.Goals as goal
 
 pub returns-clause-span : goal.returns-clause-span
-returns-clause-span c = record { span = c.span_at.result; is = c.span_at.ensures; ends = refl }
+returns-clause-span g c = record { span = c.span_at.result; is = c.span_at.ensures; ends = refl }

@@ -5,5 +5,5 @@ use Rattle.twp_sentences.proofs.descriptions.places.Described.item_at.Given as g
 
 -- none of the items so far begins there
 abbrev pub invariant-loop-item : goal.invariant-loop-item
-invariant-loop-item l = (index : ℕ) (other : Item) → index < l.item-index
+invariant-loop-item g l = (index : ℕ) (other : Item) → index < l.item-index
     → slice_get l.item-items index ≡ Some other → start_of other ≢ l.at

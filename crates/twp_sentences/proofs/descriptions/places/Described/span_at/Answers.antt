@@ -3,4 +3,4 @@ use Rattle.twp_sentences.proofs.descriptions.places.Described.span_at.Goals as g
 
 -- the item is one of the description's
 pub returns-in-Some : goal.returns-in-Some
-returns-in-Some c = of_item c.in-Some.item.now c.in-Some.ensures c.item_span.ensures
+returns-in-Some g c = of_item c.in-Some.item.now c.in-Some.ensures c.item_span.ensures
