@@ -146,6 +146,15 @@ refuse_call 'Description::read' '' 'answered
 2
 ' read-description chain
 
+# The explanation of a lot table names the first record for the lot of another one.
+printf 'section,lot,acres\nT,2,N,3,W\n5,1,40.45\n5,1,40.55\n' > lots.csv
+refuse_call 'explain_lots' '' 'refused 93 at 4
+township: lots.csv:4: duplicate record: section 5, lot 1
+  4 | 5,1,40.55
+    | ^^^
+  record 3 at line 3 is also for this lot
+' explain-lots lots.csv
+
 refuse_call 'spell' '' "answered
 $canonical
 " spell parts

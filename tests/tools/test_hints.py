@@ -26,7 +26,8 @@ class Compared(unittest.TestCase):
         self.addCleanup(folder.cleanup)
         self.root = pathlib.Path(folder.name)
         copied = [file for name in hints.TABLES for file in ROOT.glob(f"crates/*/src/**/{name}")]
-        for file in (*copied, ROOT / hints.WORDS, *(ROOT / hints.ROWS).glob("*.toml")):
+        tables = ROOT / hints.LOT_TABLES
+        for file in (*copied, ROOT / hints.WORDS, *(ROOT / hints.ROWS).glob("*.toml"), tables):
             copy = self.root / file.relative_to(ROOT)
             copy.parent.mkdir(parents=True, exist_ok=True)
             shutil.copy(file, copy)

@@ -9,9 +9,17 @@ WHAT = "hints in the tables of the program, and in the rows of the tests"
 
 WORDS = "tests/program/hints.toml"
 ROWS = "tests/program/rows"
+#: The rows that are not runs of the program.
+LOT_TABLES = "tests/program/lot-tables.toml"
 
 #: The tables: files below the crates, and the constant in each; without one, all texts of the file are hints.
-TABLES = {"hints/table.rt": "HINTS", "note_hints.rt": "HINTS", "half_mile_hints.rt": "", "rows.rt": "HINTS"}
+TABLES = {
+    "hints/table.rt": "HINTS",
+    "note_hints.rt": "HINTS",
+    "half_mile_hints.rt": "",
+    "lot_hints.rt": "LOT_HINTS",
+    "rows.rt": "HINTS",
+}
 
 #: A hint of so many words, such as `write N1/2`, has no name.
 FEW = 2
@@ -31,9 +39,10 @@ def compare() -> Compared:
             differences.append(f"{table}: no hints are found")
     differences += [f"{WORDS}: lacks the hint: {words}" for words in sorted(shown - set(named.values()))]
     differences += [f"{WORDS}: the program has no such hint: {words}" for words in sorted(set(named.values()) - shown)]
-    for row in sorted((ROOT / ROWS).glob("*.toml")):
+    files = [*sorted((ROOT / ROWS).glob("*.toml")), ROOT / LOT_TABLES]
+    for row in files:
         differences += [f"{row.name}: {each}" for each in written_out(row.read_text(encoding="utf-8"), named)]
-    used = set(re.findall(r"\{hint:([a-z0-9-]+)", "".join(text_of(str(row)) for row in (ROOT / ROWS).glob("*.toml"))))
+    used = set(re.findall(r"\{hint:([a-z0-9-]+)", "".join(text_of(str(row)) for row in files)))
     differences += [f"{ROWS}: no row shows the hint {name}" for name in sorted(set(named) - used)]
     return len(shown), differences
 

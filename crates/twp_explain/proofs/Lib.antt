@@ -1,4 +1,5 @@
 pub mod FindingFacts
+pub mod LotFindings
 pub mod ListFacts
 pub mod MessageFacts
 pub mod ShownFacts

@@ -1,4 +1,5 @@
 pub mod Refusals
+pub mod LotRefusals
 pub mod ShownFaults
 pub mod ExplainedPlaces
 pub mod FoundFaults

@@ -8,6 +8,7 @@
 mod explaining;
 mod list;
 mod note;
+mod on_lots;
 mod on_plat;
 mod rows;
 mod sharing;
@@ -16,4 +17,5 @@ mod tracts;
 pub use explaining::{explain_land, explain_plat};
 pub use list::explain_list;
 pub use note::{Note, note_description, note_land, note_list, note_tracts, without_mark};
+pub use on_lots::{explain_lacking, explain_lots};
 pub use on_plat::{ExplainedFault, explain_description, explain_notes, explain_tracts};

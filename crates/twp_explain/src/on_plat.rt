@@ -84,7 +84,7 @@ pub fn explain_tracts<S: Suggests>(
 }
 
 /// The message of a stop, where memory didn't run out.
-fn explain_stop(
+pub(crate) fn explain_stop(
     alloc: Global,
     file: &Given<'_>,
     stop: SearchStop,

@@ -1,3 +1,4 @@
 pub mod BlamedFacts
+pub mod LotRecordFacts
 pub mod ShownFacts
 pub mod UnderlinedFacts

@@ -1,5 +1,7 @@
 pub mod Blamed
 pub mod OtherRecords
+pub mod BlamedInTables
+pub mod OtherTableRecords
 pub mod BlamedDistances
 pub mod ShownPlaces
 pub mod Underlined

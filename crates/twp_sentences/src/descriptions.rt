@@ -9,4 +9,5 @@ mod stops;
 mod text;
 
 pub use places::write_land;
+pub(crate) use places::write_lots_of;
 pub use stops::{stop_of_places, stop_of_text};

@@ -5,6 +5,7 @@
 //! written as soon as it is known. So any growth between the process's first write and its second
 //! is due to the call.
 
+mod explaining;
 mod reading;
 mod showing;
 mod spelling;
@@ -20,6 +21,7 @@ pub fn read(rt: &HostRuntime, call: &str, file: &str) -> io::Result<bool> {
         "read-notes" => reading::read_notes(rt, text.as_slice())?,
         "read-description" => reading::read_description(rt, text.as_slice())?,
         "spell" => spelling::spell_land(rt, text.as_slice())?,
+        "explain-lots" => explaining::explain_table(rt, text.as_slice())?,
         _ => return Ok(false),
     }
     Ok(true)

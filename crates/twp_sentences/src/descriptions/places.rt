@@ -16,8 +16,9 @@ use crate::descriptions::places::items::{
     begins_at, item_span, number_at, range_to, section_after, section_of_number,
 };
 pub use crate::descriptions::places::words::write_land;
+pub(crate) use crate::descriptions::places::words::write_lots_of;
 use crate::descriptions::places::words::{
-    turned_range, write_heading, write_lots_and_rest, write_lots_cut, write_lots_of, write_no_land,
+    turned_range, write_heading, write_lots_and_rest, write_lots_cut, write_no_land,
     write_township, write_whole_lots,
 };
 use std::alloc::{AllocError, Global};

@@ -20,7 +20,7 @@ pub(crate) struct FieldRange {
 
 impl FieldRange {
     /// One field.
-    fn one(place: usize) -> FieldRange
+    pub(crate) fn one(place: usize) -> FieldRange
         ensures { result ≡ one_field place }
     {
         FieldRange {
@@ -70,7 +70,7 @@ fn unlike_heading(record: &Record<'_>) -> usize
 
 /// The first field of five that isn't a township's.
 #[tactic(auto, using(crate::proofs::BlamedFacts::no_side, crate::proofs::BlamedFacts::no_way))]
-fn unlike_township(record: &Record<'_>) -> usize
+pub(crate) fn unlike_township(record: &Record<'_>) -> usize
     ensures { length (fields_in «record».now) ≡ FIELDS
         → HasNone (IsTownshipRecord (fields_in «record».now))
         → IsNotOfTownship (fields_in «record».now) result }

@@ -59,7 +59,7 @@ fn write_columns_fault(record: &Record<'_>, out: &mut String) -> Result<(), Allo
 }
 
 /// Appends what is no township.
-fn write_township_fault(
+pub(crate) fn write_township_fault(
     record: &Record<'_>,
     field: usize,
     out: &mut String,
@@ -75,7 +75,7 @@ fn write_township_fault(
 }
 
 /// Appends what is no section.
-fn write_section_fault(
+pub(crate) fn write_section_fault(
     record: &Record<'_>,
     field: usize,
     out: &mut String,

@@ -228,7 +228,7 @@ impl NotePattern {
 }
 
 /// Whether a text is a word, in small letters or capitals.
-fn is_word(text: &[u8], word: &str) -> bool {
+pub(crate) fn is_word(text: &[u8], word: &str) -> bool {
     let word = word.as_bytes();
     text.len() == word.len()
         && text
@@ -238,12 +238,12 @@ fn is_word(text: &[u8], word: &str) -> bool {
 }
 
 /// Whether a text begins with a word, in small letters or capitals.
-fn begins(text: &[u8], word: &str) -> bool {
+pub(crate) fn begins(text: &[u8], word: &str) -> bool {
     is_word(text.get(..word.len()).unwrap_or(b""), word)
 }
 
 /// Whether a text begins or ends with white space.
-fn is_spaced(text: &[u8]) -> bool {
+pub(crate) fn is_spaced(text: &[u8]) -> bool {
     text.trim_ascii().len() < text.len()
 }
 

@@ -129,14 +129,14 @@ fn write_help(
 
 /// The first record of a line, its bytes, and the line of the file on which it begins.
 #[derive(Clone, Copy)]
-struct EarlierRecord {
-    number: u32,
-    line: u32,
-    span: Span,
+pub(crate) struct EarlierRecord {
+    pub(crate) number: u32,
+    pub(crate) line: u32,
+    pub(crate) span: Span,
 }
 
 /// The place of an earlier record.
-fn other_of(earlier: Option<EarlierRecord>) -> Option<OtherPlace>
+pub(crate) fn other_of(earlier: Option<EarlierRecord>) -> Option<OtherPlace>
     ensures { MatchOption earlier (result ≡ None) (λ is. result ≡ Some (place_of_record is)) }
 {
     let EarlierRecord { number, span, .. } = earlier?;

@@ -1,0 +1,279 @@
+//! What mends a record of a lot table, where its bytes explain it: a table of which the first row that
+//! fits counts.
+
+use crate::field_notes::{advice_on, begins, is_spaced, is_word};
+use crate::lot_tables::acres::write_two_decimals;
+use std::alloc::AllocError;
+use twp_diagnose::{Record, is_short_number};
+use twp_grid::Refusal;
+
+/// A row: the number of a refusal, what is seen of the record, and what mends it.
+struct LotHint(u8, LotPattern, &'static str);
+
+/// What may be seen of a record of a lot table, and of the first field of it that is to blame.
+#[derive(Clone, Copy)]
+enum LotPattern {
+    /// The field to blame is this one, from 0, and this text, in small letters or capitals.
+    Says(usize, &'static str),
+    /// The record begins with this text, in small letters or capitals.
+    Begins(&'static str),
+    /// The field to blame has white space around it.
+    Spaced,
+    /// The record is one field, with this byte in it.
+    OneField(u8),
+    /// A byte of the first field is 0.
+    Zeros,
+    /// Each field is empty.
+    Empty,
+    /// The field to blame and all after it are empty, and others come before.
+    EmptyFields,
+    /// The fields to blame come after those of the heading.
+    LongHeading,
+    /// The fields of the heading, but for white space around them.
+    SpacedHeading,
+    /// The fields of the heading, but for capitals.
+    CasedHeading,
+    /// It has the fields of a lot's record.
+    LotRecord,
+    /// It has the fields of a lot's record, with a comma in its acreage.
+    CutAcres,
+    /// The field to blame is this one, from 0, and a number with a word before it.
+    Worded(usize),
+    /// The field to blame is an acreage with a comma for its point.
+    DecimalComma,
+    /// The field to blame is an acreage, and a word after it.
+    WithUnit,
+}
+
+use LotPattern::{
+    Begins, CasedHeading, CutAcres, DecimalComma, Empty, EmptyFields, LongHeading, LotRecord,
+    OneField, Says, Spaced, SpacedHeading, WithUnit, Worded, Zeros,
+};
+
+/// The rows, by the numbers of refusals.
+const LOT_HINTS: [LotHint; 29] = [
+    LotHint(88, Zeros, "the file looks like UTF-16: save it as UTF-8"),
+    LotHint(
+        88,
+        OneField(b';'),
+        "the fields are separated by semicolons: save the file with commas",
+    ),
+    LotHint(
+        88,
+        OneField(b'\t'),
+        "the fields are separated by tabs: save the file with commas",
+    ),
+    LotHint(
+        88,
+        EmptyFields,
+        "delete the empty fields at its end, and at the ends of other records",
+    ),
+    LotHint(
+        88,
+        LongHeading,
+        "delete the columns after the third, in every record of a lot",
+    ),
+    LotHint(
+        88,
+        SpacedHeading,
+        "spaces are significant: delete those around the fields, in every record",
+    ),
+    LotHint(88, CasedHeading, "write the heading in lowercase"),
+    LotHint(
+        88,
+        Says(0, "line"),
+        "these are field notes, not a lot table",
+    ),
+    LotHint(
+        88,
+        Says(0, "name"),
+        "this is a list of tracts, not a lot table",
+    ),
+    LotHint(88, Begins("sec."), "this is a description, not a lot table"),
+    LotHint(
+        88,
+        Begins("secs."),
+        "this is a description, not a lot table",
+    ),
+    LotHint(88, Begins("T."), "this is a description, not a lot table"),
+    LotHint(
+        88,
+        Says(0, "T"),
+        "the heading is missing: add it before this record",
+    ),
+    LotHint(
+        88,
+        LotRecord,
+        "the heading is missing: add it as the first record, and the township as the second",
+    ),
+    LotHint(
+        89,
+        OneField(b';'),
+        "the fields are separated by semicolons: save the file with commas",
+    ),
+    LotHint(
+        89,
+        OneField(b'\t'),
+        "the fields are separated by tabs: save the file with commas",
+    ),
+    LotHint(89, Empty, "delete the empty row"),
+    LotHint(
+        89,
+        Begins("T."),
+        "this is the form for descriptions; in a lot table, write `T,2,N,3,W`",
+    ),
+    LotHint(
+        89,
+        EmptyFields,
+        "delete the empty fields at the end of the record",
+    ),
+    LotHint(
+        89,
+        CutAcres,
+        "write a decimal point instead of the comma, as in `40.45`",
+    ),
+    LotHint(
+        89,
+        LotRecord,
+        "the township is missing: write it as the second record, such as `T,2,N,3,W`",
+    ),
+    LotHint(91, Empty, "delete the empty row"),
+    LotHint(91, Spaced, "spaces are significant here: delete the space"),
+    LotHint(91, Says(0, "total"), "delete the row with the total"),
+    LotHint(91, Worded(0), "write only the number of the section"),
+    LotHint(91, Worded(1), "write only the number of the lot"),
+    LotHint(92, Spaced, "spaces are significant here: delete the space"),
+    LotHint(
+        92,
+        DecimalComma,
+        "write a decimal point instead of the comma",
+    ),
+    LotHint(92, WithUnit, "write only the number"),
+];
+
+/// The words of the heading.
+const HEADING: [&str; 3] = ["section", "lot", "acres"];
+
+/// Appends what mends a record with a refusal, of which this is the first field to blame.
+pub(crate) fn write_lots_hint(
+    refusal: Refusal,
+    record: &Record<'_>,
+    field: usize,
+    out: &mut String,
+) -> Result<(), AllocError> {
+    if refusal.number == ACRES && write_two_decimals(record.text(field), out)? {
+        return Ok(());
+    }
+    match hint_on(refusal.number, record, field) {
+        Some(hint) => out.push_str(hint),
+        None => Ok(()),
+    }
+}
+
+/// The number of the refusal of an acreage.
+const ACRES: u8 = 92;
+
+/// The number of the refusal of a township, and that of a township in field notes.
+const TOWNSHIP: u8 = 90;
+
+const TOWNSHIP_OF_NOTES: u8 = 5;
+
+/// What mends a record that was refused with a number.
+fn hint_on(number: u8, record: &Record<'_>, field: usize) -> Option<&'static str> {
+    if number == TOWNSHIP {
+        return advice_on(TOWNSHIP_OF_NOTES, record, field);
+    }
+    for LotHint(refusal, sign, hint) in &LOT_HINTS {
+        if *refusal == number && sign.fits(record, field) {
+            return Some(*hint);
+        }
+    }
+    None
+}
+
+impl LotPattern {
+    /// Whether it is seen of a record and its field to blame.
+    fn fits(self, record: &Record<'_>, field: usize) -> bool {
+        match self {
+            LotPattern::Says(place, word) => place == field && is_word(record.text(field), word),
+            LotPattern::Begins(word) => begins(record.text(0), word),
+            LotPattern::Spaced => is_spaced(record.text(field)),
+            LotPattern::OneField(byte) => record.len() == 1 && record.text(0).contains(&byte),
+            LotPattern::Zeros => record.text(0).contains(&0),
+            LotPattern::Empty => are_empty(record, 0),
+            LotPattern::EmptyFields => field > 0
+                && field < record.len()
+                && are_empty(record, field),
+            LotPattern::LongHeading => record.len() > HEADING.len() && is_like_heading(record),
+            LotPattern::SpacedHeading => is_like_heading(record) && has_spaces(record),
+            LotPattern::CasedHeading => record.len() == HEADING.len() && is_like_heading(record),
+            LotPattern::LotRecord => is_lot_record(record),
+            LotPattern::CutAcres => is_cut_record(record),
+            LotPattern::Worded(place) => place == field && is_worded(record.text(field)),
+            LotPattern::DecimalComma => is_decimal_comma(record.text(field)),
+            LotPattern::WithUnit => is_with_unit(record.text(field)),
+        }
+    }
+}
+
+/// Whether a field and all after it are empty.
+fn are_empty(record: &Record<'_>, first: usize) -> bool {
+    (first..record.len()).all(|place| record.text(place).is_empty())
+}
+
+/// Whether white space is around one of the fields.
+fn has_spaces(record: &Record<'_>) -> bool {
+    (0..record.len()).any(|place| is_spaced(record.text(place)))
+}
+
+/// Whether the first fields are those of the heading, but for capitals, and white space around.
+fn is_like_heading(record: &Record<'_>) -> bool {
+    for (place, word) in HEADING.iter().enumerate() {
+        if !is_word(record.text(place).trim_ascii(), word) {
+            return false;
+        }
+    }
+    true
+}
+
+/// Whether a record has three fields, of which the first two are short numbers.
+fn is_lot_record(record: &Record<'_>) -> bool {
+    record.len() == HEADING.len()
+        && is_short_number(record.text(0), 2)
+        && is_short_number(record.text(1), 2)
+}
+
+/// Whether a record has four fields, all numbers, of which the last one may be the decimals of the third.
+fn is_cut_record(record: &Record<'_>) -> bool {
+    record.len() == HEADING.len() + 1
+        && is_short_number(record.text(0), 2)
+        && is_short_number(record.text(1), 2)
+        && is_short_number(record.text(2), 3)
+        && is_short_number(record.text(3), 2)
+}
+
+/// Whether a text is a word, or an abbreviation, and a short number after it.
+fn is_worded(text: &[u8]) -> bool {
+    let word = text
+        .iter()
+        .take_while(|byte| byte.is_ascii_alphabetic() || matches!(**byte, b'.' | b' ' | b'#'))
+        .count();
+    word > 0 && is_short_number(text.get(word..).unwrap_or(b""), 2)
+}
+
+/// Whether a text is an acreage, but for a comma in the place of its point.
+fn is_decimal_comma(text: &[u8]) -> bool {
+    let whole = text.iter().take_while(|byte| **byte != b',').count();
+    let decimals = text.get(whole.saturating_add(1)..).unwrap_or(b"");
+    is_short_number(text.get(..whole).unwrap_or(b""), 3) && is_short_number(decimals, 2)
+}
+
+/// Whether a text is a number, and letters after it.
+fn is_with_unit(text: &[u8]) -> bool {
+    let number = text
+        .iter()
+        .take_while(|byte| byte.is_ascii_digit() || **byte == b'.')
+        .count();
+    let unit = text.get(number..).unwrap_or(b"").trim_ascii_start();
+    number > 0 && matches!(unit.first(), Some(b'a'..=b'z' | b'A'..=b'Z'))
+}
