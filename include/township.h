@@ -618,6 +618,17 @@ township_answer township_explain_list(const township_plat *plat, const uint8_t *
                                       size_t list_length, const uint8_t *name, size_t name_length,
                                       uint8_t *text, size_t room);
 
+/*
+ * The same for lot tables. township_explain_lots explains why a lot table is refused. township_explain_lacking explains
+ * why land is refused by a lot table that lacks one of its lots (TOWNSHIP_REFUSAL_LOTS_LACKING): `at` is the place of
+ * that refusal, and `name` is what the text calls the description, land, or list; there is no line or column. If the
+ * table is accepted, or does not lack the lot at `at`, there is no text, and `length` is 0.
+ */
+township_answer township_explain_lots(const uint8_t *table, size_t table_length, const uint8_t *name,
+                                      size_t name_length, uint8_t *text, size_t room);
+township_answer township_explain_lacking(const township_lots *lots, uint32_t at, const uint8_t *name,
+                                         size_t name_length, uint8_t *text, size_t room);
+
 /* The part of the input that an explanation shows. */
 #define TOWNSHIP_SHOWN_NOTHING 0u /* nothing: the fault is not at one place */
 #define TOWNSHIP_SHOWN_LINE 1u    /* a line, whose number is in the text; it contains the byte `start` */
@@ -662,6 +673,12 @@ township_answer township_explain_description_parts(const township_plat *plat, co
 township_answer township_explain_list_parts(const township_plat *plat, const uint8_t *list, size_t list_length,
                                             const uint8_t *name, size_t name_length, uint8_t *text, size_t room,
                                             township_explanation *explanation);
+township_answer township_explain_lots_parts(const uint8_t *table, size_t table_length, const uint8_t *name,
+                                            size_t name_length, uint8_t *text, size_t room,
+                                            township_explanation *explanation);
+township_answer township_explain_lacking_parts(const township_lots *lots, uint32_t at, const uint8_t *name,
+                                               size_t name_length, uint8_t *text, size_t room,
+                                               township_explanation *explanation);
 
 /*
  * Suggests how a text would be written as a description, without a plat: writes its readings, in a fixed order, their

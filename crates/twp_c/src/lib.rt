@@ -4,6 +4,7 @@
 
 mod designations;
 mod explaining;
+mod explaining_lots;
 mod explanation_parts;
 mod exports;
 mod figures;

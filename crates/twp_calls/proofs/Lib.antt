@@ -2,6 +2,7 @@ pub mod AccountFacts
 pub mod CallFacts
 pub mod EachFacts
 pub mod ExplanationPartFacts
+pub mod LotExplanationFacts
 pub mod FigureFacts
 pub mod LandCallFacts
 pub mod LotCallFacts

@@ -10,7 +10,7 @@ use Rattle.twp_answers.specs.declared.stop.Stop.{Stop}
 use Rattle.twp_answers.specs.declared.stop.Stop.TheVariants as stop
 use Rattle.twp_calls.specs.Answers.{answer_of_refusal, refused, stopped}
 use Rattle.twp_calls.specs.Calls.{Answers, IsRefusedFor, no_memory, refused_for}
-use Rattle.twp_calls.specs.LotCalls.{AreNoLots}
+use Rattle.twp_explain.specs.LotRefusals.{AreNoLots}
 use Rattle.twp_answers.specs.LotLands.{HasNoLotAreaOf, IsLackingLot}
 use Rattle.twp_calls.specs.declared.answer.TownshipAnswer.{TownshipAnswer}
 use Rattle.twp_calls.specs.steps.LotSteps.{StopsByLots}

@@ -14,6 +14,7 @@ pub mod DesignationTexts
 pub mod DesignationCalls
 pub mod LandParts
 pub mod LotCalls
+pub mod LotExplanations
 pub mod LotReports
 pub mod ManyAnswers
 pub mod Suggestions

@@ -1,12 +1,10 @@
 -- What each call by a lot table answers, for all that it can be given.
-use Rattle.std.specs.Prelude.{◌≡◌, ◌⊎◌, ℕ, List, Bool, Some}
+use Rattle.std.specs.Prelude.{◌≡◌, ◌⊎◌, ℕ, List, Bool}
 use Rattle.twp_measure.specs.Areas.{Fraction, IsRounded}
-use Rattle.twp_grid.specs.declared.refusal.Refusal.{Refusal}
 use Rattle.twp_plat.specs.LotRecords.{AreLots}
 use Rattle.twp_plat.specs.LotTables.{ReturnedLots}
-use Rattle.twp_plat.specs.LotsFaults.{IsFirstFault, refusal_of}
-use Rattle.twp_plat.specs.declared.lots.fault.LotsFault.{LotsFault}
 use Rattle.twp_answers.specs.LotLands.{HasLotArea, HasLotAreaOf, HasNoLotAreaOf, IsLackingLot}
+use Rattle.twp_explain.specs.LotRefusals.{AreNoLots}
 use Rattle.twp_calls.specs.Answers.{ACCEPTED, NO_LOTS, bare, accepted_acres}
 use Rattle.twp_calls.specs.Calls.{Answers, IsFractionOf, IsRefusedFor}
 use Rattle.twp_calls.specs.GivenLots.{IsGivenLots, IsNoGivenLots, given_lots}
@@ -22,12 +20,6 @@ pub data ByLots (given : GivenLots) (Answers : ReturnedLots → TownshipAnswer �
   by_lots : (table : ReturnedLots) → IsGivenLots given table → Answers table answer
       → ByLots given Answers answer
   by_no_lots : IsNoGivenLots given → answer ≡ bare NO_LOTS → ByLots given Answers answer
-
--- the bytes are no lot table, for their first fault
-pub record AreNoLots (bytes : List ℕ) (refusal : Refusal) : Type 0 where
-  pub fault : LotsFault
-  pub first : IsFirstFault bytes fault
-  pub refusal_is : refusal_of fault ≡ Some refusal
 
 -- `township_lots_read`: the parts of the lot table in the bytes
 pub record AreLotsRead (bytes : List ℕ) (new : GivenLots) (answer : TownshipAnswer) : Type 0 where

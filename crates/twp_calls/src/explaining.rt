@@ -151,7 +151,7 @@ pub fn township_version(text: &mut [u8]) -> TownshipAnswer
 }
 
 /// A text by the name that was given for it, if that is one.
-fn given<'a>(name: &'a [u8], bytes: &'a [u8]) -> Given<'a>
+pub(crate) fn given<'a>(name: &'a [u8], bytes: &'a [u8]) -> Given<'a>
     ensures name { IsNameOf name.now result.name.now }
     ensures bytes { result.bytes.now ≡ bytes.now }
     ensures first_line { result.first_line ≡ 1 }
@@ -168,7 +168,7 @@ fn given<'a>(name: &'a [u8], bytes: &'a [u8]) -> Given<'a>
 }
 
 /// Puts an explanation beside the refusal that it is of, and its parts.
-fn put_explained(
+pub(crate) fn put_explained(
     alloc: Global,
     refused: TownshipAnswer,
     explained: &Explanation,

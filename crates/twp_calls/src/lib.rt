@@ -18,6 +18,7 @@ mod designation_stage;
 mod designation_text;
 mod each_call;
 mod explaining;
+mod explaining_lots;
 mod explaining_texts;
 mod explanation;
 mod figures;
@@ -59,6 +60,10 @@ pub use each_call::{TownshipTractAnswer, township_report_each};
 pub use explaining::{
     township_explain_description_parts, township_explain_list_parts, township_explain_notes_parts,
     township_version,
+};
+pub use explaining_lots::{
+    township_explain_lacking, township_explain_lacking_parts, township_explain_lots,
+    township_explain_lots_parts,
 };
 pub use explaining_texts::{
     township_explain_description, township_explain_list, township_explain_notes,

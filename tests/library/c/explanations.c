@@ -105,6 +105,46 @@ static const kind NOTES = {notes_alone, notes_parts};
 static const kind LAND = {land_alone, land_parts};
 static const kind LIST = {list_alone, list_parts};
 
+static township_answer table_alone(const township_plat *plat, bytes input, uint8_t *text, size_t size) {
+    (void)plat;
+    return township_explain_lots(input.at, input.length, NAME, text, size);
+}
+
+static township_answer table_parts(const township_plat *plat, bytes input, uint8_t *text, size_t size,
+                                   township_explanation *parts) {
+    (void)plat;
+    return township_explain_lots_parts(input.at, input.length, NAME, text, size, parts);
+}
+
+/* A lot table that is given as text. */
+static township_lots lots_of(bytes input) {
+    township_lots lots;
+
+    CHECK_ANSWER(township_lots_read(input.at, input.length, &lots), bare(TOWNSHIP_ACCEPTED));
+    return lots;
+}
+
+/* The lot that the tables lack: lot 3 of section 5. */
+#define LACKING 503
+
+static township_answer lacking_alone(const township_plat *plat, bytes input, uint8_t *text, size_t size) {
+    township_lots lots = lots_of(input);
+
+    (void)plat;
+    return township_explain_lacking(&lots, LACKING, NAME, text, size);
+}
+
+static township_answer lacking_parts(const township_plat *plat, bytes input, uint8_t *text, size_t size,
+                                     township_explanation *parts) {
+    township_lots lots = lots_of(input);
+
+    (void)plat;
+    return township_explain_lacking_parts(&lots, LACKING, NAME, text, size, parts);
+}
+
+static const kind TABLE = {table_alone, table_parts};
+static const kind LACKED = {lacking_alone, lacking_parts};
+
 /* The same answer and text as without the parts; and neither a text nor parts if the room is a byte too small. */
 static void explains(kind it, const township_plat *plat, const char *given, said wanted) {
     bytes input = bytes_of(given);
@@ -141,6 +181,29 @@ static void explains_nothing(const township_plat *plat, uint32_t verdict) {
     free(r);
 }
 
+/* Of a lot table nothing is explained, nor of a lot that it does not lack, or a place that is no lot; and nothing of
+   figures that are no table. */
+static void explains_no_lots(void) {
+    static const uint32_t places[] = {501, 0, 99, 3701, 25601, 4294967295u};
+    township_explanation parts = other_parts();
+    bytes table = bytes_of("section,lot,acres\nT,2,N,3,W\n5,1,40.45\n");
+    township_lots lots = lots_of(table);
+    room *r = room_new();
+
+    CHECK_ANSWER(township_explain_lots_parts(table.at, table.length, NAME, room_text(r), MOST_TEXT, &parts),
+                 bare(TOWNSHIP_ACCEPTED));
+    for (size_t index = 0; index < sizeof places / sizeof *places; index++) {
+        CHECK_ANSWER(township_explain_lacking_parts(&lots, places[index], NAME, room_text(r), MOST_TEXT, &parts),
+                     bare(TOWNSHIP_ACCEPTED));
+    }
+    lots.township.number = 0;
+    CHECK_ANSWER(township_explain_lacking_parts(&lots, 502, NAME, room_text(r), MOST_TEXT, &parts),
+                 bare(TOWNSHIP_NO_LOTS));
+    CHECK(is_kept(&parts) && room_holds(r, "", 0));
+    drop(table);
+    free(r);
+}
+
 void gives_parts(const township_plat *plat) {
     township_plat none = *plat;
 
@@ -174,6 +237,22 @@ void gives_parts(const township_plat *plat) {
              (said){"N,1,2,40.000,80.000", "N,1,2,40.000,80.000", 3, "duplicate record: N,1,2 (section line 1)",
                     "  4 | N,1,2,40.000,80.000\n    | ^^^^^^^^^^^^^^^^^^^\n",
                     "  record 3 at line 3 also returns this line\n", ""});
+    explains_no_lots();
+    explains(TABLE, plat, "section,lot,acres\nT,2,N,3,W\n5,1,40.45\n05,1,40.45\n",
+             (said){"05,1", "5,1", 3, "duplicate record: section 5, lot 1",
+                    "  4 | 05,1,40.45\n    | ^^^^\n", "  record 3 at line 3 is also for this lot\n", ""});
+    explains(TABLE, plat, "section,lot,acres\nT,2,N,3,W\n5,1,40.5\n",
+             (said){"40.5", NULL, 0,
+                    "`40.5` is not an acreage: write 0.01 to 999.99, with two decimals, as in `40.45`",
+                    "  3 | 5,1,40.5\n    |     ^^^^\n", "  write `40.50`\n", ""});
+    explains(TABLE, plat, "",
+             (said){NULL, NULL, 0, "the lot table is empty: it begins with `section,lot,acres`", "", "", ""});
+    explains(LACKED, plat, "section,lot,acres\nT,2,N,3,W\n5,4,40.45\n5,1,40.45\n",
+             (said){NULL, NULL, 0, "the lot table has no record for lot 3 of section 5", "",
+                    "  of section 5, it has these lots: 1, 4\n", ""});
+    explains(LACKED, plat, "section,lot,acres\nT,2,N,3,W\n6,4,40.45\n",
+             (said){NULL, NULL, 0, "the lot table has no record for lot 3 of section 5", "",
+                    "  it has no record for any lot of section 5\n", ""});
     explains(NOTES, plat, "",
              (said){NULL, NULL, 0,
                     "the field notes are empty: they begin with `line,between,and,quarter,corner`", "", "", ""});

@@ -286,6 +286,24 @@ static township_answer call_lots_read(void) {
 
 static township_lots table;
 
+static township_answer call_explain_lots(void) {
+    return township_explain_lots(BYTES("section,lot,acres\nT,2,N,3,W\n5,1,40.45\n5,1,40.45\n"), BYTES("lots.csv"),
+                                 room_text(texts), MOST_TEXT);
+}
+
+static township_answer call_explain_lacking(void) {
+    return township_explain_lacking(&table, 503, BYTES("land.txt"), room_text(texts), MOST_TEXT);
+}
+
+static township_answer call_explain_lots_parts(void) {
+    return township_explain_lots_parts(BYTES("section,lot,acres\nT,2,N,3,W\n5,1,40.5\n"), BYTES("lots.csv"),
+                                       room_text(texts), MOST_TEXT, &explanation);
+}
+
+static township_answer call_explain_lacking_parts(void) {
+    return township_explain_lacking_parts(&table, 503, BYTES("land.txt"), room_text(texts), MOST_TEXT, &explanation);
+}
+
 static township_answer call_lots_acres(void) {
     return township_lots_acres(&table, BYTES("sec. 5, lots 1 and 2, S1/2NE1/4."));
 }
@@ -363,6 +381,10 @@ static const struct {
     {"township_land_combine", call_land_combine},
     {"township_land_compare", call_land_compare},
     {"township_lots_read", call_lots_read},
+    {"township_explain_lots", call_explain_lots},
+    {"township_explain_lacking", call_explain_lacking},
+    {"township_explain_lots_parts", call_explain_lots_parts},
+    {"township_explain_lacking_parts", call_explain_lacking_parts},
     {"township_lots_acres", call_lots_acres},
     {"township_lots_area", call_lots_area},
     {"township_lots_land_acres", call_lots_land_acres},

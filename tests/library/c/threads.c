@@ -7,7 +7,7 @@
 #include "check.h"
 
 #define THREADS 4
-#define CALLS 41
+#define CALLS 45
 
 /* The stack that the library requires, and room for the thread's own calls. */
 #define STACK ((256 + 64) * 1024)
@@ -32,7 +32,7 @@ typedef struct round_answers {
     township_lots lots;
     township_fraction areas[3];
     township_part parts[16];
-    township_explanation explanations[3];
+    township_explanation explanations[5];
     township_reading readings[2];
     township_change changes[2];
     township_suggestion suggestion;
@@ -101,6 +101,13 @@ static void call_explaining(const township_plat *plat, round_answers *to) {
     answer[33] = township_explain_list_parts(plat, BYTES("name,description\nA,\"sec. 14, NE/4.\"\n"),
                                              BYTES("tracts.csv"), to->texts[33], sizeof to->texts[33],
                                              &to->explanations[2]);
+    answer[41] = township_explain_lots_parts(BYTES("section,lot,acres\nT,2,N,3,W\n5,1,40.5\n"), BYTES("lots.csv"),
+                                             to->texts[41], sizeof to->texts[41], &to->explanations[3]);
+    answer[42] = township_explain_lacking_parts(&to->lots, 607, BYTES("land.txt"), to->texts[42],
+                                                sizeof to->texts[42], &to->explanations[4]);
+    answer[43] = township_explain_lots(BYTES("section;lot;acres\n"), BYTES("lots.csv"), to->texts[43],
+                                       sizeof to->texts[43]);
+    answer[44] = township_explain_lacking(&to->lots, 501, BYTES("land.txt"), to->texts[44], sizeof to->texts[44]);
 }
 
 /* Calls each function once. */
@@ -189,7 +196,7 @@ static bool same_round(const round_answers *a, const round_answers *b) {
 
 /* Whether a call of a round explains a refusal. */
 static bool is_explained(int call) {
-    return (call >= 7 && call <= 9) || (call >= 31 && call <= 33);
+    return (call >= 7 && call <= 9) || (call >= 31 && call <= 33) || (call >= 41 && call <= 44);
 }
 
 static void *run(void *given) {
@@ -212,7 +219,7 @@ static township_plat plat_of_thread(int thread) {
     return plat;
 }
 
-/* The answers of the calls when nothing else runs: all accepted, except for the three that explain. */
+/* The answers of the calls when nothing else runs: all accepted, except for those that explain. */
 static round_answers *answers_alone(bytes notes, const township_plat *plat) {
     round_answers *wanted = calloc(1, sizeof *wanted);
 

@@ -325,6 +325,10 @@ explain_description = _call(
 explain_list = _call(
     "township_explain_list", POINTER(Plat), c_char_p, c_size_t, c_char_p, c_size_t, POINTER(c_char), c_size_t,
 )
+explain_lots = _call("township_explain_lots", c_char_p, c_size_t, c_char_p, c_size_t, POINTER(c_char), c_size_t)
+explain_lacking = _call(
+    "township_explain_lacking", POINTER(Lots), c_uint32, c_char_p, c_size_t, POINTER(c_char), c_size_t,
+)
 explain_notes_parts = _call(
     "township_explain_notes_parts", c_char_p, c_size_t, c_char_p, c_size_t, POINTER(c_char), c_size_t,
     POINTER(Explanation),
@@ -335,6 +339,14 @@ explain_description_parts = _call(
 )
 explain_list_parts = _call(
     "township_explain_list_parts", POINTER(Plat), c_char_p, c_size_t, c_char_p, c_size_t, POINTER(c_char), c_size_t,
+    POINTER(Explanation),
+)
+explain_lots_parts = _call(
+    "township_explain_lots_parts", c_char_p, c_size_t, c_char_p, c_size_t, POINTER(c_char), c_size_t,
+    POINTER(Explanation),
+)
+explain_lacking_parts = _call(
+    "township_explain_lacking_parts", POINTER(Lots), c_uint32, c_char_p, c_size_t, POINTER(c_char), c_size_t,
     POINTER(Explanation),
 )
 suggest = _call(

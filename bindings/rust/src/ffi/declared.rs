@@ -635,6 +635,13 @@ extern "C" {
         plat: *const Plat, list: *const u8, list_length: usize, name: *const u8, name_length: usize,
         text: *mut u8, room: usize,
     ) -> Answer;
+    fn township_explain_lots(
+        table: *const u8, table_length: usize, name: *const u8, name_length: usize, text: *mut u8,
+        room: usize,
+    ) -> Answer;
+    fn township_explain_lacking(
+        lots: *const Lots, at: u32, name: *const u8, name_length: usize, text: *mut u8, room: usize,
+    ) -> Answer;
     fn township_explain_notes_parts(
         notes: *const u8, notes_length: usize, name: *const u8, name_length: usize, text: *mut u8,
         room: usize, explanation: *mut Explanation,
@@ -646,6 +653,14 @@ extern "C" {
     fn township_explain_list_parts(
         plat: *const Plat, list: *const u8, list_length: usize, name: *const u8, name_length: usize,
         text: *mut u8, room: usize, explanation: *mut Explanation,
+    ) -> Answer;
+    fn township_explain_lots_parts(
+        table: *const u8, table_length: usize, name: *const u8, name_length: usize, text: *mut u8,
+        room: usize, explanation: *mut Explanation,
+    ) -> Answer;
+    fn township_explain_lacking_parts(
+        lots: *const Lots, at: u32, name: *const u8, name_length: usize, text: *mut u8, room: usize,
+        explanation: *mut Explanation,
     ) -> Answer;
     fn township_suggest(
         description: *const u8, description_length: usize, readings: *mut Reading,
@@ -957,6 +972,24 @@ pub(crate) fn explain_list(plat: &Plat, list: &[u8], name: &[u8], text: &mut [u8
     }
 }
 
+/// Calls `township_explain_lots`.
+pub(crate) fn explain_lots(table: &[u8], name: &[u8], text: &mut [u8]) -> Answer {
+    // SAFETY: slices and references meet the library's requirements.
+    unsafe {
+        township_explain_lots(
+            table.as_ptr(), table.len(), name.as_ptr(), name.len(), text.as_mut_ptr(), text.len(),
+        )
+    }
+}
+
+/// Calls `township_explain_lacking`.
+pub(crate) fn explain_lacking(lots: &Lots, at: u32, name: &[u8], text: &mut [u8]) -> Answer {
+    // SAFETY: slices and references meet the library's requirements.
+    unsafe {
+        township_explain_lacking(lots, at, name.as_ptr(), name.len(), text.as_mut_ptr(), text.len())
+    }
+}
+
 /// Calls `township_explain_notes_parts`.
 pub(crate) fn explain_notes_parts(
     notes: &[u8], name: &[u8], text: &mut [u8],
@@ -997,6 +1030,35 @@ pub(crate) fn explain_list_parts(
         township_explain_list_parts(
             plat, list.as_ptr(), list.len(), name.as_ptr(), name.len(), text.as_mut_ptr(),
             text.len(), &mut explanation,
+        )
+    };
+    (answer, explanation)
+}
+
+/// Calls `township_explain_lots_parts`.
+pub(crate) fn explain_lots_parts(
+    table: &[u8], name: &[u8], text: &mut [u8],
+) -> (Answer, Explanation) {
+    let mut explanation = Explanation::BLANK;
+    // SAFETY: slices and references meet the library's requirements.
+    let answer = unsafe {
+        township_explain_lots_parts(
+            table.as_ptr(), table.len(), name.as_ptr(), name.len(), text.as_mut_ptr(), text.len(),
+            &mut explanation,
+        )
+    };
+    (answer, explanation)
+}
+
+/// Calls `township_explain_lacking_parts`.
+pub(crate) fn explain_lacking_parts(
+    lots: &Lots, at: u32, name: &[u8], text: &mut [u8],
+) -> (Answer, Explanation) {
+    let mut explanation = Explanation::BLANK;
+    // SAFETY: slices and references meet the library's requirements.
+    let answer = unsafe {
+        township_explain_lacking_parts(
+            lots, at, name.as_ptr(), name.len(), text.as_mut_ptr(), text.len(), &mut explanation,
         )
     };
     (answer, explanation)
