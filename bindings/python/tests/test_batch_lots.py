@@ -78,9 +78,9 @@ class Tables(BatchCase):
     def test_files_that_are_refused(self):
         neither = b"this is neither field notes nor a lot table: field notes begin with `line,between,and,"
         for text, said in (
-            (LOTS + "5,5,40.00\n", b": record 4 is not for a lot: the section has no lot with this number"),
-            ("section;lot;acres\nT;2;N;3;W\n", b": record 1 is not the heading of a lot table, `section,lot,acres`"),
-            ("SECTION,LOT,ACRES\n", b": record 1 is not the heading of a lot table, `section,lot,acres`"),
+            (LOTS + "5,5,40.00\n", b":4: there is no lot 5: section 5 has lots 1 to 4"),
+            ("section;lot;acres\nT;2;N;3;W\n", b":1: the heading must be `section,lot,acres`: "),
+            ("SECTION,LOT,ACRES\n", b":1: the heading must be `section,lot,acres`: "),
             ("line;between;and\n", b":1: the heading must be `line,between,and,quarter,corner`"),
             (LOTS + " " * 65_536, b": the lot table is longer than 65,536 bytes"),
             ("township,description\n", b":1: " + neither),

@@ -224,6 +224,8 @@ class Verdicts(unittest.TestCase):
         "land_compare": lambda: LAND <= LAND,
         "land_parts": lambda: LAND.parts,
         "lots_read": lambda: township.Lots.read(b""),
+        "explain_lots_parts": lambda: township.Lots.read(b""),
+        "explain_lacking_parts": lambda: LOTS.acres("sec. 31."),
         "lots_acres": lambda: LOTS.acres("sec. 14."),
         "lots_area": lambda: LOTS.area("sec. 14."),
         "lots_land_acres": lambda: LOTS.acres(LAND),
@@ -276,6 +278,8 @@ class Verdicts(unittest.TestCase):
             ((b"line", 4), _library.explain_notes, _library.explain_notes_parts),
             ((plat, b"sec. 14, NE1/4 SE1/4.", 21), _library.explain_description, _library.explain_description_parts),
             ((plat, b"name\n", 5), _library.explain_list, _library.explain_list_parts),
+            ((b"section", 7), _library.explain_lots, _library.explain_lots_parts),
+            ((ctypes.byref(LOTS._parts), 503), _library.explain_lacking, _library.explain_lacking_parts),
         ):
             parts = _library.Explanation()
             with_parts_of = functools.partial(self.call_with, with_parts, ctypes.byref(parts))
@@ -283,7 +287,8 @@ class Verdicts(unittest.TestCase):
             again, same_text = text_by(with_parts_of, *given, b"x", 1)
             with self.subTest(text=text):
                 self.assertEqual((bytes(answer), text), (bytes(again), same_text))
-                self.assertEqual(parts.shown, _library.SHOWN_BYTES)
+                is_whole = alone is _library.explain_lacking
+                self.assertEqual(parts.shown, _library.SHOWN_NOTHING if is_whole else _library.SHOWN_BYTES)
 
     @staticmethod
     def call_with(call, parts, *arguments):

@@ -2,7 +2,6 @@
 import copy
 import os
 import pickle
-import re
 import tempfile
 import unittest
 from decimal import Decimal
@@ -10,8 +9,8 @@ from fractions import Fraction
 from pathlib import Path
 
 import township
-from samples import TOP, RefusalCase, even, uneven
-from township import Land, Lots, _library, _lot_faults
+from samples import RefusalCase, even, uneven
+from township import Land, Lots
 
 WHERE = "T. 2 N., R. 3 W."
 OTHER = "T. 3 N., R. 3 W."
@@ -115,24 +114,44 @@ class Refusals(RefusalCase):
             with self.subTest(number=number, at=at):
                 refused = self.refused(Lots.read, given)
                 self.assertEqual((refused.number, refused.at, refused.source), (number, at, "lots"))
-                self.assertEqual(str(refused), f"lots: {refused.sentence}")
-                self.assertEqual(refused.explanation, f"township: {refused}\n")
-                if number not in (86, 87):
-                    self.assertIn(f"record {at}", refused.sentence)
+                # No record is shown if there is none, or none that is at fault.
+                is_shown = given not in ("", "section,lot,acres\n") and number != 86
+                # A record is on the line with its number.
+                self.assertEqual((refused.line, refused.column is None), (at, False) if is_shown else (None, True))
+                self.assertEqual(str(refused), f"lots:{at}: {refused.sentence}" if is_shown else f"lots: {refused.sentence}")
+                self.assertTrue(refused.explanation.startswith(f"township: {refused}\n"))
+                self.assertEqual("^" in refused.explanation or refused.start == refused.end, True)
 
-    def test_each_refusal_of_the_documents_has_a_sentence(self):
-        documented = re.findall(r"^\| (\d+) `\w+` \|", (TOP / "docs" / "LOTS-FORMAT.md").read_text(), re.MULTILINE)
-        self.assertEqual(list(map(int, documented)), list(_lot_faults._SENTENCES))
-        newer = _library.Answer(verdict=_library.REFUSED, number=95, at=3)
-        self.assertEqual(str(_lot_faults.refused_lots(newer, "lots")), "lots: refused 95 at 3")
+    def test_table_is_shown_at_the_fields_that_are_wrong(self):
+        table = HEADING + "5,1,40.45\n5,2,40.5\n"
+        refused = self.refused(Lots.read, table)
+        self.assertEqual((refused.number, refused.line, refused.column), (92, 4, 5))
+        self.assertEqual(table[refused.start : refused.end], "40.5")
+        self.assertEqual(refused.hints, ("write `40.50`",))
+        again = HEADING + "5,1,40.45\n05,1,40.50\n"
+        refused = self.refused(Lots.read, again)
+        self.assertEqual((refused.number, refused.line, refused.other.record), (93, 4, 3))
+        self.assertEqual(again[refused.start : refused.end], "05,1")
+        self.assertEqual(again[refused.other.start : refused.other.end], "5,1")
+        self.assertEqual(refused.hints, ("record 3 at line 3 is also for this lot",))
+
+    def test_name_of_the_file_is_shown(self):
+        with tempfile.TemporaryDirectory() as folder:
+            path = Path(folder) / "lots.csv"
+            path.write_text(HEADING + "5,9,40.45\n")
+            refused = self.refused(Lots.open, path)
+        self.assertEqual((refused.source, refused.line), (str(path), 3))
+        self.assertEqual(str(refused), f"{path}:3: there is no lot 9: section 5 has lots 1 to 4")
 
     def test_lot_that_a_tract_has_and_the_table_lacks(self):
-        answer = _library.Answer(
-            verdict=_library.TRACT_REFUSED, number=83, at=2, inner_number=94, inner_at=607
+        refused = self.refused(table().report, [("A", "sec. 5, lot 1."), ("B", "sec. 5, lots 2 and 3.")])
+        self.assertEqual((refused.number, refused.at, refused.inner), (83, 3, (94, 503)))
+        self.assertEqual(refused.sentence, "record 3: the lot table has no record for lot 3 of section 5")
+        self.assertEqual(
+            refused.explanation,
+            "township: tracts: record 3: the lot table has no record for lot 3 of section 5\n"
+            "  of section 5, it has these lots: 1, 2\n",
         )
-        refused = _lot_faults.refused_lots(answer, "tracts")
-        self.assertEqual((refused.number, refused.at, refused.inner), (83, 2, (94, 607)))
-        self.assertEqual(refused.sentence, "record 2: the lot table has no record for lot 7 of section 6")
 
     def test_name_of_a_file(self):
         refused = self.refused(Lots.read, "lots.csv")

@@ -73,9 +73,16 @@ class Acres(MeasuringCase):
 
     def test_refused_lot_table(self):
         lots, description = self.put(TABLE + "5,3,40\n"), self.put("sec. 5, lots 1 to 4.", "land.txt")
-        said = f"township: {lots}: record 5 has no acreage: write 0.01 to 999.99 acres with two decimal places, as in `40.45`\n"
-        self.assertAnswers("refused 92 at 5\n", "acres", "--lots", lots, description, status=1, errors=said)
-        said = "township: land: the lot table has no record for lot 3 of section 5\n"
+        run = self.run_words("acres", "--lots", lots, description)
+        self.assertEqual((run.returncode, run.stdout), (1, b"refused 92 at 5\n"))
+        said, _, excerpt = run.stderr.decode().partition("\n  5 | ")
+        acres = "`40` is not an acreage: write 0.01 to 999.99, with two decimals, as in `40.45`"
+        self.assertEqual(" ".join(said.split()), f"township: {lots}:5: {acres}")
+        self.assertEqual(excerpt, "5,3,40\n    |     ^^\n  write `40.00`\n")
+        said = (
+            "township: land: the lot table has no record for lot 3 of section 5\n"
+            "  of section 5, it has these lots: 1, 2\n"
+        )
         self.assertAnswers("refused 94 at 503\n", "acres", "--lots", self.put(TABLE), description, status=1, errors=said)
 
     def test_files_that_cannot_be_read(self):

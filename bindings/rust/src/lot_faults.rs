@@ -1,52 +1,42 @@
-//! Sentences for the refusals of lot tables, which the library does not explain.
+//! The refusals of lot tables, and of land by them, with the explanations of the library.
 
 use crate::answer::Fault;
-use crate::explanation::Explained;
+use crate::explanation::explained_by;
+use crate::ffi;
 use crate::refused::Refused;
 
 /// The number of the refusal of land with a lot that the table lacks.
-pub(crate) const LACKING: u32 = 94;
+pub(crate) const LACKING: u32 = ffi::REFUSAL_LOTS_LACKING;
 
-/// Returns the refusal for a fault of a lot table, or of land by one, with its explanation. `source`
-/// is the name of what is refused.
-pub(crate) fn refused_lots(fault: Fault, source: &str) -> Refused {
-    let at = fault.refusal.at;
-    let sentence = match fault.inner {
-        Some(inner) => format!("record {at}: {}", sentence_of(inner.number, inner.at)),
-        None => sentence_of(fault.refusal.number, at),
-    };
-    let explained = Explained {
-        text: format!("township: {source}: {sentence}\n"),
-        location: source.to_owned(),
-        sentence,
-        ..Explained::default()
-    };
-    Refused::new(fault, explained)
+/// Returns the refusal of bytes that are no lot table, with its explanation, which calls them `source`.
+pub(crate) fn refused_table(fault: Fault, table: &[u8], source: &str) -> Refused {
+    Refused::explained(fault, |room| {
+        ffi::explain_lots_parts(table, source.as_bytes(), room)
+    })
 }
 
-/// Returns what is wrong. A library that is newer than this crate may refuse for something else.
-fn sentence_of(number: u32, at: u32) -> String {
-    match number {
-        86 => format!("the lot table is longer than {at} bytes"),
-        87 => "the lot table is empty: it begins with `section,lot,acres`".to_owned(),
-        88 => format!("record {at} is not the heading of a lot table, `section,lot,acres`"),
-        89 => format!(
-            "record {at} does not have the right number of fields: five for the township, as in \
-             `T,2,N,3,W`, and three for a lot, as in `5,1,40.45`"
-        ),
-        90 => format!("record {at} is not a township, such as `T,2,N,3,W`, or is missing"),
-        91 => format!("record {at} is not for a lot: the section has no lot with this number"),
-        92 => format!(
-            "record {at} has no acreage: write 0.01 to 999.99 acres with two decimal places, as in \
-             `40.45`"
-        ),
-        93 => format!("record {at} is for a lot that an earlier record is for"),
-        LACKING => {
-            let (section, lot) = (at / 100, at % 100);
-            format!("the lot table has no record for lot {lot} of section {section}")
-        }
-        unknown => format!("refused {unknown} at {at}"),
+/// Returns the refusal of land, a description, or a list with a lot that the table lacks, with its
+/// explanation. `source` is the name of what is refused.
+pub(crate) fn refused_lacking(fault: Fault, lots: &ffi::Lots, source: &str) -> Refused {
+    let at = fault.inner.unwrap_or(fault.refusal).at;
+    let (answer, mut explained) =
+        explained_by(|room| ffi::explain_lacking_parts(lots, at, source.as_bytes(), room));
+    let explains = answer.accepted().err().map(|told| told.refusal);
+    assert_eq!(
+        explains,
+        Some(fault.inner.unwrap_or(fault.refusal)),
+        "the library explains what it refused"
+    );
+    if fault.inner.is_some() {
+        // The library explains the refusal of the land, and does not know its record.
+        let record = format!("record {}: ", fault.refusal.at);
+        let head = format!("{}: ", explained.location);
+        explained.text = explained
+            .text
+            .replacen(&head, &format!("{head}{record}"), 1);
+        explained.sentence.insert_str(0, &record);
     }
+    Refused::new(fault, explained)
 }
 
 #[cfg(test)]
@@ -54,28 +44,66 @@ mod tests {
     use super::*;
     use crate::refused::Refusal;
 
+    fn lots() -> ffi::Lots {
+        let (answer, lots) =
+            ffi::lots_read(b"section,lot,acres\nT,2,N,3,W\n6,1,36.86\n6,3,36.90\n");
+        assert!(answer.accepted().is_ok());
+        lots
+    }
+
+    const LOT: Refusal = Refusal {
+        number: LACKING,
+        at: 607,
+    };
+
     #[test]
-    fn each_refusal_of_a_lot_table_has_a_sentence() {
-        for number in 86..=94 {
-            assert_ne!(sentence_of(number, 3), format!("refused {number} at 3"));
-        }
-        assert_eq!(sentence_of(95, 3), "refused 95 at 3");
+    fn lot_that_land_has_and_the_table_lacks() {
+        let fault = Fault {
+            refusal: LOT,
+            inner: None,
+        };
+        let refused = refused_lacking(fault, &lots(), "land");
+        assert_eq!(
+            (refused.number, refused.at, refused.line),
+            (LACKING, 607, None)
+        );
+        assert_eq!(
+            refused.to_string(),
+            "land: the lot table has no record for lot 7 of section 6"
+        );
+        assert_eq!(refused.hints(), ["of section 6, it has these lots: 1, 3"]);
     }
 
     #[test]
     fn lot_that_a_tract_has_and_the_table_lacks() {
         let fault = Fault {
             refusal: Refusal { number: 83, at: 2 },
-            inner: Some(Refusal {
-                number: LACKING,
-                at: 607,
-            }),
+            inner: Some(LOT),
         };
-        let refused = refused_lots(fault, "tracts");
+        let refused = refused_lacking(fault, &lots(), "tracts");
         assert_eq!((refused.number, refused.at), (83, 2));
+        assert_eq!(
+            refused.explanation,
+            "township: tracts: record 2: the lot table has no record for lot 7 of section 6\n  \
+             of section 6, it has these lots: 1, 3\n"
+        );
         assert_eq!(
             refused.to_string(),
             "tracts: record 2: the lot table has no record for lot 7 of section 6"
         );
+    }
+
+    #[test]
+    #[should_panic(expected = "the library explains what it refused")]
+    fn lot_that_the_table_has() {
+        let refusal = Refusal {
+            number: LACKING,
+            at: 601,
+        };
+        let fault = Fault {
+            refusal,
+            inner: None,
+        };
+        refused_lacking(fault, &lots(), "land");
     }
 }

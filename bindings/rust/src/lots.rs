@@ -5,7 +5,7 @@ use crate::answer::{Fault, OtherTownship};
 use crate::area::Area;
 use crate::ffi::{self, TRACTS_MOST};
 use crate::land::Land;
-use crate::lot_faults::{refused_lots, LACKING};
+use crate::lot_faults::{refused_lacking, refused_table, LACKING};
 use crate::refused::{Refused, DESCRIPTION, LAND, LIST, LOT_TABLE};
 use crate::report::{list_of, LotsReport};
 use crate::township::Township;
@@ -71,13 +71,14 @@ impl Lots {
     ///
     /// let refused = Lots::read(b"section,lot,acres\nT,2,N,3,W\n14,1,40.00\n").unwrap_err();
     /// assert_eq!((refused.number, refused.at), (91, 3));
+    /// assert_eq!(refused.to_string(), "lots:3: there is no lot 1: section 14 has no lots");
     /// # Ok::<(), township::Refused>(())
     /// ```
     pub fn read(table: &[u8]) -> Result<Lots, Refused> {
         let (answer, data) = ffi::lots_read(table);
         match answer.accepted() {
             Ok(_) => Ok(Lots { data }),
-            Err(fault) => Err(refused_lots(fault, LOT_TABLE)),
+            Err(fault) => Err(refused_table(fault, table, LOT_TABLE)),
         }
     }
 
@@ -180,7 +181,7 @@ impl Lots {
         let answer = answer.in_one_township(land.township(), self.township())?;
         match answer.accepted() {
             Ok(answer) => Ok(Acres::from_hundredths(answer.hundredths)),
-            Err(fault) => Err(NoLandAcres::Lacking(refused_lots(fault, LAND))),
+            Err(fault) => Err(self.land_refused(fault)),
         }
     }
 
@@ -194,7 +195,7 @@ impl Lots {
         let answer = answer.in_one_township(land.township(), self.township())?;
         match answer.accepted() {
             Ok(_) => Ok(Area::from_fraction(area)),
-            Err(fault) => Err(NoLandAcres::Lacking(refused_lots(fault, LAND))),
+            Err(fault) => Err(self.land_refused(fault)),
         }
     }
 
@@ -258,10 +259,15 @@ impl Lots {
         self.report(list_of(tracts))
     }
 
+    /// Returns the error for land with a lot that the table lacks.
+    fn land_refused(&self, fault: Fault) -> NoLandAcres {
+        NoLandAcres::Lacking(refused_lacking(fault, &self.data, LAND))
+    }
+
     /// Returns the refusal of a list of tracts, with its explanation.
     fn list_refused(&self, fault: Fault, list: &[u8]) -> Refused {
         if fault.inner.is_some_and(|inner| inner.number == LACKING) {
-            return refused_lots(fault, LIST);
+            return refused_lacking(fault, &self.data, LIST);
         }
         let plat = self.township().nominal_plat();
         Refused::explained(fault, |room| {
@@ -272,7 +278,7 @@ impl Lots {
     /// Returns the refusal of a description, with its explanation.
     fn description_refused(&self, fault: Fault, description: &[u8]) -> Refused {
         if fault.refusal.number == LACKING {
-            return refused_lots(fault, DESCRIPTION);
+            return refused_lacking(fault, &self.data, DESCRIPTION);
         }
         let plat = self.township().nominal_plat();
         Refused::explained(fault, |room| {

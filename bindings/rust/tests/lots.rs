@@ -130,13 +130,46 @@ fn refused_tables() {
     ] {
         let refused = Lots::read(table.as_bytes()).unwrap_err();
         assert_eq!((refused.number, refused.at), (number, at));
-        assert_eq!(
-            (refused.line, refused.column, refused.inner),
-            (None, None, None)
-        );
-        assert_eq!(refused.to_string(), format!("lots: {}", refused.sentence()));
-        assert_eq!(refused.explanation, format!("township: {refused}\n"));
+        assert_eq!(refused.inner, None);
+        // No record is shown if there is none, or none that is at fault.
+        let is_shown = number != 86 && !["", "section,lot,acres\n"].contains(&table.as_str());
+        // A record is on the line with its number.
+        assert_eq!(refused.line, is_shown.then_some(at));
+        assert_eq!(refused.column.is_some(), is_shown);
+        let place = if is_shown {
+            format!(":{at}")
+        } else {
+            String::new()
+        };
+        let sentence = refused.sentence();
+        assert_eq!(refused.to_string(), format!("lots{place}: {sentence}"));
+        assert!(refused
+            .explanation
+            .starts_with(&format!("township: {refused}\n")));
     }
+}
+
+#[test]
+fn table_is_shown_at_the_fields_that_are_wrong() {
+    let table = HEADING.to_owned() + "5,1,40.45\n5,2,40.5\n";
+    let refused = Lots::read(table.as_bytes()).unwrap_err();
+    assert_eq!(
+        (refused.number, refused.line, refused.column),
+        (92, Some(4), Some(5))
+    );
+    assert_eq!(&table[refused.span().unwrap()], "40.5");
+    assert_eq!(refused.hints(), ["write `40.50`"]);
+
+    let again = HEADING.to_owned() + "5,1,40.45\n05,1,40.50\n";
+    let refused = Lots::read(again.as_bytes()).unwrap_err();
+    let other = refused.other().unwrap();
+    assert_eq!(
+        (refused.number, refused.line, other.record),
+        (93, Some(4), Some(3))
+    );
+    assert_eq!(&again[refused.span().unwrap()], "05,1");
+    assert_eq!(&again[other.span.clone()], "5,1");
+    assert_eq!(refused.hints(), ["record 3 at line 3 is also for this lot"]);
 }
 
 #[test]

@@ -62,7 +62,11 @@ class FullAnswers:
 
     def refused_at(self, index: int) -> Refused:
         """Return the refusal of a description, with its explanation."""
-        exception = self._refuse(self._answers[index].acres, self._description(index))
+        return self._exception(self._answers[index].acres, index)
+
+    def _exception(self, answer: _library.Answer, index: int) -> Refused:
+        """Return the refusal of a description, which an answer gives. Raise the exception for another verdict."""
+        exception = self._refuse(answer, self._description(index))
         if not isinstance(exception, Refused):
             raise exception
         return exception

@@ -1,43 +1,31 @@
-"""Sentences for the refusals of lot tables, which the library does not explain."""
+"""The refusals of lot tables, and of land by them, with the explanations of the library."""
 from __future__ import annotations
 
+from ctypes import byref
+
 from . import _library
-from ._explanation import Explained
-from ._refused import Refusal, Refused
+from ._explanation import explained_by
+from ._refused import Refused, exception_of, failure_of, inner_refusal
 
 #: The number of the refusal of land with a lot that the table lacks.
-LACKING = 94
-
-# What is wrong, by the number of the refusal. `at` is its place.
-_SENTENCES = {
-    86: "the lot table is longer than {at:,} bytes",
-    87: "the lot table is empty: it begins with `section,lot,acres`",
-    88: "record {at} is not the heading of a lot table, `section,lot,acres`",
-    89: "record {at} does not have the right number of fields: five for the township, as in `T,2,N,3,W`, and "
-    "three for a lot, as in `5,1,40.45`",
-    90: "record {at} is not a township, such as `T,2,N,3,W`, or is missing",
-    91: "record {at} is not for a lot: the section has no lot with this number",
-    92: "record {at} has no acreage: write 0.01 to 999.99 acres with two decimal places, as in `40.45`",
-    93: "record {at} is for a lot that an earlier record is for",
-    LACKING: "the lot table has no record for lot {lot} of section {section}",
-}
+LACKING = _library.REFUSAL_LOTS_LACKING
 
 
-def refused_lots(answer: _library.Answer, source: str) -> Refused:
-    """Return the refusal in an answer, with its explanation. `source` is the name of what is refused."""
-    inner = None
-    number, at = answer.number, answer.at
-    if answer.verdict == _library.TRACT_REFUSED:
-        inner = Refusal(answer.inner_number, answer.inner_at)
-        number, at = inner
-    record = f"record {answer.at}: " if inner else ""
-    explained = Explained(location=source, sentence=f"{record}{_sentence_of(number, at)}")
-    explanation = f"township: {explained.message}\n"
-    return Refused(answer.number, answer.at, None, None, explanation, inner, source, explained)
+def table_exception(answer: _library.Answer, table: bytes, source: bytes) -> Exception:
+    """Return the exception for a lot table that is not accepted. `source` is what the explanation calls it."""
+    return exception_of(answer, _library.explain_lots_parts, table, len(table), source=source)
 
 
-def _sentence_of(number: int, at: int) -> str:
-    """Return what is wrong. A library that is newer than this package may refuse for something else."""
-    section, lot = divmod(at, 100)
-    sentence = _SENTENCES.get(number, "refused {number} at {at}")
-    return sentence.format(number=number, at=at, section=section, lot=lot)
+def lacking_exception(answer: _library.Answer, lots: _library.Lots, source: bytes) -> Exception:
+    """Return the exception for land, a description, or a list with a lot that the table lacks."""
+    inner = inner_refusal(answer)
+    at = inner.at if inner else answer.at
+    shown, text, explained = explained_by(_library.explain_lacking_parts, byref(lots), at, source, len(source))
+    if shown.verdict != _library.REFUSED:
+        return failure_of(shown.verdict)
+    if inner:
+        # The library explains the refusal of the land, and does not know its record.
+        record = f"record {answer.at}: "
+        text = text.replace(f"{explained.location}: ", f"{explained.location}: {record}", 1)
+        explained = explained._replace(sentence=f"{record}{explained.sentence}")
+    return Refused(answer.number, answer.at, None, None, text, inner, source.decode(), explained)

@@ -9,10 +9,10 @@ from typing import Any, List, Mapping, Optional, Tuple
 from . import _library
 from ._decimals import Number, scaled
 from ._figures import acres_of_hundredths
-from ._lot_faults import refused_lots
+from ._lot_faults import table_exception
 from ._lot_list import lots_of_township
 from ._lots_answering import LotsAnswering
-from ._refused import LOT_TABLE, Refused, failure_of, hinted
+from ._refused import LOT_TABLE, Refused, hinted
 from ._spelling import Named, township_named
 from ._text import Path, Text, encoded, names_a_file, shown
 from ._township import Township, codes_of, township_of
@@ -68,7 +68,7 @@ class Lots(LotsAnswering):
         with open(path, "rb") as file:
             # One byte more than the limit is enough for the refusal of a table that is too large.
             table = file.read(_library.LOTS_TEXT_MOST + 1)
-        return cls._read(table, shown(path))
+        return cls._read(table, shown(path).encode("utf-8", "backslashreplace"))
 
     @classmethod
     def read(cls, table: Text) -> Lots:
@@ -79,24 +79,22 @@ class Lots(LotsAnswering):
         >>> township.Lots.read("section,lot,acres\\nT,2,N,3,W\\n14,1,40.00\\n")
         Traceback (most recent call last):
             ...
-        township.Refused: lots: record 3 is not for a lot: the section has no lot with this number
+        township.Refused: lots:3: there is no lot 1: section 14 has no lots
         """
         try:
-            return cls._read(encoded(table), LOT_TABLE.decode())
+            return cls._read(encoded(table), LOT_TABLE)
         except Refused as refused:
             if not names_a_file(table):
                 raise
             raise hinted(refused, "this looks like the name of a file: Lots.open reads one") from None
 
     @classmethod
-    def _read(cls, table: bytes, source: str) -> Lots:
+    def _read(cls, table: bytes, source: bytes) -> Lots:
         """Read a lot table, which an explanation calls by this name."""
         parts = _library.Lots()
         answer = _library.lots_read(table, len(table), byref(parts))
-        if answer.verdict == _library.REFUSED:
-            raise refused_lots(answer, source)
         if answer.verdict != _library.ACCEPTED:
-            raise failure_of(answer.verdict)
+            raise table_exception(answer, table, source)
         return cls._of_struct(parts)
 
     @classmethod

@@ -10,7 +10,7 @@ from . import _library
 from ._describing import Describing
 from ._figures import acres_of_hundredths, fraction_of
 from ._land import Land
-from ._lot_faults import LACKING, refused_lots
+from ._lot_faults import LACKING, lacking_exception
 from ._lots_full import LotsFullAnswers
 from ._lots_reporting import LotsReporting
 from ._many import Answers, Ask, answers_by, each_acres
@@ -96,11 +96,11 @@ class LotsAnswering(LotsReporting, Describing):
         if not isinstance(described, Land):
             raise self._exception_of(answer, encoded(described))
         if answer.verdict == _library.REFUSED:
-            raise refused_lots(answer, LAND.decode())
+            raise lacking_exception(answer, self._parts, LAND)
         raise failure_of(answer.verdict, described.township, township_of(self._parts.township))
 
     def _exception_of(self, answer: _library.Answer, given: bytes) -> Exception:
         """Return the exception for a description that is not accepted."""
         if answer.verdict == _library.REFUSED and answer.number == LACKING:
-            return refused_lots(answer, DESCRIPTION.decode())
+            return lacking_exception(answer, self._parts, DESCRIPTION)
         return self._described_exception(answer, given)

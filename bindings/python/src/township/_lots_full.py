@@ -6,9 +6,8 @@ from typing import Dict, List, Sequence
 
 from . import _library
 from ._full import FullAnswers
-from ._lot_faults import refused_lots
 from ._many import Ask, Refuse
-from ._refused import DESCRIPTION, Refusal, Refused, failure_of, refusal_of
+from ._refused import Refusal, Refused, failure_of, refusal_of
 from ._text import Text
 
 
@@ -55,7 +54,7 @@ class LotsFullAnswers(FullAnswers):
     def refused_at(self, index: int) -> Refused:
         """Return the refusal of a description, with its explanation."""
         lacking = self._lacking.get(index)
-        return super().refused_at(index) if lacking is None else refused_lots(lacking, DESCRIPTION.decode())
+        return super().refused_at(index) if lacking is None else self._exception(lacking, index)
 
     def texts(self, on_one_line: bool = False) -> List[str]:
         """Return the canonical text of each description: nothing if it is refused."""

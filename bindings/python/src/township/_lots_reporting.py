@@ -8,7 +8,7 @@ from typing import Iterable, NamedTuple, Sequence, Tuple
 from . import _library
 from ._figures import acres_of_hundredths
 from ._land import Land
-from ._lot_faults import LACKING, refused_lots
+from ._lot_faults import LACKING, lacking_exception
 from ._refused import LIST, Refusal, failure_of, refusal_of
 from ._report import (
     FIRST_TRACT,
@@ -152,7 +152,7 @@ class LotsReporting:
     def _list_exception(self, answer: _library.Answer, given: bytes) -> Exception:
         """Return the exception for a list of tracts that is not accepted."""
         if answer.verdict == _library.TRACT_REFUSED and answer.inner_number == LACKING:
-            return refused_lots(answer, LIST.decode())
+            return lacking_exception(answer, self._parts, LIST)
         return exception_of_list(answer, byref(nominal_plat_of(township_of(self._parts.township))), given)
 
 

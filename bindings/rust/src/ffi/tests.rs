@@ -125,6 +125,20 @@ fn texts_of_both_kinds_of_calls_are_the_same() {
     let (same_answer, parts) = explain_notes_parts(b"line\n", b"notes", &mut room_with_parts);
     assert_eq!((same_answer, room_with_parts), (answer, room));
     assert_eq!(parts.shown, SHOWN_BYTES);
+    let (mut room, mut room_with_parts) = ([0; 512], [0; 512]);
+    let answer = explain_lots(b"section\n", b"lots", &mut room);
+    let (same_answer, parts) = explain_lots_parts(b"section\n", b"lots", &mut room_with_parts);
+    assert_eq!((same_answer, room_with_parts), (answer, room));
+    assert_eq!(parts.shown, SHOWN_BYTES);
+    let (mut room, mut room_with_parts) = ([0; 512], [0; 512]);
+    let answer = explain_lacking(&lots(), 503, b"land", &mut room);
+    let (same_answer, parts) = explain_lacking_parts(&lots(), 503, b"land", &mut room_with_parts);
+    assert_eq!((same_answer, room_with_parts), (answer, room));
+    assert_eq!(
+        (answer.verdict, answer.number, answer.at),
+        (REFUSED, REFUSAL_LOTS_LACKING, 503)
+    );
+    assert_eq!(parts.shown, SHOWN_NOTHING);
 }
 
 /// T. 2 N., R. 3 W., and the township north of it.
@@ -178,6 +192,12 @@ fn land_and_lots_that_are_none_are_found_out_by_each_call() {
     assert_eq!(lots_land_acres(&none, &some), no_lots);
     assert_eq!(lots_land_area(&none, &some).0, no_lots);
     assert_eq!(lots_report(&none, b"", &mut [Tract::BLANK]), no_lots);
+    assert_eq!(explain_lacking(&none, 503, b"land", &mut room), no_lots);
+    let nothing = (no_lots, Explanation::BLANK);
+    assert_eq!(
+        explain_lacking_parts(&none, 503, b"land", &mut room),
+        nothing
+    );
     assert_eq!(room, [0; 64]);
 }
 
