@@ -363,6 +363,17 @@ def is_moved(land, row_land, old, new):
             or not stays and WHOLE & ~by_number(WHOLE & ~had, old, new) == moved)
 
 
+def has_other_lot(land, row_land, old, new):
+    """Whether a land is the row's, but that the lot `new` of a section is excepted, and not the lot `old`."""
+    mine, rows = dict(land[1]), dict(row_land[1])
+    for section, places in rows.items():
+        out, into = LOTS[section].get(new, 0), LOTS[section].get(old, 0)
+        if out and into and places & out == out and not places & into:
+            if land[0] == row_land[0] and mine == {**rows, section: (places | into) & ~out}:
+                return True
+    return False
+
+
 def is_of_sections(mutant, text, land, row_land):
     """Whether a land is in the row's sections, and touches the row's land if it has to."""
     rows = dict(row_land[1])
@@ -389,7 +400,7 @@ def says(mutant, text, land, row_land):
         pairs = {(int(old), int(new))}
         if len(old) > 2 and old.endswith("0") and new.endswith("0"):
             pairs.add((int(old) // 10, int(new) // 10))
-        return any(is_moved(land, row_land, *pair)
+        return any(is_moved(land, row_land, *pair) or has_other_lot(land, row_land, *pair)
                    or any(land_of(text, True) == land for text in with_number(texts, *pair)) for pair in pairs)
     return False
 
@@ -399,7 +410,7 @@ def is_told(mutant, assumptions):
     named = [name for line in assumptions for name in re.findall("`([^`]+)`", line)]
     if KINDS[mutant.kind] == LETTER:
         return any(re.search(rf"(?<![A-Za-z0-9]){mutant.change[1]}(?!\d)", name) for name in named)
-    return any(name in mutant.text and name not in mutant.row.description for name in named)
+    return any(mutant.text.count(name) > mutant.row.description.count(name) for name in named)
 
 
 def is_formal(mutant):

@@ -1,6 +1,6 @@
 -- What a text describes: whether the reader accepts it, the land that it names, and the description that a
 -- changed text leads to.
-use Rattle.std.specs.Prelude.{◌≡◌, ◌==◌, ℕ, Bool, List, [], ◌∷◌, ◌++◌, Option, Some, None, codes, length}
+use Rattle.std.specs.Prelude.{◌≡◌, ◌==◌, ℕ, Bool, List, [], ◌∷◌, Option, Some, None}
 use Rattle.std.specs.Prelude.{if◌then◌else◌}
 use Rattle.twp_grid.specs.Places.{PLACE_DIGITS}
 use Rattle.twp_grid.specs.Townships.{Designation, designation, line_feed}
@@ -13,6 +13,7 @@ use Rattle.twp_grammar.specs.OnPlat.{IsLandOfItems}
 use Rattle.twp_grammar.specs.Sentences.{IsReadAs}
 use Rattle.twp_read.specs.Doubts.{HasNoDoubtfulPlace}
 use Rattle.twp_spell.specs.CanonicalText.{IsCanonicalText}
+use Rattle.twp_suggest.specs.Excepting.{IsParted}
 use Rattle.twp_suggest.specs.declared.meaning.wording.Excepted.{Excepted}
 use Rattle.twp_suggest.specs.declared.meaning.manner.Manner.{Manner}
 use Rattle.twp_suggest.specs.declared.meaning.manner.Manner.TheVariants.{Changed, LotsNamed, Remainder}
@@ -53,16 +54,13 @@ abbrev pub as_written : List Item → List ℕ → List ℕ
 as_written (Heading number north_south range east_west at ∷ items) text = text
 as_written items text = without_first_line text
 
--- what is written between land and what it is without
-abbrev pub except : List ℕ
-except = codes " except "
-
--- THE REMAINDER: the canonical text of the land of the text before `except` without the land of the text
--- after it, which lies in it, and isn't all of it
+-- THE REMAINDER: the canonical text of the land of a text without the land that it excepts, which lies in it,
+-- and isn't all of it
 pub record IsRemainder (made text : List ℕ) : Type 0 where
   pub whole : List ℕ
   pub excepted : List ℕ
-  pub made_is : made ≡ whole ++ except ++ excepted
+  pub at : ℕ
+  pub parted : IsParted made whole excepted at
   pub township : Designation
   pub places : ℕ → ℕ → ℕ → Bool
   pub less : ℕ → ℕ → ℕ → Bool
@@ -78,12 +76,11 @@ pub record IsRemainder (made text : List ℕ) : Type 0 where
 pub record AreExcepted (made : List ℕ) (items : List Item) (part : Excepted) : Type 0 where
   pub whole : List ℕ
   pub excepted : List ℕ
-  pub made_is : made ≡ whole ++ except ++ excepted
-  pub at_is : part.at ≡ length (whole ++ except)
+  pub parted : IsParted made whole excepted part.at
   pub read : IsReadAs whole items
   pub read_excepted : IsReadAs excepted part.items
 
--- THE ITEMS of a changed text, or of it before `except`; and those after that
+-- THE ITEMS of a changed text, or of what it keeps; and those of what it excepts
 abbrev pub AreItemsOf : List ℕ → List Item → Option Excepted → Type 0
 AreItemsOf made items None = IsReadAs made items
 AreItemsOf made items (Some part) = AreExcepted made items part

@@ -4,6 +4,7 @@ pub mod Ways
 pub mod Sharing
 pub mod Closed
 pub mod Repeats
+pub mod Excepting
 pub mod Descriptions
 pub mod Told
 pub mod steps

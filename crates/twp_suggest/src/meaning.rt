@@ -2,6 +2,7 @@
 //! that it names, and the description that a changed text leads to.
 
 mod clear;
+mod kept;
 mod manner;
 mod named;
 mod on_plat;

@@ -12,7 +12,8 @@ use Rattle.twp_grammar.specs.OnPlat.{AreOnPlat, IsLandOfItems}
 use Rattle.twp_grammar.specs.Sentences.{IsReadAs}
 use Rattle.twp_spell.specs.CanonicalText.{IsCanonicalText}
 use Rattle.twp_suggest.specs.Descriptions.{AreExcepted, IsLandOfText, IsOnlyLandOfText, IsRemainder}
-use Rattle.twp_suggest.specs.Descriptions.{NamesNoLand, as_written, except}
+use Rattle.twp_suggest.specs.Descriptions.{NamesNoLand, as_written}
+use Rattle.twp_suggest.specs.Excepting.{IsParted}
 use Rattle.twp_suggest.specs.declared.meaning.wording.Excepted.{Excepted}
 
 pub is_land : (township : Designation) (text : List ℕ) (items : List Item) (places : ℕ → ℕ → ℕ → Bool)
@@ -39,19 +40,20 @@ no_land township text items only on_plat places is =
     is.land.on_plat))
 
 -- what is left of a text without its exception
-pub is_remainder : (whole excepted text full : List ℕ) (items : List Item) (township : Designation)
+pub is_remainder : (made whole excepted : List ℕ) (at : ℕ) (text full : List ℕ) (items : List Item)
+    (township : Designation)
     (places less : ℕ → ℕ → ℕ → Bool) → ((others : List Item) → IsReadAs whole others → items ≡ others)
     → IsLandOfText township whole places → IsLandOfText township excepted less
     → ContainsAll places less → ¬ SamePlaces places less
     → IsCanonicalText STANDARD_LOTS township (difference places less) full → text ≡ as_written items full
-    → IsRemainder (whole ++ except ++ excepted) text
-is_remainder whole excepted text full items township places less only of_whole of_excepted inside some_left
-    spelled
-    written =
+    → IsParted made whole excepted at → IsRemainder made text
+is_remainder made whole excepted at text full items township places less only of_whole of_excepted inside
+    some_left spelled written parted =
     record {
       whole = whole;
       excepted = excepted;
-      made_is = refl;
+      at = at;
+      parted = parted;
       township = township;
       places = places;
       less = less;
@@ -65,14 +67,12 @@ is_remainder whole excepted text full items township places less only of_whole o
     }
 
 -- the items of both parts of a text with an exception
-pub are_excepted : (whole excepted : List ℕ) (items : List Item) (part : Excepted) → IsReadAs whole items
-    → IsReadAs excepted part.items → part.at ≡ length (whole ++ except)
-    → AreExcepted (whole ++ except ++ excepted) items part
-are_excepted whole excepted items part read read_excepted at = record {
+pub are_excepted : (made whole excepted : List ℕ) (items : List Item) (part : Excepted) → IsReadAs whole items
+    → IsReadAs excepted part.items → IsParted made whole excepted part.at → AreExcepted made items part
+are_excepted made whole excepted items part read read_excepted parted = record {
   whole = whole;
   excepted = excepted;
-  made_is = refl;
-  at_is = at;
+  parted = parted;
   read = read;
   read_excepted = read_excepted;
 }

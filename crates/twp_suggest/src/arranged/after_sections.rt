@@ -122,7 +122,7 @@ impl<'a> Plan<'a> {
             found.is_unsure = found.is_unsure
                 || group.is_excepting
                 || self.count_of(group.section) > 1
-                || (found.count > 1 && self.is_set_apart(placed.phrase));
+                || (found.count > 1 && self.is_set_apart(placed.phrase, group.section));
         } else if found.is_first_excepted {
             placed.section = Some(group.section.numbers);
         }
@@ -141,7 +141,9 @@ impl<'a> Plan<'a> {
         found: &mut GroupsSoFar,
     ) {
         if let Some(group) = before {
-            found.is_unsure = found.is_unsure || !self.is_sure_group(&group) || group.is_excepting;
+            found.is_unsure = found.is_unsure
+                || !self.is_sure_group(&group)
+                || found.is_first_excepted;
             found.end_group(&group);
         }
         found.is_unsure = found.is_unsure || found.is_awaited;
@@ -170,12 +172,15 @@ impl<'a> Plan<'a> {
                 && !pieces.follows(first, b";"))
     }
 
-    /// Whether an exception is set apart from the land before it: it may be from the land of each section.
-    fn is_set_apart(&self, exception: Phrase) -> bool {
+    /// Whether an exception is set apart from the land before it, as its section is from other land: it may be
+    /// from the land of each section. After a comma it isn't, if a semicolon or a line end is before the section.
+    fn is_set_apart(&self, exception: Phrase, section: Phrase) -> bool {
         let pieces = &self.draft.pieces;
         let first = exception.first;
+        let is_item = pieces.follows(section.first, b";")
+            || pieces.has_before(section.first, b'\n');
         pieces.follows(first, b";")
-            || pieces.follows(first, b",")
+            || (pieces.follows(first, b",") && !is_item)
             || matches!(pieces.kind_before(first), Some(Kind::Stop))
             || pieces.has_before(first, b'\n')
     }

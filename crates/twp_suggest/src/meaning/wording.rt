@@ -5,9 +5,11 @@ ghost use Rattle.twp_grid.specs.Lands.{ContainsAll, SamePlaces};
 ghost use Rattle.twp_grammar.specs.Sentences.{IsReadAs};
 ghost use Rattle.twp_suggest.specs.Descriptions.{AreItemsOf, AreLotsNamed, IsAccepted, IsDescribed};
 ghost use Rattle.twp_suggest.specs.Descriptions.{IsRemainder, NamesTownship};
-ghost use Rattle.twp_suggest.specs.Descriptions.{as_written, except};
+ghost use Rattle.twp_suggest.specs.Descriptions.{as_written};
+ghost use Rattle.twp_suggest.specs.Excepting.{IsParted, except};
 ghost use Rattle.twp_suggest.specs.Descriptions.{without_first_line};
 
+use crate::meaning::kept::{kept, taken};
 use crate::meaning::manner::Manner;
 use crate::meaning::named::{find_with_lots, why_unread};
 use crate::meaning::on_plat::{first_township, read};
@@ -145,10 +147,42 @@ fn without_excepted(alloc: Global, made: &[u8]) -> Result<Wording, Unread>
     ensures described { IfOk result (λ found. IsDescribed found.manner made.now found.text.items) }
     ensures items { IfOk result (λ found. AreItemsOf made.now found.items found.excepted) }
 {
-    match around_except(made) {
-        Some(parts) => remainder(alloc, parts.whole, parts.excepted),
-        None => Err(Unread::Refused),
+    let Some(parts) = around_except(made) else {
+        return Err(Unread::Refused);
+    };
+    match of_last(alloc, made, parts) {
+        Ok(wording) => Ok(wording),
+        Err(Unread::Memory) => Err(Unread::Memory),
+        Err(unread) => {
+            // Another section may follow the exception.
+            if parts.excepted.contains(&b';') {
+                of_each(alloc, made)
+            } else {
+                Err(unread)
+            }
+        }
     }
+}
+
+/// The description of a text without its exception, which is of the last land.
+fn of_last(alloc: Global, made: &[u8], parts: Excepting<'_>) -> Result<Wording, Unread>
+    requires { made.now ≡ parts.whole.now ++ except ++ parts.excepted.now }
+    ensures described { IfOk result (λ found. IsDescribed found.manner made.now found.text.items) }
+    ensures items { IfOk result (λ found. AreItemsOf made.now found.items found.excepted) }
+{
+    let at = parts.whole.len() + EXCEPT.len();
+    remainder(alloc, made, parts.whole, parts.excepted, at)
+}
+
+/// The description of a text without its exceptions, each of which ends with a semicolon.
+#[inline(never)]
+fn of_each(alloc: Global, made: &[u8]) -> Result<Wording, Unread>
+    ensures described { IfOk result (λ found. IsDescribed found.manner made.now found.text.items) }
+    ensures items { IfOk result (λ found. AreItemsOf made.now found.items found.excepted) }
+{
+    let whole = kept(alloc, made)?;
+    let excepted = taken(alloc, made)?;
+    remainder(alloc, made, whole.as_slice(), excepted.as_slice(), 0)
 }
 
 /// The texts before the first `except` and after it.
@@ -184,11 +218,16 @@ fn split_at_except(text: &[u8], at: usize) -> Option<Excepting<'_>>
 /// would be cleared for each text.
 #[tactic(auto, using(crate::proofs::meaning::LandFacts::are_excepted))]
 #[inline(never)]
-fn remainder(alloc: Global, whole: &[u8], excepted: &[u8]) -> Result<Wording, Unread>
-    ensures described { IfOk result (λ found.
-        IsDescribed found.manner (whole.now ++ except ++ excepted.now) found.text.items) }
-    ensures items { IfOk result (λ found.
-        AreItemsOf (whole.now ++ except ++ excepted.now) found.items found.excepted) }
+fn remainder(
+    alloc: Global,
+    _made: &[u8],
+    whole: &[u8],
+    excepted: &[u8],
+    at: usize,
+) -> Result<Wording, Unread>
+    requires { IsParted _made.now whole.now excepted.now at }
+    ensures described { IfOk result (λ found. IsDescribed found.manner _made.now found.text.items) }
+    ensures items { IfOk result (λ found. AreItemsOf _made.now found.items found.excepted) }
 {
     let mut land = Lanes::empty();
     let mut less = Lanes::empty();
@@ -217,10 +256,7 @@ fn remainder(alloc: Global, whole: &[u8], excepted: &[u8]) -> Result<Wording, Un
         text,
         manner: Manner::Remainder,
         items: description,
-        excepted: Some(Excepted {
-            items,
-            at: whole.len() + EXCEPT.len(),
-        }),
+        excepted: Some(Excepted { items, at }),
     })
 }
 

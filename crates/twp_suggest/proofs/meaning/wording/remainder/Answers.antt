@@ -11,8 +11,9 @@ returns-clause-described c =
     let less =
     is_land c.in-Some-first_township.township c.args.excepted.now _ _ read_less
     (c.in-Ok-resolve_into.ensures.land) in
-    is_remainder c.args.whole.now c.args.excepted.now c.in_ok-text.text.items c.in_ok-full.full.items _ _ _ _
+    is_remainder c.args._made.now c.args.whole.now c.args.excepted.now c.args.at c.in_ok-text.text.items
+    c.in_ok-full.full.items _ _ _ _
     only land less (c.is_proper_part.ensures.inside c.if-not-is_proper_part.false)
     (c.is_proper_part.ensures.some_left c.if-not-is_proper_part.false)
     (rw c.take_away.ensures at c.in_ok-full.ensures.text)
-    (rw c.as_slice.ensures.value at c.in_ok-text.ensures)
+    (rw c.as_slice.ensures.value at c.in_ok-text.ensures) c.requires
