@@ -1,5 +1,6 @@
 //! What the phrases of a text say together, if that isn't sure: each of them may be, and what they make
 //! isn't.
+ghost use Rattle.std.specs.Prelude.{◌≤◌};
 
 use crate::arranged::plan::Plan;
 use twp_asides::{begins_terms, plus};
@@ -11,6 +12,7 @@ impl<'a> Plan<'a> {
     pub(crate) fn doubt_together(&mut self) {
         if self.has_empty_place()
             || self.are_unsure_together()
+            || self.has_half_of_two()
             || self.has_unsure_label()
             || self.has_unsure_section()
         {
@@ -25,6 +27,53 @@ impl<'a> Plan<'a> {
         (counts.parts > 0 && self.has_part_of_part())
             || (counts.parts > 1 && self.has_corner_without_fraction())
             || ((counts.asides > 0 || counts.lots > 0) && self.has_unsure_neighbors())
+    }
+
+    /// Whether a half may be of two corners, since white space is between it and the first one, as in
+    /// `W2 NE & NW`.
+    fn has_half_of_two(&self) -> bool {
+        if self.counts.parts < 3 {
+            return false;
+        }
+        for index in 2..self.draft.phrases.len() {
+            if self.is_half_of_two(index) {
+                return true;
+            }
+        }
+        false
+    }
+
+    /// Whether such a half is two phrases before the one at an index.
+    fn is_half_of_two(&self, index: usize) -> bool
+        requires { 2 ≤ index }
+    {
+        let phrases = self.draft.phrases.as_slice();
+        let (Some(half), Some(corner), Some(other)) = (
+            phrases.get(index - 2),
+            phrases.get(index - 1),
+            phrases.get(index),
+        ) else {
+            return false;
+        };
+        let end = corner.phrase.end;
+        let goes_on = match phrases.get(plus(index, 1)) {
+            Some(next) => next.phrase.first == other.phrase.end && next.phrase.names == Names::Part,
+            None => false,
+        };
+        let is_and = self.draft.pieces.is(end, b"&") || self.draft.pieces.is(end, b"and");
+        is_and
+            && !goes_on
+            && other.phrase.first == plus(end, 1)
+            && corner.phrase.first == half.phrase.end
+            && self.is_single_step(half.phrase, b"2")
+            && self.is_single_step(corner.phrase, b"4")
+            && self.is_single_step(other.phrase, b"4")
+    }
+
+    /// Whether a phrase is a part of one step, whose fraction ends with a digit.
+    fn is_single_step(&self, phrase: Phrase, digit: &[u8]) -> bool {
+        phrase.names == Names::Part
+            && matches!(self.draft.steps_of(phrase), [step] if step.written.ends_with(digit))
     }
 
     /// Whether labels aren't sure with the rest of the text. Most texts have none.
