@@ -69,7 +69,7 @@ impl<'a> Pieces<'a> {
             return None;
         }
         let Lead { end, has_unit } = self.lead_of_acreage(index);
-        let mut next = match self.end_of_decimal(end) {
+        let mut next = match self.end_of_worn_figure(end).or(self.end_of_decimal(end)) {
             // A few acres may be less than the land.
             Some(next)
                 if end == index

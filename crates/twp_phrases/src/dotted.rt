@@ -118,6 +118,16 @@ impl<'a> Finder<'a> {
         if let Some(end) = self.fraction(index, size) {
             return Some(end);
         }
+        // Between two letters and `of`, scanning left this of a quarter.
+        if size == Size::Quarter
+            && self.draft.pieces.is(index, b"i")
+            && self.draft.pieces.is(plus(index, 1), b"of")
+        {
+            let start = self.draft.pieces.end_before(index);
+            let end = self.draft.pieces.end(index);
+            self.draft.write(start, end, size.fraction(), rule_of(size));
+            return Some(plus(index, 1));
+        }
         if size.is_word(self.draft.pieces.lower(index)) {
             let after = self.after_stop(plus(index, 1));
             let start = self.draft.pieces.end_before(index);

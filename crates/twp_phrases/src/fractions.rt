@@ -37,11 +37,15 @@ impl<'a> Finder<'a> {
     /// a description.
     fn fraction_after(&mut self, index: usize, size: Size, rule: Rule) -> Option<usize> {
         let pieces = &self.draft.pieces;
-        let next = plus(index, 1);
+        let second = plus(index, 1);
+        let is_doubled = pieces.is(index, b"\\")
+            && pieces.is(second, b"\\")
+            && pieces.is_joined(second);
+        let next = plus(second, usize::from(is_doubled));
         if !pieces.is_joined(index) || !is_written(size, pieces.kind(next)) {
             return None;
         }
-        self.draft.leave_out(index, next, rule);
+        self.draft.leave_out_each(index, next, rule);
         Some(plus(next, 1))
     }
 
@@ -93,6 +97,10 @@ impl<'a> Finder<'a> {
         if self.is_hyphenated(index, size) {
             return Some(plus(index, 3));
         }
+        let is_letter = size == Size::Quarter && pieces.is(next, b"a") && pieces.is_joined(next);
+        if is_letter && pieces.is(index, b"1") && pieces.is_joined(index) {
+            return Some(plus(index, 2));
+        }
         if !self.is_before_slash(index) {
             return None;
         }
@@ -115,6 +123,13 @@ impl<'a> Finder<'a> {
         }
         if self.is_before_slash(index) && self.is_slashed(index, size) {
             return Some(plus(index, 3));
+        }
+        let is_letter = pieces.is(index, b"i") || pieces.is(index, b"a");
+        if is_letter && size == Size::Quarter && pieces.is_joined(index) {
+            return Some(next);
+        }
+        if let Some(end) = self.end_of_divided_word(index, size) {
+            return Some(end);
         }
         let is_worn = pieces.is(index, b"v") || pieces.is(index, b"y");
         if is_worn && pieces.is_joined(index) && self.is_digit(next, size) {
@@ -146,10 +161,38 @@ impl<'a> Finder<'a> {
         if self.is_before_slash(index) && self.is_slashed(index, size) {
             return Some(plus(index, 3));
         }
-        if is_joined && pieces.is(index, b"%") {
+        // A character of two bytes that was read as two characters.
+        if pieces.is(index, b"\xC3\x82") && is_joined && pieces.is_joined(next) {
+            return if is_written(size, pieces.kind(next)) {
+                Some(plus(next, 1))
+            } else {
+                None
+            };
+        }
+        let is_worn = pieces.is(index, b"%")
+            || pieces.is(index, b"}")
+            || pieces.is(index, b"\xC2\xA3");
+        if is_joined && is_worn {
             return Some(next);
         }
         None
+    }
+
+    /// Where `quarter` ends that a line end divides, with a hyphen.
+    fn end_of_divided_word(&self, index: usize, size: Size) -> Option<usize> {
+        let pieces = &self.draft.pieces;
+        let hyphen = plus(index, 1);
+        let rest = plus(index, 2);
+        let is_divided = size == Size::Quarter
+            && pieces.is(index, b"quar")
+            && pieces.is_hyphen_at_line_end(hyphen)
+            && pieces.start(rest) == plus(pieces.end(hyphen), 1)
+            && pieces.is(rest, b"ter");
+        if is_divided {
+            Some(plus(rest, 1))
+        } else {
+            None
+        }
     }
 
     /// Whether a slash follows the piece at an index, without white space.

@@ -120,8 +120,12 @@ impl<'a> Finder<'a> {
             return None;
         }
         if self.draft.pieces.is(index, b"\\") || is_slash {
-            self.draft.leave_out(index, plus(index, 1), Rule::Mark);
-            let next = plus(index, 1);
+            let second = plus(index, 1);
+            let is_doubled = self.draft.pieces.is(index, b"\\")
+                && self.draft.pieces.is(second, b"\\")
+                && self.draft.pieces.is_joined(second);
+            let next = plus(second, usize::from(is_doubled));
+            self.draft.leave_out_each(index, next, Rule::Mark);
             if self.draft.pieces.is_joined(next) {
                 if let Some(end) = self.step(next) {
                     return Some(end);

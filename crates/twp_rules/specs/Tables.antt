@@ -36,6 +36,9 @@ pairs (text ∷ texts) = (before 61 text ⇒ after 61 text) ∷ pairs texts
 abbrev pub right_quote : List ℕ
 right_quote = 226 ∷ 128 ∷ 153 ∷ []
 
+abbrev pub pound_sign : List ℕ
+pound_sign = 194 ∷ 163 ∷ []
+
 abbrev pub opening_quotes : List ℕ
 opening_quotes = 226 ∷ 128 ∷ 156 ∷ []
 
@@ -84,7 +87,8 @@ halves = all_as (texts (codes "2|/2|half|one-half|one half")) (codes "1/2")
 -- and what scanning, or a slip of the pen, leaves of a half
 abbrev pub worn_halves : List Entry
 worn_halves = all_as (words (codes "l/2 i/2 '/2") ++ (right_quote ++ codes "/2") ∷ []) (codes "1/2")
-    ++ all_as (words (codes "]/2 !/2 |/2 1/ 2/2 1/z v2 y2 %")) (codes "1/2")
+    ++ all_as (words (codes "]/2 !/2 |/2 1/ 2/2 1/z v2 y2 % }") ++ pound_sign ∷ (195 ∷ 130 ∷ half_sign) ∷ [])
+    (codes "1/2")
 
 -- QUARTER: after NE, NW, SW, or SE, and white space, if any
 abbrev pub quarters : List Entry
@@ -95,7 +99,8 @@ quarters = all_as (texts (codes "|4|/4|quarter|one-quarter|one quarter")) (codes
 -- and what scanning, or a slip of the pen, leaves of a quarter
 abbrev pub worn_quarters : List Entry
 worn_quarters = all_as (words (codes "^ l/4 i/4 '/4") ++ (right_quote ++ codes "/4") ∷ []) (codes "1/4")
-    ++ all_as (words (codes "]/4 !/4 |/4 1/ v4 y4 % quater")) (codes "1/4")
+    ++ all_as (words (codes "]/4 !/4 |/4 1/ v4 y4 % quater i a 1a }") ++ pound_sign ∷ []) (codes "1/4")
+    ++ all_as ((codes "quar-" ++ 10 ∷ codes "ter") ∷ (195 ∷ 130 ∷ quarter_sign) ∷ []) (codes "1/4")
 
 -- or abbreviated
 abbrev pub quarter_abbreviations : List Entry

@@ -90,6 +90,7 @@ pub fn is_damaged_corner(bytes: &[u8]) -> bool {
             b'E' | b'e' | b'W' | b'w',
             b'l' | b'I' | b'i' | b'V' | b'v' | b'Y' | b'y',
         ] => true,
+        [b'N' | b'S', b'E' | b'W', b'A'] => true,
         _ => false,
     }
 }

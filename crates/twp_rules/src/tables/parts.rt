@@ -24,7 +24,7 @@ pub(crate) fn is_in_halves(seen: &[u8], written: &[u8]) -> bool
 }
 
 /// The table `worn_halves` of the specification.
-static WORN_HALVES: [[u8; 12]; 13] = [
+static WORN_HALVES: [[u8; 12]; 16] = [
     *b"l/2=1/2_____",
     *b"i/2=1/2_____",
     *b"'/2=1/2_____",
@@ -38,6 +38,9 @@ static WORN_HALVES: [[u8; 12]; 13] = [
     *b"v2=1/2______",
     *b"y2=1/2______",
     *b"%=1/2_______",
+    *b"}=1/2_______",
+    *b"\xC2\xA3=1/2______",
+    *b"\xC3\x82\xC2\xBD=1/2____",
 ];
 
 /// Whether this is a row of it: what it looks at, and what it writes.
@@ -47,9 +50,9 @@ pub(crate) fn is_in_worn_halves(seen: &[u8], written: &[u8]) -> bool
     is_among(
         seen,
         written,
-        0x3246_12a6,
-        0x2004_8001,
-        0x2604_0000,
+        0x3246_12ae,
+        0x2004_800d,
+        0x2604_0004,
         &WORN_HALVES,
     )
 }
@@ -93,20 +96,27 @@ pub(crate) fn is_in_quarter_abbreviations(seen: &[u8], written: &[u8]) -> bool
 }
 
 /// The table `worn_quarters` of the specification.
-static WORN_QUARTERS: [[u8; 12]; 13] = [
-    *b"^=1/4_______",
-    *b"l/4=1/4_____",
-    *b"i/4=1/4_____",
-    *b"'/4=1/4_____",
-    *b"\xE2\x80\x99/4=1/4___",
-    *b"]/4=1/4_____",
-    *b"!/4=1/4_____",
-    *b"|/4=1/4_____",
-    *b"1/=1/4______",
-    *b"v4=1/4______",
-    *b"y4=1/4______",
-    *b"%=1/4_______",
-    *b"quater=1/4__",
+static WORN_QUARTERS: [[u8; 13]; 20] = [
+    *b"^=1/4________",
+    *b"l/4=1/4______",
+    *b"i/4=1/4______",
+    *b"'/4=1/4______",
+    *b"\xE2\x80\x99/4=1/4____",
+    *b"]/4=1/4______",
+    *b"!/4=1/4______",
+    *b"|/4=1/4______",
+    *b"1/=1/4_______",
+    *b"v4=1/4_______",
+    *b"y4=1/4_______",
+    *b"%=1/4________",
+    *b"quater=1/4___",
+    *b"i=1/4________",
+    *b"a=1/4________",
+    *b"1a=1/4_______",
+    *b"}=1/4________",
+    *b"\xC2\xA3=1/4_______",
+    *b"quar-\nter=1/4",
+    *b"\xC3\x82\xC2\xBC=1/4_____",
 ];
 
 /// Whether this is a row of it: what it looks at, and what it writes.
@@ -116,9 +126,9 @@ pub(crate) fn is_in_worn_quarters(seen: &[u8], written: &[u8]) -> bool
     is_among(
         seen,
         written,
-        0x7242_12a6,
-        0x2030_8001,
-        0x2210_0002,
+        0x7242_12ae,
+        0x2030_800f,
+        0x2210_0006,
         &WORN_QUARTERS,
     )
 }

@@ -206,6 +206,14 @@ impl<'a> Plan<'a> {
                 }
                 continue;
             }
+            if let Some((value, end)) = pieces.worn_figure(index) {
+                if found.is_some() {
+                    return None;
+                }
+                found = Some(value);
+                next = end;
+                continue;
+            }
             if pieces.is(index, b"net")
                 || pieces.is(index, b"mineral")
                 || pieces.is(index, b"spacing")
