@@ -1,6 +1,7 @@
 -- What a phrase that names no land says of it, by what it begins with, and which words that limit land it may
 -- contain: they limit a right, a depth, or a share, and not the land.
-use Rattle.std.specs.Prelude.{◌||◌, ◌&&◌, ℕ, suc, Bool, true, false, List, [], ◌∷◌, not, slice_index}
+use Rattle.std.specs.Prelude.{◌==◌, ◌||◌, ◌&&◌, ℕ, suc, ◌-◌, Bool, true, false, List, [], ◌∷◌, not}
+use Rattle.std.specs.Prelude.{codes, drop, slice_index}
 use Rattle.std.specs.Char.{is_ascii_alphabetic, is_ascii_alphanumeric}
 use Rattle.twp_rules.specs.Edges.{begins_with_one, byte_before, ends_with_one, is_one_of}
 use Rattle.twp_rules.specs.Endings.{depths, estates, interest_fronts, number_fronts, property_fronts}
@@ -36,10 +37,17 @@ may_contain Code word = is_one_of word side_names
 may_contain Acreage word = is_one_of word acreage_limits
 may_contain _ word = false
 
--- a word begins at a place, after neither a letter nor a digit
+-- the S of a possessive is at a place: an apostrophe is before it, and a letter before that
+abbrev pub is_possessive : List ℕ → ℕ → Bool
+is_possessive seen at =
+    (byte_before seen at == 39) && is_ascii_alphabetic (byte_before seen (at - 1))
+    && is_one_of (word_of (drop at seen)) (codes "s" ∷ [])
+
+-- a word begins at a place, after neither a letter nor a digit, and isn't the S of a possessive
 abbrev pub begins_whole_word : List ℕ → ℕ → Bool
 begins_whole_word seen at =
     is_ascii_alphabetic (slice_index seen at) && not (is_ascii_alphanumeric (byte_before seen at))
+    && not (is_possessive seen at)
 
 -- no word from a place on limits land, but for those that the phrase may contain
 abbrev pub has_no_limit_from : Saying → List ℕ → ℕ → List ℕ → Bool

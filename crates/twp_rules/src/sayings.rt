@@ -4,13 +4,16 @@ ghost use Rattle.twp_rules.specs.Naming.{word_of};
 ghost use Rattle.twp_rules.specs.Sayings.{begins_whole_word, has_no_limit, has_only_columns_from, is_mentioned};
 ghost use Rattle.twp_rules.specs.Sayings.{is_more_or_less, is_remark, is_said_of_interests, is_said_of_land, is_said_of_rights};
 ghost use Rattle.twp_rules.specs.Sayings.{is_said_of_terms, limits_land, may_contain, mentions_from, says};
+ghost use Rattle.twp_rules.specs.Sayings.{is_possessive};
 
+use crate::context::less;
 use crate::endings::labels::*;
 use crate::figures::from;
 use crate::naming::{
     begins_nothing, begins_word, byte_at, byte_before, is_explained_at, named_after, names_land_at,
     names_no_land, word_of,
 };
+use crate::same::is_text;
 use crate::saying::Saying;
 use crate::words::limits::*;
 use crate::words::sections::*;
@@ -181,9 +184,22 @@ fn limits_land(word: &[u8]) -> bool
         || is_in_measure_words(word)
 }
 
-/// Whether a word begins at a place, after neither a letter nor a digit.
+/// Whether a word begins at a place, after neither a letter nor a digit, and isn't the S of a possessive.
 fn begins_whole_word(seen: &[u8], at: usize) -> bool
+    requires { at ≤ length seen.now }
     ensures { result ≡ begins_whole_word seen.now at }
 {
-    byte_at(seen, at).is_ascii_alphabetic() && !byte_before(seen, at).is_ascii_alphanumeric()
+    byte_at(seen, at).is_ascii_alphabetic()
+        && !byte_before(seen, at).is_ascii_alphanumeric()
+        && !is_possessive(seen, at)
+}
+
+/// Whether the S of a possessive is at a place, as in `Lessor's`.
+fn is_possessive(seen: &[u8], at: usize) -> bool
+    requires { at ≤ length seen.now }
+    ensures { result ≡ is_possessive seen.now at }
+{
+    byte_before(seen, at) == 39
+        && byte_before(seen, less(at, 1)).is_ascii_alphabetic()
+        && is_text(word_of(from(seen, at)), b"s")
 }
