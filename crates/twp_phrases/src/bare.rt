@@ -14,10 +14,11 @@ impl<'a> Finder<'a> {
     #[inline(never)]
     pub(crate) fn section_of_letter(&mut self, index: usize) -> Option<usize> {
         let from = self.draft.extent();
-        let Some(number) = self.number_of_letter(index) else {
+        let digits = self.digits_of_letter(index);
+        let Some(number) = self.number_of_letter(index, digits) else {
             return None;
         };
-        let next = plus(index, 2);
+        let next = plus(digits, 1);
         let is_after = self.is_sure_letter(index);
         let place = if self.draft.pieces.is_dash(next) || self.draft.pieces.is(next, b",") {
             plus(next, 1)
@@ -35,17 +36,32 @@ impl<'a> Finder<'a> {
             return None;
         }
         self.draft.replace(index, b"sec. ", Rule::SectionWord);
+        self.draft
+            .leave_out_each(plus(index, 1), digits, Rule::Mark);
         self.draft.write_numeral(number);
         Some(self.draft.add(Names::Sections, index, next, from))
     }
 
-    /// The number of a section after the letter for it at an index.
-    fn number_of_letter(&self, index: usize) -> Option<WrittenNumber> {
+    /// The index of the number after the letter for a section at an index, and after a period, as in
+    /// `S. 15, T. 2 N.`: no half has such a number.
+    fn digits_of_letter(&self, index: usize) -> usize {
         let pieces = &self.draft.pieces;
-        let digits = plus(index, 1);
-        let next = plus(index, 2);
+        let next = plus(index, 1);
+        let digits = plus(next, 1);
+        let is_stop = pieces.is(next, b".")
+            && pieces.is_joined(next)
+            && !pieces.is_joined(digits)
+            && pieces.has_digits(digits, 2);
+        if is_stop { digits } else { next }
+    }
+
+    /// The number of a section at an index after the letter for it.
+    fn number_of_letter(&self, index: usize, digits: usize) -> Option<WrittenNumber> {
+        let pieces = &self.draft.pieces;
+        let next = plus(digits, 1);
+        let has_stop = digits > plus(index, 1);
         if !pieces.is(index, b"s")
-            || !pieces.is_joined(digits)
+            || !(pieces.is_joined(digits) || has_stop)
             || (pieces.is_joined(next) && !pieces.is_after_tag(next))
         {
             return None;
@@ -69,8 +85,8 @@ impl<'a> Finder<'a> {
             || pieces.is_section_before_land(index)
     }
 
-    /// Whether the letter and the number at an index, before a township that ends at another, may be a half
-    /// or a quarter of a section that was named, or of one that is missing: `S2`, unless land follows.
+    /// Whether the letter and the number at an index, before a township that ends at another, may be a half of a
+    /// section that was named, or of one that is missing: `S2`, unless land follows. After land, `S4` is none.
     fn may_be_half(&self, index: usize, heading: Option<usize>) -> bool {
         let pieces = &self.draft.pieces;
         let digits = plus(index, 1);
@@ -78,7 +94,11 @@ impl<'a> Finder<'a> {
             Some(end) => pieces.is(end, b":"),
             None => false,
         };
-        (pieces.is(digits, b"2") || pieces.is(digits, b"4")) && !is_before_land
+        let is_after_lots = matches!(
+            self.draft.last_names(),
+            Some(Names::Lots | Names::Nothing(LeftOut::Repeated))
+        );
+        (pieces.is(digits, b"2") || (pieces.is(digits, b"4") && !is_after_lots)) && !is_before_land
     }
 
     /// The number of a section without a word for it.
@@ -184,7 +204,15 @@ impl<'a> Finder<'a> {
         if let Some(is_section) = self.is_section_by_place(index) {
             return is_section;
         }
-        self.is_before_end_or_and(next) || self.end_of_heading(next).is_some()
+        self.is_before_end_or_and(next)
+            || self.end_of_heading(next).is_some()
+            || (self.draft.pieces.follows(index, b"of") && self.is_before_dash_or_except(next))
+    }
+
+    /// Whether a dash, or an exception, is at an index, after `of` and a number.
+    fn is_before_dash_or_except(&self, index: usize) -> bool {
+        self.after_except(index).is_some()
+            || (self.draft.pieces.is_dash(index) && !self.draft.pieces.is_joined(index))
     }
 
     /// Whether the piece at an index begins a row.
@@ -224,6 +252,7 @@ impl<'a> Finder<'a> {
         let is_apart = is_after_semicolon
             || pieces.follows(index, b",")
             || pieces.is_after_dash(index)
+            || pieces.follows(index, b"|")
             || pieces.begins_line(index);
         if pieces.is(next, b":") && (is_first || is_apart) {
             return Some(plus(next, 1) < pieces.len());
