@@ -49,6 +49,25 @@ impl<'a> Pieces<'a> {
         }
     }
 
+    /// The index after acreage with decimals at an index, and a comma, before more that is said of the land, as
+    /// in `(120.00 ac., 60.00 net)`.
+    pub(crate) fn after_acreage_in_list(&self, index: usize) -> usize {
+        if !self.is_figure_with_decimals(index) {
+            return index;
+        }
+        match self.end_of_figure_and_unit(index) {
+            Some(end) => {
+                let comma = plus(end, usize::from(self.is(end, b".")));
+                if self.is(comma, b",") {
+                    plus(comma, 1)
+                } else {
+                    index
+                }
+            }
+            None => index,
+        }
+    }
+
     /// Where acreage after a dash ends, with white space on both sides of the dash, as in `- 38.5 ac`.
     pub fn end_of_dashed_acreage(&self, index: usize) -> Option<usize> {
         let next = plus(index, 1);
@@ -102,6 +121,12 @@ impl<'a> Pieces<'a> {
         if is_net_or_gross(self.lower(next)) && is_acres(self.lower(plus(next, 1))) {
             next = plus(next, 1);
         }
+        // A total may have no other unit, as in `240.00 gross`.
+        let is_total = (self.is_figure_with_decimals(end) && self.begins_column(plus(next, 1)))
+            || self.is(plus(next, 1), b")");
+        if is_net_or_gross(self.lower(next)) && is_total {
+            return Some(plus(next, 1));
+        }
         let is_letter = self.is(next, b"a")
             && (self.is_joined(next)
                 || self.is(plus(next, 1), b".")
@@ -147,7 +172,7 @@ impl<'a> Pieces<'a> {
             let word = self.lower(place);
             let is_lead = is_acreage_lead(word);
             let is_unit = is_acres(word) || is_same(word, b"acreage");
-            let is_mark = (self.is(place, b":") || self.is(place, b"."))
+            let is_mark = (self.is(place, b":") || self.is(place, b".") || self.is(place, b"="))
                 && place > index
                 && !self.is_after_point(plus(place, 1));
             if !is_lead && !is_unit && !is_mark && !is_area_word(word) {
@@ -283,11 +308,11 @@ impl<'a> Pieces<'a> {
                 None => return index,
             },
         };
-        let next = if self.is(next, b"hundredths") {
-            plus(next, 1)
-        } else {
-            next
-        };
+        let has_word = self.is(next, b"hundredths");
+        let next = plus(next, usize::from(has_word));
+        if has_word && (next >= self.len() || self.is(next, b".") || self.is(next, b",")) {
+            return next;
+        }
         if self.is(next, b"of")
             && self.is(plus(next, 1), b"an")
             && self.is(plus(next, 2), b"acre")

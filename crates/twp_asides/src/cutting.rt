@@ -3,7 +3,9 @@
 use crate::pieces::plus;
 use std::alloc::AllocError;
 use twp_grammar::{Kind, Lexeme, Tokens, after_white, lexeme_at};
-use twp_words::{is_damaged_corner, is_damaged_half, is_same, size_of_character};
+use twp_words::{
+    is_damaged_corner, is_damaged_half, is_same, is_side_and_meridian, size_of_character,
+};
 
 /// The most characters, one after another, that begin no token: a text with more has no reading, and isn't
 /// cut further.
@@ -185,12 +187,13 @@ fn push_token(
 
 /// How many bytes of a token are its first piece, if there are two: those of the meridian in the six digits
 /// that a register begins with, the A before aliquot parts after a section of a register, and a corner with a
-/// damaged `1` after it.
+/// damaged `1` after it, and the side of a range with letters for a meridian, as in `R3WBM`.
 fn size_of_first(token: Piece, bytes: &[u8], lower: &[u8], before: &[Piece]) -> Option<usize> {
     match token.kind {
         Kind::BadNumber if bytes.len() == 6 => Some(2),
         Kind::Other if matches!(bytes, [b'A', _, ..]) && is_after_section(lower, before) => Some(1),
         Kind::Other if is_damaged_corner(bytes) => Some(2),
+        Kind::Other if is_side_and_meridian(bytes) => Some(1),
         Kind::Other if is_damaged_half(bytes, lower.get(plus(token.start, 2)..)) => Some(1),
         _ => None,
     }

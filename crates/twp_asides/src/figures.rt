@@ -5,7 +5,7 @@ use crate::pieces::{Pieces, plus};
 use twp_grammar::Kind;
 use twp_words::{
     is_instrument, is_month, is_numeral, is_of_label, is_of_other_land, is_of_record, is_of_share,
-    is_of_time, is_of_tract,
+    is_of_time, is_of_tract, is_same,
 };
 
 /// The most pieces of letters and digits without white space.
@@ -13,6 +13,11 @@ const CODE_MOST: usize = 24;
 
 /// The number of a township's last section: a remark doesn't begin or end with a number up to this.
 const SECTIONS: u16 = 36;
+
+/// Whether a word makes an ordinal of the digits before it.
+fn is_ending_of_ordinal(word: &[u8]) -> bool {
+    is_same(word, b"st") || is_same(word, b"nd") || is_same(word, b"rd") || is_same(word, b"th")
+}
 
 impl<'a> Pieces<'a> {
     /// Whether a percentage is at an index, as `12.5%`.
@@ -167,10 +172,25 @@ impl<'a> Pieces<'a> {
         let is_first = self.is_joined(next)
             && matches!(self.kind(next), Kind::Number(_) | Kind::BadNumber);
         !is_first
-            && !(self.is_date(index) || self.is_share(index))
+            && !(self.is_date(index) || self.is_share(index) || self.is_day_or_eighths(index))
             && !is_of_time(self.lower(next))
             && !self.is_percentage(index)
             && !(self.is(next, b",") && self.has_digits(plus(index, 2), 3))
+    }
+
+    /// Whether an ordinal is at an index, as the day in `the 3rd day of May`, or a share in eighths, as `8/8ths`.
+    fn is_day_or_eighths(&self, index: usize) -> bool {
+        let next = plus(index, 1);
+        let second = plus(index, 2);
+        if !self.is_joined(next) {
+            return false;
+        }
+        let is_day = is_ending_of_ordinal(self.lower(next))
+            && (self.is(second, b"day") || self.follows(index, b"the"));
+        let is_eighths = self.is(next, b"/")
+            && self.is_joined(second)
+            && (self.is(second, b"8") || self.is(second, b"16"));
+        is_day || is_eighths
     }
 
     /// Whether the piece before the number at an index says that it isn't that of a section: the word for a
@@ -189,7 +209,9 @@ impl<'a> Pieces<'a> {
                 || self.is(before, b".")
                 || self.is(before, b",")
                 || self.is_dash(before));
-        is_record || is_end || self.is(before, b"$")
+        let is_value = self.is(before, b"=")
+            && matches!(self.lower_back(before, 1), Some(name) if is_of_label(name));
+        is_record || is_end || is_value || self.is(before, b"$")
     }
 
     /// Whether the number of a section is at an index, in digits, or in words without more of them.

@@ -25,9 +25,19 @@ impl<'a> Pieces<'a> {
         }
         let mut end: Option<usize> = None;
         let mut has_interest = false;
+        let mut next = first;
         for place in first..plus(first, PIECES_MOST) {
+            if place < next {
+                continue;
+            }
             if has_interest && self.is(place, b":") {
                 return Some(plus(place, 1));
+            }
+            if has_interest {
+                if let Some(after) = self.end_of_meridian(place) {
+                    next = after;
+                    continue;
+                }
             }
             if !self.is_part_of_interest(place) {
                 break;
@@ -37,8 +47,10 @@ impl<'a> Pieces<'a> {
             has_interest = has_interest
                 || is_interest
                 || is_same(word, b"minerals")
+                || is_same(word, b"mineral")
                 || is_same(word, b"royalty");
-            let is_in = is_same(word, b"in")
+            let is_of_lands = self.follows(place, b"lands") || self.follows(place, b"land");
+            let is_in = (is_same(word, b"in") && !is_of_lands)
                 || is_same(word, b"wit")
                 || is_same(word, b"under")
                 || (is_same(word, b"to") && self.follows(place, b"and"));
@@ -72,6 +84,10 @@ impl<'a> Pieces<'a> {
                 && self.is(next, b"of")
                 && is_owner(self.lower(plus(index, 2))))
             || (self.is(index, b"all") && (self.is(next, b"right") || is_whose(self.lower(next))))
+            || (self.is(index, b"all") && self.is(next, b"the") && self.is(plus(next, 1), b"right"))
+            || (self.number(index).is_some()
+                && self.is(next, b"net")
+                && self.is(plus(next, 1), b"mineral"))
             || is_owner(self.lower(index))
     }
 

@@ -56,6 +56,7 @@ impl<'a> Pieces<'a> {
             && (!self.is_joined(next) || self.bytes(next).len() >= 4);
         (self.is(index, b"(") || self.is(index, b"[") || self.is(index, b"\xC2\xA7"))
             || self.is(index, b"#")
+            || (self.is(index, b"$") && self.begins_column(index))
             || (is_number && self.is_dash(index))
             || self.is_question_mark(index)
     }
@@ -145,10 +146,12 @@ impl<'a> Pieces<'a> {
     /// Whether a dash with white space on both sides is at an index, and land after it.
     pub fn is_before_dash_and_land(&self, index: usize) -> bool {
         let land = plus(index, 1);
+        let digits = plus(land, 1);
+        let is_lot = self.is(land, b"l") && self.is_joined(digits) && self.number(digits).is_some();
         self.is_dash(index)
             && !self.is_joined(index)
             && !self.is_joined(land)
-            && self.begins_land(land)
+            && (self.begins_land(land) || is_lot)
     }
 
     /// Whether a hyphen that divides a part is at an index, at the end of its line.

@@ -18,6 +18,9 @@ impl<'a> Pieces<'a> {
         if let Some(end) = self.end_of_interest(index) {
             return Some(end);
         }
+        if self.is_for_before_land(index) {
+            return Some(plus(index, 1));
+        }
         let is_after_mark = self.follows(index, b".")
             || self.follows(index, b";")
             || self.follows(index, b":");
@@ -53,13 +56,26 @@ impl<'a> Pieces<'a> {
         if is_whole { Some(end) } else { None }
     }
 
+    /// Whether `for` is at an index, as a patent begins, or after a comma, and land after it.
+    fn is_for_before_land(&self, index: usize) -> bool {
+        let next = plus(index, 1);
+        self.is(index, b"for")
+            && (self.begins_line(index) || self.follows(index, b","))
+            && (self.begins_part(next)
+                || (self.is(next, b"the") && matches!(self.kind(plus(next, 1)), Kind::Lot))
+                || matches!(self.kind(next), Kind::Lot))
+    }
+
     /// Where the name of the column for aliquot parts at an index ends, as `ALIQ`, or `Type: ALIQ Subdiv:`.
     pub fn end_of_column_label(&self, index: usize) -> Option<usize> {
         if !matches!(self.kind(index), Kind::Other) {
             return None;
         }
         if self.is_label_of_part(index) {
-            return Some(plus(index, 3));
+            return Some(plus(index, if self.is(plus(index, 2), b":") { 3 } else { 2 }));
+        }
+        if self.is_label_after_section(index) {
+            return Some(plus(index, 2));
         }
         let mut end: Option<usize> = None;
         let mut next = index;
@@ -69,15 +85,12 @@ impl<'a> Pieces<'a> {
             }
             let word = self.lower(place);
             let after = plus(place, 1);
-            let is_before_colon = self.is(after, b":") && is_field(word);
+            let has_mark = self.is(after, b":") || self.is(after, b"=");
+            let is_before_colon = has_mark && is_field(word);
             if !is_before_colon && !self.names_column_of_parts(index, place) {
                 break;
             }
-            next = if self.is(after, b":") {
-                plus(after, 1)
-            } else {
-                after
-            };
+            next = plus(after, usize::from(has_mark));
             if is_same(word, b"type") && self.is(next, b"a") {
                 next = plus(next, 1);
             }
@@ -109,7 +122,15 @@ impl<'a> Pieces<'a> {
         let part = plus(index, 1);
         self.is(index, b"aliquot")
             && (self.is(part, b"part") || self.is(part, b"parts"))
-            && self.is(plus(part, 1), b":")
+            && (self.is(plus(part, 1), b":") || self.is(plus(part, 1), b"\""))
+    }
+
+    /// Whether `A:` for aliquot parts is at an index, after the section of a register.
+    fn is_label_after_section(&self, index: usize) -> bool {
+        self.is(index, b"a")
+            && self.is(plus(index, 1), b":")
+            && matches!(index.checked_sub(1), Some(number) if self.has_digits(number, 3))
+            && self.begins_part(plus(index, 2))
     }
 
     /// Whether a section, with the word for it, is before an index, and an aliquot part after it.

@@ -20,7 +20,9 @@ pub(crate) fn is_beyond_remark(pieces: &Pieces<'_>, index: usize) -> bool {
         || pieces.is(index, b"?")
         || (pieces.is(index, b"'") && matches!(pieces.kind_before(index), Some(Kind::Number(_))))
         || may_be_corners(pieces.lower(index))
-        || (alters_land(pieces.lower(index)) && !is_homesite_of_acreage(pieces, index))
+        || (alters_land(pieces.lower(index))
+            && !is_homesite_of_acreage(pieces, index)
+            && !is_of_instrument(pieces, index))
         || is_glued(pieces.bytes(index))
         || pieces.is_like_section(index)
         || is_metes_and_bounds(pieces, index)
@@ -93,5 +95,9 @@ fn is_of_instrument(pieces: &Pieces<'_>, index: usize) -> bool {
     let is_terminated = pieces.is(index, b"terminated")
         && pieces.follows(index, b"of")
         && pieces.is_back(index, 2, b"reinstatement");
-    is_part || is_only || is_estate || is_proposed || is_terminated
+    let is_release = pieces.is(index, b"release")
+        && (pieces.follows(index, b"remise")
+            || (pieces.follows(index, b",") && pieces.is_back(index, 2, b"remise")));
+    let is_base = pieces.is(index, b"base") && pieces.is(next, b"property");
+    is_part || is_only || is_estate || is_proposed || is_terminated || is_base || is_release
 }

@@ -3,7 +3,7 @@
 
 use crate::pieces::{Pieces, plus};
 use twp_grammar::Kind;
-use twp_words::{is_acres, is_doubtful_title, is_feature, is_known, is_same};
+use twp_words::{is_acres, is_company, is_doubtful_title, is_feature, is_known, is_same};
 
 /// Whether the piece at an index is known to say nothing of which land is meant, as a date, a share, or an
 /// agency.
@@ -19,7 +19,7 @@ pub(crate) fn is_known_at(pieces: &Pieces<'_>, index: usize) -> bool {
 /// Whether a label before land that ends at an index is of a place in it, or of land that isn't meant.
 pub(crate) fn is_title_of_other(pieces: &Pieces<'_>, index: usize) -> bool {
     let word = pieces.lower(index);
-    is_feature(word)
+    (is_feature(word) && !pieces.follows(index, b"public"))
         || is_doubtful_title(word)
         || (is_same(word, b"sale") && pieces.follows(index, b"timber"))
 }
@@ -60,6 +60,16 @@ pub(crate) fn is_homesite_of_acreage(pieces: &Pieces<'_>, index: usize) -> bool 
     pieces.is(index, b"homesite")
         && matches!(pieces.lower_back(index, 1), Some(word) if is_acres(word))
         && pieces.begins_column(plus(index, 1))
+}
+
+impl<'a> Pieces<'a> {
+    /// Whether the name of a company ends so many pieces before an index.
+    pub fn is_company_back(&self, index: usize, count: usize) -> bool {
+        match self.lower_back(index, count) {
+            Some(word) => is_company(word),
+            None => false,
+        }
+    }
 }
 
 /// What nobody has in land after `no`.

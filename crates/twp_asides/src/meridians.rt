@@ -31,6 +31,11 @@ impl<'a> Pieces<'a> {
             if self.is(next, b"the") {
                 next = plus(next, 1);
             }
+            if self.begins_line(index) {
+                if let Some(end) = self.end_of_county(next) {
+                    return Some(end);
+                }
+            }
             let is_of_two = is_meridian_of_two(self.lower(next), self.lower(plus(next, 1)));
             if !is_of_two && !is_meridian(self.lower(next)) && !self.is_ordinal(next) {
                 return None;
@@ -55,6 +60,9 @@ impl<'a> Pieces<'a> {
     pub fn end_of_bare_meridian(&self, index: usize) -> Option<usize> {
         let next = plus(index, 1);
         let goes_on = matches!(self.kind(next), Kind::Other);
+        if self.is(index, b"b") && self.is(next, b"m") && !self.begins_line(next) {
+            return Some(plus(next, 1));
+        }
         if is_bare_meridian(self.lower(index)) && !goes_on {
             Some(next)
         } else {

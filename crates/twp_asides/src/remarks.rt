@@ -16,6 +16,9 @@ use twp_words::{
 /// The most pieces of a remark.
 const PIECES_MOST: usize = 64;
 
+/// The most pieces of a remark in parentheses.
+const PARENTHESES_MOST: usize = 16;
+
 /// The number of a township's last section: a remark doesn't begin or end with a number up to this.
 const SECTIONS: u16 = 36;
 
@@ -46,6 +49,7 @@ pub fn end_of_remark(pieces: &Pieces<'_>, index: usize, position: Position) -> O
     let mut has_word = false;
     let mut is_sure = position == Position::BeforeLand
         || begins_tract(pieces, index)
+        || is_name_of_value(pieces, index)
         || is_homesite_of_acreage(pieces, index);
     let mut next = index;
     for place in index..plus(index, PIECES_MOST) {
@@ -87,7 +91,8 @@ fn may_end_remark(pieces: &Pieces<'_>, index: usize, place: usize, position: Pos
 
 /// Whether a colon after a remark is part of it.
 fn is_colon_of_remark(pieces: &Pieces<'_>, place: usize) -> bool {
-    matches!(pieces.kind(place), Kind::Colon) && !pieces.begins_column(place)
+    (matches!(pieces.kind(place), Kind::Colon) || pieces.is(place, b"="))
+        && !pieces.begins_column(place)
 }
 
 /// Whether the piece at a place can't be in a remark that begins at an index. Then there is no such remark.
@@ -142,6 +147,7 @@ fn may_be_well(pieces: &Pieces<'_>, index: usize, place: usize, position: Positi
 /// a number that is that of no section.
 fn begins_remark(pieces: &Pieces<'_>, index: usize, position: Position) -> bool {
     let is_apart = pieces.begins_column(index)
+        || is_name_of_value(pieces, index)
         || match position {
             Position::BeforeLand => is_after_mark_of_label(pieces, index),
             Position::AfterLand => is_after_sentence(pieces, index),
@@ -167,14 +173,29 @@ fn begins_remark(pieces: &Pieces<'_>, index: usize, position: Position) -> bool 
         Kind::To => position == Position::BeforeLand,
         _ => matches!(pieces.lower(index), [b'a'..=b'z', _, ..])
             || is_initial(pieces, index)
+            || begins_oil_and_gas(pieces, index)
+            || pieces.is(index, b"$")
             || pieces.end_of_code(index).is_some(),
     };
     is_first && !is_new
 }
 
+/// Whether `O&G` is at an index.
+fn begins_oil_and_gas(pieces: &Pieces<'_>, index: usize) -> bool {
+    pieces.is(index, b"o") && pieces.is(plus(index, 1), b"&") && pieces.is(plus(index, 2), b"g")
+}
+
+/// Whether the name of a value is at an index, as in `CAT=1`.
+fn is_name_of_value(pieces: &Pieces<'_>, index: usize) -> bool {
+    let mark = plus(index, 1);
+    pieces.is(mark, b"=") && pieces.is_joined(mark) && pieces.is_joined(plus(mark, 1))
+}
+
 /// Whether a colon, with white space after it, or a comma is before an index.
 fn is_after_mark_of_label(pieces: &Pieces<'_>, index: usize) -> bool {
-    pieces.follows(index, b",") || (pieces.follows(index, b":") && !pieces.is_joined(index))
+    pieces.follows(index, b",")
+        || pieces.follows(index, b"=")
+        || (pieces.follows(index, b":") && !pieces.is_joined(index))
 }
 
 /// Whether the period of a sentence, with white space after it, or acreage with decimals is before an index.
@@ -206,17 +227,34 @@ fn ends_remark(pieces: &Pieces<'_>, index: usize, position: Position) -> bool {
         }
         Position::AfterLand => matches!(pieces.kind(index), Kind::Semicolon),
     };
-    let is_colon = position == Position::BeforeLand && matches!(pieces.kind(index), Kind::Colon);
+    let is_colon = position == Position::BeforeLand
+        && (matches!(pieces.kind(index), Kind::Colon) || pieces.is(index, b"="));
     is_mark || is_colon || pieces.begins_column(index)
 }
 
-/// Whether a colon at an index may end the label of other land: no word of two letters or more, and no price,
-/// follows.
+/// Whether a colon at an index may end the label of other land: no word of two letters or more, no price, and
+/// no figure that is that of no section, follows.
 fn may_end_label(pieces: &Pieces<'_>, index: usize) -> bool {
     let next = plus(index, 1);
     let is_word = matches!(pieces.kind(next), Kind::Other)
         && matches!(pieces.lower(next), [b'a'..=b'z', _, ..]);
-    matches!(pieces.kind(index), Kind::Colon) && !(is_word || pieces.is(next, b"$"))
+    matches!(pieces.kind(index), Kind::Colon)
+        && !(is_word || pieces.is(next, b"$") || is_other_figure(pieces, next))
+}
+
+/// Whether a figure at an index is that of no section: years, a share, a date, or a number that is too large.
+fn is_other_figure(pieces: &Pieces<'_>, index: usize) -> bool {
+    match pieces.kind(index) {
+        Kind::BadNumber => true,
+        Kind::Number(number) => {
+            number > SECTIONS
+                || pieces.is_date(index)
+                || pieces.is_percentage(index)
+                || pieces.is_figure_with_decimals(index)
+                || is_of_time(pieces.lower(plus(index, 1)))
+        }
+        _ => false,
+    }
 }
 
 /// Where parentheses end with a reference, terms, or a status, as `(see Comment 4)`, or `(pending)`.
@@ -239,14 +277,19 @@ fn end_of_parentheses(pieces: &Pieces<'_>, index: usize) -> Option<usize> {
     if is_status {
         return Some(plus(next, 3));
     }
-    if !(is_lease || is_owner || begins_reference(first) || begins_terms(first)) {
-        return None;
-    }
-    for place in plus(index, 1)..plus(index, 8) {
+    let after_acreage = pieces.after_acreage_in_list(next);
+    let mut is_sure = is_lease
+        || is_owner
+        || begins_reference(first)
+        || begins_terms(first)
+        || after_acreage > next;
+    for place in after_acreage..plus(after_acreage, PARENTHESES_MOST) {
         if pieces.is(place, b")") {
-            return Some(plus(place, 1));
+            return if is_sure { Some(plus(place, 1)) } else { None };
         }
+        is_sure = is_sure || is_known_at(pieces, place);
         let is_beyond = is_beyond_remark(pieces, place)
+            || is_boundary(pieces.lower(place))
             || names_parcel(pieces.lower(place))
             || limits_land_at(pieces, place);
         if is_beyond || pieces.may_be_section(place) {

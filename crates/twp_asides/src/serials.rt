@@ -2,7 +2,7 @@
 
 use crate::pieces::{Pieces, plus};
 use twp_grammar::Kind;
-use twp_words::limits_land;
+use twp_words::{is_state, limits_land};
 
 impl<'a> Pieces<'a> {
     /// Where the serial number first on its line ends, whose letters may be those of a state: after a hyphen,
@@ -12,6 +12,9 @@ impl<'a> Pieces<'a> {
             return None;
         }
         let next = plus(index, 1);
+        if self.is_state_and_code(index) {
+            return Some(plus(next, 1));
+        }
         let is_joined = self.is_joined(next) && !self.begins_register(next);
         if !is_joined && !self.is_dash(next) {
             return None;
@@ -22,6 +25,18 @@ impl<'a> Pieces<'a> {
         } else {
             None
         }
+    }
+
+    /// Whether the letters of a state, and the code of its meridian, are at an index, as in `ID08 T0020N R0030W`,
+    /// before a township of a register with its letter.
+    fn is_state_and_code(&self, index: usize) -> bool {
+        let code = plus(index, 1);
+        let letter = plus(index, 2);
+        is_state(self.lower(index))
+            && self.has_digits(code, 2)
+            && self.is_joined(code)
+            && self.is(letter, b"t")
+            && self.has_digits(plus(letter, 1), 4)
     }
 
     /// Where the serial number of a case at an index ends, as `IDI-38114`, or `ID-031-2023-0012`, or that of
@@ -42,8 +57,12 @@ impl<'a> Pieces<'a> {
         let mut end = index;
         for place in plus(index, 1)..plus(index, 8) {
             let is_number = matches!(self.kind(place), Kind::Number(_) | Kind::BadNumber);
-            let is_dash = self.is_dash(place) && self.is_joined(place);
-            let follows = self.is_joined(place) || place == plus(index, 1);
+            let is_apart = self.is_after_dash(place)
+                && self.is_back(place, 2, b"-")
+                && !self.begins_line(place);
+            let is_dash = self.is_dash(place) && (self.is_joined(place) || is_apart);
+            let is_last = is_number && is_apart && self.size(place) >= 2;
+            let follows = self.is_joined(place) || place == plus(index, 1) || is_dash || is_last;
             if !follows || !(is_number || is_dash) {
                 break;
             }

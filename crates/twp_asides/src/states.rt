@@ -47,7 +47,7 @@ impl<'a> Pieces<'a> {
                 return Some(end);
             }
         }
-        if is_state(self.lower(index)) {
+        if is_state(self.lower(index)) && !self.is(second, b"department") {
             Some(second)
         } else {
             None
@@ -69,7 +69,7 @@ impl<'a> Pieces<'a> {
 
     /// Where the county at an index ends, with the word for it, in its cell, or with its state. The marks
     /// around it are looked at first, since its name has to be in none of several lists.
-    fn end_of_county(&self, index: usize) -> Option<usize> {
+    pub(crate) fn end_of_county(&self, index: usize) -> Option<usize> {
         let second = plus(index, 1);
         let third = plus(index, 2);
         let end = if let Some(end) = self.end_of_county_word(second) {

@@ -43,6 +43,12 @@ pub fn end_of_trailer(pieces: &Pieces<'_>, index: usize) -> Option<usize> {
         if is_apart && trailer == Trailer::Terms {
             return Some(place);
         }
+        let is_after_survey = trailer == Trailer::Survey
+            && has_word
+            && matches!(pieces.kind(place), Kind::Comma | Kind::Semicolon);
+        if is_after_survey {
+            return Some(place);
+        }
         has_word = has_word || is_word_of(pieces, trailer, place);
         if is_beyond_trailer(pieces, trailer, place) {
             return None;
@@ -118,6 +124,9 @@ fn is_beyond_trailer(pieces: &Pieces<'_>, trailer: Trailer, index: usize) -> boo
 
 /// What is said at an index.
 fn trailer_at(pieces: &Pieces<'_>, index: usize) -> Option<Trailer> {
+    if is_habendum(pieces, index) {
+        return Some(Trailer::Terms);
+    }
     if !matches!(pieces.kind(index), Kind::Other | Kind::All) {
         return None;
     }
@@ -132,6 +141,15 @@ fn trailer_at(pieces: &Pieces<'_>, index: usize) -> Option<Trailer> {
         return Some(Trailer::Terms);
     }
     None
+}
+
+/// Whether `to have and to hold` is at an index.
+fn is_habendum(pieces: &Pieces<'_>, index: usize) -> bool {
+    pieces.is(index, b"to")
+        && pieces.is(plus(index, 1), b"have")
+        && pieces.is(plus(index, 2), b"and")
+        && pieces.is(plus(index, 3), b"to")
+        && pieces.is(plus(index, 4), b"hold")
 }
 
 /// The trailer that a word begins, whatever follows it.

@@ -77,7 +77,10 @@ impl<'a> Finder<'a> {
         pieces.is(second, b"for")
             || pieces.is(second, b"therefrom")
             || pieces.is(second, b"of")
-            || (pieces.is(second, b".") && (pieces.is(index, b"exc") || pieces.is(index, b"ex")))
+            || (pieces.is(second, b".")
+                && (pieces.is(index, b"exc")
+                    || pieces.is(index, b"ex")
+                    || pieces.is(index, b"excl")))
     }
 
     /// Whether `but` at an index is after all of a section, and before land, as in `all but Lot 4`.

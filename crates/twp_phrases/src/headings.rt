@@ -45,8 +45,9 @@ impl<'a> Finder<'a> {
             return index;
         }
         let second = plus(index, 1);
+        let is_in_parentheses = pieces.follows(index, b"(") && pieces.begins_tier(second);
         let is_all = pieces.is(index, b"all")
-            && (pieces.is(second, b"in") || pieces.is(second, b"of"));
+            && (pieces.is(second, b"in") || pieces.is(second, b"of") || is_in_parentheses);
         let next = self.without_word(index, is_all, Rule::Word);
         let is_of = self.draft.pieces.is(next, b"of");
         let next = self.without_word(next, is_of, Rule::Heading);
@@ -178,6 +179,10 @@ impl<'a> Finder<'a> {
                 self.draft.leave_out(next, plus(next, 1), Rule::Heading);
                 plus(next, 1)
             }
+            _ if self.draft.pieces.is(next, b"=") => {
+                self.draft.leave_out(next, plus(next, 1), Rule::Mark);
+                plus(next, 1)
+            }
             _ if self.draft.pieces.is(next, b"-") => {
                 self.draft.replace(next, b" ", Rule::Heading);
                 plus(next, 1)
@@ -275,8 +280,10 @@ impl<'a> Finder<'a> {
             self.draft.replace(index, b"W", Rule::Direction);
         }
         let next = plus(index, 1);
-        if matches!(self.draft.pieces.kind(next), Kind::Stop) && self.draft.pieces.is_joined(next) {
-            let second = plus(next, 1);
+        let second = plus(next, 1);
+        let is_stop = matches!(self.draft.pieces.kind(next), Kind::Stop);
+        let is_apart = self.draft.pieces.is(second, b",");
+        if is_stop && (self.draft.pieces.is_joined(next) || is_apart) {
             if self.draft.pieces.is(second, b".") && self.draft.pieces.is_joined(second) {
                 self.draft.leave_out(second, plus(second, 1), Rule::Heading);
                 return plus(second, 1);

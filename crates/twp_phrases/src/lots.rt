@@ -166,9 +166,11 @@ impl<'a> Finder<'a> {
     /// `LTS 2 3`. Other lots may be the first and the last of several.
     pub(crate) fn join_of_lots(&self, index: usize, last: WrittenNumber) -> Option<Joined> {
         let pieces = &self.draft.pieces;
-        let is_list = matches!(index.checked_sub(1), Some(before) if pieces.has_digits(before, 1))
+        let is_next = matches!(index.checked_sub(1), Some(before) if pieces.has_digits(before, 1))
+            && pieces.number(index) == last.value.checked_add(1);
+        // After the acreage of the lot in parentheses.
+        let is_list = (is_next || pieces.follows(index, b")"))
             && pieces.has_digits(index, 1)
-            && pieces.number(index) == last.value.checked_add(1)
             && !pieces.has_break_before(index)
             && !pieces.is_joined(index)
             && !pieces.is_dash(plus(index, 1))

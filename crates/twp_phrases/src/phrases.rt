@@ -112,6 +112,7 @@ impl<'a> Finder<'a> {
             || pieces.is(index, b"|")
             || pieces.is(index, b"+")
             || pieces.is(index, b"\\")
+            || pieces.is(index, b"=")
             || pieces.is(index, b"\xE2\x80\x9C")
             || pieces.is(index, b"\xE2\x80\x9D")
             || pieces.is(index, b"\xE2\x80\xA2")
@@ -131,6 +132,7 @@ impl<'a> Finder<'a> {
             Some(Names::Part | Names::All) => {
                 self.after_except(next).is_some()
                     || pieces.begins_tier(next)
+                    || (pieces.is(next, b"all") && pieces.begins_tier(plus(next, 1)))
                     || matches!(pieces.kind(next), Kind::Sec)
                     || (pieces.number(next).is_some() && pieces.is_dash(plus(next, 1)))
             }

@@ -153,7 +153,7 @@ impl<'a> Finder<'a> {
             self.draft.leave_out(next, plus(next, 1), Rule::Word);
             return plus(next, 1);
         }
-        if matches!(self.draft.pieces.kind(next), Kind::Colon) {
+        if matches!(self.draft.pieces.kind(next), Kind::Colon) || self.draft.pieces.is(next, b"=") {
             self.draft.leave_out(next, plus(next, 1), Rule::Mark);
             return plus(next, 1);
         }

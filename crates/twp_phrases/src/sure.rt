@@ -83,6 +83,7 @@ impl<'a> Finder<'a> {
         matches!(pieces.kind(next), Kind::Lot)
             && !pieces.is_label_of_tract(first)
             && !(pieces.is_back(end, back, b"land") || pieces.is_back(end, back, b"lands"))
+            && !pieces.is_company_back(end, back)
             && !pieces.has_long_number(first, end)
     }
 

@@ -32,7 +32,7 @@ abbrev pub pairs : List (List ℕ) → List Entry
 pairs [] = []
 pairs (text ∷ texts) = (before 61 text ⇒ after 61 text) ∷ pairs texts
 
--- marks of more than one byte: ’ “ ” – —
+-- marks of more than one byte: ’ £ “ ” – —
 abbrev pub right_quote : List ℕ
 right_quote = 226 ∷ 128 ∷ 153 ∷ []
 
@@ -116,7 +116,7 @@ damaged_corners = all_as (words (codes "5 8")) (codes "S")
 -- EXCEPTION: the words before what the land is without
 abbrev pub exceptions : List Entry
 exceptions = all_as (words (codes "less except excepting excluding save exc exclusive")) (codes " except ")
-    ++ all_as (words (codes "l&e minus but with ex ls")) (codes " except ")
+    ++ all_as (words (codes "l&e minus but with ex ls excl")) (codes " except ")
 
 -- DIRECTION: words for sides and corners
 abbrev pub directions : List Entry
@@ -148,7 +148,7 @@ headings = pairs (texts (codes "=T. |= R. |=R. |= |= N., R. |= S., R. |= E., |= 
 abbrev pub heading_words : List Entry
 heading_words = all_as (words (codes "township twp tp twsp")) (codes "T.")
     ++ all_as (words (codes "range rng rge rg")) (codes "R.")
-    ++ pairs (texts (codes "in=|of=|0sn=, sec. |a=|numbered=|aliquot part:="))
+    ++ pairs (texts (codes "in=|of=|0sn=, sec. |a=|numbered=|aliquot part:=|aliquot part=|twn=T."))
 
 -- and the marks in them
 abbrev pub heading_marks : List Entry
@@ -201,7 +201,7 @@ semicolons = pairs (codes "=; " ∷ [])
 -- MARK: a mark that means nothing is left out
 abbrev pub marks : List Entry
 marks = all_left_out (words (codes ", ; : . -") ++ en_dash ∷ em_dash ∷ codes "&" ∷ (34 ∷ []) ∷ [])
-    ++ all_left_out (opening_quotes ∷ closing_quotes ∷ (92 ∷ []) ∷ codes "#" ∷ [])
+    ++ all_left_out (opening_quotes ∷ closing_quotes ∷ (92 ∷ []) ∷ codes "#" ∷ words (codes "= { }"))
 
 -- and parentheses around land, and marks between cells
 abbrev pub more_marks : List Entry

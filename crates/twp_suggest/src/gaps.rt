@@ -290,8 +290,11 @@ impl<'p, 'a> ChangeWriter<'p, 'a> {
             _ => Rule::MovedSection,
         };
         let first = placed.phrase.first;
+        let pieces = &self.plan.draft.pieces;
+        let is_figure_on_line = pieces.has_before(first, b'\n') && pieces.number(first).is_some();
         let start = match rule {
-            Rule::Heading | Rule::Label => self.plan.draft.pieces.start(first),
+            Rule::Heading | Rule::Label => pieces.start(first),
+            Rule::Acreage if is_figure_on_line => pieces.start(first),
             _ => self.plan.draft.pieces.end_before(first),
         };
         out.add(Change {

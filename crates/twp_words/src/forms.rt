@@ -95,6 +95,11 @@ pub fn is_damaged_corner(bytes: &[u8]) -> bool {
     }
 }
 
+/// Whether a word is the side of a range, and the letters for a meridian after it, as in `R3WBM`.
+pub fn is_side_and_meridian(bytes: &[u8]) -> bool {
+    matches!(bytes, [b'W' | b'E', b'B', b'M'])
+}
+
 /// Whether a word is a side and a letter that scanning makes of a `1`, before a slash, as in `Wl/2`, or of
 /// `1/`, as in `WY2` or `WV2`.
 pub fn is_damaged_half(bytes: &[u8], rest: Option<&[u8]>) -> bool {

@@ -4,6 +4,17 @@
 
 use crate::same::is_among;
 
+/// Words with which the name of a company ends.
+pub fn is_company(word: &[u8]) -> bool {
+    match word.len() {
+        2 => is_among(word, 0x10000_00001000, "lp"),
+        3 => is_among(word, 0x18_00001200, "inc llc ltd"),
+        4 => is_among(word, 0x10000_00000008, "corp"),
+        5 => is_among(word, 0x100000_00100000, "trust"),
+        _ => false,
+    }
+}
+
 /// Words of which a remark after land has at least one, if it has no number of a lease or a record.
 pub fn is_known(word: &[u8]) -> bool {
     match word.len() {
@@ -11,35 +22,35 @@ pub fn is_known(word: &[u8]) -> bool {
         3 => is_among(
             word,
             0x71d723a_023573f6,
-            "ada blm dle dry exp fee grz hbp inc int irr llc ltd mer min nri pat pls rel \
-             res thx usa yrs",
+            "ada aum blm dle dry exp fee grz hbp inc int irr llc ltd mer min nri pat pls \
+             rel res thx usa yrs",
         ),
         4 => is_among(
             word,
-            0x194220_0028a008,
-            "case corp cult mgmt mins open orri srhe usfs",
+            0x594220_0028a02a,
+            "aums case corp cult elev mgmt mins open orri srhe usfs",
         ),
         5 => is_among(
             word,
-            0x85b20_0018108e,
-            "adams boise bonus clark gross latah lemhi state teton total",
+            0xc5b20_0018908e,
+            "adams boise bonus clark gross latah lemhi owner state taxes teton total",
         ),
         6 => is_among(
             word,
-            0x3c503a_0015842e,
-            "active blaine bureau canyon cassia closed custer elmore jerome office oneida \
-             owyhee patent public rental thanks",
+            0x3c503a_0015942e,
+            "active blaine bureau canyon cassia closed custer elmore jerome lessee lessor \
+             office oneida owyhee patent payout public rental thanks",
         ),
         7 => is_among(
             word,
             0x23068a0_000520cc,
             "bannock bingham caribou fremont gooding grazing madison minimum payette \
-             private royalty",
+             primary private royalty",
         ),
         8 => is_among(
             word,
-            0x140022_00082012,
-            "assignor district duchesne minidoka shoshone",
+            0x140032_00082012,
+            "assessed assignor district duchesne minidoka shoshone",
         ),
         9 => is_among(word, 0x104000_00000420, "endowment jefferson"),
         10 => is_among(

@@ -113,7 +113,7 @@ pub fn is_township_name(word: &[u8]) -> bool {
     match word.len() {
         1 => is_among(word, 0x100000_00100000, "t"),
         2 => is_among(word, 0x10000_00100000, "tp"),
-        3 => is_among(word, 0x10000_00100000, "twp"),
+        3 => is_among(word, 0x14000_00100000, "twn twp"),
         4 => is_among(word, 0x10000_00100000, "twsp"),
         8 => is_among(word, 0x10000_00100000, "township"),
         _ => false,

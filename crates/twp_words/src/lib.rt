@@ -27,8 +27,10 @@ pub use directions::{is_step_word, is_worn_corner, is_worn_section, letters_of, 
 pub use figures::{
     is_acreage_lead, is_acres, is_area_word, is_numeral, is_of_count, joins_acreage, value_of_count,
 };
-pub use forms::{has_side, is_damaged_corner, is_damaged_half, is_partial, may_be_corners};
-pub use known::is_known;
+pub use forms::{
+    has_side, is_damaged_corner, is_damaged_half, is_partial, is_side_and_meridian, may_be_corners,
+};
+pub use known::{is_company, is_known};
 pub use labels::{
     adds_land, is_beyond_label, is_column, is_doubtful_title, is_feature, is_field, is_instrument,
     is_more, is_of_covering, is_of_domain, is_of_label, is_of_other_land, is_of_tract, is_of_water,

@@ -37,7 +37,7 @@ pub fn is_net_or_gross(word: &[u8]) -> bool {
 /// Words that begin an exception.
 pub fn begins_exception(word: &[u8]) -> bool {
     match word.len() {
-        4 => is_among(word, 0x80020_00081000, "less save"),
+        4 => is_among(word, 0x81020_00081020, "excl less save"),
         6 => is_among(word, 0x100000_00000020, "except"),
         9 => is_among(word, 0x4080_00000020, "excepting exception excluding"),
         _ => false,
@@ -49,7 +49,7 @@ pub fn excepts_land(word: &[u8]) -> bool {
     match word.len() {
         2 => is_among(word, 0x1080000_00001020, "ex ls"),
         3 => is_among(word, 0x8_00000020, "exc"),
-        4 => is_among(word, 0x80000_00001000, "less"),
+        4 => is_among(word, 0x81020_00081020, "excl less save"),
         5 => is_among(word, 0x80000_00002000, "minus"),
         6 => is_among(word, 0x100000_00000020, "except"),
         9 => is_among(word, 0xa0_00000020, "excepting excluding exclusive"),
@@ -134,9 +134,9 @@ pub fn says_partial(word: &[u8]) -> bool {
         ),
         4 => is_among(
             word,
-            0x1978b0_0089eb3e,
-            "aren back cont didn drop excl hasn idem kept more nope omit orig outs past \
-             same sctn shld some subd wasn",
+            0x1968b0_0089eb1e,
+            "aren back cont didn drop hasn idem kept more nope omit orig outs past same \
+             sctn shld some subd wasn",
         ),
         5 => is_among(
             word,

@@ -182,15 +182,19 @@ pub fn is_of_interest(word: &[u8]) -> bool {
         2 => is_among(word, 0x204c160_0010a206, "an be in my of or th to"),
         3 => is_among(
             word,
-            0x21cd030_00b0e3c2,
+            0x61cd030_00f0e3c2,
             "all and fee gas her his int its may min net non oil one our the ths two und \
-             wit",
+             viz wit",
         ),
-        4 => is_among(word, 0x143050_00101148, "coal four from half land that"),
+        4 => is_among(
+            word,
+            0x143070_0010114a,
+            "acre coal four from half land that",
+        ),
         5 => is_among(
             word,
-            0x1c0130_003490c0,
-            "fifth gross lands other right their third three title under",
+            0x1c0130_003490c2,
+            "acres fifth gross lands other right their third three title under",
         ),
         6 => is_among(word, 0x80100_00140060, "eighth fourth rights thirds"),
         7 => is_among(

@@ -97,6 +97,9 @@ pub(crate) fn is_in_marks(seen: &[u8], written: &[u8]) -> bool
         || is_entry(seen, b"\xE2\x80\x9D", written, b"")
         || is_entry(seen, b"\\", written, b"")
         || is_entry(seen, b"#", written, b"")
+        || is_entry(seen, b"=", written, b"")
+        || is_entry(seen, b"{", written, b"")
+        || is_entry(seen, b"}", written, b"")
 }
 
 /// The table `more_marks` of the specification.

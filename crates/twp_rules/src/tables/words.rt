@@ -6,7 +6,7 @@ ghost use Rattle.twp_rules.specs.Tables.{exceptions, joining_words, little_words
 use crate::rows::is_among;
 
 /// The table `exceptions` of the specification.
-static EXCEPTIONS: [[u8; 18]; 13] = [
+static EXCEPTIONS: [[u8; 18]; 14] = [
     *b"less= except _____",
     *b"except= except ___",
     *b"excepting= except ",
@@ -20,6 +20,7 @@ static EXCEPTIONS: [[u8; 18]; 13] = [
     *b"with= except _____",
     *b"ex= except _______",
     *b"ls= except _______",
+    *b"excl= except _____",
 ];
 
 /// Whether this is a row of it: what it looks at, and what it writes.
