@@ -19,6 +19,10 @@ impl<'a> Pieces<'a> {
     /// Where the number at an index ends of whose digits scanning made letters, before the unit of acreage, as in
     /// `l57.2O acres`.
     pub(crate) fn end_of_worn_figure(&self, index: usize) -> Option<usize> {
+        // Most numbers have white space after them.
+        if !self.is_joined(plus(index, 1)) {
+            return None;
+        }
         let mut has_digit = false;
         let mut has_letter = false;
         let mut end = index;

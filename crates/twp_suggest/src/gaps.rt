@@ -291,10 +291,12 @@ impl<'p, 'a> ChangeWriter<'p, 'a> {
         };
         let first = placed.phrase.first;
         let pieces = &self.plan.draft.pieces;
-        let is_figure_on_line = pieces.has_before(first, b'\n') && pieces.number(first).is_some();
+        let is_figure_on_line = rule == Rule::Acreage
+            && pieces.number(first).is_some()
+            && pieces.has_before(first, b'\n');
         let start = match rule {
             Rule::Heading | Rule::Label => pieces.start(first),
-            Rule::Acreage if is_figure_on_line => pieces.start(first),
+            _ if is_figure_on_line => pieces.start(first),
             _ => self.plan.draft.pieces.end_before(first),
         };
         out.add(Change {
