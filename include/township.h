@@ -74,6 +74,9 @@ extern "C" {
 #define TOWNSHIP_REFUSAL_TEXT_BAD_BYTE 42u
 #define TOWNSHIP_REFUSAL_TEXT_BAD_NUMBER 43u
 #define TOWNSHIP_REFUSAL_TEXT_SYNTAX 44u
+/* Phrases that are not land: */
+#define TOWNSHIP_REFUSAL_PHRASES_TOO_LARGE 50u
+#define TOWNSHIP_REFUSAL_PHRASES_NAMES_LAND 51u
 /* The land that a description names: */
 #define TOWNSHIP_REFUSAL_LAND_OTHER_TOWNSHIP 61u
 #define TOWNSHIP_REFUSAL_LAND_NO_SECTION 62u
@@ -128,7 +131,8 @@ extern "C" {
                                      township_acres_many and township_answer_many report it in their
                                      answers */
 #define TOWNSHIP_NO_RANGE 7u      /* township_acres_many, township_answer_many: the two offsets of this
-                                     description are not a range of the bytes given */
+                                     description are not a range of the bytes given; township_set_aside: two
+                                     offsets are not */
 #define TOWNSHIP_NO_LAND 8u       /* the land you passed is not valid: it has no township, or contains part of a
                                      lot */
 #define TOWNSHIP_NO_LOTS 9u       /* the lot table you passed is not valid */
@@ -703,6 +707,23 @@ township_answer township_suggest(const uint8_t *description, size_t description_
  */
 township_answer township_unread(const uint8_t *description, size_t description_length,
                                 township_stretch *unread, size_t room);
+
+/*
+ * Finds phrases in a text that you know are not land, such as the labels of your office: writes to `aside` where they
+ * are, from left to right. Phrases are stored one after another, with offsets as for township_acres_many. A phrase is
+ * found in uppercase or lowercase, but not within a word; at each place, the first one in your list counts. To have the
+ * text read without them, write a space over each byte from `start` to before `end`, and pass the result to
+ * township_suggest.
+ *
+ * The phrases are refused if there are more than 65,536 of them, or more than 65,536 bytes, or if one of them names
+ * land, excepts land, or limits it; docs/PHRASES.md explains the refusals. The verdict is TOWNSHIP_NO_RANGE if two
+ * offsets are not a range of the phrases' bytes. `length` is the number of places found; if `room`, the number of
+ * elements of `aside`, is smaller, the verdict is TOWNSHIP_NO_ROOM. On any verdict other than TOWNSHIP_ACCEPTED, `aside`
+ * is unchanged.
+ */
+township_answer township_set_aside(const uint8_t *description, size_t description_length, const uint8_t *phrases,
+                                   size_t phrases_length, const size_t *offsets, size_t offsets_length,
+                                   township_stretch *aside, size_t room);
 
 /*
  * Splits a text with land in several townships, such as `T. 2 N., R. 3 W., sec. 5; T. 3 N., R. 3 W., sec. 31.`: writes

@@ -16,7 +16,8 @@ TOP = Path(__file__).resolve().parents[1]
 HEADER = TOP / "include" / "township.h"
 REFUSALS = TOP / "docs" / "REFUSALS.md"
 #: The pages with refusals of calls that the program does not make.
-PAGES = [TOP / "docs" / name for name in ("TOWNSHIPS.md", "LOTS-FORMAT.md", "SEVERAL-TOWNSHIPS.md")]
+PAGES = [TOP / "docs" / name for name in ("TOWNSHIPS.md", "LOTS-FORMAT.md", "SEVERAL-TOWNSHIPS.md",
+                                        "PHRASES.md")]
 VERSION = TOP / "crates" / "twp_calls" / "src" / "version.rt"
 
 #: The packages' own statements of their version.
@@ -42,7 +43,8 @@ GROUPS = (
     Group(range(20, 30), "PLAT_", "The plat that field notes make"),
     Group(range(30, 38), "DESIGNATION_", "The name of a township"),
     Group(range(38, 40), "SPLIT_", "A text with the land of several townships"),
-    Group(range(40, 60), "TEXT_", "The text of a description"),
+    Group(range(40, 50), "TEXT_", "The text of a description"),
+    Group(range(50, 60), "PHRASES_", "Phrases that are not land"),
     Group(range(60, 80), "LAND_", "The land that a description names"),
     Group(range(80, 86), "", "A list of tracts"),
     Group(range(86, 95), "LOTS_", "A lot table, and land measured by it"),

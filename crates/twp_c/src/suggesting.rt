@@ -1,6 +1,7 @@
-//! The calls for readings, and for what is unread, as C calls them.
+//! The calls for readings, for what is unread, and for phrases that aren't land, as C calls them.
 ghost use Rattle.std.specs.Prelude.{◌≡◌, ◌≢◌};
 ghost use Rattle.twp_calls.specs.Answers.{ACCEPTED, NO_MEMORY};
+ghost use Rattle.twp_calls.specs.SetAsides.{IsSetAsideCall};
 ghost use Rattle.twp_calls.specs.Suggestions.{IsSuggestCall, rooms};
 ghost use Rattle.twp_calls.specs.UnreadCalls.{IsUnreadCall};
 
@@ -39,4 +40,19 @@ pub extern "C" fn township_unread(
     ensures kept { result.verdict ≢ ACCEPTED → unread.new ≡ unread.old }
 {
     twp_calls::township_unread(alloc, description, unread)
+}
+
+/// Where phrases stand in a text that the caller says aren't land.
+#[unsafe(no_mangle)]
+pub extern "C" fn township_set_aside(
+    alloc: Global,
+    description: &[u8],
+    phrases: &[u8],
+    offsets: &[usize],
+    aside: &mut [TownshipStretch],
+) -> TownshipAnswer
+    ensures answer { IsSetAsideCall description.now phrases.now offsets.now aside.old aside.new result }
+    ensures kept { result.verdict ≢ ACCEPTED → aside.new ≡ aside.old }
+{
+    twp_calls::township_set_aside(alloc, description, phrases, offsets, aside)
 }

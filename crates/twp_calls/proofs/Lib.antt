@@ -22,5 +22,6 @@ pub mod DesignationReadBack
 pub mod DesignationCallFacts
 pub mod SplitFacts
 pub mod SplitParts
+pub mod SetAsideCallFacts
 pub mod SplitCallFacts
 pub mod OneTownship

@@ -19,6 +19,7 @@ pub mod LotReports
 pub mod ManyAnswers
 pub mod Suggestions
 pub mod UnreadCalls
+pub mod SetAsides
 pub mod Splits
 pub mod Names
 pub mod ShownTexts

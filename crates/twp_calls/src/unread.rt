@@ -67,7 +67,10 @@ fn data_of_unread(alloc: Global, text: &[u8]) -> Result<Vec<TownshipStretch>, Al
 }
 
 /// Unread runs as data.
-fn data_of_runs(alloc: Global, runs: &[Stretch]) -> Result<Vec<TownshipStretch>, AllocError>
+pub(crate) fn data_of_runs(
+    alloc: Global,
+    runs: &[Stretch],
+) -> Result<Vec<TownshipStretch>, AllocError>
     ensures { IfOk result (λ it. it.items ≡ map run_data runs.now) }
 {
     runs.iter().map(|run| of_run(*run)).collect(alloc)

@@ -1,1 +1,2 @@
+pub mod SetAsideFacts
 pub mod UnreadFacts

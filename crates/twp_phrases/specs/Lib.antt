@@ -1,1 +1,2 @@
+pub mod SetAside
 pub mod Unread

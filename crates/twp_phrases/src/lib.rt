@@ -16,6 +16,7 @@ mod parts;
 mod phrases;
 mod registers;
 mod sections;
+mod setting_aside;
 mod sought;
 mod stretches;
 mod sure;
@@ -24,5 +25,6 @@ mod whole;
 mod worded;
 
 pub use finder::Phrases;
+pub use setting_aside::{first_of_land, set_aside};
 pub use stretches::{Stretch, unread_of};
 pub use unread::{Ambiguity, AmbiguousPhrase, Unread, unread_in};

@@ -33,6 +33,8 @@ REFUSAL_TEXT_TOO_LARGE = 41
 REFUSAL_TEXT_BAD_BYTE = 42
 REFUSAL_TEXT_BAD_NUMBER = 43
 REFUSAL_TEXT_SYNTAX = 44
+REFUSAL_PHRASES_TOO_LARGE = 50
+REFUSAL_PHRASES_NAMES_LAND = 51
 REFUSAL_LAND_OTHER_TOWNSHIP = 61
 REFUSAL_LAND_NO_SECTION = 62
 REFUSAL_LAND_BACKWARD = 63
@@ -354,5 +356,9 @@ suggest = _call(
     c_size_t, POINTER(Suggestion),
 )
 unread = _call("township_unread", c_char_p, c_size_t, POINTER(Stretch), c_size_t)
+set_aside = _call(
+    "township_set_aside", c_char_p, c_size_t, c_char_p, c_size_t, POINTER(c_size_t), c_size_t, POINTER(Stretch),
+    c_size_t,
+)
 split = _call("township_split", c_char_p, c_size_t, POINTER(Stretch), c_size_t)
 version = _call("township_version", POINTER(c_char), c_size_t)

@@ -18,6 +18,9 @@ RULES = (
     *("acreage", "label"),
 )
 
+#: The rule of a change that leaves out a phrase that the caller sets aside. It is also the name of its assumption.
+SET_ASIDE = "set aside"
+
 #: The assumptions of changes that the text does not state, by their names, in the order of their numbers, which begin
 #: with 1.
 ASSUMED = {
@@ -27,6 +30,7 @@ ASSUMED = {
     "said before": "this repeats what is before it",
     "wrong letter": "a letter or digit is wrong",
     "no missing comma": "no comma is missing",
+    SET_ASIDE: "you said that this is not land",
 }
 
 #: The two ways to read a phrase of a text without readings, in the order of their numbers, which begin with 1.

@@ -32,6 +32,8 @@ pub(crate) const REFUSAL_TEXT_TOO_LARGE: u32 = 41;
 pub(crate) const REFUSAL_TEXT_BAD_BYTE: u32 = 42;
 pub(crate) const REFUSAL_TEXT_BAD_NUMBER: u32 = 43;
 pub(crate) const REFUSAL_TEXT_SYNTAX: u32 = 44;
+pub(crate) const REFUSAL_PHRASES_TOO_LARGE: u32 = 50;
+pub(crate) const REFUSAL_PHRASES_NAMES_LAND: u32 = 51;
 pub(crate) const REFUSAL_LAND_OTHER_TOWNSHIP: u32 = 61;
 pub(crate) const REFUSAL_LAND_NO_SECTION: u32 = 62;
 pub(crate) const REFUSAL_LAND_BACKWARD: u32 = 63;
@@ -670,6 +672,11 @@ extern "C" {
     fn township_unread(
         description: *const u8, description_length: usize, unread: *mut Stretch, room: usize,
     ) -> Answer;
+    fn township_set_aside(
+        description: *const u8, description_length: usize, phrases: *const u8,
+        phrases_length: usize, offsets: *const usize, offsets_length: usize, aside: *mut Stretch,
+        room: usize,
+    ) -> Answer;
     fn township_split(
         description: *const u8, description_length: usize, parts: *mut Stretch, room: usize,
     ) -> Answer;
@@ -1084,6 +1091,19 @@ pub(crate) fn unread(description: &[u8], unread: &mut [Stretch]) -> Answer {
     // SAFETY: slices and references meet the library's requirements.
     unsafe {
         township_unread(description.as_ptr(), description.len(), unread.as_mut_ptr(), unread.len())
+    }
+}
+
+/// Calls `township_set_aside`.
+pub(crate) fn set_aside(
+    description: &[u8], phrases: &[u8], offsets: &[usize], aside: &mut [Stretch],
+) -> Answer {
+    // SAFETY: slices and references meet the library's requirements.
+    unsafe {
+        township_set_aside(
+            description.as_ptr(), description.len(), phrases.as_ptr(), phrases.len(),
+            offsets.as_ptr(), offsets.len(), aside.as_mut_ptr(), aside.len(),
+        )
     }
 }
 
