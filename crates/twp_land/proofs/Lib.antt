@@ -11,6 +11,7 @@ pub mod LeftFacts
 pub mod LeftMarks
 pub mod LotBlocks
 pub mod LotFacts
+pub mod WholeLots
 pub mod LottingFacts
 pub mod RemovalFacts
 pub mod RowFacts

@@ -1,7 +1,7 @@
 -- Marks that are painted place by place and row by row.
-use Rattle.std.proofs.Common.{◌≡◌, ◌≢◌, ℕ, ◌+◌, ◌<◌, ◌≤◌, Bool, true, false, List, get_or, set, length}
-use Rattle.std.proofs.Common.{if◌then◌else◌, refl, sym, ap, subst, ◌-◌, ◌∙◌, inl, inr, arith}
-use Rattle.std.proofs.Common.{◌⊎◌}
+use Rattle.std.proofs.Common.{◌≡◌, ◌≢◌, ℕ, ◌+◌, ◌<◌, ◌≤◌, ◌&&◌, Bool, true, false, List, get_or, set, length}
+use Rattle.std.proofs.Common.{nat_le, nat_lt, if◌then◌else◌, refl, sym, ap, subst, ◌-◌, ◌∙◌, inl, inr, arith}
+use Rattle.std.proofs.Common.{◌⊎◌, zero, suc, [], replicate}
 use Rattle.std.proofs.lemmas.List.{get_or-set_same, get_or-set_other}
 use Rattle.std.proofs.lemmas.Bool.{cases_Bool}
 use Rattle.std.proofs.lemmas.Bool.Decides.{nat_tests}
@@ -217,3 +217,19 @@ marked_before across upward row left right mark old mid first last least below n
           (so_far.marks has.column has.row place) outside
           ∙ none);
     }
+
+-- marks before any was painted
+no_mark : (n number : ℕ) → get_or (replicate n zero) number zero ≡ zero
+no_mark zero zero = refl
+no_mark zero (suc number) = refl
+no_mark (suc n) zero = refl
+no_mark (suc n) (suc number) = no_mark n number
+
+pub no_mark_of : (n section number : ℕ)
+    → get_or (get_or (replicate n (replicate 1024 zero)) section []) number zero ≡ zero
+no_mark_of zero zero zero = refl
+no_mark_of zero zero (suc number) = refl
+no_mark_of zero (suc section) zero = refl
+no_mark_of zero (suc section) (suc number) = refl
+no_mark_of (suc n) zero number = no_mark 1024 number
+no_mark_of (suc n) (suc section) number = no_mark_of n section number

@@ -1,15 +1,17 @@
 ghost use Rattle.std.specs.Prelude.{◌≡◌, MatchOption};
 ghost use Rattle.twp_grid.specs.Places.{PLACE_DIGITS};
 ghost use Rattle.twp_land.specs.Storage.{land_of_rows};
-ghost use Rattle.twp_grid.specs.Lands.{HasWholeLots};
+ghost use Rattle.twp_grid.specs.Lands.{HasWholeLots, lotting};
 ghost use Rattle.twp_grid.specs.Lands.{STANDARD_LOTS};
 
 use crate::land::Land;
 use crate::lanes::{LaneRows, Lanes};
 use crate::lots::lots_whole;
+use crate::lotting::Lotting;
 use crate::place_set::PlaceSet;
 use crate::plot::Plot;
 use crate::sections::Sections;
+use crate::whole_lots::has_whole_lots_on;
 use twp_grid::{PLACES_ACROSS, SECTIONS, Section};
 
 /// A set of places as plain data: for each section, by number, its rows from the south, and in each
@@ -39,6 +41,20 @@ impl Sections<LaneRows> {
             return None;
         }
         Some(stored(rows))
+    }
+
+    /// The set of these places, on a plat with these lots. `None` if it would contain part of a lot.
+    pub fn from_rows_on<P: Lotting>(rows: &LandRows, lots: &P) -> Option<Lanes>
+        ensures { MatchOption result
+            (¬ HasWholeLots (lotting (P.layout lots.now)) (land_of_rows rows.now))
+            (λ land. HasWholeLots (lotting (P.layout lots.now)) (land_of_rows rows.now)
+            × (⟦<Lanes as PlaceSet>⟧.places land ≡ land_of_rows rows.now)) }
+    {
+        let land = stored(rows);
+        if !has_whole_lots_on(&land, lots) {
+            return None;
+        }
+        Some(land)
     }
 }
 

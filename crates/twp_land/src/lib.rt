@@ -23,6 +23,7 @@ mod row_combining;
 mod row_comparing;
 mod rows;
 mod sections;
+mod whole_lots;
 
 pub use comparing::{Comparison, compare};
 pub use dividing::map_of_marks;
@@ -41,3 +42,4 @@ pub use row_combining::{write_difference, write_intersection, write_union};
 pub use row_comparing::compare_rows;
 pub use rows::{Grid, Rows};
 pub use sections::Sections;
+pub use whole_lots::has_whole_lots_on;

@@ -2,7 +2,7 @@ ghost use Rattle.std.specs.Prelude.{◌≡◌, ◌≢◌, ◌+◌, ◌-◌, ◌�
 ghost use Rattle.twp_grid.specs.Winding.{SECTION_COUNT};
 ghost use Rattle.twp_grid.specs.Spans.{rectangle, span_from};
 ghost use Rattle.twp_land.specs.LotMaps.{place_number};
-ghost use Rattle.twp_land.specs.LotMarks.{HasMark, IsPainted, marks_of};
+ghost use Rattle.twp_land.specs.LotMarks.{HasMark, IsPainted, mark_at, marks_of};
 ghost use Rattle.twp_land.specs.steps.Marked.{PLACES};
 
 use twp_grid::{Block, SECTIONS, Section};
@@ -18,6 +18,23 @@ pub struct LotMarks {
 }
 
 impl LotMarks {
+    /// Marks of which none is set.
+    pub fn none() -> LotMarks
+        ensures { (section column row : ℕ) → mark_at (marks_of result.sections section) column row ≡ 0 }
+    {
+        LotMarks {
+            sections: [[0; PLACES]; SECTIONS as usize],
+        }
+    }
+
+    /// The mark of a place of a section, by the number of the place.
+    pub fn mark(&self, section: Section, number: usize) -> u8
+        requires { number < PLACES }
+        ensures { result ≡ get_or (marks_of self.now.sections section) number 0 }
+    {
+        self.sections[usize::from(section.number() - 1)][number]
+    }
+
     /// The marks of the places of a section, by its index from 0 and by the numbers of the places.
     pub(crate) fn section(&self, index: usize) -> &[u8; PLACES]
         requires { index < SECTION_COUNT }

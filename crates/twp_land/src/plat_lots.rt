@@ -14,8 +14,8 @@ use twp_grid::{Block, Section};
 pub struct PlatLots {
     /// Where the lots lie, if `mapped` isn't 0.
     pub map: LotMap,
-    /// 0 for the standard lots.
-    pub mapped: u8,
+    /// 0 for the standard lots. It has two bytes, so that no byte of a lot table is left over.
+    pub mapped: u16,
 }
 
 impl PlatLots {

@@ -1,0 +1,58 @@
+-- The next lot is contained, or not at all; the numbers between are those of no lot.
+use Rattle.std.proofs.Common.{refl, arith}
+use Rattle.twp_grid.specs.Lands.{LOT_NUMBER_MOST, lotting, IsWholeOrNot}
+use Rattle.twp_land.proofs.WholeLots.{none_whole, whole_contained, whole_last, whole_next, contained_whole}
+use Rattle.twp_land.proofs.WholeLots.{unmet_whole}
+use Rattle.twp_land.proofs.whole_lots.holds_lots_of.Goals as goal
+use Rattle.twp_land.proofs.whole_lots.holds_lots_of.Goals.{else-meets_lot-via-then-meets_lot+else-not-contains_lot}
+use Rattle.twp_land.proofs.whole_lots.holds_lots_of.Goals.{else-meets_lot-via-else-meets_lot}
+
+pub loop-number-init : goal.loop-number-init
+loop-number-init g c = record {
+  so_far =
+      none_whole (lotting (g.P.Lotting.layout c.args.lots.now)) c.args.section
+      (g.L.PlaceSet.places c.args.land.now c.args.section) (g.met.P.Lotting.lots c.args.lots.now);
+  few = omega arith;
+}
+
+pub returns-then-not-contains_lot : goal.returns-then-not-contains_lot
+returns-then-not-contains_lot g c = (
+  λ h. cc h,
+  λ whole.
+      let contains =
+      whole_contained (lotting (g.P.Lotting.layout c.args.lots.now)) c.args.section c.in-Some.number
+      (g.L.PlaceSet.places c.args.land.now) (c.meets_lot.ensures.0 c.if-meets_lot.true)
+      (whole c.in-Some.number) in
+      absurd (cc (c.contains_lot.ensures.1 contains, c.if-not-contains_lot.true)),
+)
+
+pub loop-number-preserved : goal.loop-number-preserved
+loop-number-preserved g c =
+    let lots = lotting (g.P.Lotting.layout c.args.lots.now) in
+    let held = g.L.PlaceSet.places c.args.land.now c.args.section in
+    let are = g.met.P.Lotting.lots c.args.lots.now in
+    let has = c.in-Some.ensures.has in
+    let few = (are.numbered c.args.section c.in-Some.number has.0 has.1 has.2).1 in
+    let here : IsWholeOrNot lots c.args.section c.in-Some.number held =
+    elim c.else-meets_lot.branch [
+      | else-meets_lot-via-then-meets_lot+else-not-contains_lot w ↦
+          contained_whole lots c.args.section c.in-Some.number (g.L.PlaceSet.places c.args.land.now) are
+          (w.contains_lot.ensures.0 w.if-not-contains_lot.false)
+      | else-meets_lot-via-else-meets_lot w ↦
+          unmet_whole lots c.args.section c.in-Some.number held are
+          (λ met. cc (c.meets_lot.ensures.1 met, w.if-meets_lot.false))
+    ] in
+    record {
+      so_far =
+          whole_next lots c.args.section c.loop-number.after c.in-Some.number held
+          c.loop-number.invariant.so_far c.in-Some.ensures here;
+      few = few;
+    }
+
+pub returns : goal.returns
+returns g c = (
+  λ _. whole_last (lotting (g.P.Lotting.layout c.args.lots.now)) c.args.section c.loop-number.after
+      (g.L.PlaceSet.places c.args.land.now c.args.section) c.loop-number.invariant.so_far
+      c.in_default.ensures,
+  λ _. refl,
+)
