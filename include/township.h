@@ -183,8 +183,8 @@ typedef struct township_answer {
     uint32_t inner_at;
     uint32_t line;         /* from a function that explains: the line and column of the fault, or of the
                               place that a note is about, counted from 1, or both 0. For a refused
-                              description, they are those of the byte `at` or, if only white space follows,
-                              of the end of the text before it */
+                              description, they locate the byte `at` or, if only white space follows, the
+                              end of the text before it */
     uint32_t column;
     uint32_t reserved;     /* 0 */
     uint64_t hundredths;   /* of an acre, rounded once, half up */
@@ -200,8 +200,8 @@ typedef struct township_full_answer {
     township_answer acres;  /* the answer of township_acres */
     township_answer normal; /* the answer of township_normal, with a buffer of TOWNSHIP_TEXT_ROOM bytes */
     township_answer note;   /* if `acres` accepts the description, the answer of township_explain_description
-                               with an empty buffer: its verdict is TOWNSHIP_NO_ROOM if there is a note. Otherwise
-                               the same answer as `acres` */
+                               with an empty buffer: its verdict is TOWNSHIP_NO_ROOM if there is a note. Otherwise,
+                               it is the same as `acres` */
     uint8_t text[TOWNSHIP_TEXT_ROOM]; /* the canonical text */
 } township_full_answer;
 
@@ -359,7 +359,7 @@ typedef struct township_part {
 #define TOWNSHIP_ASSUMES_NO_MISSING_COMMA 6u /* no comma is missing in the words around the change, or around the white
                                                 space that it leaves out: they are one part */
 
-/* Manners: how the text of a reading was derived from the changed text. */
+/* Values of `manner`: how the text of a reading was derived from the changed text. */
 #define TOWNSHIP_CHANGED 0u    /* it is the changed text */
 #define TOWNSHIP_LOTS_NAMED 1u /* it is the canonical description of the land of the changed text, in which an aliquot
                                   part includes lots: they are named instead of it */
@@ -411,7 +411,7 @@ typedef struct township_suggestion {
     uint64_t beyond_end;
 } township_suggestion;
 
-/* The two ways to read a phrase of a text without readings. */
+/* The two ways to read a phrase in a text that has no readings. */
 #define TOWNSHIP_WAYS_SECTION_OR_HALF 1u    /* `S2` before any other land: a section, or a half */
 #define TOWNSHIP_WAYS_LOT_OR_HALF 2u        /* `N2` after a lot: one more lot, or a half */
 #define TOWNSHIP_WAYS_QUARTER_OR_SECTION 3u /* `Se` at the end: a quarter, or a word for a section */
@@ -493,9 +493,9 @@ township_answer township_figures(const township_plat *plat, township_plat_figure
 /*
  * Answers many descriptions, stored one after another: the first description begins at offsets[0] and ends before
  * offsets[1], the next one begins there and ends before offsets[2], and so on, so there is one more offset than there
- * are descriptions. Each is answered as township_acres would, or with TOWNSHIP_NO_RANGE if its second offset is less
- * than its first one or more than `descriptions_length`. A refusal does not end the call: check the verdict of each
- * answer. `length` is the number of descriptions; if `room`, the number of elements of `answers`, is smaller, the
+ * are descriptions. Each is answered as township_acres would answer it, or with TOWNSHIP_NO_RANGE if its second offset
+ * is less than its first one or more than `descriptions_length`. A refusal does not end the call: check the verdict of
+ * each answer. `length` is the number of descriptions; if `room`, the number of elements of `answers`, is smaller, the
  * verdict is TOWNSHIP_NO_ROOM, and nothing is written.
  */
 township_answer township_acres_many(const township_plat *plat, const uint8_t *descriptions,
@@ -517,9 +517,9 @@ township_answer township_answer_many(const township_plat *plat, const uint8_t *d
 /*
  * Writes to `township` the township that a text names: `T. 2 N., R. 3 W.` as in the heading of a description,
  * `T2N R3W`, `T-2-N, R-3-W`, `Township 2 North, Range 3 West`, `2N-3W`, or `0020N 0030W` as in a register;
- * docs/TOWNSHIPS.md lists all spellings. Any other text is refused, including one that names land, too. The place of
- * the refusal is the first byte of the first word, number, or mark that no spelling has there, or the length of the
- * text. On any verdict other than TOWNSHIP_ACCEPTED, `township` is unchanged.
+ * docs/TOWNSHIPS.md lists all spellings. Any other text is refused, including one that also names land. The place of
+ * the refusal is the first byte of the first word, number, or mark that no spelling has in its position, or the length
+ * of the text. On any verdict other than TOWNSHIP_ACCEPTED, `township` is unchanged.
  */
 township_answer township_designation_read(const uint8_t *text, size_t text_length, township_designation *township);
 
@@ -625,8 +625,8 @@ township_answer township_explain_list(const township_plat *plat, const uint8_t *
 /*
  * The same for lot tables. township_explain_lots explains why a lot table is refused. township_explain_lacking explains
  * why land is refused by a lot table that lacks one of its lots (TOWNSHIP_REFUSAL_LOTS_LACKING): `at` is the place of
- * that refusal, and `name` is what the text calls the description, land, or list; there is no line or column. If the
- * table is accepted, or does not lack the lot at `at`, there is no text, and `length` is 0.
+ * that refusal, and `name` is the name that the text gives to the description, land, or list; there is no line or
+ * column. If the table is accepted, or does not lack the lot at `at`, there is no text, and `length` is 0.
  */
 township_answer township_explain_lots(const uint8_t *table, size_t table_length, const uint8_t *name,
                                       size_t name_length, uint8_t *text, size_t room);
@@ -659,7 +659,8 @@ typedef struct township_explanation {
     uint64_t excerpt_length;
     uint64_t hints;           /* the lines that say how to correct it, or give related facts */
     uint64_t hints_length;
-    uint64_t repair;          /* the only reading of the text, at the end of the hints; omitted if escaped there */
+    uint64_t repair;          /* the only reading of the text, at the end of the hints; missing if the text shows it
+                                 escaped */
     uint64_t repair_length;
 } township_explanation;
 
@@ -718,8 +719,8 @@ township_answer township_unread(const uint8_t *description, size_t description_l
  * The phrases are refused if there are more than 65,536 of them, or more than 65,536 bytes, or if one of them names
  * land, excepts land, or limits it; docs/PHRASES.md explains the refusals. The verdict is TOWNSHIP_NO_RANGE if two
  * offsets are not a range of the phrases' bytes. `length` is the number of places found; if `room`, the number of
- * elements of `aside`, is smaller, the verdict is TOWNSHIP_NO_ROOM. On any verdict other than TOWNSHIP_ACCEPTED, `aside`
- * is unchanged.
+ * elements of `aside`, is smaller, the verdict is TOWNSHIP_NO_ROOM. On any verdict other than TOWNSHIP_ACCEPTED,
+ * `aside` is unchanged.
  */
 township_answer township_set_aside(const uint8_t *description, size_t description_length, const uint8_t *phrases,
                                    size_t phrases_length, const size_t *offsets, size_t offsets_length,
