@@ -342,6 +342,12 @@ static township_answer call_unread(void) {
     return township_unread(BYTES("blip Sec. 14 blop"), unread, 2);
 }
 
+static township_answer call_set_aside(void) {
+    static const size_t offsets[] = {0, 4, 8};
+
+    return township_set_aside(BYTES("blip Sec. 14 blop"), BYTES("blipblop"), offsets, 3, unread, 2);
+}
+
 static township_answer call_split(void) {
     return township_split(BYTES("T2N R3W sec. 5; T3N R3W sec. 31."), unread, 2);
 }
@@ -394,6 +400,7 @@ static const struct {
     {"township_suggest", call_suggest},
     {"township_suggest, a description", call_suggest_itself},
     {"township_unread", call_unread},
+    {"township_set_aside", call_set_aside},
     {"township_split", call_split},
 };
 

@@ -1,4 +1,4 @@
-/* Tries the calls for readings, and for what is unread. */
+/* Tries the calls for readings, for what is unread, and for phrases that the caller says aren't land. */
 #include "land.h"
 
 #include <stdlib.h>
@@ -191,9 +191,87 @@ static void has_no_room_for_unread(void) {
     drop(given);
 }
 
+/* Phrases that are stored one after another, and the offsets between them. */
+typedef struct phrases {
+    const char *bytes;
+    size_t offsets[4];
+    size_t count;
+} phrases;
+
+static const phrases own = {"kestrelTract IDED", {0, 7, 15, 17}, 3};
+
+static township_answer set_aside(const char *text, phrases given, township_stretch *aside, size_t room) {
+    bytes description = bytes_of(text);
+    const township_answer answer =
+        township_set_aside(description.at, description.length, (const uint8_t *)given.bytes,
+                           given.offsets[given.count], given.offsets, given.count + 1, aside, room);
+    drop(description);
+    return answer;
+}
+
+/* A phrase is found in letters of either case, as whole words, and at each place the first one of the list. */
+static void sets_phrases_aside(void) {
+    township_stretch aside[4], none[4];
+
+    memset(none, NEVER, sizeof none);
+    memset(aside, NEVER, sizeof aside);
+    CHECK(set_aside("tract id Kestrel, Edna Ed: sec. 14", own, aside, 4).length == 3);
+    CHECK(aside[0].start == 0 && aside[0].end == 8 && aside[0].ways == 0 && aside[0].reserved == 0);
+    CHECK(aside[1].start == 9 && aside[1].end == 16);
+    CHECK(aside[2].start == 23 && aside[2].end == 25);
+    CHECK(memcmp(aside + 3, none, sizeof none[0]) == 0);
+    CHECK_ANSWER(set_aside("sec. 14", own, aside, 4), bare(TOWNSHIP_ACCEPTED));
+
+    memset(aside, NEVER, sizeof aside);
+    const township_answer small = set_aside("Kestrel Kestrel", own, aside, 1);
+    CHECK(small.verdict == TOWNSHIP_NO_ROOM && small.length == 2 && memcmp(aside, none, sizeof none) == 0);
+}
+
+/* A phrase that names, excepts, or limits land is refused by its number, and so are offsets that are no range. */
+static void refuses_phrases(void) {
+    static const phrases of_land[] = {
+        {"kestrelLot 3", {0, 7, 12}, 2}, {"kestrelNE/4", {0, 7, 11}, 2}, {"kestrelless", {0, 7, 11}, 2},
+        {"kestrelnorth of", {0, 7, 15}, 2},
+    };
+    static const phrases crossed = {"kestrelunit", {7, 0, 11}, 2};
+    township_stretch aside[2], none[2];
+
+    memset(none, NEVER, sizeof none);
+    memset(aside, NEVER, sizeof aside);
+    for (size_t i = 0; i < COUNT(of_land); i++) {
+        CHECK_ANSWER(set_aside("Kestrel sec. 14", of_land[i], aside, 2), refused(51, 2));
+    }
+    CHECK_ANSWER(set_aside("Kestrel sec. 14", crossed, aside, 2), bare(TOWNSHIP_NO_RANGE));
+    CHECK(memcmp(aside, none, sizeof none) == 0);
+}
+
+/* At most 65,536 bytes of phrases are taken, and at most as many phrases. */
+static void refuses_many_phrases(void) {
+    static uint8_t letters[65537];
+    static size_t offsets[65538];
+    static const uint8_t text[] = "sec. 14";
+    township_stretch aside[1];
+
+    memset(letters, 'q', sizeof letters);
+    offsets[1] = sizeof letters;
+    CHECK_ANSWER(township_set_aside(text, 7, letters, sizeof letters, offsets, 2, aside, 1),
+                 refused(50, 65536));
+    offsets[1] = sizeof letters - 1;
+    CHECK_ANSWER(township_set_aside(text, 7, letters, sizeof letters - 1, offsets, 2, aside, 1),
+                 bare(TOWNSHIP_ACCEPTED));
+    offsets[1] = 0;
+    CHECK_ANSWER(township_set_aside(text, 7, letters, 1, offsets, COUNT(offsets), aside, 1),
+                 refused(50, 65536));
+    CHECK_ANSWER(township_set_aside(text, 7, letters, 1, offsets, COUNT(offsets) - 1, aside, 1),
+                 bare(TOWNSHIP_ACCEPTED));
+}
+
 void answers_readings(const township_plat *plat) {
     has_readings();
     has_unread();
+    sets_phrases_aside();
+    refuses_phrases();
+    refuses_many_phrases();
     has_no_room_for_unread();
     has_no_room();
     are_measured(plat);

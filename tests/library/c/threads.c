@@ -7,7 +7,7 @@
 #include "check.h"
 
 #define THREADS 4
-#define CALLS 45
+#define CALLS 46
 
 /* The stack that the library requires, and room for the thread's own calls. */
 #define STACK ((256 + 64) * 1024)
@@ -37,6 +37,7 @@ typedef struct round_answers {
     township_change changes[2];
     township_suggestion suggestion;
     township_stretch unread[2];
+    township_stretch aside[2];
     township_stretch split[2];
     uint8_t texts[CALLS][8192];
 } round_answers;
@@ -112,7 +113,7 @@ static void call_explaining(const township_plat *plat, round_answers *to) {
 
 /* Calls each function once. */
 static void call_all(bytes notes, const township_plat *plat, round_answers *to) {
-    static const size_t offsets[] = {0, 7, 21};
+    static const size_t offsets[] = {0, 7, 21}, phrases[] = {0, 4, 8};
     township_answer *answer = to->answers;
 
     memset(to, 0, sizeof *to);
@@ -149,6 +150,7 @@ static void call_all(bytes notes, const township_plat *plat, round_answers *to) 
     answer[34] = township_suggest(BYTES("sec. 14: NE1/4NE1/4 SW1/4SW1/4"), to->readings, 2, to->changes, 2,
                                   to->texts[34], sizeof to->texts[34], &to->suggestion);
     answer[37] = township_unread(BYTES("blip Sec. 14 blop"), to->unread, 2);
+    answer[45] = township_set_aside(BYTES("blip Sec. 14 blop"), BYTES("blipblop"), phrases, 3, to->aside, 2);
     answer[40] = township_split(BYTES("T2N R3W sec. 5; T3N R3W sec. 31."), to->split, 2);
 }
 
@@ -168,6 +170,7 @@ static bool same_readings(const round_answers *a, const round_answers *b) {
            memcmp(a->changes, b->changes, sizeof a->changes) == 0 &&
            memcmp(&a->suggestion, &b->suggestion, sizeof a->suggestion) == 0 &&
            memcmp(a->unread, b->unread, sizeof a->unread) == 0 &&
+           memcmp(a->aside, b->aside, sizeof a->aside) == 0 &&
            memcmp(a->split, b->split, sizeof a->split) == 0;
 }
 

@@ -4,8 +4,6 @@ use Rattle.twp_grid.specs.Lands.{LOT_NUMBER_MOST, lotting, IsWholeOrNot}
 use Rattle.twp_land.proofs.WholeLots.{none_whole, whole_contained, whole_last, whole_next, contained_whole}
 use Rattle.twp_land.proofs.WholeLots.{unmet_whole}
 use Rattle.twp_land.proofs.whole_lots.holds_lots_of.Goals as goal
-use Rattle.twp_land.proofs.whole_lots.holds_lots_of.Goals.{else-meets_lot-via-then-meets_lot+else-not-contains_lot}
-use Rattle.twp_land.proofs.whole_lots.holds_lots_of.Goals.{else-meets_lot-via-else-meets_lot}
 
 pub loop-number-init : goal.loop-number-init
 loop-number-init g c = record {
@@ -35,10 +33,10 @@ loop-number-preserved g c =
     let few = (are.numbered c.args.section c.in-Some.number has.0 has.1 has.2).1 in
     let here : IsWholeOrNot lots c.args.section c.in-Some.number held =
     elim c.else-meets_lot.branch [
-      | else-meets_lot-via-then-meets_lot+else-not-contains_lot w ↦
+      | goal.else-meets_lot-via-then-meets_lot+else-not-contains_lot w ↦
           contained_whole lots c.args.section c.in-Some.number (g.L.PlaceSet.places c.args.land.now) are
           (w.contains_lot.ensures.0 w.if-not-contains_lot.false)
-      | else-meets_lot-via-else-meets_lot w ↦
+      | goal.else-meets_lot-via-else-meets_lot w ↦
           unmet_whole lots c.args.section c.in-Some.number held are
           (λ met. cc (c.meets_lot.ensures.1 met, w.if-meets_lot.false))
     ] in
