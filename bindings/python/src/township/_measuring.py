@@ -155,7 +155,7 @@ def _basis_in(name: str, is_lots: bool) -> Union[Plat, Lots]:
 
 def _lots_in(name: str) -> Lots:
     """Return the lot table in a file."""
-    return Lots._read(_bytes_in(name, _library.LOTS_TEXT_MOST), _shown(name))
+    return Lots._read(_bytes_in(name, _library.LOTS_TEXT_MOST), _source(name))
 
 
 class _Description(NamedTuple):

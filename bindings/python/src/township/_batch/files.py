@@ -70,11 +70,11 @@ def basis_in(file: str) -> Basis:
 
 def _tried(text: bytes, file: str) -> Tuple[Union[Plat, Refused], Union[Lots, Refused]]:
     """Return what a text is as field notes, and as a lot table."""
-    name = shown(file)
+    name = shown(file).encode("utf-8", "backslashreplace")
     notes: Union[Plat, Refused]
     table: Union[Lots, Refused]
     try:
-        notes = Plat._of_notes(text, name.encode("utf-8", "backslashreplace"))
+        notes = Plat._of_notes(text, name)
     except Refused as refused:
         notes = refused
     try:

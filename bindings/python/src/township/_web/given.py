@@ -136,7 +136,7 @@ def _plat_of(notes: str) -> Plat:
 
 def _lots_of(table: str) -> Lots:
     """Return a lot table, without looking for a file either."""
-    return Lots._read(encoded(table), LOT_TABLE.decode())
+    return Lots._read(encoded(table), LOT_TABLE)
 
 
 _Read = TypeVar("_Read", Plat, Lots)
