@@ -209,6 +209,7 @@ class Verdicts(unittest.TestCase):
         "answer_many": lambda: uneven().normal_many(["sec. 14."]),
         "suggest": lambda: township.suggest("sec. 14."),
         "unread": lambda: township.suggest("the old mill").unread,
+        "set_aside": lambda: township.suggest("sec. 14.", ignore=["Kestrel"]),
         "split": lambda: township.split("T2N R3W sec. 14; T3N R3W sec. 15"),
         "version": township.version,
         "explain_notes_parts": lambda: township.Plat.read(b""),

@@ -21,6 +21,7 @@ from ._differences import Difference
 from ._explanation import OtherPlace
 from ._field_notes import Notes
 from ._figures import Section
+from ._ignored import Phrases
 from ._land import Land
 from ._lands import Lands
 from ._lots import Lots
@@ -30,11 +31,12 @@ from ._part_readings import PartReadings, suggest_parts
 from ._parts import Part
 from ._plat import Plat
 from ._plats import LocatedTract, MissingPlat, Plats, PlatsReport
-from ._readings import Change, Reading, Readings, Unread, suggest
+from ._readings import Change, Reading, Readings, Unread
 from ._refused import Refusal, Refused, failure_of
 from ._report import LotsOverlap, LotsReport, Overlap, Report, Tract, TractAnswer
 from ._rounding import rounded
 from ._split import TownshipText, split
+from ._suggested import suggest
 from ._township import EastWest, NorthSouth, Township
 from ._version import __version__
 from ._written import text_by
@@ -59,6 +61,7 @@ __all__ = [
     "Overlap",
     "Part",
     "PartReadings",
+    "Phrases",
     "Plat",
     "Plats",
     "PlatsReport",
@@ -83,8 +86,8 @@ __all__ = [
 
 for _public in (
     *(Answers, Change, Difference, Land, Lands, LocatedTract, Lots, LotsOverlap, LotsReport, MissingPlat, Note, Notes),
-    *(OtherPlace, Overlap, Part, PartReadings, Plat, Plats, PlatsReport, Reading, Readings, Refusal, Refused, Report),
-    *(Section, Township, TownshipText, Tract, TractAnswer, Unread),
+    *(OtherPlace, Overlap, Part, PartReadings, Phrases, Plat, Plats, PlatsReport, Reading, Readings, Refusal, Refused),
+    *(Report, Section, Township, TownshipText, Tract, TractAnswer, Unread),
 ):
     # Tracebacks and pickles name each class as users import it.
     _public.__module__ = __name__

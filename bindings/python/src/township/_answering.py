@@ -12,6 +12,7 @@ from ._describing import Describing
 from ._differences import Difference, differences_of
 from ._figures import acres_of_hundredths, fraction_of
 from ._full import FullAnswers
+from ._ignored import Ignored
 from ._land import Land
 from ._lots import Lots
 from ._many import Answers, answers_of, each_acres
@@ -67,7 +68,7 @@ class Answering(Reporting, Describing):
             raise self._described_exception(answer, given)
         return fraction_of(area)
 
-    def suggest(self, text: Text, account: Account = "exact") -> Readings:
+    def suggest(self, text: Text, account: Account = "exact", ignore: Ignored = ()) -> Readings:
         """Return the readings of a text: the descriptions that it may mean, in a fixed order, with their acreage.
 
         A text that can be read in several ways has several readings. It has none if nothing is certain, or if lots
@@ -80,9 +81,14 @@ class Answering(Reporting, Describing):
         2.50 sec. 14: NE¼NE¼SW¼SW¼
         >>> plat.suggest("N2 Sec 14-3N-3W")[0].refused.number
         61
+
+        Phrases that you know are not land can be left out: see `Phrases`.
+
+        >>> plat.suggest("Tract ID Kestrel: NE/4 Sec. 14", ignore=["Tract ID Kestrel"])[0].acres
+        Decimal('160.00')
         """
         code_of(account)
-        return self._measured_readings(text, lambda reading: self.acres(reading, account))
+        return self._measured_readings(text, ignore, lambda reading: self.acres(reading, account))
 
     def acres_of(
         self, descriptions: Iterable[Text], account: Account = "exact"

@@ -8,10 +8,12 @@ from typing import Callable, List, Sequence, Union
 from . import _library
 from ._explanation import explained_by
 from ._full import FullAnswers, texts_or_refusals
+from ._ignored import Ignored
 from ._land import Land
 from ._note import Note, notes_of
-from ._readings import Reading, Readings, suggest
+from ._readings import Reading, Readings
 from ._refused import DESCRIPTION, Refused, exception_of
+from ._suggested import suggest
 from ._text import Text, encoded
 from ._township import township_of
 from ._written import text_by, without_text
@@ -90,9 +92,9 @@ write a comma after NE1/4 (320.00 acres)
                 return notes_of(answer, text, explained)
         raise self._described_exception(answer, given)
 
-    def _measured_readings(self, text: Text, acres: Callable[[str], Decimal]) -> Readings:
+    def _measured_readings(self, text: Text, ignore: Ignored, acres: Callable[[str], Decimal]) -> Readings:
         """Return the readings of a text, each with its acreage, or with the refusal of its description."""
-        return suggest(text).measured(lambda reading: self._measured_reading(reading, acres))
+        return suggest(text, ignore).measured(lambda reading: self._measured_reading(reading, acres))
 
     def _measured_reading(self, reading: Reading, acres: Callable[[str], Decimal]) -> Reading:
         try:

@@ -9,6 +9,7 @@ from typing import Iterable, Iterator, Sequence, Union
 from . import _library
 from ._describing import Describing
 from ._figures import acres_of_hundredths, fraction_of
+from ._ignored import Ignored
 from ._land import Land
 from ._lot_faults import LACKING, lacking_exception
 from ._lots_full import LotsFullAnswers
@@ -46,14 +47,14 @@ class LotsAnswering(LotsReporting, Describing):
         self._check(answer, description)
         return fraction_of(area)
 
-    def suggest(self, text: Text) -> Readings:
+    def suggest(self, text: Text, ignore: Ignored = ()) -> Readings:
         """Return the readings of a text, as `Plat.suggest` does, with their acreage by the table.
 
         >>> lots = township.Lots.of_figures("T. 2 N., R. 3 W.", {(5, 1): "40.45"})
         >>> [reading.acres for reading in lots.suggest("Lot 1, Sec 5")]
         [Decimal('40.45')]
         """
-        return self._measured_readings(text, self.acres)
+        return self._measured_readings(text, ignore, self.acres)
 
     def acres_of(self, descriptions: Iterable[Text]) -> Iterator[Union[Decimal, Refused]]:
         """Iterate over the answers to many descriptions, as `Plat.acres_of` does.

@@ -1,12 +1,14 @@
 """The readings of a text with the land of several townships: those of each of its parts."""
 from __future__ import annotations
 
-from typing import List, NamedTuple
+from typing import List, NamedTuple, Sequence
 
 from . import _library
-from ._readings import Readings, suggest
+from ._ignored import Ignored, Place, blanked, phrases_in
+from ._readings import Readings
 from ._refused import Refused
 from ._split import TownshipText, split
+from ._suggested import readings_without
 from ._text import Text, encoded
 
 
@@ -17,7 +19,7 @@ class PartReadings(NamedTuple):
     readings: Readings
 
 
-def suggest_parts(text: Text) -> List[PartReadings]:
+def suggest_parts(text: Text, ignore: Ignored = ()) -> List[PartReadings]:
     """Return the readings of each part of a text with the land of several townships, without acreage.
 
     The parts are those of `split`. A text in which land is before the first heading is its only part, since its
@@ -27,8 +29,35 @@ def suggest_parts(text: Text) -> List[PartReadings]:
     ...     print(part.township, readings[0].text)
     T. 2 N., R. 3 W. T2N R3W Sec 5: Lots 1, 2
     T. 3 N., R. 3 W. T3N R3W Sec 32: S1/2
+
+    The phrases to `ignore` are left out, as by `suggest`. In the text of a part, there are spaces in their place.
+
+    >>> (part, readings), = township.suggest_parts("Kestrel T2N-R3W Sec 14: N2", ignore=["Kestrel"])
+    >>> part.text, readings[0].text
+    ('        T2N-R3W Sec 14: N2', 'T2N R3W Sec 14: N1/2')
     """
-    return [PartReadings(part, suggest(part.text)) for part in _parts_of(encoded(text))]
+    given = encoded(text)
+    aside = phrases_in(ignore).places_in(given)
+    parts = _with_places_before(_parts_of(blanked(given, aside)), aside)
+    return [PartReadings(part, _readings_in(given, part, aside)) for part in parts]
+
+
+def _readings_in(given: bytes, part: TownshipText, aside: Sequence[Place]) -> Readings:
+    """Return the readings of a part of a text without these places of the text."""
+    inside = [
+        Place(start - part.start, end - part.start) for start, end in aside if part.start <= start and end <= part.end
+    ]
+    return readings_without(given[part.start : part.end], inside)
+
+
+def _with_places_before(parts: Sequence[TownshipText], aside: Sequence[Place]) -> List[TownshipText]:
+    """Return parts each of which begins with the places that are left out between it and the part before it."""
+    found: List[TownshipText] = []
+    for part in parts:
+        after = found[-1].end if found else 0
+        start = min([part.start, *(place.start for place in aside if after <= place.start)])
+        found.append(TownshipText(" " * (part.start - start) + part.text, start, part.end))
+    return found
 
 
 def _parts_of(given: bytes) -> List[TownshipText]:

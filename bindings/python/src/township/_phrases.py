@@ -4,10 +4,10 @@ from __future__ import annotations
 import re
 from typing import Iterable, Iterator, List, NamedTuple, Optional, Sequence, Tuple
 
-from ._readings import Change, Reading
+from ._readings import SET_ASIDE, Change, Reading
 
 #: Rules that leave out a phrase, which is no part of what is around it.
-_LEFT_OUT = {"mark", "repeated", "moved section", "moved heading", "meridian", "acreage", "label"}
+_LEFT_OUT = {"mark", "repeated", "moved section", "moved heading", "meridian", "acreage", "label", SET_ASIDE}
 
 #: What a phrase that is written elsewhere is, by the rules of its changes.
 _MOVED = {
@@ -107,12 +107,17 @@ def condition_of(given: bytes, reading: Reading, others: Sequence[Reading]) -> O
 def shared_of(readings: Sequence[Reading]) -> List[Change]:
     """Return the changes that all readings make."""
     first, *others = readings
-    return [change for change in first.changes if all(change in other.changes for other in others)]
+    return [change for change in first.changes if all(_makes(other, change) for other in others)]
 
 
 def _deciding(reading: Reading, others: Sequence[Reading]) -> List[Change]:
     """Return the changes that not all readings make."""
-    return [change for change in reading.changes if any(change not in other.changes for other in others)]
+    return [change for change in reading.changes if not all(_makes(other, change) for other in others)]
+
+
+def _makes(reading: Reading, change: Change) -> bool:
+    """Return whether a reading of the same text makes a change. Each leaves out what the caller says is not land."""
+    return change.rule == SET_ASIDE or change in reading.changes
 
 
 def _rows(given: bytes, changes: Iterable[Change]) -> Iterator[List[Change]]:

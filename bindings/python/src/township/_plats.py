@@ -9,6 +9,7 @@ from . import _library
 from ._account import Account, code_of
 from ._earlier import EarlierLands
 from ._explanation import Explained
+from ._ignored import Ignored
 from ._land import Land
 from ._lands import Lands
 from ._lots import Lots
@@ -163,7 +164,7 @@ class Plats(Mapping[Township, Basis]):
         """
         return _each_rounded(self._areas(located, account))
 
-    def suggest(self, text: Text, account: Account = "exact") -> List[PartReadings]:
+    def suggest(self, text: Text, account: Account = "exact", ignore: Ignored = ()) -> List[PartReadings]:
         """Return the readings of each part of a text, as `suggest_parts` does, with their acreage.
 
         Each is measured by the plat or the lot table of the township in its heading. Without one, it has no acreage. If
@@ -176,7 +177,7 @@ class Plats(Mapping[Township, Basis]):
         code_of(account)
         return [
             part._replace(readings=part.readings.measured(lambda reading: self._measured(reading, account)))
-            for part in suggest_parts(text)
+            for part in suggest_parts(text, ignore)
         ]
 
     def report(self, tracts: Iterable[Tuple[str, Located]], account: Account = "exact") -> PlatsReport:

@@ -8,7 +8,7 @@ from typing import Any, Callable, Iterable, List, NamedTuple, Optional, Sequence
 
 from . import _library
 from ._refused import Refused, failure_of
-from ._text import Text, encoded, shown
+from ._text import shown
 
 #: The names of the rules, in the order of their numbers, which begin with 1.
 RULES = (
@@ -17,9 +17,6 @@ RULES = (
     *("semicolon", "one part", "mark", "word", "repeated", "moved section", "moved heading", "meridian"),
     *("acreage", "label"),
 )
-
-#: The rule of a change that leaves out a phrase that the caller sets aside. It is also the name of its assumption.
-SET_ASIDE = "set aside"
 
 #: The assumptions of changes that the text does not state, by their names, in the order of their numbers, which begin
 #: with 1.
@@ -30,8 +27,14 @@ ASSUMED = {
     "said before": "this repeats what is before it",
     "wrong letter": "a letter or digit is wrong",
     "no missing comma": "no comma is missing",
-    SET_ASIDE: "you said that this is not land",
 }
+
+#: The rule of a change that leaves out a phrase which the caller says is not land. It is also the name of its
+#: assumption, of which the library knows nothing.
+SET_ASIDE = "set aside"
+
+#: All assumptions in words.
+_IN_WORDS = {**ASSUMED, SET_ASIDE: "you said that this is not land"}
 
 #: The two ways to read a phrase of a text without readings, in the order of their numbers, which begin with 1.
 WAYS = (
@@ -44,7 +47,7 @@ WAYS = (
 )
 
 #: The assumptions that are not about text that is left out, but about the words around the change.
-_AROUND = ("wrong letter", "no missing comma")
+AROUND = ("wrong letter", "no missing comma")
 
 #: White space, and the bytes between words.
 _WHITE, _BETWEEN_WORDS = b" \t\n\r", b" \t\n\r,;:|"
@@ -80,7 +83,7 @@ class Change(NamedTuple):
     #: The name of the rule by which this is done, such as `quarter`. `docs/DESCRIPTIONS.md` shows what each does.
     rule: str
     #: The name of the change's assumption that the text does not state, or `None`: `same meridian`, `same acreage`,
-    #: `not land`, `said before`, `wrong letter`, or `no missing comma`.
+    #: `not land`, `said before`, `wrong letter`, `no missing comma`, or `set aside`.
     assumes: Optional[str] = None
     #: The phrase that the assumption is about, or `None`: the text that is left out, or the words around the change.
     phrase: Optional[str] = None
@@ -94,8 +97,8 @@ class Change(NamedTuple):
         """
         if self.assumes is None or self.phrase is None:
             return None
-        said = f"`{' '.join(self.phrase.split())}`: {ASSUMED[self.assumes]}"
-        return said if self.assumes in _AROUND else f"without {said}"
+        said = f"`{' '.join(self.phrase.split())}`: {_IN_WORDS[self.assumes]}"
+        return said if self.assumes in AROUND else f"without {said}"
 
 
 def assumptions_of(changes: Iterable[Change]) -> Tuple[str, ...]:
@@ -225,15 +228,8 @@ class Readings(Sequence[Reading]):
         return f"<township.Readings: {texts}>"
 
 
-def suggest(text: Text) -> Readings:
-    """Return the readings of a text as descriptions, without a plat: they have no acreage. See `Plat.suggest`.
-
-    >>> township.suggest("N2 Sec 14")[0].text
-    'sec. 14, N1/2'
-    >>> township.suggest("sec. 14, that portion of the NE/4 lying north of the road").reason
-    'a portion needs a survey'
-    """
-    given = encoded(text)
+def readings_of(given: bytes) -> Readings:
+    """Return the readings of a text as descriptions, without a plat."""
     return _Suggested(given).readings()
 
 
@@ -316,7 +312,7 @@ class _Suggested:
         if not data.assumes:
             return Change(data.start, data.end, left_out, written, rule)
         assumes = tuple(ASSUMED)[data.assumes - 1]
-        phrase = self._words_around(data, rule) if assumes in _AROUND else left_out
+        phrase = self._words_around(data, rule) if assumes in AROUND else left_out
         return Change(data.start, data.end, left_out, written, rule, assumes, phrase)
 
     def _words_around(self, data: _library.Change, rule: str) -> str:

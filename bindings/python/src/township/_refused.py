@@ -74,11 +74,12 @@ class Refused(ValueError):
     sec. 14, NE1/4.
     """
 
-    #: What is wrong: 1 to 11 and 21 to 23 for field notes, 41 to 44 and 61 to 67 for a description, 80 to 85
-    #: for a list of tracts, 86 to 94 for a lot table.
+    #: What is wrong: 1 to 11 and 21 to 23 for field notes, 41 to 44 and 61 to 67 for a description, 50 and 51 for
+    #: phrases to leave out, 80 to 85 for a list of tracts, 86 to 94 for a lot table.
     number: int
     #: The location. Its meaning depends on the number: a record counted from 1, the index of a section line,
-    #: a byte of the UTF-8 text counted from 0, a lot, or, if the text is too long, the limit in bytes.
+    #: a byte of the UTF-8 text counted from 0, a lot, a phrase counted from 1, or, if the text is too long, the limit
+    #: in bytes.
     at: int
     #: The line, counted from 1. None if the error is not on any line: for example, a record is missing.
     line: Optional[int]
@@ -88,7 +89,7 @@ class Refused(ValueError):
     explanation: str
     #: For refusal 83, the refusal of the tract's description. None for any other number.
     inner: Optional[Refusal]
-    #: What is refused: `description`, `land`, `notes`, `tracts`, `lots`, or the name of a file.
+    #: What is refused: `description`, `land`, `notes`, `tracts`, `lots`, `phrases`, or the name of a file.
     source: str
 
     def __init__(
@@ -180,17 +181,26 @@ def hinted(refused: Refused, hint: str) -> Refused:
 def refused_as_a_whole(source: str, refusal: Refusal, sentence: str) -> Refused:
     """Return the refusal of a text that has no place in it, with a sentence that is not the library's."""
     explained = Explained(source, sentence)
-    text = f"township: {explained.message}\n"
-    return Refused(refusal.number, refusal.at, None, None, text, None, source, explained)
+    return Refused(refusal.number, refusal.at, None, None, _text_of(explained), None, source, explained)
 
 
-def refused_in(source: str, given: bytes, refusal: Refusal, end: int, sentence: str, *hints: str) -> Refused:
-    """Return the refusal of a text at a place, and up to `end`, with a sentence that is not the library's."""
-    before = given[: refusal.at].decode("utf-8", "replace").split("\n")
+def refused_in(
+    source: str, given: bytes, refusal: Refusal, end: int, sentence: str, *hints: str, start: Optional[int] = None
+) -> Refused:
+    """Return the refusal of a text at a place, and up to `end`, with a sentence that is not the library's.
+
+    `start` is the place, if the refusal counts something other than bytes.
+    """
+    begin = refusal.at if start is None else start
+    before = given[:begin].decode("utf-8", "replace").split("\n")
     line, column = len(before), len(before[-1]) + 1
-    explained = Explained(f"{source}:{line}:{column}", sentence, hints, start=refusal.at, end=end)
-    text = "".join([f"township: {explained.message}\n", *(f"  {hint}\n" for hint in hints)])
-    return Refused(refusal.number, refusal.at, line, column, text, None, source, explained)
+    explained = Explained(f"{source}:{line}:{column}", sentence, hints, start=begin, end=end)
+    return Refused(refusal.number, refusal.at, line, column, _text_of(explained), None, source, explained)
+
+
+def _text_of(explained: Explained) -> str:
+    """Return an explanation as text, without an excerpt of the input."""
+    return "".join([f"township: {explained.message}\n", *(f"  {hint}\n" for hint in explained.hints)])
 
 
 def failure_of(verdict: int, *townships: Township) -> Exception:

@@ -9,8 +9,8 @@ from typing import Iterator, List, Mapping, Optional, Tuple, Union
 import township
 import township.pandas
 from township import Account, Change, Difference, EastWest, Land, Lands, LocatedTract, Lots, LotsOverlap, MissingPlat
-from township import NorthSouth, Notes, Overlap, Part, PartReadings, Plat, Plats, PlatsReport, Reading, Readings, Refusal
-from township import Refused, Report, Section, Township, TownshipText, Tract, TractAnswer, split, suggest, suggest_parts
+from township import NorthSouth, Notes, Overlap, Part, PartReadings, Phrases, Plat, Plats, PlatsReport, Reading, Readings
+from township import Refusal, Refused, Report, Section, Township, TownshipText, Tract, TractAnswer, split, suggest, suggest_parts
 
 
 def answers(plat: Plat, account: Account) -> Iterator[Union[Decimal, Refused]]:
@@ -129,6 +129,21 @@ def readings(plat: Plat) -> Optional[Decimal]:
     beyond: Optional[Tuple[int, int]] = found.beyond
     refused: Optional[Refused] = found[0].refused
     return found[0].acres if words and places and not (reason or beyond or refused) else None
+
+
+def phrases(plat: Plat, lots: Lots, plats: Plats, path: Path) -> Optional[Decimal]:
+    ignore: Phrases = Phrases(["Kestrel", b"Unit 7"]) if path.exists() else Phrases.open(path)
+    found: Readings = plat.suggest("Kestrel NENE Sec 14", "plat", ignore) or lots.suggest(b"NENE", ignore=["Kestrel"])
+    parts: List[PartReadings] = plats.suggest("T2N R3W sec. 14", ignore=ignore) + suggest_parts("sec. 14", ("Kestrel",))
+    phrase: str = ignore[0]
+    start: int = ignore.places_in("Kestrel NENE Sec 14")[0].start
+    return suggest(phrase, ignore=[phrase])[start].acres if parts else found[0].acres
+
+
+def wrong_phrases(plat: Plat) -> None:
+    plat.suggest("sec. 14", ignore=14)  # type: ignore[arg-type]
+    suggest("sec. 14", ignore=[14])  # type: ignore[list-item]
+    Phrases([14])  # type: ignore[list-item]
 
 
 def wrong_readings(plat: Plat) -> None:

@@ -12,7 +12,8 @@ from .._batch.lines import Lines
 from .._batch.records import Record, Records
 from .._batch.separators import headed
 from .._batch.shape import Shape
-from .._readings import Reading, suggest
+from .._readings import Reading
+from .._suggested import suggest
 from .._text import encoded
 from .fieldplaces import FieldPlaces, Place
 

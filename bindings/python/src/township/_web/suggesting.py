@@ -7,8 +7,9 @@ from .._drawing import svg_of
 from .._drawing.of_plat import shade_of, subject_of
 from .._land import Land
 from .._phrases import MANNERS_SAID, condition_of, phrases_of
-from .._readings import Change, Reading, Unread, suggest
+from .._readings import Change, Reading, Unread
 from .._refused import Refused
+from .._suggested import suggest
 from .._text import encoded
 from .answers import BASIS, land_json
 from .basis import Basis

@@ -4,7 +4,7 @@ from __future__ import annotations
 import re
 from typing import Iterator, Optional, Tuple
 
-from .._readings import suggest
+from .._suggested import suggest
 from .._text import encoded
 
 #: A word, without the punctuation around it.

@@ -1,0 +1,110 @@
+"""The readings of a text, without the phrases in it that the caller says are not land."""
+from __future__ import annotations
+
+from typing import Iterator, List, Sequence
+
+from ._ignored import Ignored, Place, blanked, phrases_in
+from ._readings import AROUND, SET_ASIDE, Change, Reading, Readings, Unread, readings_of
+from ._text import Text, encoded
+
+
+def suggest(text: Text, ignore: Ignored = ()) -> Readings:
+    """Return the readings of a text as descriptions, without a plat: they have no acreage. See `Plat.suggest`.
+
+    >>> township.suggest("N2 Sec 14")[0].text
+    'sec. 14, N1/2'
+    >>> township.suggest("sec. 14, that portion of the NE/4 lying north of the road").reason
+    'a portion needs a survey'
+
+    The phrases to `ignore` are left out, and each reading says so: see `Phrases`.
+
+    >>> reading, = township.suggest("Tract ID Kestrel: NE/4 Sec. 14", ignore=["Tract ID Kestrel"])
+    >>> reading.text, reading.assumptions
+    ('sec. 14, NE1/4', ('without `Tract ID Kestrel`: you said that this is not land',))
+    """
+    given = encoded(text)
+    return readings_without(given, phrases_in(ignore).places_in(given))
+
+
+def readings_without(given: bytes, aside: Sequence[Place]) -> Readings:
+    """Return the readings of a text without these places, which are in order. Each reading says that they are left out.
+
+    The library reads the text with spaces in their place, so that all other places stay the same.
+    """
+    found = readings_of(blanked(given, aside))
+    if not aside:
+        return found
+    readings = [_with_aside(given, reading, aside) for reading in found]
+    unread = [part for each in found.unread for part in _unread_outside(given, each, aside)]
+    return Readings(readings, found.reason, found.beyond, unread)
+
+
+def _with_aside(given: bytes, reading: Reading, aside: Sequence[Place]) -> Reading:
+    """Return a reading that says what was left out before it was read. Runs of spaces in its text become one space."""
+    changes = [part for change in reading.changes for part in _outside(given, change, aside)]
+    changes += [_left_out(given, place, reading) for place in aside]
+    # What is written where a phrase begins comes before it.
+    changes.sort(key=lambda change: (change.start, change.end))
+    return reading._replace(text=" ".join(reading.text.split()), changes=tuple(changes))
+
+
+def _left_out(given: bytes, place: Place, reading: Reading) -> Change:
+    """Return the change that leaves out a place. A space stays, unless the reading leaves that out, too."""
+    phrase = _text(given, place)
+    is_covered = any(change.start <= place.start and place.end <= change.end for change in reading.changes)
+    return Change(*place, phrase, "" if is_covered else " ", SET_ASIDE, SET_ASIDE, phrase)
+
+
+def _outside(given: bytes, change: Change, aside: Sequence[Place]) -> Iterator[Change]:
+    """Yield the parts of a change outside of the places that are left out. The first one writes what the change does."""
+    written = change.written
+    for start, end in _parts_outside(Place(change.start, change.end), aside):
+        text = _text(given, Place(start, end))
+        part = change._replace(start=start, end=end, left_out=text, written=written)
+        if part.assumes not in AROUND:
+            # White space that is left out assumes nothing.
+            is_said = part.assumes is not None and bool(text.strip())
+            part = part._replace(phrase=text) if is_said else part._replace(assumes=None, phrase=None)
+        if start < end or written:
+            yield part
+        written = ""
+
+
+def _parts_outside(whole: Place, aside: Sequence[Place]) -> List[Place]:
+    """Return the parts of a place outside of others, or, if there are none, where the first of those begins.
+
+    >>> _parts_outside(Place(4, 13), [Place(0, 2), Place(5, 12)])
+    [Place(start=4, end=5), Place(start=12, end=13)]
+    >>> _parts_outside(Place(7, 7), [Place(5, 12)])
+    [Place(start=5, end=5)]
+    """
+    parts, at = [], whole.start
+    for start, end in aside:
+        if end <= whole.start or whole.end <= start:
+            continue
+        if at < start:
+            parts.append(Place(at, start))
+        at = max(at, end)
+    if at < whole.end:
+        parts.append(Place(at, whole.end))
+    if not parts:
+        at = min([each.start for each in aside if each.start < whole.start < each.end], default=whole.start)
+        parts.append(Place(at, at))
+    return parts
+
+
+def _unread_outside(given: bytes, unread: Unread, aside: Sequence[Place]) -> Iterator[Unread]:
+    """Yield what of something unread is outside of the places that are left out."""
+    whole = Place(unread.start, unread.end)
+    if unread.ways is not None:
+        yield unread._replace(text=_text(given, whole))
+        return
+    for start, end in _parts_outside(whole, aside):
+        text = given[start:end]
+        start, end = end - len(text.lstrip()), start + len(text.rstrip())
+        if start < end:
+            yield Unread(start, end, _text(given, Place(start, end)))
+
+
+def _text(given: bytes, place: Place) -> str:
+    return given[place.start : place.end].decode("utf-8", "surrogateescape")

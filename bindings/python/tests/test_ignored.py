@@ -1,0 +1,231 @@
+"""Phrases that are left out of readings because the caller says that they are not land."""
+import codecs
+import pickle
+import unittest
+from decimal import Decimal
+from unittest import mock
+
+import township
+from batches import NOTES, BatchCase
+from samples import TOP, RefusalCase
+from township import _library
+
+PLAT = township.Plat.open(NOTES)
+TEXT = "Tract ID Kestrel: NE/4 Sec. 14"
+KESTREL = "Tract ID Kestrel"
+#: What a reading of this text assumes.
+SAID = f"without `{KESTREL}`: you said that this is not land"
+
+#: Why a phrase is refused.
+WHY = "can't be left out: it names, excepts, or limits land, or contains a number that could be that of a section"
+
+
+def made_by(reading, given):
+    """What the changes of a reading make of a text, with a space for each run of white space."""
+    at, made = 0, b""
+    for change in reading.changes:
+        made += given[at : change.start] + change.written.encode()
+        at = change.end
+    return " ".join((made + given[at:]).decode().split())
+
+
+class Suggested(RefusalCase):
+    def test_left_out(self):
+        self.assertEqual(list(township.suggest(TEXT)), [])
+        reading, = township.suggest(TEXT, ignore=[KESTREL])
+        self.assertEqual((reading.text, reading.assumptions), ("sec. 14, NE1/4", (SAID,)))
+        aside, = [change for change in reading.changes if change.rule == "set aside"]
+        self.assertEqual(aside, (0, 16, KESTREL, " ", "set aside", "set aside", KESTREL))
+        self.assertEqual(aside.assumption, SAID)
+
+    def test_by_plats_and_lot_tables(self):
+        lots = township.Lots.of_figures(PLAT.township, {(5, 1): "40.45"})
+        for found, acres in (
+            (PLAT.suggest(TEXT, ignore=[KESTREL]), "160.00"),
+            (PLAT.suggest("Kestrel, Lots 1-4 Sec 7", "plat", ["kestrel"]), "156.42"),
+            (lots.suggest("Lot 1, Sec 5 Kestrel", ignore=["kestrel"]), "40.45"),
+        ):
+            reading, = found
+            self.assertEqual(reading.acres, Decimal(acres))
+            self.assertEqual([each.assumes for each in reading.changes if each.rule == "set aside"], ["set aside"])
+
+    def test_nothing_to_leave_out(self):
+        for ignore in ([], (), township.Phrases(), ["Osprey"], ["", " "]):
+            self.assertEqual(PLAT.suggest("NENE, S2NE4 Sec 14-2N-3W", ignore=ignore), PLAT.suggest("NENE, S2NE4 Sec 14-2N-3W"))
+            self.assertEqual(PLAT.suggest(TEXT, ignore=ignore), PLAT.suggest(TEXT))
+
+    def test_whole_words_in_either_case(self):
+        for text, phrase, is_found in (
+            ("TRACT ID KESTREL: NE/4 Sec. 14", "tract id kestrel", True),
+            ("NE/4 Sec. 14, Kestrels", "Kestrel", False),
+            ("NE/4 Sec. 14, AKestrel", "Kestrel", False),
+            ("NE/4 Sec. 14, (Kestrel)", "Kestrel", True),
+            ("Tract  ID Kestrel: NE/4 Sec. 14", "Tract ID Kestrel", False),
+        ):
+            self.assertEqual(bool(township.Phrases([phrase]).places_in(text)), is_found, text)
+
+    def test_the_first_phrase_of_the_list_counts(self):
+        self.assertEqual(township.Phrases(["Tract ID", KESTREL]).places_in(TEXT), [(0, 8)])
+        self.assertEqual(township.Phrases([KESTREL, "Tract ID"]).places_in(TEXT), [(0, 16)])
+
+    def test_changes_make_the_text(self):
+        for text in (
+            TEXT, "NE/4 Sec. 14 Kestrel", "Kestrel, NE/4 Kestrel SW/4 KESTREL Kestrel Sec. 14", "Kestrel Sec. 14: NE/4(Kestrel)",
+            "Sec. 14 Kestrel: NE/4, SW/4", "Kestrel\nT2N R3W Kestrel Sec. 14:\n NENE, SWSW Kestrel", "TRACT 1: Kestrel sec. 14, NE/4",
+        ):
+            given = text.encode()
+            found = township.suggest(text, ignore=[KESTREL, "kestrel", "(kestrel)"])
+            self.assertGreater(len(found), 0, text)
+            for reading in found:
+                self.assertEqual(made_by(reading, given), reading.text, text)
+                self.assertEqual([given[each.start : each.end].decode() for each in reading.changes],
+                                 [each.left_out for each in reading.changes], text)
+                ends = [0, *(each.end for each in reading.changes)]
+                self.assertTrue(all(end <= each.start for end, each in zip(ends, reading.changes)), text)
+                left_out = [each.left_out for each in reading.changes if each.rule == "set aside"]
+                self.assertEqual(len(left_out), text.lower().count("kestrel"), text)
+
+    def test_a_phrase_between_two_parts(self):
+        # Two parts of 160 acres; or the NE1/4 of the SW1/4.
+        first, second = PLAT.suggest("Sec. 14: NE/4 Kestrel SW/4", ignore=["Kestrel"])
+        self.assertEqual((first.acres, second.acres), (Decimal("320.00"), Decimal("40.00")))
+        left_out = "without `Kestrel`: you said that this is not land"
+        self.assertEqual(first.assumptions, (left_out,))
+        self.assertEqual(sorted(second.assumptions), ["`NE/4 SW/4`: no comma is missing", left_out])
+
+    def test_what_is_unread_besides(self):
+        found = township.suggest("the old Kestrel mill, quux", ignore=["kestrel"])
+        self.assertEqual([each.text for each in found.unread if each.ways is None], ["old", "mill", "quux"])
+        for each in found.unread:
+            self.assertEqual("the old Kestrel mill, quux"[each.start : each.end], each.text)
+
+    def test_bytes_and_text(self):
+        self.assertEqual(township.suggest(TEXT.encode(), ignore=[KESTREL.encode()]), township.suggest(TEXT, ignore=[KESTREL]))
+        # Places are bytes of the text in UTF-8. A byte that is not UTF-8 can be left out, too.
+        reading, = township.suggest("Bläuling: NE¼ Sec. 14", ignore=["Bläuling"])
+        self.assertEqual([each[:3] for each in reading.changes if each.rule == "set aside"], [(0, 9, "Bläuling")])
+        reading, = township.suggest(b"Bl\xe4uling: NE/4 Sec. 14", ignore=[b"Bl\xe4uling"])
+        self.assertEqual(reading.text, "sec. 14, NE1/4")
+
+    def test_parts(self):
+        text = "Kestrel T2N-R3W Sec 14: NE/4 Kestrel; Kestrel T3N-R3W Sec 32: S2, kestrel"
+        for parts in (township.suggest_parts(text, ["Kestrel"]), township.Plats([PLAT]).suggest(text, ignore=["Kestrel"])):
+            self.assertEqual([str(part.township) for part, _ in parts], ["T. 2 N., R. 3 W.", "T. 3 N., R. 3 W."])
+            self.assertEqual([[reading.text for reading in readings] for _, readings in parts],
+                             [["T2N R3W Sec 14: NE1/4"], ["T3N R3W Sec 32: S1/2"]])
+            # No phrase is left out without a word, even if it is between two parts.
+            left_out = [
+                text.encode()[part.start + each.start : part.start + each.end]
+                for part, (reading,) in parts for each in reading.changes if each.rule == "set aside"
+            ]
+            self.assertEqual(left_out, [b"Kestrel", b"Kestrel", b"Kestrel", b"kestrel"])
+        part, readings = parts[0]
+        self.assertEqual(readings[0].acres, Decimal("160.00"))
+        self.assertEqual((part.start, part.text[:31]), (0, "        T2N-R3W Sec 14: NE/4   "))
+
+    def test_more_places_than_a_first_call_has_room_for(self):
+        text = "Kestrel " * 1000 + "NE/4 Sec. 14"
+        reading, = township.suggest(text, ignore=["Kestrel"])
+        self.assertEqual([change.rule for change in reading.changes].count("set aside"), 1000)
+        self.assertEqual(reading.assumptions, ("without `Kestrel`: you said that this is not land",))
+
+    def test_the_account_is_checked_first(self):
+        with self.assertRaisesRegex(ValueError, "account"):
+            PLAT.suggest(TEXT, "both", ["Lot 3"])
+
+
+class Phrases(RefusalCase):
+    def test_refused(self):
+        for phrase in ("Lot 3", "NE/4", "less", "north of", "14", "Sec", "except the road"):
+            refused = self.refused(township.Phrases, ["Kestrel", phrase])
+            self.assertEqual((refused.number, refused.at, refused.line), (51, 2, None))
+            self.assertEqual(str(refused), f"phrases: phrase 2, `{phrase}`, {WHY}")
+            self.assertEqual(refused.explanation, f"township: {refused}\n")
+            self.assertEqual(self.refused(township.suggest, TEXT, ignore=["Kestrel", phrase]), refused)
+
+    def test_accepted(self):
+        for phrase in ("Unit 7", "5 years", "$2,040.00", "Tract ID Kestrel", "Ed", "", "Bläuling"):
+            self.assertEqual(list(township.Phrases([phrase])), [phrase])
+
+    def test_too_large(self):
+        for phrases in (["a"] * 65_537, [""] * 65_537, ["a" * 65_537], ["a" * 32_769] * 2):
+            refused = self.refused(township.Phrases, phrases)
+            self.assertEqual((refused.number, refused.at), (50, 65_536))
+            self.assertIn("there are more than 65,536 phrases, or they have more than 65,536 bytes", str(refused))
+        self.assertEqual(len(township.Phrases(["a"] * 65_536)), 65_536)
+        self.assertEqual(len(township.Phrases(["a" * 65_536])), 1)
+
+    def test_a_sequence(self):
+        phrases = township.Phrases(["Kestrel", b"Unit 7", "Bl\udce4uling"])
+        self.assertEqual((len(phrases), phrases[0], phrases[1:]), (3, "Kestrel", ("Unit 7", "Bl\udce4uling")))
+        self.assertEqual(list(phrases), ["Kestrel", "Unit 7", "Bl\udce4uling"])
+        self.assertEqual({phrases, township.Phrases(["Kestrel", "Unit 7", b"Bl\xe4uling"])}, {phrases})
+        self.assertNotEqual(phrases, township.Phrases(["Kestrel"]))
+        self.assertNotEqual(phrases, ["Kestrel"])
+        self.assertEqual(repr(phrases), "<township.Phrases: 3>")
+        self.assertEqual(pickle.loads(pickle.dumps(phrases)), phrases)
+        self.assertFalse(township.Phrases())
+
+    def test_wrong_types(self):
+        for phrases in ("Kestrel", b"Kestrel"):
+            with self.assertRaisesRegex(TypeError, "many phrases"):
+                township.Phrases(phrases)
+            with self.assertRaisesRegex(TypeError, "many phrases"):
+                township.suggest(TEXT, ignore=phrases)
+        for phrases in ([14], [None], None, 14):
+            with self.assertRaises(TypeError):
+                township.Phrases(phrases)
+
+    def test_the_library_fails(self):
+        phrases = township.Phrases(["Kestrel"])
+        for verdict, exception in ((_library.NO_MEMORY, MemoryError), (_library.NO_RANGE, RuntimeError), (99, RuntimeError)):
+            answer = _library.Answer(verdict=verdict)
+            for call in (lambda: township.Phrases(["Kestrel"]), lambda: township.suggest(TEXT, ignore=phrases)):
+                with mock.patch.object(_library, "set_aside", lambda *_: answer), self.assertRaises(exception):
+                    call()
+
+
+class File(BatchCase, RefusalCase):
+    def test_lines(self):
+        for data in (
+            "Tract ID Kestrel\nUnit 7\n", "\n  Tract ID Kestrel \r\n\r\n\tUnit 7", "Tract ID Kestrel\rUnit 7",
+            codecs.BOM_UTF8 + b"Tract ID Kestrel\nUnit 7", "Tract ID Kestrel\nUnit 7".encode("utf-16"),
+        ):
+            self.assertEqual(list(township.Phrases.open(self.put(data, "phrases.txt"))), [KESTREL, "Unit 7"])
+        self.assertEqual(list(township.Phrases.open(self.put("", "phrases.txt"))), [])
+
+    def test_refused(self):
+        path = self.put("Kestrel\n\n  Blä\n\t Lot 3 \n", "phrases.txt")
+        refused = self.refused(township.Phrases.open, path)
+        # The third phrase is on line 4, after two bytes of white space.
+        self.assertEqual((refused.number, refused.at, refused.line, refused.column), (51, 3, 4, 3))
+        self.assertEqual(str(refused), f"{path}:4:3: `Lot 3` {WHY}")
+        self.assertEqual((refused.source, path.read_bytes()[refused.start : refused.end]), (str(path), b"Lot 3"))
+
+    def test_too_large(self):
+        refused = self.refused(township.Phrases.open, self.put("a" * 65_537, "phrases.txt"))
+        self.assertEqual((refused.number, refused.at, refused.line), (50, 65_536, None))
+        # Lines without phrases don't count, up to a mebibyte.
+        self.assertEqual(len(township.Phrases.open(self.put("Kestrel\n" + "\n" * 1_000_000, "phrases.txt"))), 1)
+        refused = self.refused(township.Phrases.open, self.put("\n" * ((1 << 20) + 1), "phrases.txt"))
+        self.assertEqual((refused.number, refused.at), (50, 1 << 20))
+        self.assertIn("the file is longer than 1,048,576 bytes", str(refused))
+
+    def test_no_file(self):
+        with self.assertRaises(FileNotFoundError):
+            township.Phrases.open(self.folder / "none.txt")
+
+
+class Document(unittest.TestCase):
+    def test_the_document_shows_what_is_answered(self):
+        document = (TOP / "docs" / "PHRASES.md").read_text()
+        self.assertIn(f'text = "{TEXT}"', document)
+        self.assertIn(SAID, document)
+        self.assertIn("65,536", document)
+        for phrase in ("5 years", "$2,040.00"):
+            self.assertIn(f"`{phrase}`", document)
+            township.Phrases([phrase])
+
+
+if __name__ == "__main__":
+    unittest.main()
