@@ -58,12 +58,16 @@ With --suggest, these are added, too. They never change the columns above:
   reading_acres  the acreage of that reading
   unread         why there is no reading: the words that are not understood, what can be read in two ways, and why
                  lots and aliquot parts can't describe the land
+
+With --words, these readings leave out the phrases in a file, one on each line, that are not land. A phrase that
+names land, excepts it, or limits it is refused.
 """
 
 _STATUS = """\
 exit status:
   0    all descriptions are accepted
-  1    some descriptions or files of the folder are refused; standard error says why the files are
+  1    some descriptions, files of the folder, or phrases are refused; standard error says why files and
+       phrases are
   2    the command line is not valid
   3    a file cannot be read or written, the list has no such column, or memory ran out; standard error
        says why
@@ -112,6 +116,8 @@ def _options_in(batch: argparse.ArgumentParser, asked: argparse.Namespace) -> Op
     *notes, listed = asked.files
     if asked.sheet is not None and not is_workbook(listed):
         batch.error("--sheet needs a list that is a workbook")
+    if asked.words is not None and not asked.suggest:
+        batch.error("--words needs --suggest, whose readings leave the phrases out")
     return Options(
         list=listed,
         notes=notes[0] if notes else None,
@@ -128,6 +134,7 @@ def _options_in(batch: argparse.ArgumentParser, asked: argparse.Namespace) -> Op
         output=output,
         resume=asked.resume,
         suggest=asked.suggest,
+        words=asked.words,
         jobs=asked.jobs,
     )
 
@@ -267,6 +274,7 @@ def _add_outputs(batch: argparse.ArgumentParser) -> None:
     batch.add_argument(
         "--suggest", action="store_true", help="add columns on the readings of each description"
     )
+    batch.add_argument("--words", metavar="FILE", help="with --suggest, leave out the phrases in this file")
     batch.add_argument(
         "--prefix", metavar="TEXT", default="", help="begin the name of each added column with this text"
     )

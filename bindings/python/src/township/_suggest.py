@@ -8,19 +8,23 @@ from typing import Any, List, Optional, Sequence
 from . import _library
 from ._account import ACCOUNTS
 from ._batch.options import STANDARD
-from ._batch.stopped import Status, Stopped
+from ._batch.stopped import Status, Stopped, reading
+from ._ignored import Phrases
 from ._measuring import Command, _bytes_in, _source, _write
 from ._phrases import MANNERS_SAID, condition_of, phrases_of, shared_of, tidy
 from ._plat import Plat
 from ._readings import Change, Reading, Readings, assumptions_of
 from ._refused import Refused
 
-_USAGE = "python -m township suggest [--account ACCOUNT] NOTES DESCRIPTION"
+_USAGE = "python -m township suggest [--account ACCOUNT] [--words FILE] NOTES DESCRIPTION"
 
 _SUGGEST = """\
 Shows how a text, such as one of a lease or a register, would be written as a description: each of its readings,
 with its acreage, what was changed, and what is assumed. It decides nothing: pick the reading that is meant. NOTES
 contains the field notes of the township (CSV); DESCRIPTION is a file, or - for standard input.
+
+With --words, the readings leave out the phrases in a file, one on each line, that are not land. A phrase that
+names land, excepts it, or limits it is refused.
 """
 
 _STATUS = """\
@@ -28,7 +32,8 @@ exit status:
   0    the text has one reading
   1    the text has several readings
   2    the command line is not valid
-  3    the field notes are refused, a file cannot be read, or memory ran out; standard error says why
+  3    the field notes or the phrases are refused, a file cannot be read, or memory ran out; standard error
+       says why
   4    the text has no reading
 """
 
@@ -58,6 +63,7 @@ def suggest_command(commands: Any) -> Command:
         default="exact",
         help="how a whole lot counts: at its exact area, or as printed on the plat (default: exact)",
     )
+    parser.add_argument("--words", metavar="FILE", help="leave out the phrases in this file")
     return Command(parser, _run_suggest)
 
 
@@ -69,8 +75,9 @@ def _run_suggest(parser: argparse.ArgumentParser, asked: argparse.Namespace) -> 
     if notes == name == STANDARD:
         parser.error("only one file can be standard input")
     plat = _plat_in(notes)
+    phrases = Phrases() if asked.words is None else _phrases_in(asked.words)
     given = _bytes_in(name, _library.DESCRIPTION_MOST)
-    found = plat.suggest(given, asked.account)
+    found = plat.suggest(given, asked.account, phrases)
     _write("".join(f"{line}\n" for line in lines_of(given, found)))
     if len(found) > 1:
         return SEVERAL_READINGS
@@ -83,6 +90,15 @@ def _plat_in(name: str) -> Plat:
         return Plat._of_notes(_bytes_in(name, _library.NOTES_MOST), _source(name))
     except Refused as refused:
         raise Stopped(refused.explanation.rstrip("\n")) from refused
+
+
+def _phrases_in(name: str) -> Phrases:
+    """Return the phrases in a file, or stop with the status of a file that cannot be read."""
+    with reading(name):
+        try:
+            return Phrases.open(name)
+        except Refused as refused:
+            raise Stopped(refused.explanation.rstrip("\n")) from refused
 
 
 def lines_of(given: bytes, found: Readings) -> List[str]:

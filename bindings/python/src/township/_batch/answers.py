@@ -7,6 +7,7 @@ from typing import Any, Dict, Iterable, Iterator, List, Optional, Sequence, Tupl
 
 from .._account import Account
 from .._full import FullAnswers
+from .._ignored import Phrases
 from .._phrases import tidy
 from .._plat import Plat
 from .._readings import Readings
@@ -55,11 +56,12 @@ class Counts:
 class Answers:
     """Answers records, and counts them."""
 
-    def __init__(self, plats: Plats, column: int, account: Account, suggests: bool = False) -> None:
+    def __init__(self, plats: Plats, column: int, account: Account, ignore: Optional[Phrases] = None) -> None:
+        """Answer records by these plats; also with their readings, if there are phrases to ignore, or an empty list."""
         self.plats = plats
         self._column = column
         self._account = account
-        self._suggests = suggests
+        self._ignore = ignore
         self.counts = Counts()
 
     @property
@@ -132,7 +134,7 @@ class Answers:
         self.counts.refused += len(indexes)
         if found.file == MISSING:
             self.counts.add_missing(found.fault, len(indexes))
-        if self._suggests:
+        if self._ignore is not None:
             for index in indexes:
                 added.extend(index, [None] * len(SUGGESTED))
 
@@ -167,17 +169,19 @@ class Answers:
             self.counts.undecoded += is_undecoded(chosen[place])
         self.counts.refused += len(answers.refused)
         self.counts.accepted += len(chosen) - len(answers.refused)
-        if self._suggests:
+        if self._ignore is not None:
             for index, description in zip(indexes, chosen):
-                added.extend(index, suggested_fields(self._readings(by, description)))
+                added.extend(index, suggested_fields(self._readings(by, description, self._ignore)))
 
     def _full_answers(self, by: Basis, descriptions: Sequence[str]) -> FullAnswers:
         """Return the answers to descriptions. Only on a plat is there a choice of accounts."""
         return by._full_answers(descriptions, self._account) if isinstance(by, Plat) else by._full_answers(descriptions)
 
-    def _readings(self, by: Basis, description: str) -> Readings:
+    def _readings(self, by: Basis, description: str, ignore: Phrases) -> Readings:
         """Return the readings of a description. Only on a plat is there a choice of accounts."""
-        return by.suggest(description, self._account) if isinstance(by, Plat) else by.suggest(description)
+        if isinstance(by, Plat):
+            return by.suggest(description, self._account, ignore)
+        return by.suggest(description, ignore)
 
 
 def suggested_fields(readings: Readings) -> List[Any]:

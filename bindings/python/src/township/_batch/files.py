@@ -5,6 +5,7 @@ import re
 from typing import Callable, Optional, Tuple, TypeVar, Union
 
 from .. import _library
+from .._ignored import Phrases
 from .._lots import Lots
 from .._plat import Plat
 from .._refused import Refused
@@ -51,6 +52,15 @@ def plat_in(file: str) -> Plat:
 def lots_in(file: str) -> Lots:
     """Return the lot table in a file, or stop."""
     return _made_of(Lots.open, file, Plat.open, "this file contains field notes")
+
+
+def phrases_in(file: str) -> Phrases:
+    """Return the phrases in a file, one on each line, or stop."""
+    with reading(file):
+        try:
+            return Phrases.open(file)
+        except Refused as refused:
+            raise _stopped(_message(refused)) from refused
 
 
 def basis_in(file: str) -> Basis:

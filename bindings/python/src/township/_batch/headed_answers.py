@@ -6,6 +6,7 @@ from math import prod
 from typing import Any, Dict, List, Optional, Sequence, Tuple
 
 from .._account import Account
+from .._ignored import Phrases
 from .._land import Land
 from .._lands import Lands, PartRefused, parts_and_lands
 from .._part_readings import suggest_parts
@@ -48,11 +49,11 @@ class HeadedAnswers(Answers):
     The records with one township are answered by its file together, and each record with several by itself.
     """
 
-    def __init__(self, plats: HeadedPlats, column: int, account: Account, suggests: bool = False) -> None:
+    def __init__(self, plats: HeadedPlats, column: int, account: Account, ignore: Optional[Phrases] = None) -> None:
         # Here, readings do not depend on what a record is answered by.
-        super().__init__(plats, column, account, suggests=False)
+        super().__init__(plats, column, account)
         self._headed = plats
-        self._suggests_parts = suggests
+        self._ignore_in_parts = ignore
 
     def _missing_in(self, rows: Rows) -> List[str]:
         """Return the sentences on the townships of a record for which there is no file."""
@@ -75,10 +76,11 @@ class HeadedAnswers(Answers):
         for (township, fields), indexes in alone.items():
             self._answer_by(self._headed.plat_in(township, *fields), descriptions, indexes, added)
             added.put_figures(indexes, str(township))
-        if self._suggests_parts:
+        ignore = self._ignore_in_parts
+        if ignore is not None:
             for index, fields in enumerate(self._plat_fields(rows)):
                 has_fault = index in rows.faults
-                added.extend(index, _NO_READINGS if has_fault else self._suggested(descriptions[index], fields))
+                added.extend(index, _NO_READINGS if has_fault else self._suggested(descriptions[index], fields, ignore))
 
     def _only_township(self, index: int, fields: _Fields, description: str, added: Added) -> Optional[Township]:
         """Return the only township of a record. If it has several, or none, answer it."""
@@ -138,10 +140,10 @@ class HeadedAnswers(Answers):
             fault = f"{land.township}: {refused.sentence}"
             raise _Unanswered(fault, Refusal(refused.number, refused.at)) from None
 
-    def _suggested(self, description: str, fields: _Fields) -> List[Any]:
+    def _suggested(self, description: str, fields: _Fields, ignore: Phrases) -> List[Any]:
         """Return the fields on the readings of a description: if each of its parts has one, their text and acreage."""
         try:
-            parts = suggest_parts(encoded(description))
+            parts = suggest_parts(encoded(description), ignore)
         except Refused:
             return _NO_READINGS
         number = prod(len(readings) for _, readings in parts)

@@ -40,5 +40,7 @@ class Options(NamedTuple):
     resume: bool = False
     #: Whether to add columns on the readings of each description.
     suggest: bool = False
+    #: The name of a file of phrases that these readings leave out.
+    words: Optional[str] = None
     #: The number of processes that answer records.
     jobs: int = 1

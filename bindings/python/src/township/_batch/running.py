@@ -7,11 +7,12 @@ import sys
 from contextlib import nullcontext
 from typing import TYPE_CHECKING, ContextManager, Iterator, List, Mapping, Optional, Sequence
 
+from .._ignored import Phrases
 from .._text import shown
 from .answered import Piece, answers_to, pieces_of
 from .answers import Answers
 from .columns import added_names, added_to, column_in, optional_column_in
-from .files import Basis, lots_in, plat_in
+from .files import Basis, lots_in, phrases_in, plat_in
 from .folder import Folder
 from .interrupts import Interrupts
 from .options import Options
@@ -37,9 +38,10 @@ def run_batch(options: Options) -> Status:
     If it is interrupted, the answers so far are written.
     """
     plats = _Plats(options)
-    _check_output(options.output, [options.list, *plats.files])
+    phrases = None if options.words is None else phrases_in(options.words)
+    _check_output(options.output, [*filter(None, [options.list, options.words]), *plats.files])
     with source_of(options) as source:
-        answers = _answers_by(plats.plats_for(source, options), source, options)
+        answers = _answers_by(plats.plats_for(source, options), source, options, phrases)
         try:
             with Interrupts() as interrupts:
                 _answer(source, answers, options, interrupts)
@@ -52,14 +54,15 @@ def run_batch(options: Options) -> Status:
     return Status.REFUSED if answers.counts.refused or plats.refused else Status.ACCEPTED
 
 
-def _answers_by(plats: Plats, source: Source, options: Options) -> Answers:
-    """Return what answers the records of a list."""
+def _answers_by(plats: Plats, source: Source, options: Options, phrases: Optional[Phrases]) -> Answers:
+    """Return what answers the records of a list. Its readings leave the phrases out."""
+    ignore = (phrases or Phrases()) if options.suggest else None
     if isinstance(plats, HeadedPlats):
         # Few batches need what answers land in several townships.
         from .headed_answers import HeadedAnswers
 
-        return HeadedAnswers(plats, source.shape.column, options.account, options.suggest)
-    return Answers(plats, source.shape.column, options.account, options.suggest)
+        return HeadedAnswers(plats, source.shape.column, options.account, ignore)
+    return Answers(plats, source.shape.column, options.account, ignore)
 
 
 class _Plats:
@@ -72,7 +75,7 @@ class _Plats:
             self._one = plat_in(options.notes)
         elif options.lots is not None:
             self._one = lots_in(options.lots)
-        others = list(filter(None, [options.list, options.output]))
+        others = list(filter(None, [options.list, options.output, options.words]))
         self._folder = Folder(options.plats, others) if options.plats is not None else None
 
     @property

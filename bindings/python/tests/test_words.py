@@ -1,0 +1,85 @@
+"""The option `--words` of `python -m township suggest` and `python -m township batch`."""
+import unittest
+
+from batches import EVEN_NOTES, NOTES, BatchCase, records
+from test_ignored import KESTREL, SAID, TEXT, WHY
+
+
+class Words(BatchCase):
+    def test_suggest(self):
+        words = self.put(f"{KESTREL}\n", "phrases.txt")
+        for order in (("--words", words, NOTES, "-"), (NOTES, "-", "--words", words)):
+            run = self.run_words("suggest", *order, input=TEXT.encode())
+            self.assertEqual((run.returncode, run.stderr), (0, b""))
+            lines = run.stdout.decode().splitlines()
+            self.assertEqual(lines[0], "1. sec. 14, NE1/4.    160.00 acres")
+            self.assertEqual(lines[-1], f"     {SAID}")
+        self.assertEqual(self.run_words("suggest", NOTES, "-", input=TEXT.encode()).returncode, 4)
+
+    def test_several_readings_share_what_is_left_out(self):
+        run = self.run_words("suggest", NOTES, "-", "--words", self.put("Kestrel", "p.txt"), input=b"Sec. 14: NE/4 Kestrel SW/4")
+        self.assertEqual(run.returncode, 1)
+        first, second, *others = run.stdout.decode().splitlines()
+        self.assertTrue(first.endswith("320.00 acres    if the space separates two parts"), first)
+        self.assertTrue(second.endswith("40.00 acres    as it is written"), second)
+        self.assertEqual(others[-1], "     without `Kestrel`: you said that this is not land")
+
+    def test_a_refused_phrase(self):
+        words = self.put("Kestrel\nLot 3\n", "phrases.txt")
+        said = f"township: {words}:2:1: `Lot 3` {WHY}\n".encode()
+        run = self.run_words("suggest", NOTES, "-", "--words", words, input=TEXT.encode())
+        self.assertEqual((run.returncode, run.stdout, run.stderr), (3, b"", said))
+        run = self.run_words("batch", NOTES, self.put("description\nsec. 14.\n"), "--suggest", "--words", words)
+        self.assertEqual((run.returncode, run.stdout, run.stderr), (1, b"", said))
+
+    def test_no_file(self):
+        none = self.folder / "none.txt"
+        said = f"township: cannot read {none}: No such file or directory\n".encode()
+        for words in (("suggest", NOTES, "-"), ("batch", "--suggest", NOTES, self.put("description\nsec. 14.\n"))):
+            run = self.run_words(*words, "--words", none)
+            self.assertEqual((run.returncode, run.stdout, run.stderr), (3, b"", said))
+
+    def test_batch(self):
+        words = self.put(f"{KESTREL}\nUnit 7\n", "phrases.txt")
+        data = f'description\n"{TEXT}"\n"UNIT 7: sec. 14, all."\nOsprey sec. 14\n"sec. 14, NE1/4."\n'
+        run = self.run_words("batch", NOTES, self.put(data), "--suggest", "--words", words)
+        (heading, *rows), plain = records(run.stdout), records(self.run_words("batch", NOTES, self.put(data)).stdout)
+        self.assertEqual([row[-5:-1] for row in rows], [
+            ["sec. 14, NE1/4.", "1", SAID, "160.00"],
+            ["sec. 14, all.", "1", "without `UNIT 7`: you said that this is not land", "640.00"],
+            ["", "0", "", ""],
+            ["sec. 14, NE1/4.", "1", "", "160.00"],
+        ])
+        # The columns of the answer are the same as without phrases.
+        self.assertEqual([row[:-5] for row in (heading, *rows)], plain)
+        alone = run.stdout
+        self.assertEqual(self.run_words("batch", NOTES, self.put(data), "--suggest", "--words", words, "--jobs", "2").stdout, alone)
+
+    def test_batch_by_headings(self):
+        plats = self.folder / "plats"
+        plats.mkdir()
+        self.put(EVEN_NOTES.read_bytes(), "plats/2n3w.csv")
+        self.put_notes("plats/3n3w.csv", "T,3,N,3,W", EVEN_NOTES)
+        data = 'description\n"Kestrel T2N-R3W Sec 14: NE/4; Kestrel T3N-R3W Sec 32: S2"\n'
+        words = self.put("Kestrel\n", "phrases.txt")
+        run = self.run_words("batch", "--plats", plats, "--headings", "--suggest", "--words", words, self.put(data))
+        _, row = records(run.stdout)
+        self.assertEqual(row[-5:], [
+            "T2N R3W Sec 14: NE1/4; T3N R3W Sec 32: S1/2.", "1", "without `Kestrel`: you said that this is not land", "480.00", "",
+        ])
+
+    def test_misuse(self):
+        words = self.put("Kestrel\n", "phrases.txt")
+        run = self.run_words("batch", NOTES, self.put("description\nsec. 14.\n"), "--words", words)
+        self.assertEqual((run.returncode, run.stdout), (2, b""))
+        self.assertIn(b"--words needs --suggest", run.stderr)
+
+    def test_phrases_are_not_overwritten(self):
+        words = self.put("Kestrel\n", "phrases.txt")
+        run = self.run_words("batch", NOTES, self.put("description\nsec. 14.\n"), "--suggest", "--words", words, "--output", words)
+        self.assertEqual((run.returncode, words.read_text()), (3, "Kestrel\n"))
+        self.assertIn(b"the output must not be one of the inputs", run.stderr)
+
+
+if __name__ == "__main__":
+    unittest.main()
