@@ -1,6 +1,8 @@
 """What tests do with the cases of the page."""
 from __future__ import annotations
 
+import base64
+import json
 from typing import List
 
 from page import Page
@@ -49,3 +51,9 @@ def link_in(page: Page) -> str:
     link = page.value("#link")
     assert link.startswith(f"{page.server.address}#case=")
     return link.partition("#")[2]
+
+
+def link_of(**values: object) -> str:
+    """A link that carries these values."""
+    text = base64.urlsafe_b64encode(json.dumps(values).encode()).decode().rstrip("=")
+    return f"#case={text}"

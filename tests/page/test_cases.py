@@ -1,7 +1,6 @@
 """Cases: nothing is lost, whatever is opened, replaced, or deleted."""
 from __future__ import annotations
 
-import base64
 import json
 from pathlib import Path
 from typing import Iterator
@@ -10,14 +9,8 @@ import pytest
 import township
 
 from asking import SAMPLE
-from casework import choose, describe, link_in, listed, loaded, manage, name_of_case
+from casework import choose, describe, link_in, link_of, listed, loaded, manage, name_of_case
 from page import Page
-
-
-def link_of(**values: object) -> str:
-    """A link that carries these values."""
-    text = base64.urlsafe_b64encode(json.dumps(values).encode()).decode().rstrip("=")
-    return f"#case={text}"
 
 
 def test_cases_have_names(page: Page) -> None:

@@ -150,6 +150,7 @@ def test_the_largest_answers_in_time(server: Interface) -> None:
         ("suggest", {"text": "NENE" * 16_384, "draw": True}),
         ("suggest", {"text": "sec. 14: NE4" + " NE4-" * 13_000, "draw": True}),
         ("suggest", {"text": "(" * 65_000, "draw": True}),
+        ("suggest", {"text": "a " * 32_000, "ignore": ["a" * 655] * 99 + ["a"]}),
         ("land", {"description": f"sec. 8, {', '.join(parts)}", "draw": True}),
     ]
     for kind, fields in requests:

@@ -187,6 +187,43 @@ def test_unread(server: Interface) -> None:
     assert server.ask("suggest", **NOMINAL, text="NENE Sec 14")["unread"] == []
 
 
+def test_phrases_are_left_out(server: Interface) -> None:
+    text = "½ Bläuling: NE/4 Sec. 14"
+    assert server.ask("suggest", **NOMINAL, text=text)["readings"] == []
+    [reading] = server.ask("suggest", **NOMINAL, text=text, ignore=["½ BLäULING"])["readings"]
+    assert (reading["text"].strip(), reading["acres"]["exact"]) == ("sec. 14, NE1/4", "160.00")
+    assert reading["assumptions"] == ["without `½ Bläuling`: you said that this is not land"]
+    # Places are code points.
+    [aside] = [change for change in reading["changes"] if change["rule"] == "set aside"]
+    assert (aside["start"], aside["end"]) == (0, 10)
+
+
+def test_what_is_unread_besides(server: Interface) -> None:
+    answer = server.ask("suggest", **NOMINAL, text="old Kestrel mill, sec. 14", ignore=["Kestrel"])
+    assert [each["sentence"] for each in answer["unread"]] == ["not understood: `old`", "not understood: `mill`"]
+    assert [(each["start"], each["end"]) for each in answer["unread"]] == [(0, 3), (12, 16)]
+
+
+def test_phrases_that_name_land(server: Interface) -> None:
+    refused = server.ask("suggest", **NOMINAL, text="sec. 14", ignore=["Kestrel", "Lot 3"])["refused"]
+    assert (refused["of"], refused["number"], refused["at"]) == ("phrases", 51, 2)
+    assert refused["sentence"].startswith("`Lot 3` (phrase 2) can't be left out: ")
+    refused = server.ask("suggest", **NOMINAL, text="sec. 14", ignore=["a" * 65_537])["refused"]
+    assert (refused["of"], refused["number"], refused["at"]) == ("phrases", 50, 65_536)
+
+
+def test_phrases_that_are_not_valid(server: Interface) -> None:
+    for ignore, error in (
+        ("Kestrel", "the field `ignore` must be a list"),
+        ([14], "the field `ignore` must be a list of texts"),
+        (["a"] * 101, "the field `ignore` has 101 items; at most 100 are allowed"),
+    ):
+        reply = server.post("suggest", json.dumps({**NOMINAL, "text": "sec. 14", "ignore": ignore}).encode())
+        assert (reply.status, reply.json) == (400, {"error": error})
+    assert len(server.ask("suggest", **NOMINAL, text="sec. 14", ignore=None)["readings"]) == 1
+    assert len(server.ask("suggest", **NOMINAL, text="sec. 14", ignore=["", " "])["readings"]) == 1
+
+
 @pytest.mark.parametrize("encoding", ["utf-8", "utf-8-sig", "utf-16", "utf-16-be", "cp1252"])
 def test_files(server: Interface, encoding: str) -> None:
     data = base64.b64encode("name;N½\r\n".encode(encoding)).decode()
@@ -295,6 +332,7 @@ def test_the_document(server: Interface) -> None:
         "the time for an answer to be read": limits.READING_MOST,
         "descriptions of a batch": limits.DESCRIPTIONS_MOST,
         "tracts of a list": limits.TRACTS_MOST,
+        "phrases that readings leave out": limits.PHRASES_MOST,
     }
     told = " ".join(text.split())
     small = f"with more than {limits.SMALL_MOST >> 10} KiB"

@@ -1,6 +1,8 @@
 """The panels of a description and of a comparison: acreage, refusals, notes, and readings."""
 from __future__ import annotations
 
+from asking import SAMPLE
+from casework import link_of
 from page import Page
 
 
@@ -82,6 +84,94 @@ def test_a_text_without_a_reading_says_why(page: Page) -> None:
     page.type("#description", "sec. 14, that portion of the NE/4 lying north of the road")
     page.wait_for_text("#readings", "Lots and aliquot parts can't describe this land: a portion needs a survey.")
     assert "portion" in [each.get_property("textContent") for each in page.all("#panel-land .back mark")]
+
+
+def test_a_phrase_is_left_out(page: Page) -> None:
+    page.tab("land")
+    page.type("#description", "Tract ID Kestrel: NE/4 Sec. 14")
+    page.wait_for_text("#readings", "Not understood: `Tract ID Kestrel`")
+    press(page, "Leave out `Tract ID Kestrel`")
+    page.wait_for_text("#readings", "Perhaps this was meant")
+    assert "Assumed: without `Tract ID Kestrel`: you said that this is not land" in page.text("#readings")
+    # Who works with a keyboard goes on with the reading, which is picked by its button.
+    assert "160.00 acres" in page.focused()
+    assert page.all("#panel-land .back mark.wrong") == []
+    page.press(page.ENTER)
+    page.wait_for_text("#land-answer", "160.00 acres")
+    assert page.value("#description") == "sec. 14, NE1/4"
+
+
+def test_phrases_that_are_left_out_are_part_of_the_case(page: Page) -> None:
+    page.tab("land")
+    page.type("#description", "Kestrel: NE/4 Sec. 14 Osprey")
+    page.wait_for_text("#readings", "Not understood: `Osprey`")
+    press(page, "Leave out `Kestrel`")
+    page.wait_for_text("#readings", "Left out, as you said: `Kestrel`")
+    press(page, "Leave out `Osprey`")
+    page.wait_for_text("#readings", "Perhaps this was meant")
+    page.open()
+    page.wait_for_text("#readings", "Perhaps this was meant")
+    # They are found in other texts, too, and only where they are.
+    page.type("#description", "OSPREY NW/4 Sec. 14")
+    page.wait_for(lambda: "OSPREY" in page.text("#readings") and "Left out, as you said: `Osprey`" in page.text("#readings"))
+    assert "Kestrel" not in page.text("#readings")
+
+
+def test_a_phrase_is_read_again(page: Page) -> None:
+    page.tab("land")
+    page.type("#description", "Kestrel: NE/4 Sec. 14")
+    page.wait_for_text("#readings", "Not understood: `Kestrel`")
+    for act in (lambda: press(page, "Read `Kestrel` again"), lambda: page.one("#undo").click()):
+        press(page, "Leave out `Kestrel`")
+        page.wait_for_text("#readings", "Perhaps this was meant")
+        act()
+        page.wait_for_text("#readings", "Not understood: `Kestrel`")
+        assert [each.get_property("textContent") for each in page.all("#panel-land .back mark")] == ["Kestrel"]
+
+
+def test_a_phrase_that_can_not_be_left_out(page: Page) -> None:
+    page.tab("land")
+    page.type("#description", "sec. 14, the old mill north of the road")
+    page.wait_for_text("#readings", "Not understood: ")
+    [button] = [each for each in page.all("#readings button") if "north" in each.text]
+    button.click()
+    page.wait_for_text("#readings", "can't be left out: it names, excepts, or limits land")
+    # It stays in the text, and is not kept.
+    assert "Not understood: " in page.text("#readings") and "Left out" not in page.text("#readings").replace("be left out", "")
+
+
+def test_a_phrase_of_a_link_that_can_not_be_left_out(page: Page) -> None:
+    values = {"notes": SAMPLE.read_text(), "description": "Kestrel: NE/4 Sec. 14", "panel": "land", "ignored": "Lot 3\nKestrel"}
+    page.open(link_of(**values))
+    page.wait_for_text("#readings", "`Lot 3` (phrase 1) can't be left out: ")
+    page.wait_for_text("#readings", "Perhaps this was meant")
+
+
+def test_a_phrase_is_left_out_of_the_other_texts(page: Page) -> None:
+    page.tab("compare")
+    page.put("#first", "Kestrel: NE/4 Sec. 14")
+    page.put("#second", "sec. 14.")
+    page.wait_for_text("#compare-answer", "Refused")
+    press(page, "Show the readings")
+    page.wait_for_text("#compare-readings", "Not understood: `Kestrel`")
+    press(page, "Leave out `Kestrel`")
+    page.wait_for_text("#compare-readings", "The first description. Perhaps this was meant")
+    page.tab("tracts")
+    page.put("#tracts", "A,Kestrel: NW/4 Sec. 14\n")
+    page.wait_for_text("#tracts-table", "Refused")
+    press(page, "Show the readings")
+    page.wait_for_text("#tracts-readings", "Tract A. Perhaps this was meant")
+    press(page, "Read `Kestrel` again")
+    page.wait_for_text("#tracts-readings", "Not understood: `Kestrel`")
+
+
+def press(page: Page, words: str) -> None:
+    """Press the button with these words that is shown."""
+
+    def shown() -> "object":
+        return next((each for each in page.all("[role=tabpanel] button") if each.text == words and each.is_displayed()), None)
+
+    page.wait_for(shown).click()
 
 
 def test_the_readings_of_a_text_that_is_one_itself(page: Page) -> None:

@@ -139,7 +139,7 @@ class Phrases(RefusalCase):
         for phrase in ("Lot 3", "NE/4", "less", "north of", "14", "Sec", "except the road"):
             refused = self.refused(township.Phrases, ["Kestrel", phrase])
             self.assertEqual((refused.number, refused.at, refused.line), (51, 2, None))
-            self.assertEqual(str(refused), f"phrases: phrase 2, `{phrase}`, {WHY}")
+            self.assertEqual(str(refused), f"phrases: `{phrase}` (phrase 2) {WHY}")
             self.assertEqual(refused.explanation, f"township: {refused}\n")
             self.assertEqual(self.refused(township.suggest, TEXT, ignore=["Kestrel", phrase]), refused)
 

@@ -15,7 +15,7 @@ from ._text import Path, Text, encoded, shown
 _STRETCHES = 64
 
 #: What phrases are called in an explanation.
-_SOURCE = "phrases"
+PHRASES = "phrases"
 
 #: The largest file of phrases, in bytes: much larger than phrases may be, since lines can be empty.
 _FILE_MOST = 1 << 20
@@ -137,9 +137,9 @@ class Phrases(Sequence[str]):
     def _refused(self, refusal: Refusal) -> Refused:
         """Return the refusal of phrases that are given as a list."""
         if refusal.number == _library.REFUSAL_PHRASES_TOO_LARGE:
-            return refused_as_a_whole(_SOURCE, refusal, _TOO_LARGE)
-        sentence = f"phrase {refusal.at}, `{shown(self[refusal.at - 1])}`, {_NAMES_LAND}"
-        return refused_as_a_whole(_SOURCE, refusal, sentence)
+            return refused_as_a_whole(PHRASES, refusal, _TOO_LARGE)
+        sentence = f"`{shown(self[refusal.at - 1])}` (phrase {refusal.at}) {_NAMES_LAND}"
+        return refused_as_a_whole(PHRASES, refusal, sentence)
 
     def _refused_in_file(self, refusal: Refusal, source: str, given: bytes, places: Sequence[Place]) -> Refused:
         """Return the refusal of phrases at these places of a file."""

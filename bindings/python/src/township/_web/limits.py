@@ -52,6 +52,9 @@ READING_MOST = 60
 DESCRIPTIONS_MOST = 50_000
 TRACTS_MOST = 1_000
 
+#: The most phrases that readings leave out.
+PHRASES_MOST = 100
+
 #: The most overlapping pairs of tracts that are named.
 PAIRS_MOST = 1_000
 

@@ -5,28 +5,33 @@ from typing import Optional
 
 from .._drawing import svg_of
 from .._drawing.of_plat import shade_of, subject_of
+from .._ignored import PHRASES, Phrases, blanked
 from .._land import Land
 from .._phrases import MANNERS_SAID, condition_of, phrases_of
 from .._readings import Change, Reading, Unread
 from .._refused import Refused
-from .._suggested import suggest
+from .._suggested import readings_without
 from .._text import encoded
 from .answers import BASIS, land_json
 from .basis import Basis
 from .given import Given
+from .limits import PHRASES_MOST
 from .refusals import Json, refused_json
 from .unknown import unknown_words
 
 
 def suggest_answer(body: bytes) -> Json:
     """Answer with the readings of a text, in their order, or with the reason that there are none."""
-    given = Given(body, BASIS | {"text", "draw"})
-    text = given.text("text")
+    given = Given(body, BASIS | {"text", "draw", "ignore"})
+    written = encoded(given.text("text"))
     draws = given.flag("draw")
     basis = given.basis()
-    found = suggest(text)
-    written = encoded(text)
-    place = found.beyond if found or found.reason is not None else unknown_words(text)
+    try:
+        aside = Phrases(given.texts("ignore", PHRASES_MOST) if given.has("ignore") else ()).places_in(written)
+    except Refused as refused:
+        return {"refused": refused_json(refused, PHRASES)}
+    found = readings_without(written, aside)
+    place = found.beyond if found or found.reason is not None else unknown_words(blanked(written, aside))
     start, end = (None, None) if place is None else (_place(written, byte) for byte in place)
     return {
         "readings": [

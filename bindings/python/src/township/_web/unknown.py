@@ -4,8 +4,7 @@ from __future__ import annotations
 import re
 from typing import Iterator, Optional, Tuple
 
-from .._suggested import suggest
-from .._text import encoded
+from .._readings import readings_of
 
 #: A word, without the punctuation around it.
 _WORD = re.compile(rb"[^\s,;:.()]+")
@@ -17,13 +16,12 @@ _BETWEEN = b" \t\r\n,;:"
 _BYTES_MOST, _TRIES_MOST = 2_048, 256
 
 
-def unknown_words(text: str) -> Optional[Tuple[int, int]]:
+def unknown_words(given: bytes) -> Optional[Tuple[int, int]]:
     """Return where the words begin and end, in bytes, or `None` if there are none, or too many.
 
-    >>> unknown_words("sec. 14, blah NE1/4")
+    >>> unknown_words(b"sec. 14, blah NE1/4")
     (9, 13)
     """
-    given = encoded(text)
     if len(given) > _BYTES_MOST:
         return None
     for _, (start, end) in zip(range(_TRIES_MOST), _runs(given)):
@@ -33,7 +31,7 @@ def unknown_words(text: str) -> Optional[Tuple[int, int]]:
             after = after.lstrip(_BETWEEN)
         if not _WORD.search(after):
             before = before.rstrip(_BETWEEN)
-        if suggest(before + after):
+        if readings_of(before + after):
             return start, end
     return None
 

@@ -78,8 +78,13 @@ function refusals(refused) {
 }
 
 /** Shows the readings of one of the descriptions, of which one can be picked. */
-function showReadings(name) {
-  readings.suggest(byId("compare-readings"), kept[name], (text) => pick(name, text), `The ${name} description. `);
+function showReadings(name, added) {
+  readings.suggest(byId("compare-readings"), kept[name], {
+    pick: (text) => pick(name, text),
+    again: (phrase) => showReadings(name, phrase),
+    of: `The ${name} description. `,
+    added,
+  });
 }
 
 /** Returns the notes on both descriptions, from each of which its readings can be shown and picked. */

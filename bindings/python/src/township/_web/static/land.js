@@ -49,7 +49,7 @@ export async function refresh(request) {
     } else {
       place.replaceChildren(...landAnswer(answer), ...answer.notes.map((note) => noteAnswer(note)));
       mark(area, answer.notes.map((note) => ({ ...note, kind: "note" })));
-      if (answer.notes.length > 0) await readings.suggest(byId("readings"), kept.description, pick);
+      if (answer.notes.length > 0) await showReadings();
       else readings.clear(byId("readings"));
     }
     return answer;
@@ -65,9 +65,18 @@ export function showNone(reason) {
   readings.clear(byId("readings"));
 }
 
+/** Shows the readings of the description: without the phrase `added`, too, if there is one. */
+function showReadings(added, again = showReadings) {
+  return readings.suggest(byId("readings"), kept.description, { pick, again, added });
+}
+
 /** Shows the readings of a refused description, or marks what rules them out, or what is not understood. */
-async function explain(refused) {
-  const answer = (await readings.suggest(byId("readings"), kept.description, pick)) ?? {};
+async function explain(refused, added) {
+  const again = (phrase) => {
+    mark(byId("description"), [{ ...refused, kind: "wrong" }]);
+    explain(refused, phrase);
+  };
+  const answer = (await showReadings(added, again)) ?? {};
   const { reason = null, start, end, unread = [] } = answer;
   if (typeof start !== "number" && unread.length === 0) return;
   const places = reason === null ? unread : [refused, { start, end }];

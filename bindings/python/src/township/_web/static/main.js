@@ -28,6 +28,7 @@ const TEXTS = {
   first: "first description",
   second: "second description",
   tracts: "list of tracts",
+  ignored: "phrases that are left out",
 };
 
 let changes = 0;

@@ -1,8 +1,8 @@
 /** The readings of a text: what it would be as a description, side by side, to be picked. */
 
 import { figureOf } from "./answer.js";
-import { ask } from "./api.js";
 import { make } from "./dom.js";
+import { askWithout, button, leftOut } from "./phrases.js";
 import { visible } from "./shown.js";
 import { basis } from "./store.js";
 import { spelled } from "./wording.js";
@@ -17,30 +17,53 @@ export function clear(place) {
 /**
  * Asks for the readings of a text, and shows them in a place, each with its acreage and its drawing.
  * `pick(description)` is called for the one that is picked. A text whose only reading is the text itself needs none.
+ * `again(phrase)` reads the text again, after a phrase is left out, or none: it calls this with the phrase as `added`.
  * `of` names the text if there are others.
  * Returns the answer, or null if there is none.
  */
-export async function suggest(place, text, pick, of = "") {
+export async function suggest(place, text, { pick, again, of = "", added = undefined }) {
   try {
-    const answer = await ask("suggest", { ...basis(), text, draw: true });
+    const { answer, refusal } = await askWithout({ ...basis(), text, draw: true }, added ?? null);
     if (answer === null) return null;
-    const { readings = [], reason, unread = [] } = answer;
+    const { readings = [] } = answer;
+    const why = refusal === null ? null : make("p", { class: "refused" }, visible(`${capitalized(refusal.sentence)}.`));
+    const aside = leftOut(text, () => again(null));
     if (readings.length === 0) {
-      const said = reason ? `Lots and aliquot parts can't describe this land: ${reason}.` : UNCERTAIN;
-      const sentences = unread.map(({ sentence }) => make("li", {}, visible(capitalized(sentence))));
-      place.replaceChildren(make("p", {}, `${of}${said}`), sentences.length === 0 ? "" : make("ul", {}, ...sentences));
+      show(place, [why, ...none(answer, text, of, again), aside]);
     } else if (readings.length > 1 || readings[0].text !== text) {
       const cards = readings.map((each) => item(each, pick));
-      place.replaceChildren(heading(readings.length, of), make("ol", { class: "readings" }, ...cards));
+      show(place, [why, heading(readings.length, of), make("ol", { class: "readings" }, ...cards), aside]);
     } else {
       clear(place);
     }
+    // The button that read the text again is gone.
+    if (added !== undefined) place.querySelector("button")?.focus();
     return answer;
   } catch {
     // The answer to the description says what is wrong.
     clear(place);
     return null;
   }
+}
+
+function show(place, parts) {
+  place.replaceChildren(...parts.filter((part) => part !== null));
+}
+
+/** Returns why a text has no reading, with a button for each phrase that is not understood, which leaves it out. */
+function none({ reason, start, end, unread = [] }, text, of, again) {
+  const points = [...text];
+  const offer = (place) => {
+    const phrase = points.slice(place.start, place.end).join("");
+    return button(`Leave out \`${visible(phrase)}\``, () => again(phrase));
+  };
+  const said = make("p", {}, `${of}${reason ? `Lots and aliquot parts can't describe this land: ${reason}.` : UNCERTAIN}`);
+  const items = unread.map((each) => {
+    const offered = reason === null && each.ways === null ? [" ", offer(each)] : [];
+    return make("li", {}, visible(capitalized(each.sentence)), ...offered);
+  });
+  if (items.length === 0 && reason === null && typeof start === "number") items.push(make("li", {}, offer({ start, end })));
+  return [said, items.length === 0 ? null : make("ul", { class: "phrases" }, ...items)];
 }
 
 function heading(count, of) {

@@ -15,6 +15,7 @@ const FIRST = {
   first: "",
   second: "",
   tracts: "",
+  ignored: "",
   panel: "plat",
   view: "",
 };

@@ -98,12 +98,13 @@ function isCurrent() {
 }
 
 /** Shows the readings of the tract in a row of the table, of which one can be picked. */
-async function showReadings(row) {
+async function showReadings(row, added) {
   const index = shown.findIndex((each) => each.row === row);
   if (index < 0) return;
   const { name, description } = answered[index];
   const place = byId("tracts-readings");
-  await readings.suggest(place, description, (text) => pick(index, text), `Tract ${visible(name)}. `);
+  const calls = { pick: (text) => pick(index, text), again: (phrase) => showReadings(row, phrase) };
+  await readings.suggest(place, description, { ...calls, of: `Tract ${visible(name)}. `, added });
   place.scrollIntoView({ block: "nearest" });
 }
 
