@@ -177,6 +177,37 @@ AS 'MODULE_PATHNAME', 'twpg_unread' LANGUAGE C IMMUTABLE STRICT PARALLEL SAFE CO
 COMMENT ON FUNCTION unread(text)
 IS 'what of a text without readings is not understood, or can be read in two ways; empty if it has readings';
 
+-- Readings without phrases that the caller says are not land. If the phrases are NULL, nothing is left out. With the
+-- function on field notes, the first of two literals is taken for these, as before.
+
+CREATE FUNCTION suggest(
+    notes text, description text, account text DEFAULT 'exact',
+    OUT reading text, OUT acres numeric, OUT changes int4, OUT assumes text[], OUT reason text
+) RETURNS SETOF record
+AS 'MODULE_PATHNAME', 'twpg_suggest_by_notes' LANGUAGE C IMMUTABLE STRICT PARALLEL SAFE COST 600 ROWS 1;
+COMMENT ON FUNCTION suggest(text, text, text)
+IS 'the descriptions that a text can be read as, with their acres on the plat of field notes, or a row without one';
+
+CREATE FUNCTION suggest(
+    description text, ignore text[], OUT reading text, OUT changes int4, OUT assumes text[], OUT reason text
+) RETURNS SETOF record
+AS 'MODULE_PATHNAME', 'twpg_suggest_without' LANGUAGE C IMMUTABLE PARALLEL SAFE COST 500 ROWS 1;
+COMMENT ON FUNCTION suggest(text, text[])
+IS 'the descriptions that a text can be read as without some phrases, or a row without one';
+
+CREATE FUNCTION suggest(
+    plat plat, description text, ignore text[], account text DEFAULT 'exact',
+    OUT reading text, OUT acres numeric, OUT changes int4, OUT assumes text[], OUT reason text
+) RETURNS SETOF record
+AS 'MODULE_PATHNAME', 'twpg_suggest_on_plat_without' LANGUAGE C IMMUTABLE PARALLEL SAFE COST 500 ROWS 1;
+COMMENT ON FUNCTION suggest(plat, text, text[], text)
+IS 'the descriptions that a text can be read as without some phrases, with their acres, or a row without one';
+
+CREATE FUNCTION unread(description text, ignore text[]) RETURNS text[]
+AS 'MODULE_PATHNAME', 'twpg_unread_without' LANGUAGE C IMMUTABLE PARALLEL SAFE COST 1000;
+COMMENT ON FUNCTION unread(text, text[])
+IS 'what is unread of a text without readings, apart from some phrases; empty if it has readings';
+
 -- Texts with the land of several townships.
 
 CREATE FUNCTION lands(description text) RETURNS SETOF land

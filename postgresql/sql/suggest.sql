@@ -82,3 +82,29 @@ FROM pieces, plats, suggest(plat, text), refusal(plat, reading) AS refused WHERE
 SELECT unnest(unread(E'½ bläh\nblip Sec. 14 blop')) AS unread;
 SELECT unnest(unread('S2, 12, T2N R3W')) AS unread;
 SELECT unread('NENE Sec 14') = '{}' AS nothing, unread('') = '{}' AS empty, unread(NULL) IS NULL AS none;
+
+-- Phrases that the caller says are not land are left out: in either case, as whole words, and the first in the list counts.
+SELECT * FROM suggest('Tract ID Kestrel: NE/4 Sec. 14');
+SELECT * FROM suggest('TRACT ID KESTREL: NE/4 Sec. 14', ARRAY['Tract ID Kestrel', 'Kestrel']);
+SELECT reading IS NULL AS not_found FROM suggest('Kestrels: NE/4 Sec. 14', ARRAY['Kestrel']);
+SELECT assumes FROM suggest('Kestrel, NE/4 Kestrel Sec. 14, Osprey', ignore => ARRAY['Kestrel', NULL, '', 'Osprey']);
+SELECT suggested.* FROM plats, suggest(plat, 'Kestrel Lots 1-4 Sec 7', ARRAY['Kestrel'], 'plat') AS suggested WHERE name = 'uneven';
+SELECT suggested.* FROM plats, suggest(plat, 'Sec. 14: NE/4 Kestrel SW/4', ignore => ARRAY['Kestrel']) AS suggested WHERE name = 'even';
+-- Without phrases, nothing is left out; without a text, there are no rows.
+SELECT reading, changes, assumes FROM suggest('sec. 14, NE1/4.', NULL);
+SELECT reading, changes, assumes FROM suggest('sec. 14, NE1/4.', '{}');
+SELECT count(*) AS rows FROM suggest(NULL, ARRAY['Kestrel']);
+SELECT count(*) AS rows FROM suggest(NULL::plat, 'sec. 14.', ARRAY['Kestrel']);
+SELECT count(*) AS rows FROM plats, suggest(plat, NULL, ARRAY['Kestrel']);
+SELECT count(*) AS rows FROM plats, suggest(plat, 'sec. 14.', ARRAY['Kestrel'], NULL);
+SELECT reading FROM suggest(repeat('Kestrel ', 1000) || 'NE/4 Sec. 14', ARRAY['Kestrel']);
+-- What is unread besides them.
+SELECT unread('old Kestrel mill, quux', ARRAY['Kestrel']), unread('old mill', NULL) AS whole, unread(NULL, '{}') IS NULL AS none,
+       unread('Kestrel, sec. 14', ARRAY['Kestrel']) AS nothing;
+-- Phrases that name land, except it, or limit it are refused, and so are too many.
+SELECT suggest('sec. 14.', ARRAY['Kestrel', 'Lot 3']);
+SELECT unread('sec. 14.', ARRAY['Kestrel', NULL, 'north of']);
+SELECT suggest(plat, 'sec. 14.', ARRAY['14']) FROM plats;
+SELECT suggest('sec. 14.', array_fill('a'::text, ARRAY[65537]));
+SELECT suggest('sec. 14.', ARRAY[repeat('a', 65537)]);
+SELECT reading FROM suggest('sec. 14.', array_fill('a'::text, ARRAY[65536]));

@@ -16,6 +16,7 @@ Datum twpg_area(PG_FUNCTION_ARGS);
 Datum twpg_acres_of_land(PG_FUNCTION_ARGS);
 Datum twpg_acres_of_land_or_null(PG_FUNCTION_ARGS);
 Datum twpg_area_of_land(PG_FUNCTION_ARGS);
+Datum twpg_suggest_on_plat(PG_FUNCTION_ARGS);
 
 /* Reads the first argument as the text of a type. */
 static void read_first(FunctionCallInfo fcinfo, PGFunction input) {
@@ -36,6 +37,7 @@ OF_TEXT(twpg_area_by_notes, twpg_plat_in, twpg_area)
 OF_TEXT(twpg_acres_of_land_by_notes, twpg_plat_in, twpg_acres_of_land)
 OF_TEXT(twpg_acres_of_land_by_notes_or_null, twpg_plat_in, twpg_acres_of_land_or_null)
 OF_TEXT(twpg_area_of_land_by_notes, twpg_plat_in, twpg_area_of_land)
+OF_TEXT(twpg_suggest_by_notes, twpg_plat_in, twpg_suggest_on_plat)
 OF_TEXT(twpg_text_is_empty, twpg_land_in, twpg_land_is_empty)
 
 /* The township of a description with a heading of its own, or else of field notes. */

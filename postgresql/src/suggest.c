@@ -1,26 +1,21 @@
 /*
  * The function suggest: how a text, as people write it, would be written as a description. It returns a row for each of
- * the text's readings. A text that has none has one row without a reading, so that a join with it keeps every text. And
- * the function unread: what of a text without readings is not understood, or can be read in two ways.
+ * the text's readings. A text that has none has one row without a reading, so that a join with it keeps every text. It
+ * can leave out phrases that the caller says are not land.
  */
-#include "twpg.h"
+#include "readings.h"
 
 #include "catalog/pg_type.h"
-#include "lib/stringinfo.h"
 #include "miscadmin.h"
-#include "utils/array.h"
 #include "utils/tuplestore.h"
 
 /* The room for the changes and the texts of nearly all readings. */
 #define USUAL_CHANGES 64
 #define USUAL_BYTES 4096
 
-/* The room for what is unread of nearly all texts. */
-#define USUAL_UNREAD 64
-
-/* A text, the plat that its readings are on, or NULL, and what the library suggests. */
+/* A text and what is left out of it, the plat that its readings are on, or NULL, and what the library suggests. */
 typedef struct twpg_suggested {
-    twpg_bytes text;
+    twpg_aside aside;
     const township_plat *plat;
     uint32_t account;
     township_suggestion sizes;
@@ -50,19 +45,6 @@ static const struct {
     {TOWNSHIP_ASSUMES_NO_MISSING_COMMA, "no comma is missing"},
 };
 
-/* The two ways to read a phrase. The words are those of the package for Python. */
-static const struct {
-    uint32_t ways;
-    const char *words;
-} two_ways[] = {
-    {TOWNSHIP_WAYS_SECTION_OR_HALF, "a section, or a half"},
-    {TOWNSHIP_WAYS_LOT_OR_HALF, "one more lot, or a half"},
-    {TOWNSHIP_WAYS_QUARTER_OR_SECTION, "a quarter, or a word for a section"},
-    {TOWNSHIP_WAYS_NUMBER_OR_FIGURE, "the number of a section or a lot, or another figure"},
-    {TOWNSHIP_WAYS_RANGE_OR_HALF, "the side of a range, or a half"},
-    {TOWNSHIP_WAYS_PART_OR_SECTION, "of the part before it, or of the section"},
-};
-
 /* A phrase of a text: the bytes from `start` to before `end`. */
 typedef struct twpg_phrase {
     const uint8_t *start;
@@ -72,7 +54,7 @@ typedef struct twpg_phrase {
 static township_answer suggest_in(twpg_suggested *suggested, size_t changes, size_t bytes) {
     suggested->changes = palloc(changes * sizeof *suggested->changes);
     suggested->bytes = palloc(bytes);
-    return township_suggest(suggested->text.start, suggested->text.length, suggested->readings,
+    return township_suggest(suggested->aside.left.start, suggested->aside.left.length, suggested->readings,
                             lengthof(suggested->readings), suggested->changes, changes, suggested->bytes, bytes,
                             &suggested->sizes);
 }
@@ -91,8 +73,15 @@ static void suggest(twpg_suggested *suggested) {
     }
 }
 
+bool twpg_has_readings(twpg_bytes text) {
+    twpg_suggested suggested = {.aside = {.left = text}};
+
+    suggest(&suggested);
+    return suggested.sizes.readings != 0;
+}
+
 /* Adds some bytes of a text on one line: each run of white space becomes one space, and none is left at the ends. */
-static void append_line(StringInfo line, const uint8_t *at, const uint8_t *end) {
+void twpg_append_line(StringInfo line, const uint8_t *at, const uint8_t *end) {
     int begun = line->len;
     bool is_after_white = false;
 
@@ -167,42 +156,77 @@ static char *assumption_by(const township_change *change, twpg_bytes text) {
     }
     initStringInfo(&assumption);
     appendStringInfoString(&assumption, is_of_left_out(change->assumes) ? "without `" : "`");
-    append_line(&assumption, phrase.start, phrase.end);
+    twpg_append_line(&assumption, phrase.start, phrase.end);
     appendStringInfo(&assumption, "`: %s", words);
     return assumption.data;
 }
 
-/* Whether a text is one of some. */
-static bool is_said(const char *text, char **said, int count) {
-    int index;
+/* Whether there are only spaces left of a change, in the places of phrases. Then it assumes nothing more than these. */
+static bool is_blank(const township_change *change, const twpg_aside *aside) {
+    uint64_t at;
 
-    for (index = 0; index < count; index++) {
-        if (strcmp(text, said[index]) == 0) {
-            return true;
+    if (aside->count == 0 || !is_of_left_out(change->assumes)) {
+        return false;
+    }
+    for (at = change->start; at < change->end; at++) {
+        if (memchr(" \t\n\r\f\v", aside->left.start[at], 6) == NULL) {
+            return false;
         }
     }
-    return false;
+    return true;
 }
 
-/* What a reading assumes, as an array: each assumption once. */
-static Datum assumed_by(const twpg_suggested *suggested, const township_reading *reading) {
-    const township_change *changes = suggested->changes + reading->changes;
-    char **said = palloc((size_t)(reading->changes_length + 1) * sizeof *said);
-    Datum *assumed = palloc((size_t)(reading->changes_length + 1) * sizeof *assumed);
-    int count = 0;
-    uint64_t index;
+/* That the caller says of a place that it is not land. */
+static char *assumption_of(const township_stretch *place, twpg_bytes given) {
+    StringInfoData assumption;
 
-    for (index = 0; index < reading->changes_length; index++) {
-        if (changes[index].assumes != 0) {
-            char *text = assumption_by(&changes[index], suggested->text);
+    initStringInfo(&assumption);
+    appendStringInfoString(&assumption, "without `");
+    twpg_append_line(&assumption, given.start + place->start, given.start + place->end);
+    appendStringInfoString(&assumption, "`: you said that this is not land");
+    return assumption.data;
+}
 
-            if (!is_said(text, said, count)) {
-                said[count] = text;
-                assumed[count++] = CStringGetTextDatum(twpg_from_utf8(text));
-            }
+/* Texts, each of which is said once. */
+typedef struct twpg_said {
+    char **texts;
+    Datum *values;
+    int count;
+} twpg_said;
+
+static void say(twpg_said *said, char *text) {
+    int index;
+
+    for (index = 0; index < said->count; index++) {
+        if (strcmp(text, said->texts[index]) == 0) {
+            return;
         }
     }
-    return PointerGetDatum(construct_array(assumed, count, TEXTOID, -1, false, TYPALIGN_INT));
+    said->texts[said->count] = text;
+    said->values[said->count++] = CStringGetTextDatum(twpg_from_utf8(text));
+}
+
+/* What a reading assumes, as an array, from left to right: each assumption once. */
+static Datum assumed_by(const twpg_suggested *suggested, const township_reading *reading) {
+    const township_change *change = suggested->changes + reading->changes;
+    const township_change *end = change + reading->changes_length;
+    const twpg_aside *aside = &suggested->aside;
+    const township_stretch *place = aside->places;
+    const township_stretch *last = place + aside->count;
+    size_t most = (size_t)(reading->changes_length + aside->count + 1);
+    twpg_said said = {palloc(most * sizeof *said.texts), palloc(most * sizeof *said.values), 0};
+
+    while (change < end || place < last) {
+        if (change == end || (place < last && place->start <= change->start)) {
+            say(&said, assumption_of(place++, aside->given));
+            continue;
+        }
+        if (change->assumes != 0 && !is_blank(change, aside)) {
+            say(&said, assumption_by(change, aside->left));
+        }
+        change++;
+    }
+    return PointerGetDatum(construct_array(said.values, said.count, TEXTOID, -1, false, TYPALIGN_INT));
 }
 
 static void add_value(twpg_row *row, Datum value) {
@@ -220,7 +244,7 @@ static void add_text(twpg_row *row, const twpg_suggested *suggested, const towns
     StringInfoData line;
 
     initStringInfo(&line);
-    append_line(&line, text, text + reading->text_length);
+    twpg_append_line(&line, text, text + reading->text_length);
     add_value(row, CStringGetTextDatum(twpg_from_utf8(line.data)));
 }
 
@@ -245,7 +269,7 @@ static twpg_row row_of(const twpg_suggested *suggested, const township_reading *
     if (suggested->plat != NULL) {
         add_acres(&row, suggested, reading);
     }
-    add_value(&row, Int32GetDatum((int32)reading->changes_length));
+    add_value(&row, Int32GetDatum((int32)(reading->changes_length + suggested->aside.count)));
     add_value(&row, assumed_by(suggested, reading));
     add_null(&row);
     return row;
@@ -289,9 +313,14 @@ static Datum suggested_rows(FunctionCallInfo fcinfo, twpg_suggested *suggested) 
     PG_RETURN_NULL();
 }
 
+static Datum no_rows(FunctionCallInfo fcinfo) {
+    twpg_begin_rows(fcinfo);
+    PG_RETURN_NULL();
+}
+
 PG_FUNCTION_INFO_V1(twpg_suggest);
 Datum twpg_suggest(PG_FUNCTION_ARGS) {
-    twpg_suggested suggested = {.text = twpg_bytes_of_text(PG_GETARG_TEXT_PP(0))};
+    twpg_suggested suggested = {.aside = twpg_whole_argument(fcinfo, 0)};
 
     return suggested_rows(fcinfo, &suggested);
 }
@@ -299,7 +328,7 @@ Datum twpg_suggest(PG_FUNCTION_ARGS) {
 PG_FUNCTION_INFO_V1(twpg_suggest_on_plat);
 Datum twpg_suggest_on_plat(PG_FUNCTION_ARGS) {
     twpg_suggested suggested = {
-        .text = twpg_bytes_of_text(PG_GETARG_TEXT_PP(1)),
+        .aside = twpg_whole_argument(fcinfo, 1),
         .plat = PG_GETARG_PLAT(0),
         .account = twpg_account_of(PG_GETARG_TEXT_PP(2)),
     };
@@ -307,50 +336,28 @@ Datum twpg_suggest_on_plat(PG_FUNCTION_ARGS) {
     return suggested_rows(fcinfo, &suggested);
 }
 
-/* What is said of some bytes of a text that are unread. */
-static char *unread_by(const township_stretch *stretch, twpg_bytes text) {
-    StringInfoData said;
-    size_t index;
+/* The functions that follow take phrases after a text. They are not strict: without phrases, nothing is left out. */
 
-    initStringInfo(&said);
-    appendStringInfoString(&said, stretch->ways == 0 ? "not understood: `" : "`");
-    append_line(&said, text.start + stretch->start, text.start + stretch->end);
-    appendStringInfoChar(&said, '`');
-    for (index = 0; index < lengthof(two_ways); index++) {
-        if (two_ways[index].ways == stretch->ways) {
-            appendStringInfo(&said, " can be read in two ways: %s", two_ways[index].words);
-        }
+PG_FUNCTION_INFO_V1(twpg_suggest_without);
+Datum twpg_suggest_without(PG_FUNCTION_ARGS) {
+    twpg_suggested suggested = {0};
+
+    if (PG_ARGISNULL(0)) {
+        return no_rows(fcinfo);
     }
-    return said.data;
+    suggested.aside = twpg_argument_without(fcinfo, 0);
+    return suggested_rows(fcinfo, &suggested);
 }
 
-static township_answer unread_in(twpg_bytes text, township_stretch **unread, size_t room) {
-    *unread = palloc(room * sizeof **unread);
-    return township_unread(text.start, text.length, *unread, room);
-}
+PG_FUNCTION_INFO_V1(twpg_suggest_on_plat_without);
+Datum twpg_suggest_on_plat_without(PG_FUNCTION_ARGS) {
+    twpg_suggested suggested = {0};
 
-PG_FUNCTION_INFO_V1(twpg_unread);
-Datum twpg_unread(PG_FUNCTION_ARGS) {
-    twpg_suggested suggested = {.text = twpg_bytes_of_text(PG_GETARG_TEXT_PP(0))};
-    township_stretch *unread;
-    township_answer answer;
-    Datum *said;
-    uint64_t index;
-
-    suggest(&suggested);
-    if (suggested.sizes.readings != 0) {
-        PG_RETURN_ARRAYTYPE_P(construct_empty_array(TEXTOID));
+    if (PG_ARGISNULL(0) || PG_ARGISNULL(1) || PG_ARGISNULL(3)) {
+        return no_rows(fcinfo);
     }
-    answer = unread_in(suggested.text, &unread, USUAL_UNREAD);
-    if (answer.verdict == TOWNSHIP_NO_ROOM) {
-        answer = unread_in(suggested.text, &unread, (size_t)answer.length);
-    }
-    if (answer.verdict != TOWNSHIP_ACCEPTED) {
-        twpg_fail(answer.verdict);
-    }
-    said = palloc((size_t)(answer.length + 1) * sizeof *said);
-    for (index = 0; index < answer.length; index++) {
-        said[index] = CStringGetTextDatum(twpg_from_utf8(unread_by(&unread[index], suggested.text)));
-    }
-    PG_RETURN_ARRAYTYPE_P(construct_array(said, (int)answer.length, TEXTOID, -1, false, TYPALIGN_INT));
+    suggested.aside = twpg_argument_without(fcinfo, 1);
+    suggested.plat = PG_GETARG_PLAT(0);
+    suggested.account = twpg_account_of(PG_GETARG_TEXT_PP(3));
+    return suggested_rows(fcinfo, &suggested);
 }

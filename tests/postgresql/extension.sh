@@ -18,7 +18,8 @@ SELECT count(*) FROM pg_proc WHERE probin LIKE '%township%';
 END
 
 new_database kinds
-# All functions are immutable, parallel safe, and strict, except for the planner's and those of aggregates.
+# All functions are immutable, parallel safe, and strict, except for the planner's, those of aggregates, and those that
+# take phrases to ignore, which can be missing.
 shows 'what kinds of functions there are' 'areas_add
 areas_combine
 areas_rounded
@@ -28,8 +29,11 @@ land_overlaps_pairs
 max
 min
 overlaps
+suggest
+suggest
 total_acres
-union_of' sql -d kinds << 'END'
+union_of
+unread' sql -d kinds << 'END'
 SELECT proname FROM pg_proc JOIN pg_depend ON objid = pg_proc.oid AND classid = 'pg_proc'::regclass
 WHERE deptype = 'e' AND refobjid = (SELECT oid FROM pg_extension WHERE extname = 'township')
     AND NOT (provolatile = 'i' AND proparallel = 's' AND proisstrict)

@@ -10,6 +10,7 @@ if has valgrind && [ -f "$work/hostile.sql" ]; then
 SELECT acres(plat, 'sec. 5, lot 1.'), refusal(plat, 'sec. 5, N1/2.'), notes(plat, 'sec. 14, NE1/4 SE1/4.') FROM plats
 SELECT area(plat, 'sec. 7, lot 1.'), normal(plat, 'sec. 7, lot 1; sec. 8.'), plat::text::plat FROM plats
 SELECT count(suggested) FROM plats, written, suggest(plat, description) AS suggested
+SELECT count(suggested), count(unread) FROM plats, written, suggest(plat, description, ARRAY['and', 'the', 'of']) AS suggested, unread(description, '{a,b}')
 SELECT count(suggested) FROM written, suggest(left(description, length(description) / 2)) AS suggested
 SELECT count(refused), count(noted) FROM plats, written, refusal(plat, description) AS refused, notes(plat, description) AS noted
 SELECT union_of(land) FROM lands WHERE township(land) = 'T. 1 N., R. 1 W.'

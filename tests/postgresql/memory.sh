@@ -22,6 +22,7 @@ SELECT refusal(plat, 'sec. 5, lot 5.') FROM plats;
 SELECT notes(plat, 'sec. 14, NE1/4 SE1/4.') FROM plats;
 SELECT suggest('NENE Sec 14');
 SELECT suggest(plat, 'NENE Sec 14') FROM plats;
+SELECT suggest('NENE Sec 14', ARRAY['Kestrel']);
 SELECT plat FROM plats;
 SELECT land FROM plats;
 SELECT acres(plat::text, 'sec. 5, lot 1.') FROM plats;
@@ -40,6 +41,6 @@ END
     echo "\\! rm $work/refused"
     echo "SELECT acres(plat, 'sec. 5, lot 1.') FROM plats;"
 } > "$work/refusing.sql"
-{ yes 'ERROR:  53200' | head -n 22; echo 40.45; } > "$work/wanted"
+{ yes 'ERROR:  53200' | head -n 23; echo 40.45; } > "$work/wanted"
 sql -d memory < "$work/refusing.sql" > "$work/found"
 same 'refused memory'

@@ -5,13 +5,15 @@ import re
 from typing import List
 
 from reading import HEADER, PYTHON, RUST, Compared, text_of
-from rules import SQL, numbers_in, words_in
+from rules import numbers_in, words_in
 
 WHAT = "ways to read a phrase in the header, the bindings, and the extension"
 
 DEFINITIONS = "crates/twp_calls/specs/UnreadCalls.antt"
 
 WORDS = "crates/twp_phrases/src/unread.rt"
+
+SQL = "postgresql/src/unread.c"
 
 
 def compare() -> Compared:

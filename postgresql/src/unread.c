@@ -1,0 +1,124 @@
+/*
+ * The function unread: what of a text without readings is not understood, or can be read in two ways. It can leave out
+ * phrases that the caller says are not land.
+ */
+#include "readings.h"
+
+#include "catalog/pg_type.h"
+
+/* The room for what is unread of nearly all texts. */
+#define USUAL_UNREAD 64
+
+/* The two ways to read a phrase. The words are those of the package for Python. */
+static const struct {
+    uint32_t ways;
+    const char *words;
+} two_ways[] = {
+    {TOWNSHIP_WAYS_SECTION_OR_HALF, "a section, or a half"},
+    {TOWNSHIP_WAYS_LOT_OR_HALF, "one more lot, or a half"},
+    {TOWNSHIP_WAYS_QUARTER_OR_SECTION, "a quarter, or a word for a section"},
+    {TOWNSHIP_WAYS_NUMBER_OR_FIGURE, "the number of a section or a lot, or another figure"},
+    {TOWNSHIP_WAYS_RANGE_OR_HALF, "the side of a range, or a half"},
+    {TOWNSHIP_WAYS_PART_OR_SECTION, "of the part before it, or of the section"},
+};
+
+/* What is said of a text, as values of the database. */
+typedef struct twpg_said {
+    Datum *values;
+    int count;
+} twpg_said;
+
+static void say(twpg_said *said, const char *text) {
+    said->values[said->count++] = CStringGetTextDatum(twpg_from_utf8(text));
+}
+
+/* Says that a phrase can be read in two ways. */
+static void say_two_ways(twpg_said *said, twpg_bytes text, const township_stretch *phrase) {
+    StringInfoData line;
+    size_t index;
+
+    initStringInfo(&line);
+    appendStringInfoChar(&line, '`');
+    twpg_append_line(&line, text.start + phrase->start, text.start + phrase->end);
+    appendStringInfoChar(&line, '`');
+    for (index = 0; index < lengthof(two_ways); index++) {
+        if (two_ways[index].ways == phrase->ways) {
+            appendStringInfo(&line, " can be read in two ways: %s", two_ways[index].words);
+        }
+    }
+    say(said, line.data);
+}
+
+/* Says that some bytes are not understood, unless they are white space. */
+static void say_unknown(twpg_said *said, twpg_bytes text, uint64_t start, uint64_t end) {
+    StringInfoData words;
+
+    if (start >= end) {
+        return;
+    }
+    initStringInfo(&words);
+    twpg_append_line(&words, text.start + start, text.start + end);
+    if (words.len > 0) {
+        say(said, psprintf("not understood: `%s`", words.data));
+    }
+}
+
+/* Says that some words are not understood: those on both sides of each phrase that is left out. */
+static void say_words(twpg_said *said, const twpg_aside *aside, const township_stretch *words) {
+    uint64_t at = words->start;
+    uint64_t index;
+
+    for (index = 0; index < aside->count; index++) {
+        const township_stretch *place = &aside->places[index];
+
+        if (place->end > at && place->start < words->end) {
+            say_unknown(said, aside->given, at, place->start);
+            at = place->end;
+        }
+    }
+    say_unknown(said, aside->given, at, words->end);
+}
+
+static township_answer unread_in(twpg_bytes text, township_stretch **unread, size_t room) {
+    *unread = palloc(room * sizeof **unread);
+    return township_unread(text.start, text.length, *unread, room);
+}
+
+/* Returns what is unread of a text, or nothing if it has readings. */
+static Datum unread_of(twpg_aside aside) {
+    township_stretch *unread;
+    township_answer answer;
+    twpg_said said = {NULL, 0};
+    uint64_t index;
+
+    if (twpg_has_readings(aside.left)) {
+        return PointerGetDatum(construct_empty_array(TEXTOID));
+    }
+    answer = unread_in(aside.left, &unread, USUAL_UNREAD);
+    if (answer.verdict == TOWNSHIP_NO_ROOM) {
+        answer = unread_in(aside.left, &unread, (size_t)answer.length);
+    }
+    if (answer.verdict != TOWNSHIP_ACCEPTED) {
+        twpg_fail(answer.verdict);
+    }
+    said.values = palloc((size_t)(answer.length + aside.count + 1) * sizeof *said.values);
+    for (index = 0; index < answer.length; index++) {
+        if (unread[index].ways == 0) {
+            say_words(&said, &aside, &unread[index]);
+        } else {
+            say_two_ways(&said, aside.given, &unread[index]);
+        }
+    }
+    return PointerGetDatum(construct_array(said.values, said.count, TEXTOID, -1, false, TYPALIGN_INT));
+}
+
+TWPG_RETURNS(twpg_unread, unread_of(twpg_whole_argument(fcinfo, 0)))
+
+/* It takes phrases after the text. It is not strict: without phrases, nothing is left out. */
+PG_FUNCTION_INFO_V1(twpg_unread_without);
+Datum twpg_unread_without(PG_FUNCTION_ARGS) {
+    if (PG_ARGISNULL(0)) {
+        PG_RETURN_NULL();
+    }
+    return unread_of(twpg_argument_without(fcinfo, 0));
+}
