@@ -1,12 +1,16 @@
 //! Readings: what a text that is not written as descriptions are may mean, as descriptions.
 
+mod aside;
 mod assumption;
 #[cfg(test)]
 mod header;
+mod phrases;
 mod rule;
 mod unread;
 
+pub use self::aside::suggest_without;
 pub use self::assumption::Assumption;
+pub use self::phrases::Phrases;
 pub use self::rule::Rule;
 pub use self::unread::{Unread, Ways};
 

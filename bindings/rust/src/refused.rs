@@ -51,10 +51,12 @@ pub struct Refusal {
 #[non_exhaustive]
 pub struct Refused {
     /// What is wrong: 1 to 11 and 21 to 23 for field notes, 41 to 44 and 61 to 67 for a
-    /// description, 80 to 85 for a list of tracts, 86 to 94 for a lot table.
+    /// description, 50 and 51 for phrases to leave out, 80 to 85 for a list of tracts, 86 to 94 for
+    /// a lot table.
     pub number: u32,
     /// The location. Its meaning depends on the number: a record counted from 1, the index of a
-    /// section line, a byte counted from 0, a lot, or, if the text is too long, the limit in bytes.
+    /// section line, a byte counted from 0, a lot, a phrase counted from 1, or, if the text is too
+    /// long, the limit in bytes.
     pub at: u32,
     /// For refusal 83, the refusal of the tract's description. `None` for any other number.
     pub inner: Option<Refusal>,

@@ -7,8 +7,8 @@ use samples::{even, uneven};
 use serde::{de::DeserializeOwned, Serialize};
 use std::fmt::Debug;
 use township::{
-    Account, Acres, Basis, EastWest, Land, Lands, Lots, NorthSouth, Plat, Plats, Refusal, Refused,
-    Township,
+    Account, Acres, Basis, EastWest, Land, Lands, Lots, NorthSouth, Phrases, Plat, Plats, Refusal,
+    Refused, Township,
 };
 
 /// A value is written as this text, and read back from it.
@@ -36,6 +36,14 @@ fn texts_of_nothing() {
     let message =
         "township:1:4: unexpected `100 N., R. 3 W.`; expected the township number, 1 to 99";
     assert!(error.to_string().starts_with(message), "{error}");
+}
+
+#[test]
+fn phrases() {
+    let phrases = Phrases::new(["Tract ID Kestrel", "Unit 7"]).unwrap();
+    both_ways(phrases, r#"["Tract ID Kestrel","Unit 7"]"#);
+    let error = serde_json::from_str::<Phrases>(r#"["Lot 3"]"#).unwrap_err();
+    assert!(error.to_string().contains("`Lot 3` (phrase 1)"), "{error}");
 }
 
 #[test]

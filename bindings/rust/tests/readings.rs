@@ -3,7 +3,7 @@
 mod samples;
 
 use samples::uneven;
-use township::{suggest, Assumption, Manner, Rule, Ways};
+use township::{suggest, suggest_without, Assumption, Manner, Phrases, Rule, Ways};
 
 /// White space between two parts: two parts, or one.
 const TWO: &str = "sec. 14: NE¼NE¼ SW¼SW¼";
@@ -158,4 +158,107 @@ fn unread() {
     assert_eq!(ways, Some(Ways::SectionOrHalf));
     assert_eq!(Ways::SectionOrHalf.to_string(), "a section, or a half");
     assert_eq!(suggest(TWO).unread, []);
+}
+
+/// What the changes of a reading make of a text, with a space for each run of white space.
+fn made_by(reading: &township::Reading, text: &str) -> String {
+    let (mut at, mut made) = (0, String::new());
+    for change in &reading.changes {
+        made += &text[at..change.start];
+        made += &change.written;
+        at = change.end;
+    }
+    made += &text[at..];
+    made.split_whitespace().collect::<Vec<_>>().join(" ")
+}
+
+#[test]
+fn phrases_are_left_out() {
+    let phrases = Phrases::new(["Tract ID Kestrel", "kestrel", "(kestrel)"]).unwrap();
+    for text in [
+        "TRACT ID KESTREL: NE/4 Sec. 14",
+        "NE/4 Sec. 14 Kestrel",
+        "Kestrel, NE/4 Kestrel SW/4 KESTREL Kestrel Sec. 14",
+        "Kestrel Sec. 14: NE/4(Kestrel)",
+        "Kestrel\nT2N R3W Kestrel Sec. 14:\n NENE, SWSW Kestrel",
+        "TRACT 1: Kestrel sec. 14, NE/4",
+    ] {
+        let found = suggest_without(text, &phrases);
+        assert!(!found.readings.is_empty(), "{text}");
+        for reading in &found.readings {
+            assert_eq!(made_by(reading, text), reading.text, "{text}");
+            let left_out = reading
+                .changes
+                .iter()
+                .filter(|change| change.rule == Rule::SetAside);
+            let count = text.to_lowercase().matches("kestrel").count();
+            assert_eq!(left_out.count(), count, "{text}");
+        }
+        assert!(suggest(text).readings.is_empty(), "{text}");
+    }
+    assert_eq!(suggest_without(TWO, &phrases), suggest(TWO));
+}
+
+#[test]
+fn phrases_between_two_parts() {
+    let text = "Sec. 14: NE/4 Kestrel SW/4";
+    let found = suggest_without(text, &Phrases::new(["Kestrel"]).unwrap());
+    let assumed = found.readings.iter().map(|reading| {
+        let mut assumed: Vec<_> = reading.assumptions().map(|each| each.assumes).collect();
+        assumed.dedup();
+        assumed
+    });
+    let assumed: Vec<_> = assumed.collect();
+    assert_eq!(assumed.len(), 2);
+    assert_eq!(assumed[0], [Some(Assumption::SetAside)]);
+    assert!(assumed[1].contains(&Some(Assumption::NoMissingComma)));
+    assert_eq!(
+        Assumption::SetAside.to_string(),
+        "you said that this is not land"
+    );
+}
+
+#[test]
+fn unread_besides_phrases() {
+    let text = "old Kestrel mill, quux";
+    let found = suggest_without(text, &Phrases::new(["Kestrel", " "]).unwrap());
+    let unread: Vec<_> = found
+        .unread
+        .iter()
+        .map(|each| &text[each.start..each.end])
+        .collect();
+    assert_eq!(unread, ["old", "mill", "quux"]);
+}
+
+#[test]
+fn more_phrases_than_a_first_call_has_room_for() {
+    let text = format!("{}NE/4 Sec. 14", "Kestrel ".repeat(1000));
+    let found = suggest_without(text, &Phrases::new(["Kestrel"]).unwrap());
+    assert_eq!(found.readings[0].assumptions().count(), 1000);
+}
+
+#[test]
+fn refused_phrases() {
+    let why =
+        "can't be left out: it names, excepts, or limits land, or contains a number that could \
+               be that of a section";
+    let refused = Phrases::new(["Kestrel", "Lot 3"]).unwrap_err();
+    assert_eq!((refused.number, refused.at, refused.line), (51, 2, None));
+    let said = format!("phrases: `Lot 3` (phrase 2) {why}");
+    assert_eq!(refused.to_string(), said);
+    let refused = Phrases::from_lines("Kestrel\r\n\r\n  Bl\u{e4}\n\t Lot 3 \n").unwrap_err();
+    assert_eq!((refused.number, refused.at), (51, 3));
+    assert_eq!(refused.to_string(), format!("phrases:4:3: `Lot 3` {why}"));
+    for phrases in [vec!["a".to_owned(); 65_537], vec!["a".repeat(65_537)]] {
+        for refused in [
+            Phrases::from_lines(&phrases.join("\n")).unwrap_err(),
+            Phrases::new(phrases).unwrap_err(),
+        ] {
+            assert_eq!((refused.number, refused.at), (50, 65_536));
+            assert!(refused.sentence().contains("more than 65,536 phrases"));
+        }
+    }
+    let most = Phrases::new(vec!["a"; 65_536]).unwrap();
+    assert_eq!(most.as_slice().len(), 65_536);
+    assert!(Phrases::from_lines("\n \n").unwrap().as_slice().is_empty());
 }

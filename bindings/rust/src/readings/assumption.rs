@@ -20,9 +20,14 @@ pub enum Assumption {
     WrongLetter,
     /// No comma is missing in the words around the change: they are one part.
     NoMissingComma,
+    /// A phrase is not land, since the caller says so.
+    SetAside,
 }
 
-/// The assumptions, in the order of their numbers, which begin with 1.
+/// What the caller says of a phrase that is left out, of which the library knows nothing.
+const SET_ASIDE: &str = "you said that this is not land";
+
+/// The assumptions of the library, in the order of their numbers, which begin with 1.
 const ASSUMPTIONS: [Assumption; 6] = [
     Assumption::SameMeridian,
     Assumption::SameAcreage,
@@ -42,6 +47,7 @@ impl Assumption {
             Assumption::SaidBefore => "this repeats what is before it",
             Assumption::WrongLetter => "a letter or digit is wrong",
             Assumption::NoMissingComma => "no comma is missing",
+            Assumption::SetAside => SET_ASIDE,
         }
     }
 

@@ -57,9 +57,11 @@ pub enum Rule {
     Acreage,
     /// A label, which is not land, is left out.
     Label,
+    /// A phrase is left out that the caller says is not land, before the text is read.
+    SetAside,
 }
 
-/// The rules, in the order of their numbers, which begin with 1.
+/// The rules of the library, in the order of their numbers, which begin with 1.
 const RULES: [Rule; 26] = [
     Rule::Half,
     Rule::Quarter,
