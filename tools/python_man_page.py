@@ -75,6 +75,7 @@ In the Debian package township-doc, the pages
 .Pa docs/HTTP.md ,
 .Pa docs/LOTS-FORMAT.md ,
 .Pa docs/NOTES-FORMAT.md ,
+.Pa docs/PHRASES.md ,
 .Pa docs/REFUSALS.md ,
 and
 .Pa docs/SERVING.md

@@ -1,5 +1,6 @@
 """Phrases that are left out of readings because the caller says that they are not land."""
 import codecs
+import doctest
 import pickle
 import unittest
 from decimal import Decimal
@@ -216,15 +217,26 @@ class File(BatchCase, RefusalCase):
             township.Phrases.open(self.folder / "none.txt")
 
 
-class Document(unittest.TestCase):
-    def test_the_document_shows_what_is_answered(self):
-        document = (TOP / "docs" / "PHRASES.md").read_text()
-        self.assertIn(f'text = "{TEXT}"', document)
-        self.assertIn(SAID, document)
-        self.assertIn("65,536", document)
-        for phrase in ("5 years", "$2,040.00"):
-            self.assertIn(f"`{phrase}`", document)
-            township.Phrases([phrase])
+class Document(RefusalCase):
+    TEXT = (TOP / "docs" / "PHRASES.md").read_text()
+
+    def test_examples(self):
+        failed, tried = doctest.testfile(str(TOP / "docs" / "PHRASES.md"), module_relative=False, encoding="utf-8")
+        self.assertEqual((failed, tried), (0, 6))
+
+    def test_phrases(self):
+        for phrase in ("Tract ID Kestrel", "Ed", "5 years", "Unit 7", "$2,040.00"):
+            self.assertIn(f"`{phrase}`", self.TEXT)
+            self.assertEqual(len(township.Phrases([phrase])), 1)
+        self.assertEqual(township.Phrases(["Ed"]).places_in("Edna"), [])
+        for phrase in ("Lot 3", "NE/4", "less", "north of"):
+            self.assertIn(f"`{phrase}`", self.TEXT)
+            self.assertEqual(self.refused(township.Phrases, ["Unit 7", phrase]).at, 2)
+        # Which numbers may be those of sections.
+        for number in (0, 37, 100, 2040):
+            self.assertEqual(len(township.Phrases([str(number)])), 1)
+        for number in (1, 9, 10, 36):
+            self.assertEqual(self.refused(township.Phrases, [str(number)]).number, 51)
 
 
 if __name__ == "__main__":

@@ -2,6 +2,7 @@
 import unittest
 
 from batches import EVEN_NOTES, NOTES, BatchCase, records
+from samples import TOP
 from test_ignored import KESTREL, SAID, TEXT, WHY
 
 
@@ -38,6 +39,15 @@ class Words(BatchCase):
         for words in (("suggest", NOTES, "-"), ("batch", "--suggest", NOTES, self.put("description\nsec. 14.\n"))):
             run = self.run_words(*words, "--words", none)
             self.assertEqual((run.returncode, run.stdout, run.stderr), (3, b"", said))
+
+    def test_the_document_shows_what_is_printed(self):
+        document = (TOP / "docs" / "PHRASES.md").read_text()
+        words = self.put(f"{KESTREL}\n", "phrases.txt")
+        shown = self.run_words("suggest", "--words", words, NOTES, "-", input=TEXT.encode()).stdout.decode()
+        self.assertIn("\n\n" + "".join(f"    {line}\n" for line in shown.splitlines()) + "\n", document)
+        words = self.put("Kestrel\nLot 3\n", "phrases.txt")
+        said = self.run_words("suggest", "--words", words, NOTES, "-", input=TEXT.encode()).stderr.decode()
+        self.assertIn(f"    {said.replace(str(words), 'phrases.txt')}", document)
 
     def test_batch(self):
         words = self.put(f"{KESTREL}\nUnit 7\n", "phrases.txt")
