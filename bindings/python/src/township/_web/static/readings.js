@@ -26,7 +26,7 @@ export async function suggest(place, text, { pick, again, of = "", added = undef
     const { answer, refusal } = await askWithout({ ...basis(), text, draw: true }, added ?? null);
     if (answer === null) return null;
     const { readings = [] } = answer;
-    const why = refusal === null ? null : make("p", { class: "refused" }, visible(`${capitalized(refusal.sentence)}.`));
+    const why = refusal === null ? null : make("p", { class: "refused" }, visible(sentenceOf(refusal)));
     const aside = leftOut(text, () => again(null));
     if (readings.length === 0) {
       show(place, [why, ...none(answer, text, of, again), aside]);
@@ -44,6 +44,11 @@ export async function suggest(place, text, { pick, again, of = "", added = undef
     clear(place);
     return null;
   }
+}
+
+/** Returns why a phrase can't be left out. It is shown in the sentence, so its number in the list says nothing more. */
+function sentenceOf({ sentence, at }) {
+  return `${capitalized(sentence.replace(` (phrase ${at})`, ""))}.`;
 }
 
 function show(place, parts) {
