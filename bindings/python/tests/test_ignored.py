@@ -63,11 +63,11 @@ class Suggested(RefusalCase):
             ("NE/4 Sec. 14, (Kestrel)", "Kestrel", True),
             ("Tract  ID Kestrel: NE/4 Sec. 14", "Tract ID Kestrel", False),
         ):
-            self.assertEqual(bool(township.Phrases([phrase]).places_in(text)), is_found, text)
+            self.assertEqual(bool(township.Phrases([phrase])._places_in(text)), is_found, text)
 
     def test_the_first_phrase_of_the_list_counts(self):
-        self.assertEqual(township.Phrases(["Tract ID", KESTREL]).places_in(TEXT), [(0, 8)])
-        self.assertEqual(township.Phrases([KESTREL, "Tract ID"]).places_in(TEXT), [(0, 16)])
+        self.assertEqual(township.Phrases(["Tract ID", KESTREL])._places_in(TEXT), [(0, 8)])
+        self.assertEqual(township.Phrases([KESTREL, "Tract ID"])._places_in(TEXT), [(0, 16)])
 
     def test_changes_make_the_text(self):
         for text in (
@@ -228,7 +228,7 @@ class Document(RefusalCase):
         for phrase in ("Tract ID Kestrel", "Ed", "5 years", "Unit 7", "$2,040.00"):
             self.assertIn(f"`{phrase}`", self.TEXT)
             self.assertEqual(len(township.Phrases([phrase])), 1)
-        self.assertEqual(township.Phrases(["Ed"]).places_in("Edna"), [])
+        self.assertEqual(township.Phrases(["Ed"])._places_in("Edna"), [])
         for phrase in ("Lot 3", "NE/4", "less", "north of"):
             self.assertIn(f"`{phrase}`", self.TEXT)
             self.assertEqual(self.refused(township.Phrases, ["Unit 7", phrase]).at, 2)

@@ -96,10 +96,10 @@ class Phrases(Sequence[str]):
             raise phrases._refused_in_file(refusal, source, given, places)
         return phrases
 
-    def places_in(self, text: Text) -> List[Place]:
+    def _places_in(self, text: Text) -> List[Place]:
         """Return where the phrases are in a text, from left to right. No place begins before the end of another one.
 
-        >>> township.Phrases(["Tract ID Kestrel"]).places_in("TRACT ID KESTREL: NE/4 Sec. 14")
+        >>> township.Phrases(["Tract ID Kestrel"])._places_in("TRACT ID KESTREL: NE/4 Sec. 14")
         [Place(start=0, end=16)]
         """
         if not self._phrases:

@@ -37,7 +37,7 @@ def suggest_parts(text: Text, ignore: Ignored = ()) -> List[PartReadings]:
     ('        T2N-R3W Sec 14: N2', 'T2N R3W Sec 14: N1/2')
     """
     given = encoded(text)
-    aside = phrases_in(ignore).places_in(given)
+    aside = phrases_in(ignore)._places_in(given)
     parts = _with_places_before(_parts_of(blanked(given, aside)), aside)
     return [PartReadings(part, _readings_in(given, part, aside)) for part in parts]
 

@@ -23,7 +23,7 @@ def suggest(text: Text, ignore: Ignored = ()) -> Readings:
     ('sec. 14, NE1/4', ('without `Tract ID Kestrel`: you said that this is not land',))
     """
     given = encoded(text)
-    return readings_without(given, phrases_in(ignore).places_in(given))
+    return readings_without(given, phrases_in(ignore)._places_in(given))
 
 
 def readings_without(given: bytes, aside: Sequence[Place]) -> Readings:

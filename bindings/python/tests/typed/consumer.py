@@ -136,8 +136,8 @@ def phrases(plat: Plat, lots: Lots, plats: Plats, path: Path) -> Optional[Decima
     found: Readings = plat.suggest("Kestrel NENE Sec 14", "plat", ignore) or lots.suggest(b"NENE", ignore=["Kestrel"])
     parts: List[PartReadings] = plats.suggest("T2N R3W sec. 14", ignore=ignore) + suggest_parts("sec. 14", ("Kestrel",))
     phrase: str = ignore[0]
-    start: int = ignore.places_in("Kestrel NENE Sec 14")[0].start
-    return suggest(phrase, ignore=[phrase])[start].acres if parts else found[0].acres
+    phrases: Tuple[str, ...] = ignore[1:]
+    return suggest(phrase, ignore=phrases)[0].acres if parts and len(ignore) else found[0].acres
 
 
 def wrong_phrases(plat: Plat) -> None:

@@ -27,7 +27,7 @@ def suggest_answer(body: bytes) -> Json:
     draws = given.flag("draw")
     basis = given.basis()
     try:
-        aside = Phrases(given.texts("ignore", PHRASES_MOST) if given.has("ignore") else ()).places_in(written)
+        aside = Phrases(given.texts("ignore", PHRASES_MOST) if given.has("ignore") else ())._places_in(written)
     except Refused as refused:
         return {"refused": refused_json(refused, PHRASES)}
     found = readings_without(written, aside)
