@@ -1,5 +1,5 @@
 use Rattle.std.proofs.Common.{◌≡◌, length, rules}
-use Rattle.twp_suggest.specs.Descriptions.{except}
+use Rattle.twp_suggest.specs.Excepting.{except}
 use Rattle.twp_suggest.proofs.meaning.TextFacts.{in_three}
 use Rattle.twp_suggest.proofs.meaning.wording.split_at_except.Goals as goal
 
