@@ -1,6 +1,6 @@
 -- What is unread of a text: its words that no phrase covers, and that don't join phrases.
-use Rattle.std.specs.Prelude.{◌≡◌, ◌==◌, ◌||◌, ◌&&◌, ◌<◌, ◌≤◌, ◌⊎◌, ⊤, ℕ, suc, Bool, true, false, List, []}
-use Rattle.std.specs.Prelude.{◌∷◌, leb, ltb, not}
+use Rattle.std.specs.Prelude.{◌≡◌, ◌==◌, ◌||◌, ◌&&◌, ◌<◌, ◌≤◌, ℕ, suc, Bool, true, false, List, []}
+use Rattle.std.specs.Prelude.{◌∷◌, leb, ltb}
 use Rattle.std.specs.Prelude.{codes, length, slice_index, slice_range, if◌then◌else◌}
 use Rattle.std.specs.List.{Contains}
 use Rattle.twp_rules.specs.Edges.{is_one_of}

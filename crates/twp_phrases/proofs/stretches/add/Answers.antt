@@ -1,4 +1,4 @@
-use Rattle.std.proofs.Common.{◌≡◌, List, [], ◌∷◌, ◌++◌, sym, subst}
+use Rattle.std.proofs.Common.{◌≡◌, [], ◌∷◌, ◌++◌, sym, subst}
 use Rattle.twp_phrases.specs.declared.stretches.Stretch.{Stretch}
 use Rattle.twp_phrases.specs.Unread.{AreRunsUpTo}
 use Rattle.twp_phrases.proofs.UnreadFacts.{added_apart, added_longer}

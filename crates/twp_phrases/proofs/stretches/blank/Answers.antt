@@ -1,4 +1,4 @@
-use Rattle.std.proofs.Common.{◌≡◌, ◌≤◌, ◌<◌, length, min, arith, sym, subst, ◌∙◌}
+use Rattle.std.proofs.Common.{◌≡◌, ◌≤◌, length, min, arith, subst, ◌∙◌}
 use Rattle.twp_phrases.proofs.UnreadFacts.{all_blank}
 use Rattle.twp_phrases.proofs.stretches.blank.Goals as goal
 

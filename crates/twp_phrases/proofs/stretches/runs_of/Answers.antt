@@ -1,4 +1,4 @@
-use Rattle.std.proofs.Common.{◌≡◌, true, length, arith}
+use Rattle.std.proofs.Common.{◌≡◌, true}
 use Rattle.std.specs.Prelude.{slice_range}
 use Rattle.twp_rules.specs.Edges.{is_one_of}
 use Rattle.twp_phrases.specs.Unread.{connectives}
