@@ -1,6 +1,6 @@
 -- Land that a changed text excepts: from the last land, or from that of each section, with a semicolon after
 -- it.
-use Rattle.std.specs.Prelude.{◌≡◌, ◌==◌, ◌||◌, ℕ, zero, suc, Bool, true, false, List, [], ◌∷◌, ◌++◌}
+use Rattle.std.specs.Prelude.{◌≡◌, ◌==◌, ◌||◌, ℕ, suc, Bool, true, false, List, [], ◌∷◌, ◌++◌}
 use Rattle.std.specs.Prelude.{if◌then◌else◌, codes, length, nat_le, not}
 use Rattle.twp_rules.specs.Edges.{begins_with}
 

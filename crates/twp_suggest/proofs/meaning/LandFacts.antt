@@ -1,8 +1,7 @@
 -- The land of a text: it is read as one list of items, which names one set of places.
-use Rattle.std.proofs.Common.{◌≡◌, ◌++◌, ◌↔◌, ℕ, Bool, List, IsTrue, false, length, refl, subst, sym, ap}
+use Rattle.std.proofs.Common.{◌≡◌, ◌↔◌, ℕ, Bool, List, IsTrue, false, subst, sym, ap}
 use Rattle.std.proofs.lemmas.Bool.{false≢true}
 use Rattle.std.proofs.Common.{◌∙◌}
-use Rattle.twp_grid.specs.Places.{PLACE_DIGITS}
 use Rattle.twp_grid.specs.Townships.{Designation}
 use Rattle.twp_grid.specs.Lands.{ContainsAll, SamePlaces, difference}
 use Rattle.twp_grid.specs.Lands.{STANDARD_LOTS}

@@ -1,5 +1,4 @@
 use Rattle.std.proofs.Common.{◌≡◌}
-use Rattle.twp_grid.specs.Places.{PLACE_DIGITS}
 use Rattle.twp_grid.specs.Lands.{union}
 use Rattle.twp_grid.specs.Lands.{STANDARD_LOTS}
 use Rattle.twp_grammar.specs.ItemPlaces.{item_of, item_places}

@@ -1,5 +1,4 @@
 use Rattle.std.proofs.Common.{◌-◌, ◌≤◌}
-use Rattle.twp_grid.specs.Places.{PLACE_DIGITS}
 use Rattle.twp_resolve.specs.steps.ResolvingSteps.{lots_from, AreAdded}
 use Rattle.twp_suggest.proofs.meaning.named.add_lots.Given as goal
 use Rattle.twp_grid.specs.Lands.{STANDARD_LOTS}

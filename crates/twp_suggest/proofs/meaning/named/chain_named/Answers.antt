@@ -1,5 +1,4 @@
 use Rattle.std.proofs.Common.{sym, ap, ◌∙◌}
-use Rattle.twp_grid.specs.Places.{PLACE_DIGITS}
 use Rattle.twp_grid.specs.Lands.{block_places, union}
 use Rattle.twp_resolve.proofs.ChainFacts.{chain_places}
 use Rattle.twp_grid.specs.Lands.{STANDARD_LOTS}
