@@ -1,5 +1,5 @@
 -- A text that is read spells one township, and a text that is refused spells none.
-use Rattle.std.proofs.Common.{◌≡◌, ℕ, List, Result, Ok, Err, sym}
+use Rattle.std.proofs.Common.{◌≡◌, ℕ, List, Result, Ok, Err}
 use Rattle.twp_grid.specs.Townships.{Designation}
 use Rattle.twp_grid.specs.declared.refusal.Refusal.{Refusal}
 use Rattle.twp_calls.specs.DesignationTexts.{IsSpelling}

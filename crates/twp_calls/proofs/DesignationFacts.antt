@@ -1,14 +1,13 @@
 -- What is read of a text is the township that it spells, or where it goes wrong.
-use Rattle.std.proofs.Common.{◌≡◌, ℕ, zero, suc, ◌+◌, ◌-◌, ◌<◌, ◌≤◌, ◌⊎◌, Bool, true, false, List, [], ◌∷◌}
+use Rattle.std.proofs.Common.{◌≡◌, ℕ, suc, ◌+◌, ◌<◌, ◌≤◌, ◌⊎◌, Bool, true, false, List, [], ◌∷◌}
 use Rattle.std.proofs.Common.{◌++◌}
-use Rattle.std.proofs.Common.{Option, Some, None, Result, Ok, Err, length, take, drop, map, refl, sym, ap}
+use Rattle.std.proofs.Common.{Option, Some, None, length, take, drop, refl, sym, ap}
 use Rattle.std.proofs.Common.{subst}
 use Rattle.std.proofs.Common.{◌∙◌, inl, inr, arith}
 use Rattle.std.specs.List.{AllPass}
-use Rattle.std.proofs.lemmas.List.{append-nil, take_all}
+use Rattle.std.proofs.lemmas.List.{append-nil}
 use Rattle.twp_grid.specs.Finding.{Finds}
 use Rattle.twp_grid.specs.Townships.{Designation}
-use Rattle.twp_grid.specs.declared.refusal.Refusal.{Refusal}
 use Rattle.twp_grammar.specs.Tokens.{Token, HasTokens, is_white}
 use Rattle.twp_grammar.specs.Cutting.{IsFirstIn}
 use Rattle.twp_grammar.proofs.TokenFacts.{has_token_list, one_token_list}
@@ -22,12 +21,12 @@ use Rattle.twp_calls.specs.DesignationTexts.{MarkSort, sort_of, sorts, SpellingF
 use Rattle.twp_calls.specs.DesignationTexts.{AreFormed}
 use Rattle.twp_calls.specs.DesignationTexts.{mark_of_token}
 use Rattle.twp_calls.specs.DesignationTexts.{with_mark, no_parts, with_tokens, AreOf, Spell, IsSpelling}
-use Rattle.twp_calls.specs.DesignationTexts.{IsNoSpelling, number_of_refusal, IsNoDesignation, too_large}
+use Rattle.twp_calls.specs.DesignationTexts.{number_of_refusal, IsNoDesignation}
 use Rattle.twp_calls.specs.DesignationTexts.{goes_wrong}
 use Rattle.twp_calls.specs.steps.DesignationSteps.{next_stage, ends_spelling, read_up_to, go_to_stage}
 use Rattle.twp_calls.specs.steps.DesignationSteps.{read_marks}
 use Rattle.twp_calls.specs.steps.DesignationSteps.{IsDesignationProgress, IsOfDesignationProgress}
-use Rattle.twp_calls.proofs.DesignationForms.{after_forms, have_end, taken_on, left_after, have_none}
+use Rattle.twp_calls.proofs.DesignationForms.{taken_on, left_after, have_none}
 use Rattle.twp_calls.proofs.DesignationForms.{none_had}
 use Rattle.twp_calls.proofs.DesignationForms.{way_leads, nothing_left}
 use Rattle.twp_calls.proofs.DesignationTable.{way_out, rest_of, rest_after, agrees, ends_agree, leads_out}

@@ -1,7 +1,6 @@
 -- What forms leave to be read after a token: again forms, their derivative by its sort.
 use Rattle.std.proofs.Common.{◌≡◌, ◌==◌, ℕ, Bool, true, false, cond, ◌&&◌, List, [], ◌∷◌, ◌++◌, get_or}
 use Rattle.std.proofs.Common.{refl, sym, ap, subst, ◌∙◌, inl, inr}
-use Rattle.std.specs.List.{Contains}
 use Rattle.std.proofs.lemmas.Bool.{eqb-true}
 use Rattle.twp_grammar.proofs.Membership.{Among, among_contains, contains_among, among_either, among_left}
 use Rattle.twp_grammar.proofs.Membership.{among_right}

@@ -1,5 +1,5 @@
 -- The spelling that is written is read back as the same township.
-use Rattle.std.proofs.Common.{◌≡◌, ◌==◌, ℕ, ◌+◌, ◌<◌, ◌≤◌, Bool, true, false, ◌&&◌, nat_le, List, [], ◌∷◌}
+use Rattle.std.proofs.Common.{◌≡◌, ◌==◌, ℕ, ◌+◌, ◌<◌, ◌≤◌, true, false, nat_le, List, [], ◌∷◌}
 use Rattle.std.proofs.Common.{◌++◌}
 use Rattle.std.proofs.Common.{length, decimal, codes, refl, sym, ap, subst, ◌∙◌, arith, append_assoc}
 use Rattle.std.proofs.Common.{length-append}
@@ -24,10 +24,10 @@ use Rattle.twp_read.specs.TextFaults.{TEXT_LIMIT}
 use Rattle.twp_calls.specs.declared.designation_mark.DesignationMark.{DesignationMark}
 use Rattle.twp_calls.specs.declared.designation_mark.DesignationMark.TheVariants as mark
 use Rattle.twp_calls.specs.declared.designation_parts.DesignationParts.{DesignationParts}
-use Rattle.twp_calls.specs.DesignationTexts.{MarkSort, tier_word, range_word, complete, north_south}
+use Rattle.twp_calls.specs.DesignationTexts.{MarkSort, tier_word, range_word, north_south}
 use Rattle.twp_calls.specs.DesignationTexts.{east_west}
-use Rattle.twp_calls.specs.DesignationTexts.{stop, comma, sort_of, sorts, spelling_forms, AreFormed}
-use Rattle.twp_calls.specs.DesignationTexts.{mark_of_digits, with_mark, no_parts, with_tokens, AreOf, Spell}
+use Rattle.twp_calls.specs.DesignationTexts.{stop, comma, sort_of, spelling_forms, AreFormed}
+use Rattle.twp_calls.specs.DesignationTexts.{mark_of_digits, with_mark, no_parts, AreOf, Spell}
 use Rattle.twp_calls.specs.DesignationTexts.{IsSpelling, after_tier, after_range, designation_text}
 use Rattle.twp_calls.proofs.DesignationForms.{way_leads}
 

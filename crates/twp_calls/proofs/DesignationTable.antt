@@ -1,12 +1,12 @@
 -- The machine agrees with the forms: in each stage it accepts the tokens that the forms leave to be read
 -- there.
-use Rattle.std.proofs.Common.{◌≡◌, ◌==◌, ℕ, Bool, true, false, List, [], ◌∷◌, ◌++◌, Option, Some, None, cond}
+use Rattle.std.proofs.Common.{◌≡◌, true, List, [], ◌∷◌, Option, Some, None}
 use Rattle.std.proofs.Common.{refl}
 use Rattle.twp_calls.specs.declared.designation_stage.DesignationStage.{DesignationStage}
 use Rattle.twp_calls.specs.declared.designation_stage.DesignationStage.TheVariants as past
 use Rattle.twp_calls.specs.DesignationTexts.{MarkSort, tier_word, range_word, complete, unit, tens, filled}
 use Rattle.twp_calls.specs.DesignationTexts.{north_south}
-use Rattle.twp_calls.specs.DesignationTexts.{east_west, stop, comma, hyphen, slash, other, FormSlot}
+use Rattle.twp_calls.specs.DesignationTexts.{east_west, stop, comma, hyphen, slash, other}
 use Rattle.twp_calls.specs.DesignationTexts.{SpellingForm, spelling_forms}
 use Rattle.twp_calls.specs.steps.DesignationSteps.{next_stage, ends_spelling}
 use Rattle.twp_calls.proofs.DesignationForms.{after_forms, after_sorts, have_end}

@@ -1,5 +1,5 @@
 -- The parts of an explanation, or of a note, beside its answer; over plain values.
-use Rattle.std.proofs.Common.{◌≡◌, ◌≢◌, ℕ, suc, ◌+◌, ◌<◌, List, [], ◌∷◌, ◌++◌, length, Option, Some, None}
+use Rattle.std.proofs.Common.{◌≡◌, ℕ, suc, ◌+◌, ◌<◌, List, ◌∷◌, ◌++◌, length, Option, Some, None}
 use Rattle.std.proofs.Common.{Result, Ok, Err, IfOk, IfSome, ap, refl, sym, ◌∙◌, inl, inr, arith}
 use Rattle.std.proofs.Common.{length-append}
 use Rattle.twp_diagnose.specs.ShownMessages.{ShowsIn}
@@ -9,7 +9,6 @@ use Rattle.twp_explain.specs.ShownNotes.{ShowsNoteIn}
 use Rattle.twp_explain.specs.declared.note.Note.{Note}
 use Rattle.twp_calls.specs.Answers.{ACCEPTED, IsRefused, bare}
 use Rattle.twp_calls.specs.Calls.{Answers, IsPut, no_memory, put, not_put}
-use Rattle.twp_calls.specs.ExplanationParts.{ArePartsOf, ArePartsOfNote}
 use Rattle.twp_calls.specs.Explanations.{PutsExplanation, column_at, line_at}
 use Rattle.twp_calls.specs.ShownTexts.{IsNotedInParts, IsShownInParts, IsShownNote, IsTextShown, IsTextGiven}
 use Rattle.twp_calls.specs.steps.Noting.{AnswersNoted, NotesInParts, PutsInParts, put_in_parts, no_parts}

@@ -1,19 +1,17 @@
 -- A note on accepted input, or none; over plain values.
-use Rattle.std.proofs.Common.{◌≡◌, ℕ, ◌<◌, List, Option, Some, None, Result, Ok, Err, IfOk, IfSome}
+use Rattle.std.proofs.Common.{◌≡◌, ℕ, List, Option, Some, None, Result, Ok, Err, IfOk}
 use Rattle.std.proofs.Common.{ap, inl, inr, arith}
 use Rattle.twp_measure.specs.Areas.{Fraction}
 use Rattle.twp_plat.specs.Plats.{TownshipPlat}
 use Rattle.twp_plat.specs.declared.land_area.Account.TheVariants.{Exact}
 use Rattle.twp_answers.specs.OnPlats.{HasAreaOn}
 use Rattle.twp_answers.specs.ReportAnswers.{IsAccountOf}
-use Rattle.twp_diagnose.specs.declared.location.Given.{Given}
-use Rattle.twp_explain.specs.ShownNotes.{IsNoteOf, ShowsNoteIn}
+use Rattle.twp_explain.specs.ShownNotes.{IsNoteOf}
 use Rattle.twp_explain.specs.declared.note.Note.{Note}
 use Rattle.twp_calls.specs.Answers.{ACCEPTED, IsRefused}
 use Rattle.twp_calls.specs.Calls.{Answers, IsPut, accepted, no_memory, put, not_put}
 use Rattle.twp_calls.specs.Explanations.{IsOfArea, IsOfAccount, located_at}
 use Rattle.twp_calls.specs.Explanations.{clear, noted, clear_list, noted_list}
-use Rattle.twp_calls.specs.ShownTexts.{IsShownNote, IsTextGiven}
 use Rattle.twp_calls.specs.steps.Noting.{AnswersNoted}
 use Rattle.twp_calls.specs.declared.answer.TownshipAnswer.{TownshipAnswer}
 

@@ -1,5 +1,5 @@
 -- The notes that are written for a given plat make it; over plain values.
-use Rattle.std.proofs.Common.{◌≡◌, ℕ, List}
+use Rattle.std.proofs.Common.{ℕ, List}
 use Rattle.twp_notes.specs.FieldNotes.{FieldNotes}
 use Rattle.twp_notes.specs.NotesTexts.{AreWithinLimits}
 use Rattle.twp_notes.proofs.WrittenNotes.{written_is_read}

@@ -1,6 +1,5 @@
 -- Land as plain data: a township's designation, and a bit for each place. It may be valid or not.
 use Rattle.std.specs.Prelude.{◌≡◌, ℕ, Bool}
-use Rattle.twp_grid.specs.Places.{PLACE_DIGITS}
 use Rattle.twp_grid.specs.Townships.{Designation}
 use Rattle.twp_grid.specs.Lands.{HasWholeLots}
 use Rattle.twp_grid.specs.Lands.{STANDARD_LOTS}

@@ -1,5 +1,5 @@
 -- Which tracts of a list overlap.
-use Rattle.std.specs.Prelude.{◌≡◌, ◌⊎◌, ℕ, ◌<◌, ◌≤◌, List, length, map, take}
+use Rattle.std.specs.Prelude.{◌≡◌, ℕ, ◌<◌, ◌≤◌, List, length, map, take}
 use Rattle.std.specs.List.{SameFrom}
 use Rattle.twp_plat.specs.Plats.{TownshipPlat}
 use Rattle.twp_answers.specs.EachTract.{IsListOfRecords}

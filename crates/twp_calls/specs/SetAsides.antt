@@ -1,6 +1,6 @@
 -- Where in a text phrases stand that somebody says aren't land. The phrases are given as bytes in a row and
 -- the offsets between them.
-use Rattle.std.specs.Prelude.{◌≡◌, ◌⊎◌, ◌+◌, ◌<◌, ◌≤◌, ℕ, List, [], ◌∷◌, length, map}
+use Rattle.std.specs.Prelude.{◌≡◌, ◌⊎◌, ◌+◌, ◌<◌, ℕ, List, [], ◌∷◌, length, map}
 use Rattle.std.specs.Prelude.{slice_index_or, slice_range}
 use Rattle.twp_grid.specs.declared.refusal.Refusal.{Refusal}
 use Rattle.twp_phrases.specs.SetAside.{AreRemarks, IsFirstOfLand, set_aside}

@@ -3,6 +3,8 @@ ghost use Rattle.std.specs.Prelude.{◌≡◌, ◌≢◌, ◌<◌, ◌≤◌, If
 ghost use Rattle.twp_calls.specs.Answers.{ACCEPTED};
 ghost use Rattle.twp_calls.specs.SetAsides.{AreRanges, IsSetAsideCall, PHRASES_LIMIT, phrases_between};
 ghost use Rattle.twp_calls.specs.ManyAnswers.{count_between};
+ghost use Rattle.twp_calls.specs.UnreadCalls.{run_data};
+ghost use Rattle.twp_phrases.specs.SetAside.{set_aside};
 
 use crate::answer::TownshipAnswer;
 use crate::unread::{TownshipStretch, data_of_runs, put_stretches};

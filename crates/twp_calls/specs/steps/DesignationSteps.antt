@@ -8,7 +8,7 @@ use Rattle.twp_calls.specs.declared.designation_parts.DesignationParts.{Designat
 use Rattle.twp_calls.specs.declared.designation_reading.DesignationProgress.{DesignationProgress}
 use Rattle.twp_calls.specs.DesignationTexts.{MarkSort, tier_word, range_word, complete, unit, tens, filled}
 use Rattle.twp_calls.specs.DesignationTexts.{north_south}
-use Rattle.twp_calls.specs.DesignationTexts.{east_west, stop, comma, hyphen, slash, other, sort_of}
+use Rattle.twp_calls.specs.DesignationTexts.{east_west, stop, comma, hyphen, slash, sort_of}
 use Rattle.twp_calls.specs.DesignationTexts.{mark_of_token, with_mark, no_parts, AreOf}
 
 -- a numeral of the township's number, where letters come before it

@@ -1,5 +1,4 @@
 -- The canonical text was put there, or memory ran out.
-use Rattle.twp_grid.specs.Places.{PLACE_DIGITS}
 use Rattle.twp_spell.specs.CanonicalText.{IsCanonicalText}
 use Rattle.twp_calls.specs.Calls.{accepted, no_memory}
 use Rattle.twp_calls.specs.LandCalls.{on_land}

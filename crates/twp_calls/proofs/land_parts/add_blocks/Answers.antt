@@ -1,5 +1,5 @@
 -- One more block.
-use Rattle.std.proofs.Common.{◌≡◌, length, arith, subst, sym}
+use Rattle.std.proofs.Common.{arith, subst, sym}
 use Rattle.std.proofs.lemmas.List.{append-nil, take_all}
 use Rattle.twp_calls.specs.steps.PartSteps.{AddsBlocks}
 use Rattle.twp_calls.proofs.PartFacts.{blocks_next}

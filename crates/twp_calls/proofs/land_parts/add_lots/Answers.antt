@@ -1,5 +1,5 @@
 -- One more lot.
-use Rattle.std.proofs.Common.{◌≡◌, length, get_or, refl, sym, ◌∙◌, arith, subst}
+use Rattle.std.proofs.Common.{get_or, refl, sym, ◌∙◌, arith, subst}
 use Rattle.std.proofs.lemmas.List.{take_all}
 use Rattle.std.proofs.lemmas.List.Elements.{Contains-get_or}
 use Rattle.twp_grid.specs.Lots.{position_of_lot}

@@ -1,6 +1,5 @@
 -- The rows are those of land, or contain part of a lot.
 use Rattle.std.proofs.Common.{subst, sym}
-use Rattle.twp_grid.specs.Places.{PLACE_DIGITS}
 use Rattle.twp_grid.specs.Lands.{HasWholeLots}
 use Rattle.twp_grid.specs.Lands.{STANDARD_LOTS}
 use Rattle.twp_calls.proofs.land.TownshipLand.land.Goals as goal

@@ -1,6 +1,5 @@
 -- The data is land as it stands, or contains part of a lot.
 use Rattle.std.proofs.Common.{refl, subst}
-use Rattle.twp_grid.specs.Places.{PLACE_DIGITS}
 use Rattle.twp_grid.specs.Lands.{HasWholeLots}
 use Rattle.twp_grid.specs.Lands.{STANDARD_LOTS}
 use Rattle.twp_calls.proofs.land.TownshipLand.valid_township.Goals as goal

@@ -1,0 +1,57 @@
+-- The first phrase of land is among at most 65,536.
+use Rattle.std.proofs.Common.{◌≡◌, ◌<◌, ◌+◌, arith, map, refl}
+use Rattle.twp_phrases.specs.SetAside.{IsFirstOfLand}
+use Rattle.twp_calls.specs.ManyAnswers.{count_between}
+use Rattle.twp_calls.specs.SetAsides.{AreRanges, names_land, phrases_between}
+use Rattle.twp_calls.proofs.SetAsideCallFacts.{few_before, first_between, given_of}
+use Rattle.twp_calls.proofs.setting_aside.township_set_aside.Goals as goal
+
+pub overflow_cast-index : goal.overflow_cast-index
+overflow_cast-index c =
+    let are : AreRanges c.args.phrases.now c.args.offsets.now
+    × (map (λ phrase. phrase.now) c.in-Ok-Some.given.items
+    ≡ phrases_between c.args.phrases.now c.args.offsets.now) =
+    given_of (¬ AreRanges c.args.phrases.now c.args.offsets.now)
+    (λ given. AreRanges c.args.phrases.now c.args.offsets.now
+    × (map (λ phrase. phrase.now) given.items ≡ phrases_between c.args.phrases.now c.args.offsets.now))
+    c.in-Ok-Some.field-0 c.in-Ok-Some.given c.in-Ok-Some.field-0-is c.in-Ok-Some.ensures in
+    let first : IsFirstOfLand (phrases_between c.args.phrases.now c.args.offsets.now) c.in-Some.index =
+    first_between c.args.phrases.now c.args.offsets.now c.in-Ok-Some.given.items c.as_slice.result.now
+    c.in-Some.index c.as_slice.ensures.value are.1 c.in-Some.ensures in
+    let few : c.in-Some.index < count_between c.args.offsets.now =
+    few_before c.args.phrases.now c.args.offsets.now c.in-Some.index first in
+    omega (arith, few, c.saturating_sub-count.ensures, c.if-count-gt-PHRASES_LIMIT.false)
+
+pub overflow_add-index : goal.overflow_add-index
+overflow_add-index c =
+    let are : AreRanges c.args.phrases.now c.args.offsets.now
+    × (map (λ phrase. phrase.now) c.in-Ok-Some.given.items
+    ≡ phrases_between c.args.phrases.now c.args.offsets.now) =
+    given_of (¬ AreRanges c.args.phrases.now c.args.offsets.now)
+    (λ given. AreRanges c.args.phrases.now c.args.offsets.now
+    × (map (λ phrase. phrase.now) given.items ≡ phrases_between c.args.phrases.now c.args.offsets.now))
+    c.in-Ok-Some.field-0 c.in-Ok-Some.given c.in-Ok-Some.field-0-is c.in-Ok-Some.ensures in
+    let first : IsFirstOfLand (phrases_between c.args.phrases.now c.args.offsets.now) c.in-Some.index =
+    first_between c.args.phrases.now c.args.offsets.now c.in-Ok-Some.given.items c.as_slice.result.now
+    c.in-Some.index c.as_slice.ensures.value are.1 c.in-Some.ensures in
+    let few : c.in-Some.index < count_between c.args.offsets.now =
+    few_before c.args.phrases.now c.args.offsets.now c.in-Some.index first in
+    omega (arith, few, c.saturating_sub-count.ensures, c.if-count-gt-PHRASES_LIMIT.false)
+
+pub returns-in-Some-clause-answer : goal.returns-in-Some-clause-answer
+returns-in-Some-clause-answer c =
+    let are : AreRanges c.args.phrases.now c.args.offsets.now
+    × (map (λ phrase. phrase.now) c.in-Ok-Some.given.items
+    ≡ phrases_between c.args.phrases.now c.args.offsets.now) =
+    given_of (¬ AreRanges c.args.phrases.now c.args.offsets.now)
+    (λ given. AreRanges c.args.phrases.now c.args.offsets.now
+    × (map (λ phrase. phrase.now) given.items ≡ phrases_between c.args.phrases.now c.args.offsets.now))
+    c.in-Ok-Some.field-0 c.in-Ok-Some.given c.in-Ok-Some.field-0-is c.in-Ok-Some.ensures in
+    let first : IsFirstOfLand (phrases_between c.args.phrases.now c.args.offsets.now) c.in-Some.index =
+    first_between c.args.phrases.now c.args.offsets.now c.in-Ok-Some.given.items c.as_slice.result.now
+    c.in-Some.index c.as_slice.ensures.value are.1 c.in-Some.ensures in
+    names_land are.0 (record {
+      refusal = record { number = 51; at = c.in-Some.index + 1 };
+      first = record { index = c.in-Some.index; first = first; is = refl };
+      answer_is = c.of_refusal-in-Some.ensures;
+    })
