@@ -11,9 +11,9 @@ SELECT normal(:'uneven', 'sec. 14, SE1/4, NE1/4.'), notes(:'uneven', 'sec. 14.')
 SELECT reading, acres FROM suggest(:'uneven', 'NE/4 Sec 14');
 SELECT reading FROM suggest('NE/4 Sec 14');
 SELECT acres FROM suggest(:'uneven', 'Lots 1-4 Sec 7', 'plat');
-SELECT reading, acres FROM suggest(:'uneven', 'Kestrel NE/4 Sec 14', ARRAY['Kestrel']);
-SELECT reading FROM suggest('Kestrel NE/4 Sec 14', ignore => '{Kestrel}');
-SELECT unread('old mill, Kestrel', '{Kestrel}');
+SELECT reading, acres FROM suggest(:'uneven', 'sec. 14, blah NE1/4', ARRAY['blah']);
+SELECT reading FROM suggest('sec. 14, blah NE1/4', ignore => '{blah}');
+SELECT unread('the old blah mill', '{blah}');
 -- Land, too, as a value.
 SELECT acres(:'uneven', land), acres_or_null(:'uneven', land), acres(:'uneven', land, 'plat') AS by_plat,
        acres_or_null(:'uneven', land, 'plat') AS by_plat_too, (area(:'uneven', land)).*,

@@ -84,26 +84,30 @@ SELECT unnest(unread('S2, 12, T2N R3W')) AS unread;
 SELECT unread('NENE Sec 14') = '{}' AS nothing, unread('') = '{}' AS empty, unread(NULL) IS NULL AS none;
 
 -- Phrases that the caller says are not land are left out: in either case, as whole words, and the first in the list counts.
-SELECT * FROM suggest('Tract ID Kestrel: NE/4 Sec. 14');
-SELECT * FROM suggest('TRACT ID KESTREL: NE/4 Sec. 14', ARRAY['Tract ID Kestrel', 'Kestrel']);
-SELECT reading IS NULL AS not_found FROM suggest('Kestrels: NE/4 Sec. 14', ARRAY['Kestrel']);
-SELECT assumes FROM suggest('Kestrel, NE/4 Kestrel Sec. 14, Osprey', ignore => ARRAY['Kestrel', NULL, '', 'Osprey']);
-SELECT suggested.* FROM plats, suggest(plat, 'Kestrel Lots 1-4 Sec 7', ARRAY['Kestrel'], 'plat') AS suggested WHERE name = 'uneven';
-SELECT suggested.* FROM plats, suggest(plat, 'Sec. 14: NE/4 Kestrel SW/4', ignore => ARRAY['Kestrel']) AS suggested WHERE name = 'even';
+SELECT * FROM suggest('sec. 14, blah NE1/4');
+SELECT * FROM suggest('sec. 14, BLAH NE1/4', ARRAY['blah']);
+SELECT * FROM suggest('sec. 14, blah quux NE1/4', ignore => ARRAY['blah quux', NULL, 'blah']);
+SELECT * FROM suggest('sec. 14, blah blah NE1/4', ARRAY['', ' ', 'blah']);
+SELECT reading IS NULL AS not_found FROM suggest('sec. 14, blahs NE1/4', ARRAY['blah']);
+SELECT suggested.* FROM plats, suggest(plat, 'sec. 7, blah lots 1 to 4', ARRAY['blah'], 'plat') AS suggested WHERE name = 'uneven';
+SELECT suggested.* FROM plats, suggest(plat, 'sec. 7, blah lots 1 to 4', ignore => ARRAY['blah']) AS suggested WHERE name = 'uneven';
+-- What a reading assumes, from left to right.
+SELECT unnest(assumes) AS assumed FROM suggest('TRACT 1: blah sec. 14, blah N2SW, Boise Meridian', ARRAY['blah']);
 -- Without phrases, nothing is left out; without a text, there are no rows.
-SELECT reading, changes, assumes FROM suggest('sec. 14, NE1/4.', NULL);
-SELECT reading, changes, assumes FROM suggest('sec. 14, NE1/4.', '{}');
-SELECT count(*) AS rows FROM suggest(NULL, ARRAY['Kestrel']);
-SELECT count(*) AS rows FROM suggest(NULL::plat, 'sec. 14.', ARRAY['Kestrel']);
-SELECT count(*) AS rows FROM plats, suggest(plat, NULL, ARRAY['Kestrel']);
-SELECT count(*) AS rows FROM plats, suggest(plat, 'sec. 14.', ARRAY['Kestrel'], NULL);
-SELECT reading FROM suggest(repeat('Kestrel ', 1000) || 'NE/4 Sec. 14', ARRAY['Kestrel']);
+SELECT * FROM suggest('sec. 14, NE1/4.', NULL::text[]);
+SELECT * FROM suggest('sec. 14, NE1/4.', '{}'::text[]);
+SELECT count(*) AS rows FROM suggest(NULL, ARRAY['blah']);
+SELECT count(*) AS rows FROM suggest(NULL::plat, 'sec. 14.', ARRAY['blah']);
+SELECT count(*) AS rows FROM plats, suggest(plat, NULL, ARRAY['blah']);
+SELECT count(*) AS rows FROM plats, suggest(plat, 'sec. 14.', ARRAY['blah'], NULL);
+-- More places than the first call of the library has room for.
+SELECT reading, changes, assumes FROM suggest(repeat('blah ', 1000) || 'sec. 14, NE1/4.', ARRAY['blah']);
 -- What is unread besides them.
-SELECT unread('old Kestrel mill, quux', ARRAY['Kestrel']), unread('old mill', NULL) AS whole, unread(NULL, '{}') IS NULL AS none,
-       unread('Kestrel, sec. 14', ARRAY['Kestrel']) AS nothing;
+SELECT unread('the old blah mill', ARRAY['blah']), unread('the old mill', NULL) AS whole, unread(NULL, '{}') IS NULL AS none,
+       unread('sec. 14, blah NE1/4', ARRAY['blah']) = '{}' AS nothing;
 -- Phrases that name land, except it, or limit it are refused, and so are too many.
-SELECT suggest('sec. 14.', ARRAY['Kestrel', 'Lot 3']);
-SELECT unread('sec. 14.', ARRAY['Kestrel', NULL, 'north of']);
+SELECT suggest('sec. 14.', ARRAY['blah', 'Lot 3']);
+SELECT unread('sec. 14.', ARRAY['blah', NULL, 'north of']);
 SELECT suggest(plat, 'sec. 14.', ARRAY['14']) FROM plats;
 SELECT suggest('sec. 14.', array_fill('a'::text, ARRAY[65537]));
 SELECT suggest('sec. 14.', ARRAY[repeat('a', 65537)]);

@@ -63,18 +63,17 @@ static void say_unknown(twpg_said *said, twpg_bytes text, uint64_t start, uint64
     }
 }
 
-/* Says that some words are not understood: those on both sides of each phrase that is left out. */
-static void say_words(twpg_said *said, const twpg_aside *aside, const township_stretch *words) {
+/* Says that some words are not understood: those on both sides of each phrase that is left out. `next` is the first
+   phrase that does not end before them; words, and phrases, come from left to right. */
+static void say_words(twpg_said *said, const twpg_aside *aside, const township_stretch *words, uint64_t *next) {
     uint64_t at = words->start;
-    uint64_t index;
 
-    for (index = 0; index < aside->count; index++) {
-        const township_stretch *place = &aside->places[index];
-
-        if (place->end > at && place->start < words->end) {
-            say_unknown(said, aside->given, at, place->start);
-            at = place->end;
-        }
+    while (*next < aside->count && aside->places[*next].end <= words->start) {
+        (*next)++;
+    }
+    for (; *next < aside->count && aside->places[*next].start < words->end; (*next)++) {
+        say_unknown(said, aside->given, at, aside->places[*next].start);
+        at = aside->places[*next].end;
     }
     say_unknown(said, aside->given, at, words->end);
 }
@@ -89,6 +88,7 @@ static Datum unread_of(twpg_aside aside) {
     township_stretch *unread;
     township_answer answer;
     twpg_said said = {NULL, 0};
+    uint64_t next = 0;
     uint64_t index;
 
     if (twpg_has_readings(aside.left)) {
@@ -104,7 +104,7 @@ static Datum unread_of(twpg_aside aside) {
     said.values = palloc((size_t)(answer.length + aside.count + 1) * sizeof *said.values);
     for (index = 0; index < answer.length; index++) {
         if (unread[index].ways == 0) {
-            say_words(&said, &aside, &unread[index]);
+            say_words(&said, &aside, &unread[index], &next);
         } else {
             say_two_ways(&said, aside.given, &unread[index]);
         }

@@ -188,24 +188,27 @@ def test_unread(server: Interface) -> None:
 
 
 def test_phrases_are_left_out(server: Interface) -> None:
-    text = "½ Bläuling: NE/4 Sec. 14"
+    text = "sec. 14, N½NE¼, bläh SW¼"
     assert server.ask("suggest", **NOMINAL, text=text)["readings"] == []
-    [reading] = server.ask("suggest", **NOMINAL, text=text, ignore=["½ BLäULING"])["readings"]
-    assert (reading["text"].strip(), reading["acres"]["exact"]) == ("sec. 14, NE1/4", "160.00")
-    assert reading["assumptions"] == ["without `½ Bläuling`: you said that this is not land"]
+    # Only letters of the alphabet are found in either case.
+    [reading] = server.ask("suggest", **NOMINAL, text=text, ignore=["BLäH"])["readings"]
+    # Half of a quarter, and a quarter.
+    assert (reading["text"], reading["acres"]["exact"]) == ("sec. 14, N½NE¼, SW¼", "240.00")
+    assert reading["assumptions"] == ["without `bläh`: you said that this is not land"]
     # Places are code points.
     [aside] = [change for change in reading["changes"] if change["rule"] == "set aside"]
-    assert (aside["start"], aside["end"]) == (0, 10)
+    assert text[aside["start"] : aside["end"]] == "bläh"
 
 
 def test_what_is_unread_besides(server: Interface) -> None:
-    answer = server.ask("suggest", **NOMINAL, text="old Kestrel mill, sec. 14", ignore=["Kestrel"])
-    assert [each["sentence"] for each in answer["unread"]] == ["not understood: `old`", "not understood: `mill`"]
-    assert [(each["start"], each["end"]) for each in answer["unread"]] == [(0, 3), (12, 16)]
+    text = "the old bläh mill"
+    unread = server.ask("suggest", **NOMINAL, text=text, ignore=["bläh"])["unread"]
+    assert [each["sentence"] for each in unread] == ["not understood: `old`", "not understood: `mill`"]
+    assert [text[each["start"] : each["end"]] for each in unread] == ["old", "mill"]
 
 
 def test_phrases_that_name_land(server: Interface) -> None:
-    refused = server.ask("suggest", **NOMINAL, text="sec. 14", ignore=["Kestrel", "Lot 3"])["refused"]
+    refused = server.ask("suggest", **NOMINAL, text="sec. 14", ignore=["blah", "Lot 3"])["refused"]
     assert (refused["of"], refused["number"], refused["at"]) == ("phrases", 51, 2)
     assert refused["sentence"].startswith("`Lot 3` (phrase 2) can't be left out: ")
     refused = server.ask("suggest", **NOMINAL, text="sec. 14", ignore=["a" * 65_537])["refused"]
@@ -214,7 +217,7 @@ def test_phrases_that_name_land(server: Interface) -> None:
 
 def test_phrases_that_are_not_valid(server: Interface) -> None:
     for ignore, error in (
-        ("Kestrel", "the field `ignore` must be a list"),
+        ("blah", "the field `ignore` must be a list"),
         ([14], "the field `ignore` must be a list of texts"),
         (["a"] * 101, "the field `ignore` has 101 items; at most 100 are allowed"),
     ):

@@ -9,13 +9,13 @@ from unittest import mock
 import township
 from batches import NOTES, BatchCase
 from samples import TOP, RefusalCase
-from township import _library
+from township import Change, Reading, Readings, _library, _suggested
+from township._phrases import condition_of, shared_of
 
 PLAT = township.Plat.open(NOTES)
-TEXT = "Tract ID Kestrel: NE/4 Sec. 14"
-KESTREL = "Tract ID Kestrel"
-#: What a reading of this text assumes.
-SAID = f"without `{KESTREL}`: you said that this is not land"
+TEXT = "sec. 14, blah NE1/4"
+#: What a reading of this text without `blah` assumes.
+SAID = "without `blah`: you said that this is not land"
 
 #: Why a phrase is refused.
 WHY = "can't be left out: it names, excepts, or limits land, or contains a number that could be that of a section"
@@ -33,25 +33,25 @@ def made_by(reading, given):
 class Suggested(RefusalCase):
     def test_left_out(self):
         self.assertEqual(list(township.suggest(TEXT)), [])
-        reading, = township.suggest(TEXT, ignore=[KESTREL])
+        reading, = township.suggest(TEXT, ignore=["blah"])
         self.assertEqual((reading.text, reading.assumptions), ("sec. 14, NE1/4", (SAID,)))
         aside, = [change for change in reading.changes if change.rule == "set aside"]
-        self.assertEqual(aside, (0, 16, KESTREL, " ", "set aside", "set aside", KESTREL))
+        self.assertEqual(aside, (9, 13, "blah", " ", "set aside", "set aside", "blah"))
         self.assertEqual(aside.assumption, SAID)
 
     def test_by_plats_and_lot_tables(self):
         lots = township.Lots.of_figures(PLAT.township, {(5, 1): "40.45"})
         for found, acres in (
-            (PLAT.suggest(TEXT, ignore=[KESTREL]), "160.00"),
-            (PLAT.suggest("Kestrel, Lots 1-4 Sec 7", "plat", ["kestrel"]), "156.42"),
-            (lots.suggest("Lot 1, Sec 5 Kestrel", ignore=["kestrel"]), "40.45"),
+            (PLAT.suggest(TEXT, ignore=["blah"]), "160.00"),
+            (PLAT.suggest("sec. 7, BLAH lots 1 to 4", "plat", ["blah"]), "156.42"),
+            (lots.suggest("sec. 5, blah lot 1", ignore=["Blah"]), "40.45"),
         ):
             reading, = found
             self.assertEqual(reading.acres, Decimal(acres))
             self.assertEqual([each.assumes for each in reading.changes if each.rule == "set aside"], ["set aside"])
 
     def test_nothing_to_leave_out(self):
-        for ignore in ([], (), township.Phrases(), ["Osprey"], ["", " "]):
+        for ignore in ([], (), township.Phrases(), ["quux"], ["", " "]):
             self.assertEqual(PLAT.suggest("NENE, S2NE4 Sec 14-2N-3W", ignore=ignore), PLAT.suggest("NENE, S2NE4 Sec 14-2N-3W"))
             self.assertEqual(PLAT.suggest(TEXT, ignore=ignore), PLAT.suggest(TEXT))
 
@@ -66,16 +66,16 @@ class Suggested(RefusalCase):
             self.assertEqual(bool(township.Phrases([phrase])._places_in(text)), is_found, text)
 
     def test_the_first_phrase_of_the_list_counts(self):
-        self.assertEqual(township.Phrases(["Tract ID", KESTREL])._places_in(TEXT), [(0, 8)])
-        self.assertEqual(township.Phrases([KESTREL, "Tract ID"])._places_in(TEXT), [(0, 16)])
+        self.assertEqual(township.Phrases(["old", "old mill"])._places_in("the old mill"), [(4, 7)])
+        self.assertEqual(township.Phrases(["old mill", "old"])._places_in("the old mill"), [(4, 12)])
 
     def test_changes_make_the_text(self):
         for text in (
-            TEXT, "NE/4 Sec. 14 Kestrel", "Kestrel, NE/4 Kestrel SW/4 KESTREL Kestrel Sec. 14", "Kestrel Sec. 14: NE/4(Kestrel)",
-            "Sec. 14 Kestrel: NE/4, SW/4", "Kestrel\nT2N R3W Kestrel Sec. 14:\n NENE, SWSW Kestrel", "TRACT 1: Kestrel sec. 14, NE/4",
+            TEXT, "sec. 14, NE/4 blah", "blah sec. 14, NE/4", "blah NE/4 blah Sec. 14 BLAH", "sec. 14, NE/4(blah)",
+            "sec. 14: NE/4 blah SW/4", "T2N R3W blah Sec. 14:\n blah NENE, SWSW Blah", "TRACT 1: blah sec. 14, NE/4",
         ):
             given = text.encode()
-            found = township.suggest(text, ignore=[KESTREL, "kestrel", "(kestrel)"])
+            found = township.suggest(text, ignore=["(blah)", "blah"])
             self.assertGreater(len(found), 0, text)
             for reading in found:
                 self.assertEqual(made_by(reading, given), reading.text, text)
@@ -84,33 +84,56 @@ class Suggested(RefusalCase):
                 ends = [0, *(each.end for each in reading.changes)]
                 self.assertTrue(all(end <= each.start for end, each in zip(ends, reading.changes)), text)
                 left_out = [each.left_out for each in reading.changes if each.rule == "set aside"]
-                self.assertEqual(len(left_out), text.lower().count("kestrel"), text)
+                self.assertEqual(len(left_out), text.lower().count("blah"), text)
 
-    def test_a_phrase_between_two_parts(self):
-        # Two parts of 160 acres; or the NE1/4 of the SW1/4.
-        first, second = PLAT.suggest("Sec. 14: NE/4 Kestrel SW/4", ignore=["Kestrel"])
-        self.assertEqual((first.acres, second.acres), (Decimal("320.00"), Decimal("40.00")))
-        left_out = "without `Kestrel`: you said that this is not land"
-        self.assertEqual(first.assumptions, (left_out,))
-        self.assertEqual(sorted(second.assumptions), ["`NE/4 SW/4`: no comma is missing", left_out])
+    def test_a_change_around_a_phrase(self):
+        # Without `blah`, one part: the space on both sides is left out. Two parts: the comma is written before the phrase.
+        text = "sec. 14, NE1/4 blah SW1/4"
+        around = Change(14, 20, " " * 6, "", "one part", "no missing comma", "NE1/4 SW1/4")
+        between = Change(16, 16, "", ",", "comma")
+        found = Readings([Reading("sec. 14, NE1/4SW1/4", (around,), "changed"),
+                          Reading("sec. 14, NE1/4  ,    SW1/4", (between,), "changed")])
+        with mock.patch.object(_suggested, "readings_of", lambda _: found):
+            one, two = township.suggest(text, ignore=["blah"])
+        self.assertEqual([each[:4] for each in one.changes], [(14, 15, " ", ""), (15, 19, "blah", ""), (19, 20, " ", "")])
+        self.assertEqual([each[:4] for each in two.changes], [(15, 15, "", ","), (15, 19, "blah", " ")])
+        self.assertEqual(made_by(one, text.encode()), one.text)
+        self.assertEqual(sorted(one.assumptions), ["`NE1/4 SW1/4`: no comma is missing", SAID])
+        self.assertEqual(two.assumptions, (SAID,))
+        # They differ in the space alone, whatever is written for the phrase.
+        self.assertEqual(condition_of(text.encode(), one, [one, two]), "as it is written")
+        self.assertEqual(condition_of(text.encode(), two, [one, two]), "if the space separates two parts")
+        self.assertEqual([change.rule for change in shared_of([one, two])], ["set aside"])
+
+    def test_a_label_around_a_phrase(self):
+        # What is left of it is not land, either; white space is nothing at all.
+        text = "TRACT blah 1: blah sec. 14"
+        label = Change(0, 19, "TRACT" + " " * 6 + "1:" + " " * 6, "", "label", "not land", "TRACT      1:      ")
+        found = Readings([Reading("sec. 14", (label,), "changed")])
+        with mock.patch.object(_suggested, "readings_of", lambda _: found):
+            reading, = township.suggest(text, ignore=["blah"])
+        self.assertEqual([each.left_out for each in reading.changes], ["TRACT ", "blah", " 1: ", "blah", " "])
+        self.assertEqual(reading.assumptions, ("without `TRACT`: this is not land", SAID, "without `1:`: this is not land"))
 
     def test_what_is_unread_besides(self):
-        found = township.suggest("the old Kestrel mill, quux", ignore=["kestrel"])
-        self.assertEqual([each.text for each in found.unread if each.ways is None], ["old", "mill", "quux"])
-        for each in found.unread:
-            self.assertEqual("the old Kestrel mill, quux"[each.start : each.end], each.text)
+        text = "½ bläh\nthe old blah mill"
+        found = township.suggest(text, ignore=["blah"])
+        words = [text.encode()[each.start : each.end].decode() for each in found.unread if each.ways is None]
+        self.assertEqual(words[-2:], ["old", "mill"])
+        self.assertEqual(words, [each.text for each in found.unread if each.ways is None])
 
     def test_bytes_and_text(self):
-        self.assertEqual(township.suggest(TEXT.encode(), ignore=[KESTREL.encode()]), township.suggest(TEXT, ignore=[KESTREL]))
-        # Places are bytes of the text in UTF-8. A byte that is not UTF-8 can be left out, too.
-        reading, = township.suggest("Bläuling: NE¼ Sec. 14", ignore=["Bläuling"])
-        self.assertEqual([each[:3] for each in reading.changes if each.rule == "set aside"], [(0, 9, "Bläuling")])
-        reading, = township.suggest(b"Bl\xe4uling: NE/4 Sec. 14", ignore=[b"Bl\xe4uling"])
+        self.assertEqual(township.suggest(TEXT.encode(), ignore=[b"blah"]), township.suggest(TEXT, ignore=["blah"]))
+        # Places are bytes of the text in UTF-8: each `½`, `¼`, or `ä` has two. A byte that is not UTF-8 can be left out, too.
+        reading, = PLAT.suggest("sec. 14, N½NE¼, bläh SW¼", ignore=["BLäH"])
+        self.assertEqual([each[:3] for each in reading.changes if each.rule == "set aside"], [(18, 23, "bläh")])
+        self.assertEqual(reading.acres, Decimal("240.00"))
+        reading, = township.suggest(b"sec. 14, bl\xe4h NE1/4", ignore=[b"bl\xe4h"])
         self.assertEqual(reading.text, "sec. 14, NE1/4")
 
     def test_parts(self):
-        text = "Kestrel T2N-R3W Sec 14: NE/4 Kestrel; Kestrel T3N-R3W Sec 32: S2, kestrel"
-        for parts in (township.suggest_parts(text, ["Kestrel"]), township.Plats([PLAT]).suggest(text, ignore=["Kestrel"])):
+        text = "blah T2N-R3W Sec 14: NE/4 blah; blah T3N-R3W Sec 32: S2 BLAH"
+        for parts in (township.suggest_parts(text, ["blah"]), township.Plats([PLAT]).suggest(text, ignore=["blah"])):
             self.assertEqual([str(part.township) for part, _ in parts], ["T. 2 N., R. 3 W.", "T. 3 N., R. 3 W."])
             self.assertEqual([[reading.text for reading in readings] for _, readings in parts],
                              [["T2N R3W Sec 14: NE1/4"], ["T3N R3W Sec 32: S1/2"]])
@@ -119,16 +142,15 @@ class Suggested(RefusalCase):
                 text.encode()[part.start + each.start : part.start + each.end]
                 for part, (reading,) in parts for each in reading.changes if each.rule == "set aside"
             ]
-            self.assertEqual(left_out, [b"Kestrel", b"Kestrel", b"Kestrel", b"kestrel"])
+            self.assertEqual(left_out, [b"blah", b"blah", b"blah", b"BLAH"])
         part, readings = parts[0]
         self.assertEqual(readings[0].acres, Decimal("160.00"))
-        self.assertEqual((part.start, part.text[:31]), (0, "        T2N-R3W Sec 14: NE/4   "))
+        self.assertEqual((part.start, part.text[:28]), (0, "     T2N-R3W Sec 14: NE/4   "))
 
     def test_more_places_than_a_first_call_has_room_for(self):
-        text = "Kestrel " * 1000 + "NE/4 Sec. 14"
-        reading, = township.suggest(text, ignore=["Kestrel"])
+        reading, = township.suggest("blah " * 1000 + "sec. 14, NE/4", ignore=["blah"])
         self.assertEqual([change.rule for change in reading.changes].count("set aside"), 1000)
-        self.assertEqual(reading.assumptions, ("without `Kestrel`: you said that this is not land",))
+        self.assertEqual(reading.assumptions, (SAID,))
 
     def test_the_account_is_checked_first(self):
         with self.assertRaisesRegex(ValueError, "account"):
@@ -192,7 +214,7 @@ class File(BatchCase, RefusalCase):
             "Tract ID Kestrel\nUnit 7\n", "\n  Tract ID Kestrel \r\n\r\n\tUnit 7", "Tract ID Kestrel\rUnit 7",
             codecs.BOM_UTF8 + b"Tract ID Kestrel\nUnit 7", "Tract ID Kestrel\nUnit 7".encode("utf-16"),
         ):
-            self.assertEqual(list(township.Phrases.open(self.put(data, "phrases.txt"))), [KESTREL, "Unit 7"])
+            self.assertEqual(list(township.Phrases.open(self.put(data, "phrases.txt"))), ["Tract ID Kestrel", "Unit 7"])
         self.assertEqual(list(township.Phrases.open(self.put("", "phrases.txt"))), [])
 
     def test_refused(self):

@@ -174,66 +174,59 @@ fn made_by(reading: &township::Reading, text: &str) -> String {
 
 #[test]
 fn phrases_are_left_out() {
-    let phrases = Phrases::new(["Tract ID Kestrel", "kestrel", "(kestrel)"]).unwrap();
+    assert!(suggest("sec. 14, blah NE1/4").readings.is_empty());
+    let phrases = Phrases::new(["(blah)", "Blah"]).unwrap();
     for text in [
-        "TRACT ID KESTREL: NE/4 Sec. 14",
-        "NE/4 Sec. 14 Kestrel",
-        "Kestrel, NE/4 Kestrel SW/4 KESTREL Kestrel Sec. 14",
-        "Kestrel Sec. 14: NE/4(Kestrel)",
-        "Kestrel\nT2N R3W Kestrel Sec. 14:\n NENE, SWSW Kestrel",
-        "TRACT 1: Kestrel sec. 14, NE/4",
+        "sec. 14, blah NE1/4",
+        "sec. 14, NE/4 blah",
+        "blah sec. 14, NE/4",
+        "blah NE/4 blah Sec. 14 BLAH",
+        "sec. 14, NE/4(blah)",
+        "sec. 14: NE/4 blah SW/4",
+        "T2N R3W blah Sec. 14:\n blah NENE, SWSW Blah",
+        "TRACT 1: blah sec. 14, NE/4",
     ] {
         let found = suggest_without(text, &phrases);
         assert!(!found.readings.is_empty(), "{text}");
         for reading in &found.readings {
             assert_eq!(made_by(reading, text), reading.text, "{text}");
             let left_out = reading
-                .changes
-                .iter()
-                .filter(|change| change.rule == Rule::SetAside);
-            let count = text.to_lowercase().matches("kestrel").count();
+                .assumptions()
+                .filter(|change| change.assumes == Some(Assumption::SetAside));
+            let count = text.to_lowercase().matches("blah").count();
             assert_eq!(left_out.count(), count, "{text}");
         }
-        assert!(suggest(text).readings.is_empty(), "{text}");
     }
-    assert_eq!(suggest_without(TWO, &phrases), suggest(TWO));
-}
-
-#[test]
-fn phrases_between_two_parts() {
-    let text = "Sec. 14: NE/4 Kestrel SW/4";
-    let found = suggest_without(text, &Phrases::new(["Kestrel"]).unwrap());
-    let assumed = found.readings.iter().map(|reading| {
-        let mut assumed: Vec<_> = reading.assumptions().map(|each| each.assumes).collect();
-        assumed.dedup();
-        assumed
-    });
-    let assumed: Vec<_> = assumed.collect();
-    assert_eq!(assumed.len(), 2);
-    assert_eq!(assumed[0], [Some(Assumption::SetAside)]);
-    assert!(assumed[1].contains(&Some(Assumption::NoMissingComma)));
+    let [reading] = &suggest_without("sec. 14, blah NE1/4", &phrases).readings[..] else {
+        panic!("it has one reading");
+    };
+    assert_eq!(reading.text, "sec. 14, NE1/4");
+    let change = &reading.changes[0];
+    assert_eq!((change.start, change.end), (9, 13));
+    assert_eq!(change.rule, Rule::SetAside);
     assert_eq!(
         Assumption::SetAside.to_string(),
         "you said that this is not land"
     );
+    assert_eq!(suggest_without(TWO, &phrases), suggest(TWO));
 }
 
 #[test]
 fn unread_besides_phrases() {
-    let text = "old Kestrel mill, quux";
-    let found = suggest_without(text, &Phrases::new(["Kestrel", " "]).unwrap());
+    let text = "the old blah mill";
+    let found = suggest_without(text, &Phrases::new(["blah", " "]).unwrap());
     let unread: Vec<_> = found
         .unread
         .iter()
         .map(|each| &text[each.start..each.end])
         .collect();
-    assert_eq!(unread, ["old", "mill", "quux"]);
+    assert_eq!(unread, ["old", "mill"]);
 }
 
 #[test]
 fn more_phrases_than_a_first_call_has_room_for() {
-    let text = format!("{}NE/4 Sec. 14", "Kestrel ".repeat(1000));
-    let found = suggest_without(text, &Phrases::new(["Kestrel"]).unwrap());
+    let text = format!("{}sec. 14, NE/4", "blah ".repeat(1000));
+    let found = suggest_without(text, &Phrases::new(["blah"]).unwrap());
     assert_eq!(found.readings[0].assumptions().count(), 1000);
 }
 

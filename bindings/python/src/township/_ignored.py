@@ -4,6 +4,7 @@ from __future__ import annotations
 import codecs
 import ctypes
 from array import array
+from bisect import bisect_left
 from typing import Any, List, NamedTuple, Optional, Sequence, Tuple, Union, overload
 
 from . import _library
@@ -195,6 +196,11 @@ def blanked(given: bytes, places: Sequence[Place]) -> bytes:
     for start, end in places:
         left[start:end] = b" " * (end - start)
     return bytes(left)
+
+
+def places_within(places: Sequence[Place], start: int, end: int) -> Sequence[Place]:
+    """Return the places that begin between two bytes. The places are in order."""
+    return places[bisect_left(places, Place(start, 0)) : bisect_left(places, Place(end, 0))]
 
 
 def _decoded(phrase: bytes) -> str:

@@ -4,7 +4,7 @@ from __future__ import annotations
 from typing import List, NamedTuple, Sequence
 
 from . import _library
-from ._ignored import Ignored, Place, blanked, phrases_in
+from ._ignored import Ignored, Place, blanked, phrases_in, places_within
 from ._readings import Readings
 from ._refused import Refused
 from ._split import TownshipText, split
@@ -38,26 +38,33 @@ def suggest_parts(text: Text, ignore: Ignored = ()) -> List[PartReadings]:
     """
     given = encoded(text)
     aside = phrases_in(ignore)._places_in(given)
-    parts = _with_places_before(_parts_of(blanked(given, aside)), aside)
+    parts = _parts_without(blanked(given, aside), aside)
     return [PartReadings(part, _readings_in(given, part, aside)) for part in parts]
 
 
 def _readings_in(given: bytes, part: TownshipText, aside: Sequence[Place]) -> Readings:
     """Return the readings of a part of a text without these places of the text."""
-    inside = [
-        Place(start - part.start, end - part.start) for start, end in aside if part.start <= start and end <= part.end
-    ]
-    return readings_without(given[part.start : part.end], inside)
+    inside = places_within(aside, part.start, part.end)
+    moved = [Place(start - part.start, end - part.start) for start, end in inside]
+    return readings_without(given[part.start : part.end], moved)
 
 
-def _with_places_before(parts: Sequence[TownshipText], aside: Sequence[Place]) -> List[TownshipText]:
-    """Return parts each of which begins with the places that are left out between it and the part before it."""
-    found: List[TownshipText] = []
-    for part in parts:
-        after = found[-1].end if found else 0
-        start = min([part.start, *(place.start for place in aside if after <= place.start)])
-        found.append(TownshipText(" " * (part.start - start) + part.text, start, part.end))
-    return found
+def _parts_without(left: bytes, aside: Sequence[Place]) -> List[TownshipText]:
+    """Return the parts of a text that has spaces in these places. Each place is in a part.
+
+    A place between two parts is in the second one if only white space follows it there, and otherwise in the first one.
+    """
+    parts = _parts_of(left)
+    starts, ends = [part.start for part in parts], [part.end for part in parts]
+    for index, (before, after) in enumerate(zip(parts, parts[1:])):
+        # The separator of the two, such as `;`, ends here.
+        separated = before.end + len(left[before.end : after.start].rstrip())
+        for start, end in places_within(aside, before.end, after.start):
+            if end <= separated:
+                ends[index] = end
+            else:
+                starts[index + 1] = min(starts[index + 1], start)
+    return [_part_between(left, start, end) for start, end in zip(starts, ends)]
 
 
 def _parts_of(given: bytes) -> List[TownshipText]:
@@ -67,4 +74,8 @@ def _parts_of(given: bytes) -> List[TownshipText]:
     except Refused as refused:
         if refused.number != _library.REFUSAL_SPLIT_NO_HEADING:
             raise
-        return [TownshipText(given.decode("utf-8", "surrogateescape"), 0, len(given))]
+        return [_part_between(given, 0, len(given))]
+
+
+def _part_between(given: bytes, start: int, end: int) -> TownshipText:
+    return TownshipText(given[start:end].decode("utf-8", "surrogateescape"), start, end)

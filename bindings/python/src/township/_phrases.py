@@ -2,6 +2,7 @@
 from __future__ import annotations
 
 import re
+from bisect import bisect_left, bisect_right
 from typing import Iterable, Iterator, List, NamedTuple, Optional, Sequence, Tuple
 
 from ._readings import SET_ASIDE, Change, Reading
@@ -155,8 +156,10 @@ def _pieces(given: bytes, rows: Sequence[Sequence[Change]], changes: Sequence[Ch
     for mark in _ENDS.finditer(given):
         ends |= {mark.start(), mark.end()}
     places = sorted(ends)
+    starts = [change.start for change in changes]
     for start, end in zip(places, places[1:]):
-        inside = [change for change in changes if start <= change.start and change.end <= end]
+        beginning = changes[bisect_left(starts, start) : bisect_right(starts, end)]
+        inside = [change for change in beginning if change.end <= end]
         # What is written at the end of a piece is not also written at the beginning of the next one.
         inside = [change for change in inside if change.start < change.end or start < change.start]
         if inside and given[start:end].strip():

@@ -1,6 +1,7 @@
 """The readings of a text, without the phrases in it that the caller says are not land."""
 from __future__ import annotations
 
+from bisect import bisect_left, bisect_right
 from typing import Iterator, List, Sequence
 
 from ._ignored import Ignored, Place, blanked, phrases_in
@@ -42,16 +43,19 @@ def readings_without(given: bytes, aside: Sequence[Place]) -> Readings:
 def _with_aside(given: bytes, reading: Reading, aside: Sequence[Place]) -> Reading:
     """Return a reading that says what was left out before it was read. Runs of spaces in its text become one space."""
     changes = [part for change in reading.changes for part in _outside(given, change, aside)]
-    changes += [_left_out(given, place, reading) for place in aside]
+    spans = [Place(change.start, change.end) for change in reading.changes]
+    changes += [_left_out(given, place, spans) for place in aside]
     # What is written where a phrase begins comes before it.
     changes.sort(key=lambda change: (change.start, change.end))
     return reading._replace(text=" ".join(reading.text.split()), changes=tuple(changes))
 
 
-def _left_out(given: bytes, place: Place, reading: Reading) -> Change:
-    """Return the change that leaves out a place. A space stays, unless the reading leaves that out, too."""
+def _left_out(given: bytes, place: Place, spans: Sequence[Place]) -> Change:
+    """Return the change that leaves out a place. A space stays, unless a change with one of these spans leaves it out."""
     phrase = _text(given, place)
-    is_covered = any(change.start <= place.start and place.end <= change.end for change in reading.changes)
+    # The spans are in order, and none of them begins within another one.
+    last = bisect_right(spans, Place(place.start, len(given)))
+    is_covered = last > 0 and place.end <= spans[last - 1].end
     return Change(*place, phrase, "" if is_covered else " ", SET_ASIDE, SET_ASIDE, phrase)
 
 
@@ -78,19 +82,26 @@ def _parts_outside(whole: Place, aside: Sequence[Place]) -> List[Place]:
     >>> _parts_outside(Place(7, 7), [Place(5, 12)])
     [Place(start=5, end=5)]
     """
+    others = _others_in(whole, aside)
     parts, at = [], whole.start
-    for start, end in aside:
-        if end <= whole.start or whole.end <= start:
-            continue
+    for start, end in others:
         if at < start:
             parts.append(Place(at, start))
-        at = max(at, end)
+        at = end
     if at < whole.end:
         parts.append(Place(at, whole.end))
     if not parts:
-        at = min([each.start for each in aside if each.start < whole.start < each.end], default=whole.start)
+        at = min(whole.start, others[0].start) if others else whole.start
         parts.append(Place(at, at))
     return parts
+
+
+def _others_in(whole: Place, aside: Sequence[Place]) -> Sequence[Place]:
+    """Return the places that share bytes with a place, or, if it has no bytes, the one within which it is."""
+    first = bisect_left(aside, Place(whole.start, 0))
+    if first > 0 and aside[first - 1].end > whole.start:
+        first -= 1
+    return aside[first : bisect_left(aside, Place(whole.end, 0))]
 
 
 def _unread_outside(given: bytes, unread: Unread, aside: Sequence[Place]) -> Iterator[Unread]:

@@ -67,9 +67,11 @@ fn with_aside(left: &[u8], reading: Reading, aside: &[Range<usize>]) -> Reading 
 
 /// Returns the change that leaves out a place. A space stays, unless the reading leaves that out, too.
 fn left_out(place: &Range<usize>, changes: &[Change]) -> Change {
-    let is_covered = changes
-        .iter()
-        .any(|change| change.start <= place.start && place.end <= change.end);
+    // The changes are in order, and none of them begins within another one.
+    let before = changes.partition_point(|change| change.start <= place.start);
+    let is_covered = changes[..before]
+        .last()
+        .is_some_and(|change| place.end <= change.end);
     Change {
         start: place.start,
         end: place.end,
@@ -115,26 +117,25 @@ fn is_blank(bytes: &[u8]) -> bool {
 /// Returns the parts of a place outside of others, or, if there are none, where the first of those
 /// begins.
 fn parts_outside(whole: Range<usize>, aside: &[Range<usize>]) -> Vec<Range<usize>> {
+    // These share bytes with the place, or, if it has no bytes, it is within one of them.
+    let first = aside.partition_point(|other| other.end <= whole.start);
+    let end = aside.partition_point(|other| other.start < whole.end);
+    let others = &aside[first..end.max(first)];
     let mut parts = Vec::new();
     let mut at = whole.start;
-    let others = aside
-        .iter()
-        .filter(|other| other.end > whole.start && other.start < whole.end);
     for other in others {
         if at < other.start {
             parts.push(at..other.start);
         }
-        at = at.max(other.end);
+        at = other.end;
     }
     if at < whole.end {
         parts.push(at..whole.end);
     }
     if parts.is_empty() {
-        let within = |other: &&Range<usize>| other.start < whole.start && whole.start < other.end;
-        let at = aside
-            .iter()
-            .find(within)
-            .map_or(whole.start, |other| other.start);
+        let at = others
+            .first()
+            .map_or(whole.start, |other| other.start.min(whole.start));
         parts.push(at..at);
     }
     parts
