@@ -343,7 +343,7 @@ def test_the_document(server: Interface) -> None:
     assert f"more than {limits.HELD_MOST >> 20} MiB of a process" in told
     assert f"more than {limits.HELD_USUAL >> 10} KiB of it are closed" in told
     assert f"longer than {limits.IN_MEMORY >> 10} KiB in temporary files" in told
-    assert f"exceed {limits.HEAD_MOST >> 10} KiB" in told and f"do nothing for {limits.IDLE_MOST} seconds" in told
+    assert f"exceed {limits.HEAD_MOST >> 10} KiB" in told and f"does nothing for {limits.IDLE_MOST} seconds" in told
     assert f"and {limits.IDLE_MOST} seconds without a byte" in told
     assert f"more than {limits.SMALL_MOST >> 10} KiB" in " ".join((DOCUMENTS / "SERVING.md").read_text().split())
     [command] = re.findall(r"curl -s http://127.0.0.1:8036(\S+) .*?-d '(.*?)'", text, re.DOTALL)
