@@ -6,7 +6,7 @@ from ctypes import byref
 from typing import Tuple, Union
 
 from . import _library
-from ._refused import Refusal, Refused, failure_of, refused_as_a_whole, refused_in
+from ._refused import Refusal, Refused, failure_of, refusal_of, refused_as_a_whole, refused_in
 from ._text import encoded
 from ._township import Township, checked, township_of
 
@@ -44,13 +44,21 @@ def township_named(named: Named) -> Township:
 def township_spelled(spelling: str) -> Township:
     """Return the township that a text spells. Raise `Refused` if it spells none."""
     given = encoded(spelling)
+    read = _read(given)
+    if isinstance(read, Township):
+        return read
+    raise _refused(given, read.number, read.at)
+
+
+def _read(given: bytes) -> Union[Township, Refusal]:
+    """Return the township that a text spells, or its refusal."""
     parts = _library.Designation()
     answer = _library.designation_read(given, len(given), byref(parts))
     if answer.verdict == _library.ACCEPTED:
         return township_of(parts)
     if answer.verdict != _library.REFUSED:
         raise failure_of(answer.verdict)
-    raise _refused(given, answer.number, answer.at)
+    return refusal_of(answer)
 
 
 def township_in_heading(description: bytes) -> Township:
@@ -63,20 +71,17 @@ def township_in_heading(description: bytes) -> Township:
     """
     given = description
     while True:
-        parts = _library.Designation()
-        answer = _library.designation_read(given, len(given), byref(parts))
-        if answer.verdict == _library.ACCEPTED:
-            return township_of(parts)
-        if answer.verdict != _library.REFUSED:
-            raise failure_of(answer.verdict)
-        at = answer.at
-        if answer.number == _library.REFUSAL_DESIGNATION_AFTER:
+        read = _read(given)
+        if isinstance(read, Township):
+            return read
+        number, at = read
+        if number == _library.REFUSAL_DESIGNATION_AFTER:
             # Land follows the township, at this place.
             given = given[:at]
             continue
         without = _without_zeros(given, at)
         if without == given:
-            raise _refused(description, answer.number, _start_of_number(description, at))
+            raise _refused(description, number, _start_of_number(description, at))
         given = without
 
 
