@@ -9,11 +9,10 @@ use Rattle.twp_grammar.specs.ItemPlaces.{cuts_of}
 use Rattle.twp_land.specs.LotMaps.{NO_LAND}
 use Rattle.twp_land.specs.LotMarks.{mark_at, marks_of, DIVIDED_MOST, divided_count}
 use Rattle.twp_notes.specs.Records.{Fields, field, record_numbered}
-use Rattle.twp_plat.specs.LotRecords.{IsRowNumber}
+use Rattle.twp_plat.specs.LotRecords.{HasNoAcres, IsRowNumber}
 use Rattle.twp_plat.specs.LandTexts.{AreAliquotParts, IsOneOf, parts_at}
 use Rattle.twp_plat.specs.LandRecords.{LAND_FIELDS, IsForLot, HasNoLot, IsForNoLand, HoldsPlace, IsLotAt}
 use Rattle.twp_plat.specs.LandRecords.{IsNoLandAt, IsCount}
-use Rattle.twp_plat.specs.LotsFaults.{HasNoAcres, stage_of, place_of, number_of, IsFrom}
 use Rattle.twp_plat.specs.declared.lots.fault.LotsFault.{LotsFault}
 use Rattle.twp_plat.specs.declared.lots.fault.LotsFault.TheVariants as fault
 
@@ -156,9 +155,3 @@ HasLandFault records (fault.TooMany number) = IsRowNumber records number × IsOn
 HasLandFault records (fault.Unfilled number) = IsRowNumber records number × IsUnfilled records number
 HasLandFault records (fault.Divided number) = (number ≡ length records) × AreTooDivided records
 HasLandFault records other = ⊥
-
--- the fault is present, and no other that precedes it
-pub record IsFirstLandFault (records : List Fields) (fault : LotsFault) : Type 0 where
-  pub is : HasLandFault records fault
-  pub first : (other : LotsFault) → HasLandFault records other
-      → IsFrom (stage_of fault) (place_of fault) (number_of fault) other

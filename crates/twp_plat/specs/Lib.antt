@@ -15,9 +15,10 @@ pub mod LotTables
 pub mod LotDates
 pub mod LotAreas
 pub mod LotRecords
-pub mod LotsFaults
 pub mod LotAreaLaws
 pub mod LandTexts
 pub mod LandRecords
 pub mod LandFaults
+pub mod LotTexts
+pub mod LotsFaults
 pub mod steps

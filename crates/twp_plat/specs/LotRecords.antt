@@ -1,10 +1,10 @@
--- Lot tables as bytes: a heading, the township's designation and the date of its plat, and a record for each lot. The layout
--- is this project's.
+-- The records of a lot table: a heading, the township's designation and the date of its plat, and a record for
+-- each lot. The layout is this project's.
 use Rattle.std.specs.Prelude.{◌≡◌, ◌⊎◌, ℕ, ◌+◌, ◌*◌, ◌≤◌, ◌<◌, List, [], ◌∷◌, ◌++◌, length, codes, take}
 use Rattle.std.specs.Str.Parse.{IsNumeral, digits_value}
 use Rattle.twp_measure.specs.LengthTexts.{IsShortNumber, point}
 use Rattle.twp_grid.specs.Winding.{IsSection}
-use Rattle.twp_notes.specs.Records.{Fields, field, records_of, record_numbered}
+use Rattle.twp_notes.specs.Records.{Fields, field, record_numbered}
 use Rattle.twp_notes.specs.FieldNotes.{FIELDS, IsTownshipRecord, IsSectionNumber}
 use Rattle.twp_grid.specs.Lands.{STANDARD_LAYOUT, lotting}
 use Rattle.twp_grid.specs.Townships.{Designation}
@@ -36,6 +36,10 @@ pub record IsAcresText (text : List ℕ) (hundredths : ℕ) : Type 0 where
   pub text_is : text ≡ whole ++ point ∷ decimals
   pub value : hundredths ≡ 100 * digits_value 10 whole + digits_value 10 decimals
   pub some : 0 < hundredths
+
+-- a record whose acreage is not valid
+abbrev pub HasNoAcres : Fields → Type 0
+HasNoAcres fields = (hundredths : ℕ) → ¬ IsAcresText (field fields 2) hundredths
 
 -- the record's first two fields name a lot: its section and its number there
 pub record NamesLot (fields : Fields) (section number : ℕ) : Type 0 where
@@ -82,8 +86,3 @@ pub record AreLotRecords (records : List Fields) (table : LotTable) : Type 0 whe
   pub others : (section lot : ℕ) → IsSection section → 1 ≤ lot
       → ¬ IsLotNamed records section lot → figure_of table.lots section lot ≡ 0
   pub lots_are : lots_of table.lots ≡ lotting STANDARD_LAYOUT
-
--- the bytes are this lot table
-pub record AreLots (bytes : List ℕ) (table : LotTable) : Type 0 where
-  pub size : length bytes ≤ LOTS_TEXT_MOST
-  pub records_are : AreLotRecords (records_of bytes) table

@@ -1,6 +1,6 @@
 -- Lot tables: the lots of a township's approved plat, and the acreage that it returns for each. The limits
 -- are this project's.
-use Rattle.std.specs.Prelude.{◌≡◌, ℕ, zero, suc, ◌+◌, ◌-◌, ◌≤◌, ◌==◌, nat_le, nat_lt, List, [], get_or}
+use Rattle.std.specs.Prelude.{◌≡◌, ℕ, zero, suc, ◌+◌, ◌-◌, ◌≤◌, ◌<◌, ◌==◌, nat_le, nat_lt, List, [], get_or}
 use Rattle.std.specs.Prelude.{if◌then◌else◌, count_by}
 use Rattle.twp_grid.specs.Winding.{IsSection, SECTION_COUNT}
 use Rattle.twp_grid.specs.Lots.{Lot, lots, number_of_lots}
@@ -49,10 +49,12 @@ abbrev pub entered_count : List (List ℕ) → ℕ
 entered_count entered = total SECTION_COUNT (λ before. total LOT_NUMBER_MOST (λ less.
     one_where (nat_lt 0 (entered_for entered (before + 1) (less + 1)))))
 
--- the figures are those that are entered
-abbrev pub AreReturned : List (List ℕ) → ReturnedLots → Type 0
-AreReturned entered lots = (section number : ℕ) → IsSection section → 1 ≤ number → number ≤ LOT_NUMBER_MOST
-    → figure_of lots section number ≡ figure_within (entered_for entered section number)
+-- the figures are those that are entered, and lots with greater numbers than a lot may have have none
+pub record AreReturned (entered : List (List ℕ)) (lots : ReturnedLots) : Type 0 where
+  pub each : (section number : ℕ) → IsSection section → 1 ≤ number → number ≤ LOT_NUMBER_MOST
+      → figure_of lots section number ≡ figure_within (entered_for entered section number)
+  pub beyond : (section number : ℕ) → IsSection section → LOT_NUMBER_MOST < number
+      → figure_of lots section number ≡ 0
 
 -- the number of standard lots in a township
 abbrev pub LOT_COUNT : ℕ

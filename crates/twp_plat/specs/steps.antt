@@ -10,3 +10,5 @@ pub mod LotEntries
 pub mod LandWalk
 pub mod LandPaints
 pub mod LandEntries
+pub mod Unfilled
+pub mod LotReading

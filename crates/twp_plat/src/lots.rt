@@ -4,6 +4,7 @@
 mod area;
 mod date;
 mod fault;
+mod heading;
 mod lacking;
 mod land_entries;
 mod land_parsing;
@@ -11,9 +12,9 @@ mod land_record;
 mod land_row;
 mod land_rows;
 mod land_text;
-mod land_trial;
 mod land_unfilled;
 mod parsing;
+mod plat_record;
 mod reading;
 mod record;
 mod returned;

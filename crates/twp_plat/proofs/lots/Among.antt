@@ -202,3 +202,11 @@ appended_all figures numbers entered used end count so_far number some most =
     by (inr none) =
         let zeroth : get_or entered (number - 1) 0 ≡ 0 = grind (arith, nat_tests, none) in
         rw (within, zeroth) refl
+
+-- nothing is entered for lots with greater numbers
+pub appended_beyond : (figures numbers entered : List ℕ) (used end count : ℕ)
+    → AreAppended figures numbers entered used end count
+    → (number : ℕ) → count < number → figure_among figures numbers number used (end - used) ≡ 0
+appended_beyond figures numbers entered used end count so_far number more =
+    let past : nat_le number count ≡ false = grind (arith, nat_tests, more) in
+    among_is figures numbers number used (end - used) ∙ so_far 0 number (omega (arith, more)) ∙ rw past refl

@@ -55,6 +55,8 @@ pub record IsSectionEntered (entered : List (List ℕ)) (figures numbers : List 
   pub are : (number : ℕ) → 1 ≤ number → number ≤ LOT_NUMBER_MOST
       → figure_among figures numbers number start (end - start)
       ≡ figure_within (entered_for entered section number)
+  pub beyond : (number : ℕ) → LOT_NUMBER_MOST < number
+      → figure_among figures numbers number start (end - start) ≡ 0
 
 -- those of the sections so far are
 pub record AreSectionsEntered (entered : List (List ℕ)) (figures numbers first : List ℕ) (used index : ℕ)
@@ -106,22 +108,31 @@ sections_next entered figures numbers first figures' numbers' used end index lon
         → IsSectionEntered entered figures' numbers' (get_or (set first (index + 1) end) (section - 1) 0)
         (get_or (set first (index + 1) end) section 0) end section
     earlier section some less =
-        let was = so_far.each section some (omega (arith, less)) in
         rw (kept (section - 1) (omega (arith, less)), kept section less)
         (record {
           order = was.order;
           within = omega (arith, was.within, is);
-          are = λ number least greatest.
-              among_is figures' numbers' number (get_or first (section - 1) 0)
-              (get_or first section 0 - get_or first (section - 1) 0)
-              ∙ among-ext 0 figures' numbers' figures numbers number (get_or first (section - 1) 0)
-              (get_or first section 0 - get_or first (section - 1) 0)
-              (λ k from until. appends.before k 0 (omega (arith, from, until, was.order, was.within)))
-              (λ k from until. appends.numbers_before k 0 (omega (arith, from, until, was.order, was.within)))
-              ∙ sym (among_is figures numbers number (get_or first (section - 1) 0)
-              (get_or first section 0 - get_or first (section - 1) 0))
-              ∙ was.are number least greatest;
+          are = λ number least greatest. as_before number ∙ was.are number least greatest;
+          beyond = λ number more. as_before number ∙ was.beyond number more;
         })
+      where
+        was : IsSectionEntered entered figures numbers (get_or first (section - 1) 0) (get_or first section 0)
+            used section
+        was = so_far.each section some (omega (arith, less))
+
+        as_before : (number : ℕ) → figure_among figures' numbers' number (get_or first (section - 1) 0)
+            (get_or first section 0 - get_or first (section - 1) 0)
+            ≡ figure_among figures numbers number (get_or first (section - 1) 0)
+            (get_or first section 0 - get_or first (section - 1) 0)
+        as_before number =
+            among_is figures' numbers' number (get_or first (section - 1) 0)
+            (get_or first section 0 - get_or first (section - 1) 0)
+            ∙ among-ext 0 figures' numbers' figures numbers number (get_or first (section - 1) 0)
+            (get_or first section 0 - get_or first (section - 1) 0)
+            (λ k from until. appends.before k 0 (omega (arith, from, until, was.order, was.within)))
+            (λ k from until. appends.numbers_before k 0 (omega (arith, from, until, was.order, was.within)))
+            ∙ sym (among_is figures numbers number (get_or first (section - 1) 0)
+            (get_or first section 0 - get_or first (section - 1) 0))
 
     new : IsSectionEntered entered figures' numbers' (get_or (set first (index + 1) end) (index + 1 - 1) 0)
         (get_or (set first (index + 1) end) (index + 1) 0) end (index + 1)
@@ -137,6 +148,7 @@ sections_next entered figures numbers first figures' numbers' used end index lon
           order = omega (arith, is);
           within = omega arith;
           are = λ number least greatest. rw back (appends.appended number least greatest);
+          beyond = λ number more. appends.beyond number more;
         })
 
 -- all that is entered, section by section
@@ -156,8 +168,10 @@ count_by_section entered =
 pub sections_all : (entered : List (List ℕ)) (lots : ReturnedLots) (used : ℕ)
     → AreSectionsEntered entered lots.figures lots.numbers lots.first used SECTION_COUNT
     → AreReturned entered lots
-sections_all entered lots used are section number range some most =
-    (are.each section range.0 range.1).are number some most
+sections_all entered lots used are = record {
+  each = λ section number range some most. (are.each section range.0 range.1).are number some most;
+  beyond = λ section number range more. (are.each section range.0 range.1).beyond number more;
+}
 
 pub sections_count : (entered : List (List ℕ)) (figures numbers first : List ℕ) (used : ℕ)
     → AreSectionsEntered entered figures numbers first used SECTION_COUNT

@@ -4,7 +4,7 @@ use Rattle.std.proofs.Common.{replicate, refl}
 use Rattle.std.proofs.Common.{sym, ap, ◌∙◌, inl, inr, arith}
 use Rattle.std.proofs.lemmas.Bool.{cases_eq}
 use Rattle.std.proofs.lemmas.List.{get_or-set_same, get_or-set_other}
-use Rattle.twp_plat.specs.steps.LandEntries.{entered_for}
+use Rattle.twp_plat.specs.LotTables.{entered_for}
 
 -- entries before any was set
 pub no_entry : (n index : ℕ) → get_or (replicate n zero) index zero ≡ zero

@@ -12,7 +12,8 @@ use Rattle.twp_plat.specs.LotRecords.{IsAcresText}
 use Rattle.twp_plat.specs.LandTexts.{AreAliquotParts, parts_at}
 use Rattle.twp_plat.specs.LandRecords.{IsForLot, HasNoLot, IsForNoLand, HoldsPlace, IsCount}
 use Rattle.twp_plat.specs.steps.LandPaints.{ArePainted, IsLandPainted}
-use Rattle.twp_plat.specs.steps.LandEntries.{entered_for, OthersStay, lots_in, AreNoEntries, AddsLot}
+use Rattle.twp_plat.specs.LotTables.{entered_count, entered_for}
+use Rattle.twp_plat.specs.steps.LandEntries.{OthersStay, lots_in, AreNoEntries, AddsLot}
 use Rattle.twp_plat.specs.steps.LandEntries.{IsForMark, IsAdded}
 use Rattle.twp_plat.specs.steps.LandEntries.{EntersLand, IsLandRow, IsForSection, IsForSome, IsMarkedBy}
 use Rattle.twp_plat.specs.steps.LandEntries.{IsMarkOf}
@@ -20,6 +21,7 @@ use Rattle.twp_plat.specs.steps.LandEntries.{AreLandEntered, AreClear, IsLandNot
 use Rattle.twp_plat.specs.declared.lots.fault.LotsFault.{LotsFault}
 use Rattle.twp_plat.specs.declared.lots.fault.LotsFault.TheVariants as fault
 use Rattle.twp_plat.specs.declared.lots.land_entries.LotEntries.{LotEntries}
+use Rattle.twp_plat.proofs.lots.CountedEntries.{none_counted, one_counted}
 use Rattle.twp_plat.proofs.lots.LandReading.{one_parts}
 use Rattle.twp_plat.proofs.lots.PaintedParts.{if_some, if_none}
 use Rattle.twp_plat.proofs.lots.LandRowFacts.{one_number, one_lot, lot_or_none, mark_section, entered_mark}
@@ -41,6 +43,7 @@ none_entered rows marks entries clear none = record {
   count_is = none.count;
   few = λ section range. omega (arith, none.counts section);
   few_in_all = omega (arith, none.count);
+  all_counted = none_counted entries.figures none.figures ∙ sym none.count;
 }
 
 -- the next record is refused
@@ -153,6 +156,7 @@ entered_more rows count was now old new entered enters = record {
       subst (λ n. IsCount (IsForSome rows) n new.count) next_is (count_all enters.added entered.count_is);
   few = λ section range. few_in enters.added section range;
   few_in_all = few_of_all enters.added;
+  all_counted = all_counted_of enters.added;
 }
   where
     next : Fields
@@ -363,3 +367,13 @@ entered_more rows count was now old new entered enters = record {
     few_of_all (inl (is, free, (hundredths, text, adds))) =
         let more = adds.count in let room = adds.room_in_all in omega (arith, more, room)
     few_of_all (inr (none, is, same)) = rw same entered.few_in_all
+
+    all_counted_of : IsAdded next enters.section enters.mark (count + 3) old new
+        → entered_count new.figures ≡ new.count
+    all_counted_of (inl (is, free, (hundredths, text, adds))) =
+        let some = text.some in
+        one_counted old.figures new.figures enters.section enters.mark is.section_is.1 is.least is.most free
+        (let figure = adds.figure in omega (arith, figure, some)) adds.figures
+        ∙ ap (λ n. n + 1) entered.all_counted
+        ∙ sym adds.count
+    all_counted_of (inr (none, is, same)) = rw same entered.all_counted

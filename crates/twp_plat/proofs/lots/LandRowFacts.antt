@@ -3,6 +3,7 @@ use Rattle.std.proofs.Common.{◌≡◌, ◌≢◌, ◌⊎◌, ℕ, zero, suc, �
 use Rattle.std.proofs.Common.{refl, sym}
 use Rattle.std.proofs.Common.{ap, subst, ◌∙◌, arith, if◌then◌else◌}
 use Rattle.std.proofs.lemmas.Bool.{cases_lt, cases_eq}
+use Rattle.twp_grid.specs.Winding.{IsSection}
 use Rattle.twp_grid.specs.Places.{PLACE_DIGITS, IsPlace}
 use Rattle.twp_grammar.specs.declared.item.Step.{Step}
 use Rattle.twp_land.specs.LotMarks.{mark_at, marks_of}
@@ -12,8 +13,9 @@ use Rattle.twp_plat.specs.LotRecords.{IsAcresText}
 use Rattle.twp_plat.specs.LandTexts.{AreAliquotParts, parts_at}
 use Rattle.twp_plat.specs.LandRecords.{IsForLot, HasNoLot, IsForNoLand, HoldsPlace, IsCount}
 use Rattle.twp_plat.specs.steps.LandPaints.{ArePainted, IsLandPainted}
-use Rattle.twp_plat.specs.steps.LandEntries.{entered_for, OthersStay, lots_in, AreNoEntries, AddsLot}
-use Rattle.twp_plat.specs.steps.LandEntries.{IsForMark, IsAdded}
+use Rattle.twp_plat.specs.LotTables.{entered_for}
+use Rattle.twp_plat.specs.steps.LandEntries.{OthersStay, lots_in, AreNoEntries, AddsLot}
+use Rattle.twp_plat.specs.steps.LandEntries.{IsForLand, IsForMark, IsAdded}
 use Rattle.twp_plat.specs.steps.LandEntries.{EntersLand, IsLandRow, IsForSection, IsForSome, IsMarkedBy}
 use Rattle.twp_plat.specs.steps.LandEntries.{IsMarkOf}
 use Rattle.twp_plat.specs.steps.LandEntries.{AreLandEntered, AreClear, IsLandNotEntered, IsLandRefusedAfter}
@@ -51,6 +53,16 @@ pub mark_section : (fields : Fields) (section mark : ℕ) → IsForMark fields s
     → IsShortNumber (field fields 0) section
 mark_section fields section mark (inl lot) = lot.section_is.0
 mark_section fields section mark (inr (none, is)) = none.1.0
+
+pub mark_range : (fields : Fields) (section mark : ℕ) → IsForMark fields section mark → IsSection section
+mark_range fields section mark (inl lot) = lot.section_is.1
+mark_range fields section mark (inr (none, is)) = none.1.1
+
+-- what a record for land is for
+pub land_mark : (fields : Fields) (section mark : ℕ) (entries : LotEntries)
+    → IsForLand fields section mark entries → IsForMark fields section mark
+land_mark fields section mark entries (inl (is, free, text)) = inl is
+land_mark fields section mark entries (inr none) = inr none
 
 -- what a record was entered for
 pub entered_mark : (fields : Fields) (section mark number : ℕ) (old new : LotEntries)

@@ -16,3 +16,5 @@ pub record Appends (figures numbers figures' numbers' : List ℕ) (used end : �
   pub appended : (number : ℕ) → 1 ≤ number → number ≤ LOT_NUMBER_MOST
       → figure_among figures' numbers' number used (end - used)
       ≡ figure_within (get_or entered (number - 1) 0)
+  pub beyond : (number : ℕ) → LOT_NUMBER_MOST < number
+      → figure_among figures' numbers' number used (end - used) ≡ 0

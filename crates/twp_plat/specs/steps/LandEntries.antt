@@ -8,8 +8,8 @@ use Rattle.twp_grammar.specs.declared.item.Step.{Step}
 use Rattle.twp_land.specs.LotMaps.{NO_LAND}
 use Rattle.twp_land.specs.LotMarks.{mark_at, marks_of}
 use Rattle.twp_notes.specs.Records.{Fields, field, record_at}
-use Rattle.twp_plat.specs.LotRecords.{IsAcresText}
-use Rattle.twp_plat.specs.LotsFaults.{HasNoAcres}
+use Rattle.twp_plat.specs.LotTables.{entered_count, entered_for}
+use Rattle.twp_plat.specs.LotRecords.{HasNoAcres, IsAcresText}
 use Rattle.twp_plat.specs.LandTexts.{AreAliquotParts, parts_at}
 use Rattle.twp_plat.specs.LandRecords.{LAND_FIELDS, IsForLot, HasNoLot, IsForNoLand, HoldsPlace, IsCount}
 use Rattle.twp_plat.specs.LandFaults.{SECTION_LOTS_MOST, TOWNSHIP_LOTS_MOST, IsForNothing, HasNoParts}
@@ -17,10 +17,6 @@ use Rattle.twp_plat.specs.steps.LandPaints.{AreFine, IsTooFine, IsPlaceShared, I
 use Rattle.twp_plat.specs.declared.lots.fault.LotsFault.{LotsFault}
 use Rattle.twp_plat.specs.declared.lots.fault.LotsFault.TheVariants as fault
 use Rattle.twp_plat.specs.declared.lots.land_entries.LotEntries.{LotEntries}
-
--- a lot's entry, or 0
-abbrev pub entered_for : List (List ℕ) → ℕ → ℕ → ℕ
-entered_for entries section number = get_or (get_or entries (section - 1) []) (number - 1) 0
 
 -- all other entries are as they were
 abbrev pub OthersStay : ℕ → ℕ → List (List ℕ) → List (List ℕ) → Type 0
@@ -181,6 +177,7 @@ pub record AreLandEntered (rows : List Fields) (count : ℕ) (marks : List (List
   pub count_is : IsCount (IsForSome rows) count entries.count
   pub few : (section : ℕ) → 1 ≤ section → lots_in entries section ≤ SECTION_LOTS_MOST
   pub few_in_all : entries.count ≤ TOWNSHIP_LOTS_MOST
+  pub all_counted : entered_count entries.figures ≡ entries.count
 
 -- no place has a mark
 abbrev pub AreClear : List (List ℕ) → Type 0

@@ -19,7 +19,7 @@ pub(crate) fn date_of(text: &[u8]) -> Option<u32>
     let century = &text[..2];
     let years = &text[2..4];
     let month = &text[5..7];
-    let day = &text[8..];
+    let day = &text[8..10];
     if !is_numeral(century) || !is_numeral(years) || !is_numeral(month) || !is_numeral(day) {
         return None;
     }

@@ -1,12 +1,11 @@
 //! What the records of a lot table with land say so far.
-ghost use Rattle.std.specs.Prelude.{◌≡◌, ◌≢◌, ◌-◌, ◌≤◌, ◌<◌, ℕ, IsTrue, false, length, set};
+ghost use Rattle.std.specs.Prelude.{◌≡◌, ◌≢◌, ◌-◌, ◌≤◌, ◌<◌, ◌↔◌, ℕ, IsTrue, false, length, set};
 ghost use Rattle.twp_grid.specs.Lands.{LOT_NUMBER_MOST};
-ghost use Rattle.twp_plat.specs.steps.LandEntries.{entered_for, OthersStay, AreNoEntries, AddsLot, AreFull};
+ghost use Rattle.twp_plat.specs.LotTables.{entered_for};
+ghost use Rattle.twp_plat.specs.steps.LandEntries.{OthersStay, AreNoEntries, AddsLot, AreFull, lots_in};
 
+use crate::lots::returned::LOT_MOST;
 use twp_grid::{SECTIONS, Section};
-
-/// The highest number of a lot.
-pub const LOT_MOST: usize = 99;
 
 /// The most lots of a section, and of the township.
 const SECTION_LOTS_MOST: u32 = 64;
@@ -46,6 +45,22 @@ impl LotEntries {
         entry(&self.figures, section, lot)
     }
 
+    /// The number of the record of a lot, or 0.
+    pub(crate) fn record(&self, section: Section, lot: u8) -> u32
+        requires least { 1 ≤ lot }
+        requires most { lot ≤ LOT_NUMBER_MOST }
+        ensures { result ≡ entered_for self.now.records section lot }
+    {
+        entry(&self.records, section, lot)
+    }
+
+    /// Whether a section has lots.
+    pub(crate) fn has_lots(&self, section: Section) -> bool
+        ensures { IsTrue result ↔ (0 < lots_in self.now section) }
+    {
+        self.counts[usize::from(section.number() - 1)] != 0
+    }
+
     /// Adds a lot. Returns whether there was room for it.
     pub(crate) fn add(&mut self, section: Section, lot: u8, hundredths: u32, number: u32) -> bool
         requires least { 1 ≤ lot }
@@ -66,7 +81,7 @@ impl LotEntries {
 }
 
 /// A lot's entry.
-pub(crate) fn entry(
+fn entry(
     entries: &[[u32; LOT_MOST]; SECTIONS as usize],
     section: Section,
     lot: u8,

@@ -1,28 +1,26 @@
-ghost use Rattle.std.specs.Prelude.{◌≡◌, ◌≢◌, ◌⊎◌, ◌+◌, ◌^◌, ◌≤◌, ◌<◌, ℕ, length, IfOk, IfErr, OnOk};
+ghost use Rattle.std.specs.Prelude.{◌≡◌, ◌≢◌, ◌+◌, ◌^◌, ◌≤◌, ◌<◌, ℕ, length, IfOk, IfErr, OnOk};
 ghost use Rattle.csv.specs.Records.{fields_of};
 ghost use Rattle.twp_notes.specs.Records.{records_left, IsBetweenRecords};
-ghost use Rattle.twp_grid.specs.Finding.{Finds};
-ghost use Rattle.twp_notes.specs.FieldNotes.{FIELDS};
-ghost use Rattle.twp_plat.specs.LotRecords.{IsDateIn, LOTS_TEXT_MOST};
+ghost use Rattle.twp_plat.specs.LotRecords.{LOTS_TEXT_MOST};
 ghost use Rattle.twp_plat.specs.LotsFaults.{AnswersLots};
 ghost use Rattle.twp_plat.specs.steps.LotEntries.{Enters, IsNotEntered, AreEntered};
 ghost use Rattle.twp_plat.specs.steps.LotEntries.{IsLotRefusedAfter};
+ghost use Rattle.twp_plat.specs.steps.LotReading.{AreStandardLots, AreLotsUnder, IsRefusedUnder};
 
-use crate::lots::date::date_of;
 use crate::lots::fault::LotsFault;
-use crate::lots::record::{LOT_FIELDS, hundredths_of, is_heading, lot_of};
+use crate::lots::heading::{Heading, heading_of};
+use crate::lots::land_parsing::land_lots;
+use crate::lots::plat_record::plat_of;
+use crate::lots::record::{LOT_FIELDS, hundredths_of, lot_of};
 use crate::lots::returned::{LOTS, ReturnedLots};
 use crate::lots::table::{LotTable, lot_index};
 use csv::ByteRecord;
 use std::alloc::Global;
-use twp_notes::{FIELDS, Records, field, township_of};
+use twp_notes::{Records, field};
 
 /// The number of the record after the heading and the township's record, which is the first record
 /// of a lot.
 const FIRST_LOT: u32 = 3;
-
-/// The number of fields of a township with a date.
-const DATED_FIELDS: usize = FIELDS + 1;
 
 /// The lot table in the bytes, which are no more than a lot table can have.
 pub fn parse(alloc: Global, bytes: &[u8]) -> Result<LotTable, LotsFault>
@@ -36,40 +34,48 @@ pub fn parse(alloc: Global, bytes: &[u8]) -> Result<LotTable, LotsFault>
     if !records.read(&mut row)? {
         return Err(LotsFault::Empty);
     }
-    if !is_heading(&row) {
+    let Some(heading) = heading_of(&row) else {
         return Err(LotsFault::Heading);
-    }
+    };
     if !records.read(&mut row)? {
         return Err(LotsFault::Township);
     }
-    if row.len() != FIELDS && row.len() != DATED_FIELDS {
-        return Err(LotsFault::Columns(2));
-    }
-    let date = date_in(&row);
-    row.truncate(FIELDS);
-    let Some(township) = township_of(&row) else {
-        return Err(LotsFault::Township);
-    };
-    let Some(date) = date else {
-        return Err(LotsFault::Date);
-    };
-    let figures = enter_lots(records, &mut row)?;
+    let plat = plat_of(&mut row)?;
+    let lots = lots_under(alloc, heading, records, &mut row)?;
     Ok(LotTable {
-        township,
-        date,
-        lots: ReturnedLots::standard(&figures),
+        township: plat.township,
+        date: plat.date,
+        lots,
     })
 }
 
-/// The date in the record of a township: 0 if the record has none, and `None` if it is no date.
-fn date_in(row: &ByteRecord) -> Option<u32>
-    requires { (length (fields_of row.now) ≡ FIELDS) ⊎ (length (fields_of row.now) ≡ FIELDS + 1) }
-    ensures { Finds result (IsDateIn (fields_of row.now)) }
+/// The lots in the remaining records, which come after this heading and the township's record.
+fn lots_under(
+    alloc: Global,
+    heading: Heading,
+    records: &mut Records<'_>,
+    row: &mut ByteRecord,
+) -> Result<ReturnedLots, LotsFault>
+    requires reading { IsBetweenRecords records.old }
+    requires few { length (records_left records.old) < 2 ^ 17 }
+    ensures lots { IfOk result (AreLotsUnder heading (records_left records.old)) }
+    ensures fault { IfErr result (IsRefusedUnder heading (records_left records.old)) }
 {
-    if row.len() == FIELDS {
-        return Some(0);
+    match heading {
+        Heading::Standard => standard_lots(records, row),
+        Heading::Land => land_lots(alloc, records, row),
     }
-    date_of(field(row, FIELDS))
+}
+
+/// The standard lots in the remaining records.
+fn standard_lots(records: &mut Records<'_>, row: &mut ByteRecord) -> Result<ReturnedLots, LotsFault>
+    requires reading { IsBetweenRecords records.old }
+    requires few { length (records_left records.old) < 2 ^ 17 }
+    ensures lots { IfOk result (AreStandardLots (records_left records.old)) }
+    ensures fault { IfErr result (IsLotRefusedAfter (records_left records.old)) }
+{
+    let figures = enter_lots(records, row)?;
+    Ok(ReturnedLots::standard(&figures))
 }
 
 /// Enters the remaining records, each of a lot.

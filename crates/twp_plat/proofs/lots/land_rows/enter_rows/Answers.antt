@@ -5,7 +5,6 @@ use Rattle.twp_notes.specs.Records.{records_left}
 use Rattle.twp_notes.proofs.Taking.{next_record_is, no_record_left}
 use Rattle.twp_plat.specs.steps.LandEntries.{AreLandEntered, IsLandNotEntered}
 use Rattle.twp_plat.proofs.lots.LandEntering.{none_entered, entered_more, refused_next}
-use Rattle.twp_plat.proofs.lots.FirstLandFaults.{one_count}
 use Rattle.twp_plat.proofs.lots.land_rows.enter_rows.Goals as goal
 
 pub records-init : goal.records-init

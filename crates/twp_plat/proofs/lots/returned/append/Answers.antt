@@ -2,7 +2,8 @@
 use Rattle.std.proofs.Common.{◌≡◌, ◌∙◌, arith, refl, subst}
 use Rattle.std.proofs.lemmas.List.{get_or-set_other, length-set}
 use Rattle.twp_grid.proofs.TotalFacts.{total-zero}
-use Rattle.twp_plat.proofs.lots.Among.{AreAppended, appended_all, appended_more, appended_none, appended_skip}
+use Rattle.twp_plat.proofs.lots.Among.{AreAppended, appended_all, appended_beyond, appended_more}
+use Rattle.twp_plat.proofs.lots.Among.{appended_none, appended_skip}
 use Rattle.twp_plat.proofs.lots.EnteredSections.{counted_more, counted_most, counted_skip, entered_one}
 use Rattle.twp_plat.proofs.lots.returned.append.Goals as goal
 use Rattle.twp_plat.proofs.lots.returned.append.Goals.{then-entered-index-ne0+else-end-eq-RETURNED_MOST}
@@ -90,6 +91,9 @@ returns c =
         numbers_before = so_far.numbers_before;
         appended =
             appended_all c.loop-index.figures c.loop-index.numbers c.args.entered.now c.args.used
+            c.loop-index.end 99 appended;
+        beyond =
+            appended_beyond c.loop-index.figures c.loop-index.numbers c.args.entered.now c.args.used
             c.loop-index.end 99 appended;
       },
     )
