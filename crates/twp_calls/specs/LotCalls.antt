@@ -1,7 +1,7 @@
 -- What each call by a lot table answers, for all that it can be given.
 use Rattle.std.specs.Prelude.{◌≡◌, ◌⊎◌, ℕ, List, Bool}
 use Rattle.twp_measure.specs.Areas.{Fraction, IsRounded}
-use Rattle.twp_plat.specs.LotRecords.{AreLots}
+use Rattle.twp_plat.specs.LotTexts.{AreLots}
 use Rattle.twp_grid.specs.Townships.{Designation}
 use Rattle.twp_plat.specs.LotTables.{lots_of}
 use Rattle.twp_plat.specs.declared.lots.table.LotTable.{LotTable}

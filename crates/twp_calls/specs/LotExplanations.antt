@@ -2,7 +2,7 @@
 use Rattle.std.specs.Prelude.{◌≡◌, ◌<◌, ◌+◌, ◌*◌, ℕ, List}
 use Rattle.twp_grid.specs.Winding.{IsSection}
 use Rattle.twp_grid.specs.declared.refusal.Refusal.{Refusal}
-use Rattle.twp_plat.specs.LotRecords.{AreLots}
+use Rattle.twp_plat.specs.LotTexts.{AreLots}
 use Rattle.twp_plat.specs.LotTables.{figure_of}
 use Rattle.twp_plat.specs.declared.lots.returned.ReturnedLots.{ReturnedLots}
 use Rattle.twp_plat.specs.declared.lots.table.LotTable.{LotTable}

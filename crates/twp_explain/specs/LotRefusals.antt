@@ -1,7 +1,7 @@
 -- What bytes that are no lot table are refused for.
 use Rattle.std.specs.Prelude.{◌≡◌, ℕ, List, Some}
 use Rattle.twp_grid.specs.declared.refusal.Refusal.{Refusal}
-use Rattle.twp_plat.specs.LotRecords.{AreLots}
+use Rattle.twp_plat.specs.LotTexts.{AreLots}
 use Rattle.twp_plat.specs.declared.lots.table.LotTable.{LotTable}
 use Rattle.twp_plat.specs.LotsFaults.{IsFirstFault, refusal_of}
 use Rattle.twp_plat.specs.declared.lots.fault.LotsFault.{LotsFault}

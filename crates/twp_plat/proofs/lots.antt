@@ -24,8 +24,10 @@ pub mod LandRowFacts
 pub mod LandEntering
 pub mod RowCounts
 pub mod FirstLandFaults
+pub mod GoodRows
 pub mod LandRefusals
 pub mod RowMarks
 pub mod Filling
+pub mod AllRowFaults
 pub mod LandTables
 pub mod TableAnswers

@@ -1,5 +1,5 @@
--- The records of a lot table: a heading, the township's designation and the date of its plat, and a record for
--- each lot. The layout is this project's.
+-- The records of a lot table: a heading, the township's designation and the date of its plat, and a record
+-- for each lot. The layout is this project's.
 use Rattle.std.specs.Prelude.{◌≡◌, ◌⊎◌, ℕ, ◌+◌, ◌*◌, ◌≤◌, ◌<◌, List, [], ◌∷◌, ◌++◌, length, codes, take}
 use Rattle.std.specs.Str.Parse.{IsNumeral, digits_value}
 use Rattle.twp_measure.specs.LengthTexts.{IsShortNumber, point}

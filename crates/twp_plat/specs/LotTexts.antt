@@ -1,4 +1,5 @@
--- Lot tables as bytes. With three columns, they mean the standard lots; with four, they say where the lots lie.
+-- Lot tables as bytes. With three columns, they mean the standard lots; with four, they say where the lots
+-- lie.
 use Rattle.std.specs.Prelude.{◌≡◌, ◌⊎◌, ℕ, ◌≤◌, List, length}
 use Rattle.twp_land.specs.LotMaps.{layout_of_plat}
 use Rattle.twp_notes.specs.Records.{Fields, records_of, record_numbered}
@@ -9,8 +10,8 @@ use Rattle.twp_plat.specs.LandFaults.{HasLandFault}
 use Rattle.twp_plat.specs.declared.lots.fault.LotsFault.{LotsFault}
 use Rattle.twp_plat.specs.declared.lots.table.LotTable.{LotTable}
 
--- The records are this table with land: the heading, the township, and records of lots and of land that is not
--- there, in which no fault is present.
+-- The records are this table with land: the heading, the township, and records of lots and of land that is
+-- not there, in which no fault is present.
 pub record AreLandRecords (records : List Fields) (table : LotTable) : Type 0 where
   pub heading_is : record_numbered records 1 ≡ land_heading
   pub plat_is : IsPlatRecord (record_numbered records 2) table.township table.date

@@ -1,5 +1,5 @@
 -- For how many lots something is entered.
-use Rattle.std.proofs.Common.{◌≡◌, ◌≢◌, ℕ, zero, suc, ◌+◌, ◌-◌, ◌≤◌, ◌<◌, nat_lt, List, inl, inr, refl, sym}
+use Rattle.std.proofs.Common.{◌≡◌, ◌≢◌, ℕ, zero, suc, ◌+◌, ◌-◌, ◌≤◌, ◌<◌, nat_lt, List, inl, inr, refl}
 use Rattle.std.proofs.Common.{ap, subst, ◌∙◌, arith, true}
 use Rattle.std.proofs.lemmas.Bool.{cases_lt}
 use Rattle.std.proofs.lemmas.Bool.Decides.{nat_tests}
@@ -28,7 +28,7 @@ total-one_more (suc n) j f g less same more = elim (cases_lt j n) [
       omega (
         arith,
         total-ext n g f (λ k below.
-        same k (omega (arith, below)) (λ is. absurd (omega (arith, is, last, below)))),
+            same k (omega (arith, below)) (λ is. absurd (omega (arith, is, last, below)))),
         here,
       )
 ]
@@ -71,7 +71,8 @@ one_counted entries entries' section lot range least most none some others =
     lot_is : lot - 1 + 1 ≡ lot
     lot_is = omega (arith, least)
 
-    entry : (all : List (List ℕ)) → entered_for all (section - 1 + 1) (lot - 1 + 1) ≡ entered_for all section lot
+    entry : (all : List (List ℕ))
+        → entered_for all (section - 1 + 1) (lot - 1 + 1) ≡ entered_for all section lot
     entry all = λ i. entered_for all (section_is i) (lot_is i)
 
     one : (n : ℕ) → 0 < n → one_where (nat_lt 0 n) ≡ 1

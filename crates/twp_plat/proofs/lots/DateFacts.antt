@@ -1,5 +1,6 @@
 -- The text of a date, by its parts.
-use Rattle.std.proofs.Common.{◌≡◌, ◌⊎◌, inl, inr, ℕ, ◌+◌, ◌*◌, ◌≤◌, List, [], ◌∷◌, ◌++◌, Option, Some, None, length, take}
+use Rattle.std.proofs.Common.{◌≡◌, ◌⊎◌, inl, inr, ℕ, ◌+◌, ◌*◌, ◌≤◌, List, [], ◌∷◌, ◌++◌, Option, Some, None}
+use Rattle.std.proofs.Common.{length, take}
 use Rattle.std.proofs.Common.{drop, get_or, ap, refl, sym, subst, ◌∙◌, arith}
 use Rattle.std.proofs.lemmas.List.{length-take, length-drop}
 use Rattle.std.specs.Option.{SomeIff}
@@ -8,7 +9,7 @@ use Rattle.std.specs.Str.Parse.{IsNumeral, digits_value}
 use Rattle.twp_notes.specs.Records.{Fields, field}
 use Rattle.twp_notes.specs.FieldNotes.{FIELDS}
 use Rattle.twp_plat.specs.LotRecords.{IsDateIn}
-use Rattle.twp_plat.specs.LotDates.{AreTwoDigits, IsDateText, IsDay, dash, date_number}
+use Rattle.twp_plat.specs.LotDates.{IsDateText, IsDay, dash, date_number}
 
 two : (xs : List ℕ) → length xs ≡ 2 → xs ≡ get_or xs 0 0 ∷ get_or xs 1 0 ∷ []
 two [] long = absurd (omega arith)
@@ -188,3 +189,10 @@ pub no_date : (fields : Fields) → (length fields ≡ FIELDS) ⊎ (length field
     → (length fields ≡ FIELDS + 1) × ((date : ℕ) → ¬ IsDateText (field fields FIELDS) date)
 no_date fields (inl five) none = absurd (none 0 (inl (five, refl)))
 no_date fields (inr six) none = (six, λ date is. none date (inr (six, is)))
+
+-- no date is found in a text that is none
+pub none_found : (text : List ℕ) (found : Option ℕ) → found ≡ None
+    → (AreNumerals text → ⊥) → Finds found (IsDateText text)
+none_found text found is none =
+    subst (λ (o : Option ℕ). Finds o (IsDateText text)) (sym is)
+    (λ date has. none (numerals_of_date text date has))

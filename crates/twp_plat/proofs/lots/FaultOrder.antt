@@ -1,11 +1,11 @@
 -- The order of the faults that a lot table's records have after the township's.
-use Rattle.std.proofs.Common.{◌≡◌, ◌≢◌, ◌⊎◌, ℕ, ◌+◌, ◌-◌, ◌≤◌, ◌<◌, List, length, inl, inr, refl, subst, sym}
-use Rattle.std.proofs.Common.{◌∙◌, ap, arith}
+use Rattle.std.proofs.Common.{◌≡◌, ◌⊎◌, ℕ, ◌+◌, ◌-◌, ◌≤◌, ◌<◌, List, inl, inr, refl, subst, sym}
+use Rattle.std.proofs.Common.{arith}
 use Rattle.std.proofs.lemmas.Bool.{cases_lt, cases_eq}
 use Rattle.twp_notes.specs.Records.{Fields, record_at, record_numbered}
 use Rattle.twp_plat.specs.LotRecords.{IsRowNumber}
 use Rattle.twp_plat.specs.LandFaults.{HasLandFault}
-use Rattle.twp_plat.specs.LotsFaults.{HasLotFault, HasOnRow, HasRowFault, IsFrom}
+use Rattle.twp_plat.specs.LotsFaults.{HasLotFault, HasRowFault, IsFrom}
 use Rattle.twp_plat.specs.declared.lots.fault.LotsFault.{LotsFault}
 use Rattle.twp_plat.specs.declared.lots.fault.LotsFault.TheVariants as fault
 use Rattle.twp_plat.proofs.lots.RowPlaces.{AreRows, IsPlaced, placed}

@@ -1,18 +1,18 @@
 -- Quarter-quarters that lots and land that is not there do not fill, by the marks of places.
-use Rattle.std.proofs.Common.{◌≡◌, ◌≢◌, ◌⊎◌, ℕ, zero, suc, ◌+◌, ◌-◌, ◌*◌, ◌/◌, ◌%◌, ◌≤◌, ◌<◌, List, Option, Some}
-use Rattle.std.proofs.Common.{None, length, get_or, min, inl, inr, refl, sym, ap, subst, ◌∙◌, arith}
+use Rattle.std.proofs.Common.{◌≡◌, ◌⊎◌, ℕ, ◌+◌, ◌-◌, ◌*◌, ◌/◌, ◌%◌, ◌<◌, List, Option}
+use Rattle.std.proofs.Common.{Some}
+use Rattle.std.proofs.Common.{None, length, get_or, min, inl, inr, sym, ap, subst, ◌∙◌, arith}
 use Rattle.std.proofs.lemmas.Bool.{cases_lt}
-use Rattle.twp_grid.specs.Winding.{IsSection}
 use Rattle.twp_grid.specs.Places.{PLACE_DIGITS, IsPlace, position_along}
-use Rattle.twp_land.specs.LotMaps.{NO_LAND, place_number}
+use Rattle.twp_land.specs.LotMaps.{place_number}
 use Rattle.twp_land.specs.LotMarks.{mark_at, marks_of}
-use Rattle.twp_notes.specs.Records.{Fields, record_at, record_numbered}
+use Rattle.twp_notes.specs.Records.{Fields, record_at}
 use Rattle.twp_plat.specs.LotTables.{entered_for}
 use Rattle.twp_plat.specs.LotRecords.{IsRowNumber}
-use Rattle.twp_plat.specs.LandRecords.{IsForLot, HoldsPlace, IsCount}
+use Rattle.twp_plat.specs.LandRecords.{IsForLot, HoldsPlace}
 use Rattle.twp_plat.specs.LandFaults.{IsInNoPart, IsUnfilled}
-use Rattle.twp_plat.specs.steps.LandEntries.{IsForMark, IsForSection, IsMarkOf, AreLandEntered, lots_in}
-use Rattle.twp_plat.specs.steps.Unfilled.{IsLeast, earlier_of, mark_within, IsLotMark, IsRecordOf}
+use Rattle.twp_plat.specs.steps.LandEntries.{IsForSection, IsMarkOf, AreLandEntered}
+use Rattle.twp_plat.specs.steps.Unfilled.{IsLeast, earlier_of, mark_within}
 use Rattle.twp_plat.specs.steps.Unfilled.{IsUnfilledRecord, AreMarksOfLots}
 use Rattle.twp_plat.specs.declared.lots.land_entries.LotEntries.{LotEntries}
 use Rattle.twp_plat.proofs.lots.LandRowFacts.{lot_or_none, one_lot}
@@ -21,7 +21,8 @@ use Rattle.twp_plat.proofs.lots.RowMarks.{held_mark, in_no_part, lot_at_row, no_
 use Rattle.twp_plat.proofs.lots.RowPlaces.{AreRows, IsPlaced, is_row, placed}
 
 -- the same property
-pub least-same : (found : Option ℕ) (Has Is : ℕ → Type 0) → ((n : ℕ) → Has n → Is n) → ((n : ℕ) → Is n → Has n)
+pub least-same : (found : Option ℕ) (Has Is : ℕ → Type 0) → ((n : ℕ) → Has n → Is n)
+    → ((n : ℕ) → Is n → Has n)
     → IsLeast found Has → IsLeast found Is
 least-same None Has Is to from none = λ number is. none number (from number is)
 least-same (Some least) Has Is to from (has, first) =
@@ -198,7 +199,8 @@ unfilled_found records rows marks entries number are entered is unfilled = (
       (
         within unfilled.column' unfilled.row',
         within_most unfilled.column' unfilled.row',
-        subst (λ p. get_or (marks_of marks unfilled.section) (p * 64 + within unfilled.column' unfilled.row') 0 ≡ 0)
+        subst (λ p.
+            get_or (marks_of marks unfilled.section) (p * 64 + within unfilled.column' unfilled.row') 0 ≡ 0)
             same_position free,
       ),
       (
@@ -215,7 +217,8 @@ unfilled_found records rows marks entries number are entered is unfilled = (
 
     holds : HoldsPlace (record_at rows by.place) unfilled.section unfilled.column unfilled.row
     holds =
-        subst (λ (f : Fields). HoldsPlace f unfilled.section unfilled.column unfilled.row) by.is unfilled.holds
+        subst (λ (f : Fields). HoldsPlace f unfilled.section unfilled.column unfilled.row) by.is
+        unfilled.holds
 
     is_for : IsForLot (record_at rows by.place) unfilled.section unfilled.lot
     is_for = subst (λ (f : Fields). IsForLot f unfilled.section unfilled.lot) by.is unfilled.is_for
@@ -244,7 +247,8 @@ unfilled_found records rows marks entries number are entered is unfilled = (
     mark_is : mark ≡ unfilled.lot
     mark_is =
         elim
-        (held_mark rows (length rows) marks entries by.place unfilled.section unfilled.column unfilled.row entered
+        (held_mark rows (length rows) marks entries by.place unfilled.section unfilled.column unfilled.row
+        entered
         by.within holds) [
           | inl named ↦
               (one_lot (record_at rows by.place) unfilled.section mark unfilled.section unfilled.lot named
@@ -305,7 +309,8 @@ marks_of_lots rows marks entries entered section range none number less (some, f
           fewer (IsForSection rows section) marked.index (length rows) _
           (let within = marked.within in omega (arith, within)) counted in
           let some_lots =
-          fewer_before (IsForSection rows section) marked.index (length rows) _ before.0 marked.within (_, lot)
+          fewer_before (IsForSection rows section) marked.index (length rows) _ before.0 marked.within
+          (_, lot)
           counted before.2 in
           absurd (omega (arith, some_lots, none))
     ]

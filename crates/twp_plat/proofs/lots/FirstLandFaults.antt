@@ -1,21 +1,21 @@
 -- The first fault of a lot table with land whose records are checked one after another.
-use Rattle.std.proofs.Common.{◌≡◌, ◌≢◌, ◌⊎◌, ℕ, ◌+◌, ◌≤◌, ◌<◌, List, length, inl, inr}
-use Rattle.std.proofs.Common.{ap, subst, sym, ◌∙◌, refl, arith}
+use Rattle.std.proofs.Common.{◌≢◌, ℕ, ◌+◌, ◌≤◌, ◌<◌, List, length, inl, inr}
+use Rattle.std.proofs.Common.{subst, sym, arith}
 use Rattle.twp_grammar.specs.declared.item.Step.{Step}
-use Rattle.twp_notes.specs.Records.{Fields, field, record_at, record_numbered}
+use Rattle.twp_notes.specs.Records.{Fields, field, record_at}
 use Rattle.twp_plat.specs.LotRecords.{IsRowNumber}
-use Rattle.twp_plat.specs.LandTexts.{AreAliquotParts, parts_at}
-use Rattle.twp_plat.specs.LandRecords.{LAND_FIELDS, IsForLot, HasNoLot, HoldsPlace, IsCount}
+use Rattle.twp_plat.specs.LandTexts.{parts_at}
+use Rattle.twp_plat.specs.LandRecords.{LAND_FIELDS, IsForLot, HoldsPlace, IsCount}
 use Rattle.twp_plat.specs.LandFaults.{IsForNothing, LacksAcres, IsSameLotAgain, HasNoParts, HasTooFinePart}
-use Rattle.twp_plat.specs.LandFaults.{HasPlaceTwice, HasPlaceOfEarlier, SharesPlace, IsOneTooMany}
+use Rattle.twp_plat.specs.LandFaults.{HasPlaceTwice, SharesPlace, IsOneTooMany}
 use Rattle.twp_plat.specs.LandFaults.{HasLandFault, IsRowOfLot, IsRowOfSection}
 use Rattle.twp_plat.specs.LotsFaults.{IsFrom}
-use Rattle.twp_plat.specs.steps.LandEntries.{IsForLand, IsForSection, IsForSome, IsLandRow, AreLandEntered}
+use Rattle.twp_plat.specs.steps.LandEntries.{IsForSection, IsForSome, IsLandRow, AreLandEntered}
 use Rattle.twp_plat.specs.declared.lots.fault.LotsFault.{LotsFault}
 use Rattle.twp_plat.specs.declared.lots.fault.LotsFault.TheVariants as fault
 use Rattle.twp_plat.specs.declared.lots.land_entries.LotEntries.{LotEntries}
 use Rattle.twp_plat.proofs.lots.LandReading.{one_parts}
-use Rattle.twp_plat.proofs.lots.FaultOrder.{IsAfter, from_here, on_record}
+use Rattle.twp_plat.proofs.lots.FaultOrder.{from_here, on_record}
 use Rattle.twp_plat.proofs.lots.RowCounts.{one_count, fewer, fewer_before, count_of_rows}
 use Rattle.twp_plat.proofs.lots.RowPlaces.{AreRows, IsPlaced, placed}
 
@@ -105,7 +105,8 @@ not_shared records rows count marks entries at are entered below is (inl twice) 
     (subst HasPlaceTwice by.is twice)
 not_shared records rows count marks entries at are entered below is (inr held) =
     let by : IsPlaced records rows at = placed records rows at are is in
-    let earlier : IsPlaced records rows held.earlier = placed records rows held.earlier are held.earlier_is_row in
+    let earlier : IsPlaced records rows held.earlier =
+    placed records rows held.earlier are held.earlier_is_row in
     entered.apart earlier.place by.place held.section held.column held.row
     (omega (arith, earlier.number_is, by.number_is, held.is_earlier)) (omega (arith, by.number_is, below))
     (subst (λ (f : Fields). HoldsPlace f held.section held.column held.row) earlier.is held.earlier_holds)
@@ -188,7 +189,8 @@ none_before records rows count number marks entries are entered good most (fault
     (λ less same. good.again less (subst (IsSameLotAgain records) same again))
 none_before records rows count number marks entries are entered good most (fault.Land at) (is, bad) =
     on_record HasNoParts records rows count number 96 at are
-    (λ place below none. none (entered.each place below).parts (entered.each place below).are) good.parts is bad
+    (λ place below none. none (entered.each place below).parts (entered.each place below).are) good.parts is
+    bad
 none_before records rows count number marks entries are entered good most (fault.TooFine at) (is, bad) =
     on_record HasTooFinePart records rows count number 97 at are
     (λ place below. not_too_fine (record_at rows place) (entered.each place below)) good.fine is bad

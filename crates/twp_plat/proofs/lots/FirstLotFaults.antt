@@ -1,5 +1,5 @@
 -- The first fault of a lot table of the standard lots whose records are checked one after another.
-use Rattle.std.proofs.Common.{◌≡◌, ◌≢◌, ◌⊎◌, ℕ, ◌+◌, ◌≤◌, ◌<◌, List, length, inl, inr, zero, suc}
+use Rattle.std.proofs.Common.{◌≡◌, ◌≢◌, ℕ, ◌+◌, ◌≤◌, ◌<◌, List, length, inl, inr, zero, suc}
 use Rattle.std.proofs.Common.{IfSome, refl, subst, sym, ◌∙◌, arith}
 use Rattle.std.proofs.Common.{ap, true, false, nat_le}
 use Rattle.std.proofs.lemmas.Bool.Decides.{nat_tests}
@@ -8,12 +8,12 @@ use Rattle.twp_grid.specs.Winding.{IsSection}
 use Rattle.twp_notes.specs.Records.{Fields, records_of, record_at, record_numbered}
 use Rattle.twp_grid.specs.Lots.{number_of_lots}
 use Rattle.twp_grid.specs.Lands.{lotting}
-use Rattle.twp_plat.specs.LotTables.{FIGURE_MOST, IsLotNumber, figure_of, lot_index}
+use Rattle.twp_plat.specs.LotTables.{FIGURE_MOST, IsLotNumber, lot_index}
 use Rattle.twp_plat.specs.LotTables.{standard_figure}
 use Rattle.twp_plat.specs.declared.lots.returned.ReturnedLots.{ReturnedLots}
 use Rattle.twp_plat.specs.LotRecords.{LOT_FIELDS, lots_heading, HasNoAcres, NamesLot, IsRowNumber, IsLotNamed}
 use Rattle.twp_plat.specs.LotTexts.{AreLots}
-use Rattle.twp_plat.specs.LotsFaults.{NamesNoLot, HasLotFault, HasOnRow, IsLotRepeated, IsFrom}
+use Rattle.twp_plat.specs.LotsFaults.{NamesNoLot, HasLotFault, IsLotRepeated, IsFrom}
 use Rattle.twp_plat.specs.LotsFaults.{IsFirstFault, refusal_of}
 use Rattle.twp_plat.specs.steps.LotEntries.{entry_of, IsEntered, IsLotNamedBy, AreEntered}
 use Rattle.twp_plat.specs.steps.LotEntries.{IsLotRefusedNext, IsLotRefusedAfter}

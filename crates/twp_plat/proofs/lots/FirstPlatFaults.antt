@@ -1,12 +1,10 @@
 -- The first fault of a lot table with a fault in its first two records, and the faults of one without.
-use Rattle.std.proofs.Common.{◌≡◌, ◌≢◌, ◌⊎◌, ℕ, ◌+◌, ◌≤◌, ◌<◌, List, [], ◌∷◌, length, take, inl, inr, refl}
+use Rattle.std.proofs.Common.{◌≡◌, ◌≢◌, ◌⊎◌, ℕ, ◌+◌, ◌≤◌, ◌<◌, List, [], ◌∷◌, length, inl, inr, refl}
 use Rattle.std.proofs.Common.{ap, subst, sym, ◌∙◌, arith, Err, IfSome}
-use Rattle.twp_grid.specs.Townships.{Designation}
-use Rattle.twp_notes.specs.Records.{Fields, field, records_of, record_numbered}
-use Rattle.twp_notes.specs.FieldNotes.{FIELDS, IsTownshipRecord}
+use Rattle.twp_notes.specs.Records.{Fields, records_of, record_numbered}
+use Rattle.twp_notes.specs.FieldNotes.{FIELDS}
 use Rattle.twp_notes.specs.declared.reading.ReadFault.{ReadFault}
 use Rattle.twp_notes.specs.declared.reading.ReadFault.TheVariants as reading
-use Rattle.twp_plat.specs.LotDates.{IsDateText}
 use Rattle.twp_plat.specs.LotRecords.{LOTS_TEXT_MOST, lots_heading}
 use Rattle.twp_plat.specs.LandRecords.{land_heading}
 use Rattle.twp_plat.specs.LandFaults.{HasLandFault}

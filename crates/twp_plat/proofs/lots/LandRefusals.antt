@@ -1,27 +1,27 @@
 -- The record with land that is not entered has the first fault.
-use Rattle.std.proofs.Common.{◌≡◌, ◌≢◌, ◌⊎◌, ℕ, ◌+◌, ◌≤◌, ◌<◌, List, length, inl, inr}
-use Rattle.std.proofs.Common.{ap, subst, sym, ◌∙◌, refl, arith}
+use Rattle.std.proofs.Common.{◌≡◌, ◌≢◌, ℕ, ◌+◌, ◌≤◌, ◌<◌, List, length, inl, inr}
+use Rattle.std.proofs.Common.{ap, subst, sym, arith}
 use Rattle.twp_grammar.specs.declared.item.Step.{Step}
 use Rattle.twp_grid.specs.Winding.{IsSection}
 use Rattle.twp_land.specs.LotMarks.{mark_at, marks_of}
-use Rattle.twp_notes.specs.Records.{Fields, field, record_at, record_numbered}
-use Rattle.twp_plat.specs.LotRecords.{HasNoAcres, IsRowNumber}
+use Rattle.twp_notes.specs.Records.{Fields, field, record_at}
 use Rattle.twp_plat.specs.LandTexts.{AreAliquotParts, parts_at}
 use Rattle.twp_plat.specs.LandRecords.{LAND_FIELDS, IsForLot, HoldsPlace}
 use Rattle.twp_plat.specs.LandFaults.{IsForNothing, LacksAcres, IsSameLotAgain, HasNoParts, HasTooFinePart}
 use Rattle.twp_plat.specs.LandFaults.{HasPlaceTwice, HasPlaceOfEarlier, SharesPlace, IsOneTooMany}
 use Rattle.twp_plat.specs.LandFaults.{HasLandFault}
-use Rattle.twp_plat.specs.LotsFaults.{HasOnRow, IsFrom}
-use Rattle.twp_plat.specs.steps.LandPaints.{AreFine, ArePainted, IsLandPainted, IsPlaceShared, IsTooFine}
-use Rattle.twp_plat.specs.steps.LandEntries.{AreFull, IsForLand, IsForMark, IsMarkedBy, IsMarkOf, lots_in}
+use Rattle.twp_plat.specs.LotsFaults.{IsFrom}
+use Rattle.twp_plat.specs.steps.LandPaints.{AreFine, ArePainted, IsPlaceShared}
+use Rattle.twp_plat.specs.steps.LandEntries.{AreFull, IsForLand, IsForMark, IsMarkOf, lots_in}
 use Rattle.twp_plat.specs.steps.LandEntries.{AreLandEntered, IsLandRefusedNext}
 use Rattle.twp_plat.specs.declared.lots.fault.LotsFault.{LotsFault}
 use Rattle.twp_plat.specs.declared.lots.fault.LotsFault.TheVariants as fault
 use Rattle.twp_plat.specs.declared.lots.land_entries.LotEntries.{LotEntries}
 use Rattle.twp_plat.proofs.lots.LandReading.{one_parts}
 use Rattle.twp_plat.proofs.lots.LandRowFacts.{had_mark, held_in, land_mark, lot_or_none, mark_range}
-use Rattle.twp_plat.proofs.lots.LandRowFacts.{mark_section, one_lot}
-use Rattle.twp_plat.proofs.lots.FirstLandFaults.{IsGoodBefore, none_before, count_in_section, count_in_all}
+use Rattle.twp_plat.proofs.lots.LandRowFacts.{mark_section}
+use Rattle.twp_plat.proofs.lots.FirstLandFaults.{none_before, count_in_section, count_in_all}
+use Rattle.twp_plat.proofs.lots.GoodRows.{good_for_land, good_with_parts, good_with_fine, good_with_places}
 use Rattle.twp_plat.proofs.lots.RowPlaces.{AreRows, IsPlaced, is_row, on_row, placed}
 
 -- the first fault of the records after the township's
@@ -41,82 +41,6 @@ same_lot_again records rows count index section lot are within below before here
   earlier_is_row = is_row records rows index are (omega (arith, below, within));
   earlier_is_for = subst (λ (f : Fields). IsForLot f section lot) (sym (are.each index)) before;
   is_for = subst (λ (f : Fields). IsForLot f section lot) (sym (are.each count)) here;
-}
-
--- a record that is for land, and not for an earlier lot, has no fault with a number less than 96
-good_for_land : (records rows : List Fields) (count section mark : ℕ) (marks : List (List ℕ))
-    (entries : LotEntries)
-    → AreRows records rows → AreLandEntered rows count marks entries
-    → length (record_at rows count) ≡ LAND_FIELDS → IsForLand (record_at rows count) section mark entries
-    → IsGoodBefore records (count + 3) (record_at rows count) 96
-good_for_land records rows count section mark marks entries are entered columns for_land = record {
-  columns = λ less not. not columns;
-  names = λ less nothing. elim for_land [
-    | inl (is, free, text) ↦ nothing.0 section mark is
-    | inr (none, is) ↦ nothing.1 section none
-  ];
-  acres = λ less lacks. elim for_land [
-    | inl (is, free, text) ↦ lacks.1 text.0 text.1
-    | inr (none, is) ↦ lacks.0 none.0
-  ];
-  again = λ less. not_again for_land;
-  parts = λ less. absurd (omega (arith, less));
-  fine = λ less. absurd (omega (arith, less));
-  shared = λ less. absurd (omega (arith, less));
-}
-  where
-    not_again : IsForLand (record_at rows count) section mark entries → ¬ IsSameLotAgain records (count + 3)
-    not_again (inl (is, free, text)) again =
-        let earlier : IsPlaced records rows again.earlier =
-        placed records rows again.earlier are again.earlier_is_row in
-        let here = subst (λ (f : Fields). IsForLot f again.section again.lot) (are.each count) again.is_for in
-        let before =
-        subst (λ (f : Fields). IsForLot f again.section again.lot) earlier.is again.earlier_is_for in
-        let same = one_lot (record_at rows count) again.section again.lot section mark here is in
-        let some =
-        (entered.returned earlier.place again.section again.lot
-        (omega (arith, earlier.number_is, again.is_earlier)) before).some in
-        let none = rw (sym same.0, sym same.1) at free in
-        absurd (omega (arith, some, none))
-    not_again (inr (none, is)) again =
-        let here = subst (λ (f : Fields). IsForLot f again.section again.lot) (are.each count) again.is_for in
-        lot_or_none (record_at rows count) again.section again.lot here none.0
-
--- one fault less
-good_with_parts : (records : List Fields) (at : ℕ) (fields : Fields) → IsGoodBefore records at fields 96
-    → ¬ HasNoParts fields → IsGoodBefore records at fields 97
-good_with_parts records at fields good some = record {
-  columns = λ _. good.columns (omega arith);
-  names = λ _. good.names (omega arith);
-  acres = λ _. good.acres (omega arith);
-  again = λ _. good.again (omega arith);
-  parts = λ _. some;
-  fine = λ less. absurd (omega (arith, less));
-  shared = λ less. absurd (omega (arith, less));
-}
-
-good_with_fine : (records : List Fields) (at : ℕ) (fields : Fields) → IsGoodBefore records at fields 97
-    → ¬ HasTooFinePart fields → IsGoodBefore records at fields 98
-good_with_fine records at fields good fine = record {
-  columns = λ _. good.columns (omega arith);
-  names = λ _. good.names (omega arith);
-  acres = λ _. good.acres (omega arith);
-  again = λ _. good.again (omega arith);
-  parts = λ _. good.parts (omega arith);
-  fine = λ _. fine;
-  shared = λ less. absurd (omega (arith, less));
-}
-
-good_with_places : (records : List Fields) (at : ℕ) (fields : Fields) → IsGoodBefore records at fields 98
-    → ¬ SharesPlace records at → IsGoodBefore records at fields 99
-good_with_places records at fields good apart = record {
-  columns = λ _. good.columns (omega arith);
-  names = λ _. good.names (omega arith);
-  acres = λ _. good.acres (omega arith);
-  again = λ _. good.again (omega arith);
-  parts = λ _. good.parts (omega arith);
-  fine = λ _. good.fine (omega arith);
-  shared = λ _. apart;
 }
 
 -- it has not the fields of its kind
@@ -255,7 +179,8 @@ shares records rows count section mark marks entries parts are within entered fo
         place = is.place;
         twice = twice;
       }))
-      | inr (some, marked) ↦ inr (earlier some marked (entered.marked section is.column is.row range.0 is.place))
+      | inr (some, marked) ↦
+          inr (earlier some marked (entered.marked section is.column is.row range.0 is.place))
     ]
   where
     is_for : IsForMark (record_at rows count) section mark
@@ -270,7 +195,8 @@ shares records rows count section mark marks entries parts are within entered fo
     earlier some marked (inl by) = record {
       earlier = by.index + 3;
       is_earlier = let below = by.within in omega (arith, below);
-      earlier_is_row = is_row records rows by.index are (let below = by.within in omega (arith, below, within));
+      earlier_is_row =
+          is_row records rows by.index are (let below = by.within in omega (arith, below, within));
       section = section;
       column = is.column;
       row = is.row;
@@ -336,7 +262,8 @@ not_shared records rows count section mark marks now entries parts are entered i
         let holds =
         subst (λ (f : Fields). HoldsPlace f held.section held.column held.row) (are.each count) held.holds in
         let before =
-        subst (λ (f : Fields). HoldsPlace f held.section held.column held.row) earlier.is held.earlier_holds in
+        subst (λ (f : Fields). HoldsPlace f held.section held.column held.row) earlier.is
+        held.earlier_holds in
         let in_part =
         held_in next section mark held.section held.column held.row parts is_for aliquot holds in
         let some =
@@ -361,8 +288,11 @@ one_too_many records rows count section lot marks entries are entered is (inl fu
   is_for = subst (λ (f : Fields). IsForLot f section lot) (sym (are.each count)) is;
   count = lots_in entries section;
   full =
-      inl (count_in_section records rows section count (lots_in entries section) are
-      (entered.counts section is.section_is.1.0), full);
+      inl (
+        count_in_section records rows section count (lots_in entries section) are
+            (entered.counts section is.section_is.1.0),
+        full,
+      );
 }
 one_too_many records rows count section lot marks entries are entered is (inr full) = record {
   section = section;

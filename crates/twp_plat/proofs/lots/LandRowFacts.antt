@@ -1,29 +1,18 @@
 -- What one record of a lot table with land is for, and the places that it holds.
-use Rattle.std.proofs.Common.{◌≡◌, ◌≢◌, ◌⊎◌, ℕ, zero, suc, ◌+◌, ◌≤◌, ◌<◌, nat_lt, List, [], length, inl, inr}
-use Rattle.std.proofs.Common.{refl, sym}
-use Rattle.std.proofs.Common.{ap, subst, ◌∙◌, arith, if◌then◌else◌}
-use Rattle.std.proofs.lemmas.Bool.{cases_lt, cases_eq}
+use Rattle.std.proofs.Common.{◌≡◌, ℕ, ◌≤◌, ◌<◌, List, length, inl, inr}
+use Rattle.std.proofs.Common.{sym}
+use Rattle.std.proofs.Common.{ap, subst, ◌∙◌, arith}
 use Rattle.twp_grid.specs.Winding.{IsSection}
-use Rattle.twp_grid.specs.Places.{PLACE_DIGITS, IsPlace}
 use Rattle.twp_grammar.specs.declared.item.Step.{Step}
-use Rattle.twp_land.specs.LotMarks.{mark_at, marks_of}
 use Rattle.twp_measure.specs.LengthTexts.{IsShortNumber}
 use Rattle.twp_notes.specs.Records.{Fields, field, record_at}
-use Rattle.twp_plat.specs.LotRecords.{IsAcresText}
 use Rattle.twp_plat.specs.LandTexts.{AreAliquotParts, parts_at}
-use Rattle.twp_plat.specs.LandRecords.{IsForLot, HasNoLot, IsForNoLand, HoldsPlace, IsCount}
-use Rattle.twp_plat.specs.steps.LandPaints.{ArePainted, IsLandPainted}
-use Rattle.twp_plat.specs.LotTables.{entered_for}
-use Rattle.twp_plat.specs.steps.LandEntries.{OthersStay, lots_in, AreNoEntries, AddsLot}
+use Rattle.twp_plat.specs.LandRecords.{IsForLot, HasNoLot, HoldsPlace}
 use Rattle.twp_plat.specs.steps.LandEntries.{IsForLand, IsForMark, IsAdded}
-use Rattle.twp_plat.specs.steps.LandEntries.{EntersLand, IsLandRow, IsForSection, IsForSome, IsMarkedBy}
 use Rattle.twp_plat.specs.steps.LandEntries.{IsMarkOf}
-use Rattle.twp_plat.specs.steps.LandEntries.{AreLandEntered, AreClear, IsLandNotEntered, IsLandRefusedAfter}
-use Rattle.twp_plat.specs.declared.lots.fault.LotsFault.{LotsFault}
 use Rattle.twp_plat.specs.declared.lots.fault.LotsFault.TheVariants as fault
 use Rattle.twp_plat.specs.declared.lots.land_entries.LotEntries.{LotEntries}
 use Rattle.twp_plat.proofs.lots.LandReading.{one_parts}
-use Rattle.twp_plat.proofs.lots.PaintedParts.{if_some, if_none}
 
 -- a short number is only one number
 pub one_number : (text : List ℕ) (n m : ℕ) → IsShortNumber text n → IsShortNumber text m → n ≡ m

@@ -1,5 +1,6 @@
 -- The marks of places by all rows of a lot table with land.
-use Rattle.std.proofs.Common.{◌≡◌, ◌≢◌, ◌⊎◌, ◌==◌, ◌&&◌, ℕ, zero, suc, ◌+◌, ◌-◌, ◌*◌, ◌/◌, ◌%◌, ◌≤◌, ◌<◌, Bool}
+use Rattle.std.proofs.Common.{◌≡◌, ◌==◌, ◌&&◌, ℕ, zero, suc, ◌+◌, ◌-◌, ◌*◌, ◌/◌, ◌%◌, ◌<◌}
+use Rattle.std.proofs.Common.{Bool}
 use Rattle.std.proofs.Common.{not, List, [], length, get_or, inl, inr, refl, sym, ap, subst, ◌∙◌, arith}
 use Rattle.std.proofs.lemmas.Bool.{cases_lt}
 use Rattle.twp_grid.specs.Winding.{IsSection, SECTION_COUNT}
@@ -7,12 +8,12 @@ use Rattle.twp_grid.specs.Lots.{POSITIONS}
 use Rattle.twp_grid.specs.Places.{PLACE_DIGITS, IsPlace}
 use Rattle.twp_grid.specs.Spans.{one_where}
 use Rattle.twp_grid.proofs.TotalFacts.{total-ext}
-use Rattle.twp_land.specs.LotMaps.{NO_LAND, place_number}
+use Rattle.twp_land.specs.LotMaps.{place_number}
 use Rattle.twp_land.specs.LotMarks.{all_below, are_alike, divided_count, is_divided, mark_at, marks_of}
-use Rattle.twp_notes.specs.Records.{Fields, record_at, record_numbered}
+use Rattle.twp_notes.specs.Records.{Fields, record_at}
 use Rattle.twp_plat.specs.LandRecords.{IsForLot, IsForNoLand, HoldsPlace, IsLotAt, IsNoLandAt}
 use Rattle.twp_plat.specs.LandFaults.{IsInNoPart, IsMark, AreMarks}
-use Rattle.twp_plat.specs.steps.LandEntries.{IsForMark, IsMarkedBy, IsMarkOf, AreLandEntered}
+use Rattle.twp_plat.specs.steps.LandEntries.{IsForMark, IsMarkOf, AreLandEntered}
 use Rattle.twp_plat.specs.declared.lots.land_entries.LotEntries.{LotEntries}
 use Rattle.twp_plat.proofs.lots.LandRowFacts.{lot_or_none, one_lot}
 use Rattle.twp_plat.proofs.lots.RowPlaces.{AreRows, IsPlaced, is_row, placed}
@@ -86,7 +87,8 @@ marks_are records rows marks entries are entered section c r range place =
       | inl lot ↦
           inl (lot_at_row records rows marked.index section _ c r are marked.within lot marked.holds)
       | inr (none, is) ↦
-          inr (inl (no_land_at_row records rows marked.index section c r are marked.within none marked.holds, is))
+          inr
+          (inl (no_land_at_row records rows marked.index section c r are marked.within none marked.holds, is))
     ]
     by (inr (none, free)) = inr (inr (in_no_part records rows section c r are free, none))
 

@@ -74,7 +74,8 @@ placed records rows number are is =
       number_is = e;
       within = omega arith;
       is =
-          subst (λ n. record_numbered records n ≡ record_at rows (number - 3)) (sym e) (are.each (number - 3));
+          subst (λ n. record_numbered records n ≡ record_at rows (number - 3)) (sym e)
+          (are.each (number - 3));
     }
 
 -- the number of a row

@@ -9,7 +9,8 @@ use Rattle.twp_plat.specs.declared.lots.heading.Heading.{Heading}
 use Rattle.twp_plat.specs.declared.lots.heading.Heading.TheVariants as heading
 use Rattle.twp_plat.specs.declared.lots.returned.ReturnedLots.{ReturnedLots}
 use Rattle.twp_plat.proofs.lots.FirstLotFaults.{lots_of_entries, lots_refused}
-use Rattle.twp_plat.proofs.lots.LandTables.{land_refused, land_table}
+use Rattle.twp_plat.proofs.lots.AllRowFaults.{land_refused}
+use Rattle.twp_plat.proofs.lots.LandTables.{land_table}
 use Rattle.twp_plat.proofs.lots.RowPlaces.{AreAfter}
 
 pub table_of_lots : (bytes : List ℕ) (kind : Heading) (rows : List Fields) (lots : ReturnedLots)

@@ -1,6 +1,7 @@
 //! The date of a plat's approval.
-ghost use Rattle.std.specs.Prelude.{◌≡◌, ◌<◌, ◌↔◌, IsTrue};
+ghost use Rattle.std.specs.Prelude.{◌≡◌, ◌<◌, IfSome, length};
 ghost use Rattle.std.specs.Option.{SomeIff};
+ghost use Rattle.std.specs.Str.Parse.{IsNumeral, digits_value};
 ghost use Rattle.twp_grid.specs.Finding.{Finds};
 ghost use Rattle.twp_plat.specs.LotDates.{IsDateText, IsDay, date_number, days_of, is_leap_year};
 
@@ -16,18 +17,23 @@ pub(crate) fn date_of(text: &[u8]) -> Option<u32>
     if text.len() != 10 || text[4] != DASH || text[7] != DASH {
         return None;
     }
-    let century = &text[..2];
-    let years = &text[2..4];
-    let month = &text[5..7];
-    let day = &text[8..10];
-    if !is_numeral(century) || !is_numeral(years) || !is_numeral(month) || !is_numeral(day) {
+    let century = two_digits(&text[..2])?;
+    let years = two_digits(&text[2..4])?;
+    let month = two_digits(&text[5..7])?;
+    let day = two_digits(&text[8..10])?;
+    number_of(100 * century + years, month, day)
+}
+
+/// The number that two digits spell.
+fn two_digits(text: &[u8]) -> Option<u32>
+    requires { length text.now ≡ 2 }
+    ensures value { SomeIff result (IsNumeral 10 text.now) (digits_value 10 text.now) }
+    ensures most { IfSome result (λ value. value < 100) }
+{
+    if !is_numeral(text) {
         return None;
     }
-    number_of(
-        100 * numeral_value(century) + numeral_value(years),
-        numeral_value(month),
-        numeral_value(day),
-    )
+    Some(numeral_value(text))
 }
 
 /// The number of a date, if there is such a day.

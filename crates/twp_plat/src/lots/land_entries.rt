@@ -81,11 +81,7 @@ impl LotEntries {
 }
 
 /// A lot's entry.
-fn entry(
-    entries: &[[u32; LOT_MOST]; SECTIONS as usize],
-    section: Section,
-    lot: u8,
-) -> u32
+fn entry(entries: &[[u32; LOT_MOST]; SECTIONS as usize], section: Section, lot: u8) -> u32
     requires least { 1 ≤ lot }
     requires most { lot ≤ LOT_NUMBER_MOST }
     ensures { result ≡ entered_for entries.now section lot }

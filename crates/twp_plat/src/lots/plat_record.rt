@@ -1,5 +1,5 @@
 //! The record of a plat: its township, and the date of its approval.
-ghost use Rattle.std.specs.Prelude.{◌≡◌, ◌⊎◌, ◌+◌, length, IfOk, IfErr};
+ghost use Rattle.std.specs.Prelude.{◌≡◌, ◌⊎◌, ◌+◌, ◌↔◌, IsTrue, length, IfOk, IfErr};
 ghost use Rattle.csv.specs.Records.{fields_of};
 ghost use Rattle.twp_grid.specs.Finding.{Finds};
 ghost use Rattle.twp_notes.specs.FieldNotes.{FIELDS};
@@ -27,7 +27,7 @@ pub(crate) fn plat_of(row: &mut ByteRecord) -> Result<PlatRecord, LotsFault>
     ensures plat { IfOk result (λ plat. IsPlatRecord (fields_of row.old) plat.township plat.date) }
     ensures fault { IfErr result (IsPlatFault (fields_of row.old)) }
 {
-    if row.len() != FIELDS && row.len() != DATED_FIELDS {
+    if !has_plat_fields(row) {
         return Err(LotsFault::Columns(2));
     }
     let date = date_in(row);
@@ -39,6 +39,14 @@ pub(crate) fn plat_of(row: &mut ByteRecord) -> Result<PlatRecord, LotsFault>
         return Err(LotsFault::Date);
     };
     Ok(PlatRecord { township, date })
+}
+
+/// Whether a record has the number of fields of a plat's.
+fn has_plat_fields(row: &ByteRecord) -> bool
+    ensures { IsTrue result
+        ↔ ((length (fields_of row.now) ≡ FIELDS) ⊎ (length (fields_of row.now) ≡ FIELDS + 1)) }
+{
+    row.len() == FIELDS || row.len() == DATED_FIELDS
 }
 
 /// The date in the record of a plat: 0 if the record has none, and `None` if it is no date.

@@ -1,36 +1,38 @@
 -- The date that the parts of the text give, if there is such a day.
-use Rattle.std.proofs.Common.{◌≡◌}
-use Rattle.twp_plat.proofs.lots.DateFacts.{date_found, numerals_of_date}
+use Rattle.std.proofs.Common.{◌≡◌, rules}
+use Rattle.twp_plat.proofs.lots.DateFacts.{AreNumerals, date_found, none_found}
 use Rattle.twp_plat.proofs.lots.date.date_of.Goals as goal
-use Rattle.twp_plat.proofs.lots.date.date_of.Goals.{then-not-is_numeral-via-then-not-is_numeral}
-use Rattle.twp_plat.proofs.lots.date.date_of.Goals.{then-not-is_numeral-via-else-not-is_numeral+then-not-is_numeral-2}
-use Rattle.twp_plat.proofs.lots.date.date_of.Goals.{then-not-is_numeral-via-else-not-is_numeral+else-not-is_numeral-2+then-not-is_numeral-3}
-use Rattle.twp_plat.proofs.lots.date.date_of.Goals.{then-not-is_numeral-via-else-not-is_numeral+else-not-is_numeral-2+else-not-is_numeral-3+then-not-is_numeral-4}
 
-pub returns-then-not-is_numeral : goal.returns-then-not-is_numeral
-returns-then-not-is_numeral c = λ date is.
-    let are = numerals_of_date c.args.text.now date is in
-    elim c.then-not-is_numeral.branch [
-      | then-not-is_numeral-via-then-not-is_numeral w ↦
-          absurd (cc (c.is_numeral.ensures.1 are.century, w.if-not-is_numeral.true))
-      | then-not-is_numeral-via-else-not-is_numeral+then-not-is_numeral-2 w ↦
-          absurd (cc (w.is_numeral-else-not-is_numeral.ensures.1 are.years, w.if-not-is_numeral-2.true))
-      | then-not-is_numeral-via-else-not-is_numeral+else-not-is_numeral-2+then-not-is_numeral-3 w ↦
-          absurd (cc (w.is_numeral-else-not-is_numeral-2.ensures.1 are.month, w.if-not-is_numeral-3.true))
-      | then-not-is_numeral-via-else-not-is_numeral+else-not-is_numeral-2+else-not-is_numeral-3+then-not-is_numeral-4 w ↦
-          absurd (cc (w.is_numeral-else-not-is_numeral-3.ensures.1 are.day, w.if-not-is_numeral-4.true))
-    ]
+pub returns-in_err-century : goal.returns-in_err-century
+returns-in_err-century c =
+    none_found c.args.text.now c.from_residual.result (search rules)
+    (λ (are : AreNumerals c.args.text.now). c.in_err-century.ensures.value are.century)
+
+pub returns-in_err-years : goal.returns-in_err-years
+returns-in_err-years c =
+    none_found c.args.text.now c.from_residual-in_err-years.result (search rules)
+    (λ (are : AreNumerals c.args.text.now). c.in_err-years.ensures.value are.years)
+
+pub returns-in_err-month : goal.returns-in_err-month
+returns-in_err-month c =
+    none_found c.args.text.now c.from_residual-in_err-month.result (search rules)
+    (λ (are : AreNumerals c.args.text.now). c.in_err-month.ensures.value are.month)
+
+pub returns-in_err-day : goal.returns-in_err-day
+returns-in_err-day c =
+    none_found c.args.text.now c.from_residual-in_err-day.result (search rules)
+    (λ (are : AreNumerals c.args.text.now). c.in_err-day.ensures.value are.day)
 
 pub returns : goal.returns
 returns c =
-    date_found c.args.text.now c.number_of.result c.numeral_value.result c.numeral_value-2.result
-    c.numeral_value-3.result c.numeral_value-4.result c.if-text-ne10.false c.if-text-ne-DASH.false
+    date_found c.args.text.now c.number_of.result c.in_ok-century.century c.in_ok-years.years
+    c.in_ok-month.month c.in_ok-day.day c.if-text-ne10.false c.if-text-ne-DASH.false
     c.if-text-ne-DASH-2.false
     (record {
-      century = c.is_numeral.ensures.0 c.if-not-is_numeral.false;
-      years = c.is_numeral-else-not-is_numeral.ensures.0 c.if-not-is_numeral-2.false;
-      month = c.is_numeral-else-not-is_numeral-2.ensures.0 c.if-not-is_numeral-3.false;
-      day = c.is_numeral-else-not-is_numeral-3.ensures.0 c.if-not-is_numeral-4.false;
+      century = c.in_ok-century.ensures.value.0;
+      years = c.in_ok-years.ensures.value.0;
+      month = c.in_ok-month.ensures.value.0;
+      day = c.in_ok-day.ensures.value.0;
     })
-    c.numeral_value.ensures.value c.numeral_value-2.ensures.value c.numeral_value-3.ensures.value
-    c.numeral_value-4.ensures.value c.number_of.ensures
+    c.in_ok-century.ensures.value.1 c.in_ok-years.ensures.value.1 c.in_ok-month.ensures.value.1
+    c.in_ok-day.ensures.value.1 c.number_of.ensures

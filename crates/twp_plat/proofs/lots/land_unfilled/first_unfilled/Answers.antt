@@ -6,7 +6,8 @@ use Rattle.twp_plat.proofs.lots.Filling.{least-same, least_next}
 use Rattle.twp_plat.proofs.lots.land_unfilled.first_unfilled.Goals as goal
 
 pub loop-number-init : goal.loop-number-init
-loop-number-init c = λ number has. let less = has.1 in let least = has.2.0 in absurd (omega (arith, less, least))
+loop-number-init c =
+    λ number has. let less = has.1 in let least = has.2.0 in absurd (omega (arith, less, least))
 
 pub loop-number-preserved : goal.loop-number-preserved
 loop-number-preserved c =
@@ -22,7 +23,8 @@ loop-number-preserved c =
     (λ section record_number. (1 ≤ section) × IsUnfilledIn marks records section record_number)
     c.loop-number.number c.loop-number.invariant
     (least-same c.first_unfilled_in.result (IsUnfilledIn marks records c.loop-number.number)
-    (λ record_number. (1 ≤ c.loop-number.number) × IsUnfilledIn marks records c.loop-number.number record_number)
+    (λ record_number.
+    (1 ≤ c.loop-number.number) × IsUnfilledIn marks records c.loop-number.number record_number)
     (λ record_number has. (least, has)) (λ record_number has. has.1) here))
 
 pub returns : goal.returns
