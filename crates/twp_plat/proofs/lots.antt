@@ -30,4 +30,3 @@ pub mod RowMarks
 pub mod Filling
 pub mod AllRowFaults
 pub mod LandTables
-pub mod TableAnswers

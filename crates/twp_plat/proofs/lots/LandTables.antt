@@ -3,6 +3,7 @@ use Rattle.std.proofs.Common.{◌≡◌, ◌⊎◌, ◌&&◌, ℕ, ◌+◌, ◌-
 use Rattle.std.proofs.Common.{min, nat_le, inl, inr, refl, sym, ap, subst}
 use Rattle.std.proofs.Common.{◌∙◌}
 use Rattle.std.proofs.Common.{arith, if◌then◌else◌}
+use Rattle.std.proofs.Common.{Result, Ok, Err, IfOk, IfErr}
 use Rattle.std.proofs.lemmas.Bool.{cases_Bool, cases_lt}
 use Rattle.std.proofs.lemmas.Bool.Decides.{nat_tests}
 use Rattle.twp_grid.specs.Winding.{IsSection}
@@ -19,11 +20,15 @@ use Rattle.twp_plat.specs.LotRecords.{IsAcresText}
 use Rattle.twp_plat.specs.LandRecords.{land_heading, IsForLot, IsLotAt, IsNoLandAt, IsReturnedFor, ArePlatted}
 use Rattle.twp_plat.specs.LandFaults.{IsMark}
 use Rattle.twp_plat.specs.LotTexts.{AreLots}
-use Rattle.twp_plat.specs.steps.LotReading.{AreLandLots}
+use Rattle.twp_plat.specs.LotsFaults.{AnswersLots}
+use Rattle.twp_plat.specs.declared.lots.fault.LotsFault.{LotsFault}
+use Rattle.twp_plat.specs.declared.lots.table.LotTable.{LotTable}
+use Rattle.twp_grid.specs.Townships.{Designation}
+use Rattle.twp_plat.specs.steps.LotReading.{AreLandLots, IsLandRefused}
 use Rattle.twp_plat.specs.declared.lots.fault.LotsFault.TheVariants as fault
 use Rattle.twp_plat.specs.declared.lots.returned.ReturnedLots.{ReturnedLots}
 use Rattle.twp_plat.proofs.lots.AcresFacts.{acres_within, one_acres}
-use Rattle.twp_plat.proofs.lots.AllRowFaults.{sound}
+use Rattle.twp_plat.proofs.lots.AllRowFaults.{land_refused, sound}
 use Rattle.twp_plat.proofs.lots.RowMarks.{mark_is, marks_are}
 use Rattle.twp_plat.proofs.lots.RowPlaces.{AreAfter, AreRows, IsPlaced, is_row, placed, rows_after}
 
@@ -184,3 +189,16 @@ land_table bytes rows lots after land =
             (platted (records_of bytes) rows lots are land);
       });
     }
+
+-- the answer for a table with land
+pub land_answer : (bytes : List ℕ) (rows : List Fields) (result : Result LotTable LotsFault)
+    (after : AreAfter bytes land_heading rows) → IfOk result (λ table. table.township ≡ after.township)
+    → IfOk result (λ table. table.date ≡ after.date) → IfOk result (λ table. AreLandLots rows table.lots)
+    → IfErr result (IsLandRefused rows) → AnswersLots bytes result
+land_answer bytes rows (Ok table) after township date lots fault =
+    let is = land_table bytes rows table.lots after lots in
+    subst (λ (t : Designation). AreLots bytes (record { township = t; date = table.date; lots = table.lots }))
+    (sym township)
+    (subst (λ (d : ℕ). AreLots bytes (record { township = after.township; date = d; lots = table.lots }))
+    (sym date) is)
+land_answer bytes rows (Err is) after township date lots refused = land_refused bytes rows is after refused

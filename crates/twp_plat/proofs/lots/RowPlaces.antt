@@ -3,6 +3,7 @@ use Rattle.std.proofs.Common.{◌≡◌, ℕ, ◌+◌, ◌-◌, ◌≤◌, ◌<�
 use Rattle.std.proofs.Common.{arith}
 use Rattle.twp_grid.specs.Townships.{Designation}
 use Rattle.twp_notes.specs.Records.{Fields, records_of, record_at, record_numbered}
+use Rattle.twp_notes.proofs.RecordFacts.{few_records}
 use Rattle.twp_plat.specs.LotRecords.{LOTS_TEXT_MOST, IsPlatRecord, IsRowNumber}
 use Rattle.twp_plat.specs.LotsFaults.{HasOnRow}
 
@@ -89,3 +90,12 @@ pub on_row : (Bad : Fields → Type 0) (records rows : List Fields) (place : ℕ
     → place < length rows → Bad (record_at rows place) → HasOnRow records (place + 3) Bad
 on_row Bad records rows place are within bad =
     (is_row records rows place are within, subst Bad (sym (are.each place)) bad)
+
+-- there are fewer rows than bytes
+pub few_rows : (bytes : List ℕ) (heading : Fields) (rows : List Fields) → AreAfter bytes heading rows
+    → length rows < 131072
+few_rows bytes heading rows after =
+    let long = (rows_after bytes heading rows after).long in
+    let few : length (records_of bytes) ≤ length bytes + 1 = few_records bytes in
+    let size : length bytes ≤ 65536 = after.size in
+    omega (arith, long, few, size)

@@ -81,12 +81,3 @@ abbrev pub IsLandRefused : List Fields → LotsFault → Type 0
 IsLandRefused rows (fault.Unfilled number) = IsFirstUnfilled rows number
 IsLandRefused rows (fault.Divided number) = (number ≡ length rows + 2) × DivideTooMany rows
 IsLandRefused rows other = IsLandRefusedAfter rows other
-
--- the lots of the rows under a heading, and why there are none
-abbrev pub AreLotsUnder : Heading → List Fields → ReturnedLots → Type 0
-AreLotsUnder heading.Standard rows lots = AreStandardLots rows lots
-AreLotsUnder heading.Land rows lots = AreLandLots rows lots
-
-abbrev pub IsRefusedUnder : Heading → List Fields → LotsFault → Type 0
-IsRefusedUnder heading.Standard rows fault = IsLotRefusedAfter rows fault
-IsRefusedUnder heading.Land rows fault = IsLandRefused rows fault

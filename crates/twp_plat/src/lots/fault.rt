@@ -17,16 +17,17 @@ pub enum LotsFault {
     #[error("the lot table is empty: record 1 is `section,lot,acres`")]
     Empty,
     /// 88, at record 1: this is not the heading.
-    #[error("record 1 isn't the heading `section,lot,acres`")]
+    #[error("record 1 isn't the heading `section,lot,acres` or `section,lot,acres,land`")]
     Heading,
-    /// 89, at the record: record 2 does not have five or six fields, or a later one does not have
-    /// three.
-    #[error("record {0} doesn't have the fields of its kind: five or six in record 2, three in others")]
+    /// 89, at the record: record 2 does not have five or six fields, or a later one does not have as
+    /// many as the heading.
+    #[error("record {0} doesn't have the fields of its kind: five or six in record 2, later as many as in 1")]
     Columns(u32),
     /// 90, at record 2: it is not a township, or is missing.
     #[error("record 2 isn't a township, as `T,2,N,3,W`: numbers 1 to 99, in one or two digits")]
     Township,
-    /// 91, at the record: its section has no such lot, or there is no such section.
+    /// 91, at the record: there is no such section, or its number is not that of a lot: one of the
+    /// section's standard lots, or 1 to 99 in a table with land.
     #[error("record {0} is for no lot of a township")]
     NoLot(u32),
     /// 92, at the record: its third field is not acres.

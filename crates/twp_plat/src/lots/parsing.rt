@@ -5,11 +5,10 @@ ghost use Rattle.twp_plat.specs.LotRecords.{LOTS_TEXT_MOST};
 ghost use Rattle.twp_plat.specs.LotsFaults.{AnswersLots};
 ghost use Rattle.twp_plat.specs.steps.LotEntries.{Enters, IsNotEntered, AreEntered};
 ghost use Rattle.twp_plat.specs.steps.LotEntries.{IsLotRefusedAfter};
-ghost use Rattle.twp_plat.specs.steps.LotReading.{AreStandardLots, AreLotsUnder, IsRefusedUnder};
 
 use crate::lots::fault::LotsFault;
 use crate::lots::heading::{Heading, heading_of};
-use crate::lots::land_parsing::land_lots;
+use crate::lots::land_parsing::land_table;
 use crate::lots::plat_record::plat_of;
 use crate::lots::record::{LOT_FIELDS, hundredths_of, lot_of};
 use crate::lots::returned::{LOTS, ReturnedLots};
@@ -41,41 +40,18 @@ pub fn parse(alloc: Global, bytes: &[u8]) -> Result<LotTable, LotsFault>
         return Err(LotsFault::Township);
     }
     let plat = plat_of(&mut row)?;
-    let lots = lots_under(alloc, heading, records, &mut row)?;
-    Ok(LotTable {
-        township: plat.township,
-        date: plat.date,
-        lots,
-    })
-}
-
-/// The lots in the remaining records, which come after this heading and the township's record.
-fn lots_under(
-    alloc: Global,
-    heading: Heading,
-    records: &mut Records<'_>,
-    row: &mut ByteRecord,
-) -> Result<ReturnedLots, LotsFault>
-    requires reading { IsBetweenRecords records.old }
-    requires few { length (records_left records.old) < 2 ^ 17 }
-    ensures lots { IfOk result (AreLotsUnder heading (records_left records.old)) }
-    ensures fault { IfErr result (IsRefusedUnder heading (records_left records.old)) }
-{
+    // The table is made where it is returned, because moving it would copy its lots.
     match heading {
-        Heading::Standard => standard_lots(records, row),
-        Heading::Land => land_lots(alloc, records, row),
+        Heading::Standard => {
+            let figures = enter_lots(records, &mut row)?;
+            Ok(LotTable {
+                township: plat.township,
+                date: plat.date,
+                lots: ReturnedLots::standard(&figures),
+            })
+        }
+        Heading::Land => land_table(alloc, plat, records, &mut row),
     }
-}
-
-/// The standard lots in the remaining records.
-fn standard_lots(records: &mut Records<'_>, row: &mut ByteRecord) -> Result<ReturnedLots, LotsFault>
-    requires reading { IsBetweenRecords records.old }
-    requires few { length (records_left records.old) < 2 ^ 17 }
-    ensures lots { IfOk result (AreStandardLots (records_left records.old)) }
-    ensures fault { IfErr result (IsLotRefusedAfter (records_left records.old)) }
-{
-    let figures = enter_lots(records, row)?;
-    Ok(ReturnedLots::standard(&figures))
 }
 
 /// Enters the remaining records, each of a lot.

@@ -12,7 +12,7 @@ records-init c = record {
   reading = c.requires.reading;
   rest = refl;
   within = omega arith;
-  entered = none_entered (records_left c.args.records.now) _ _ c.requires.clear c.none-lots.ensures;
+  entered = none_entered (records_left c.args.records.now) _ _ c.requires.clear c.requires.empty;
 }
 
 pub records-preserved : goal.records-preserved

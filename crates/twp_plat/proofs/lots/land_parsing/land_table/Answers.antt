@@ -4,20 +4,20 @@ use Rattle.twp_notes.specs.Records.{records_left}
 use Rattle.twp_land.specs.LotMaps.{layout_of_plat}
 use Rattle.twp_land.specs.declared.plat_lots.PlatLots.{PlatLots}
 use Rattle.twp_plat.proofs.lots.Filling.{marks_of_lots}
-use Rattle.twp_plat.proofs.lots.land_parsing.land_lots.Goals as goal
+use Rattle.twp_plat.proofs.lots.land_parsing.land_table.Goals as goal
 
 pub first_unfilled-requires : goal.first_unfilled-requires
 first_unfilled-requires c =
-    marks_of_lots (records_left c.args.records.now) c.enter_rows.new.marks.sections c.in_ok-rows.rows.lots
-    c.in_ok-rows.ensures.entered
+    marks_of_lots (records_left c.args.records.now) c.enter_rows.new.marks.sections c.enter_rows.new.lots
+    c.in_ok-last.ensures.entered
 
 pub returns-clause-lots : goal.returns-clause-lots
 returns-clause-lots c =
     let of = rw c.unwrap.ensures at c.of.ensures in
     record {
       marks = c.enter_rows.new.marks.sections;
-      entries = c.in_ok-rows.rows.lots;
-      entered = c.in_ok-rows.ensures.entered;
+      entries = c.enter_rows.new.lots;
+      entered = c.in_ok-last.ensures.entered;
       filled = c.in_default.ensures;
       few = c.in-Some-map_of_marks.ensures.0;
       positions = c.in-Some-map_of_marks.map.positions;
