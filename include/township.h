@@ -135,7 +135,7 @@ extern "C" {
                                      offsets are not */
 #define TOWNSHIP_NO_LAND 8u       /* the land you passed is not valid: it has no township, or contains part of a
                                      lot */
-#define TOWNSHIP_NO_LOTS 9u       /* the lot table you passed is not valid */
+#define TOWNSHIP_NO_LOTS 9u       /* the township of the lot table you passed is not valid */
 #define TOWNSHIP_NO_TOWNSHIP 10u  /* the designation you passed is not valid */
 #define TOWNSHIP_NO_OPERATION 11u /* township_land_combine: the operation you passed is not valid */
 #define TOWNSHIP_OTHER_TOWNSHIP 12u /* two arguments are in different townships: land and land, land and a plat,
@@ -267,9 +267,18 @@ typedef struct township_overlap {
     uint64_t hundredths; /* of an acre: the land in both, rounded once, half up */
 } township_overlap;
 
-/* The number of places along a side of a section, and the number of lots in a township. */
+/* The number of places along a side of a section. */
 #define TOWNSHIP_PLACES_ACROSS 32
-#define TOWNSHIP_LOTS 47
+
+/*
+ * The maximum number of figures in a lot table, and the number of their bounds. The numbers of bytes that say where
+ * the lots of a plat lie: one for each quarter-quarter of the township, and one for each place of those that are
+ * divided, of which there are at most 128.
+ */
+#define TOWNSHIP_RETURNED_MOST 1024
+#define TOWNSHIP_BOUNDS 37
+#define TOWNSHIP_POSITION_BYTES 576
+#define TOWNSHIP_DIVIDED_BYTES 8192
 
 /* The designation of a township, with the same fields as in a plat. */
 typedef struct township_designation {
@@ -292,11 +301,27 @@ typedef struct township_land {
 } township_land;
 
 /*
- * A lot table: the acreage that the approved plat returns for each lot, in hundredths of an acre: 1 to 99,999,
- * or 0 if the table does not have the lot. The lots are sorted by section number and then by lot number.
+ * A lot table: the lots of a township's approved plat, and the acreage that it returns for each. You may copy it, store
+ * it, compare it byte by byte, or fill it in by hand: any values are a lot table if its township is valid.
+ *
+ * `figures` are in hundredths of an acre: 1 to 99,999, or any other value if the table lacks the lot. The figures of
+ * a section are those from `first[section - 1]` to before `first[section]`, and `numbers` has the number of the lot
+ * that each is for.
+ *
+ * If `mapped` is 0, the lots are those of a regular township, at their places. If it is not, `positions` has 16 bytes
+ * for each section, by number: one for each quarter-quarter section, by row from the south, and in a row from the
+ * east. A byte is the number of the lot that the quarter-quarter is in, 0 if it is land in no lot, or 100 if the plat
+ * has no land there. A larger byte is for a quarter-quarter that is divided: 101 for the first one of `divided`, which
+ * has such a byte for each of its 64 places, by row from the south, and in a row from the east.
  */
 typedef struct township_lots {
-    uint32_t figures[TOWNSHIP_LOTS];
+    uint32_t figures[TOWNSHIP_RETURNED_MOST];
+    uint16_t first[TOWNSHIP_BOUNDS];
+    uint8_t numbers[TOWNSHIP_RETURNED_MOST];
+    uint8_t positions[TOWNSHIP_POSITION_BYTES];
+    uint8_t divided[TOWNSHIP_DIVIDED_BYTES];
+    uint16_t mapped;
+    uint32_t date; /* of approval: year * 10,000 + month * 100 + day, or 0 if it is not known */
     township_designation township;
 } township_lots;
 

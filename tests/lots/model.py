@@ -34,7 +34,7 @@ ENOUGH = 20_000
 
 #: The kinds of answers: the faults of tables, the refusals of descriptions, and what is accepted.
 REFUSALS = (*range(41, 45), *range(61, NOT_THERE + 1), LACKING)
-FAULTS_OF_LAND = (Fault.LAND, Fault.TOO_FINE, Fault.SHARED, Fault.TOO_MANY, Fault.UNFILLED)
+FAULTS_OF_LAND = (Fault.LAND, Fault.TOO_FINE, Fault.SHARED, Fault.TOO_MANY, Fault.UNFILLED, Fault.DIVIDED)
 ACCEPTED_TABLE, ACCEPTED = "accepted table", "accepted description"
 
 #: How many failures are shown.

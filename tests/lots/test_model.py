@@ -183,6 +183,21 @@ def test_too_many_lots():
     assert answer("sec. 14.", HEAD + "".join(lots)) == 64000
     halves = [f"14,{number},5.00,{half}1/2{quarters[0]}\n" for number, half in ((98, "N"), (99, "S"))]
     assert fault(HEAD + "".join([*lots[1:], *halves])) == (Fault.TOO_MANY, 67)
+    # 16 sections with 64 lots each have 1,024; also too many quarter-quarters are divided, but that comes later.
+    all_lots = [f"{section},{number},10.00,{quarter}\n" for section in range(1, 18)
+                for number, quarter in enumerate(quarters, 1)]
+    assert fault(HEAD + "".join(all_lots[:1024])) == (Fault.DIVIDED, 1026)
+    assert fault(HEAD + "".join(all_lots[:1025])) == (Fault.TOO_MANY, 1027)
+
+
+def test_too_many_divided():
+    quarters = ("NE", "NW", "SW", "SE")
+    halves = [f"{half}1/2{a}1/4{b}1/4" for b in quarters for a in quarters for half in "NS"]
+    # 8 sections with 16 quarter-quarters each have 128; one that is in one lot is not divided.
+    lots = [f"{section},{number},20.00,{half}\n" for section in range(1, 9) for number, half in enumerate(halves, 1)]
+    whole = "9,1,40.00,NE1/4NE1/4\n"
+    assert answer("sec. 9.", HEAD + "".join([*lots, whole])) == 64000
+    assert fault(HEAD + "".join([*lots, "9,1,20.00,N1/2NE1/4NE1/4\n", "9,,,S1/2NE1/4NE1/4\n"])) == (Fault.DIVIDED, 260)
 
 
 def test_random_cases():
@@ -272,6 +287,7 @@ def test_the_model_agrees_with_itself():
     ("tables", "if places & aliquot and places & section.in_lots", "if False"),
     ("tables", "min(faults, key", "max(faults, key"),
     ("tables", "len(here.lots) >= LOTS_MOST", "len(here.lots) > LOTS_MOST"),
+    ("tables", "if count > DIVIDED_MOST", "if count > DIVIDED_MOST + 1"),
 ])
 def test_another_meaning_fails(edited, old, new):
     comparison = Comparison(Edited(edited, old, new))

@@ -94,12 +94,11 @@ impl Lots {
     /// # Ok::<(), township::Refused>(())
     /// ```
     pub fn new(township: Township) -> Lots {
-        Lots {
-            data: ffi::Lots {
-                figures: [STANDARD; ffi::LOTS],
-                township: township.designation(),
-            },
-        }
+        let mut data = list::standard_table().clone();
+        let count = list::lots_in(&data).count();
+        data.figures[..count].fill(STANDARD);
+        data.township = township.designation();
+        Lots { data }
     }
 
     /// Returns the township's designation.
@@ -115,8 +114,8 @@ impl Lots {
             .2
     }
 
-    /// Returns an iterator over all 47 lots of the township: the section and the number of each, and
-    /// its returned acreage, or `None` if the table lacks it.
+    /// Returns an iterator over the lots of the plat: the section and the number of each, and its
+    /// returned acreage, or `None` if the table lacks it. A regular township has 47 lots.
     ///
     /// ```
     /// let lots = township::Lots::read(b"section,lot,acres\nT,2,N,3,W\n5,1,40.45\n")?;
@@ -125,12 +124,10 @@ impl Lots {
     /// # Ok::<(), township::Refused>(())
     /// ```
     pub fn figures(&self) -> impl Iterator<Item = (u8, u8, Option<Acres>)> + '_ {
-        list::lots_of_township().iter().zip(&self.data.figures).map(
-            |(&(section, lot), &hundredths)| {
-                let acres = (hundredths > 0).then(|| Acres::from_hundredths(hundredths.into()));
-                (section, lot, acres)
-            },
-        )
+        list::lots_in(&self.data).map(|(section, lot, hundredths)| {
+            let acres = (hundredths > 0).then(|| Acres::from_hundredths(hundredths.into()));
+            (section, lot, acres)
+        })
     }
 
     /// Returns the acreage of the land described, rounded once to hundredths, half up.

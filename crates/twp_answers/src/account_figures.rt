@@ -31,6 +31,7 @@ pub struct TractFigure {
 impl TractFigure {
     ghost use Rattle.std.specs.Prelude.{◌≡◌, ◌≤◌, length};
     ghost use Rattle.twp_answers.specs.Tracts.{NAME_MOST};
+    ghost use Rattle.twp_grid.specs.Lands.{STANDARD_LOTS};
 
     /// The tract's name: 1 to 64 characters of printable ASCII.
     pub fn name(&self) -> &str
@@ -65,7 +66,7 @@ pub fn figures_on(alloc: Global, plat: &Plat, list: &[u8]) -> Result<AccountFigu
         IsAccountOf plat.now list.now (text_of_figures figures)) }
     ensures count { IfOk result (λ figures.
         length figures.tracts.items ≡ length (tract_records list.now)) }
-    ensures fault { IfErr result (AnswersFault plat.now.township list.now) }
+    ensures fault { IfErr result (AnswersFault STANDARD_LOTS plat.now.township list.now) }
 {
     if list.len() > TRACTS_LIMIT as usize {
         return Err(TractFault::TractsTooLarge);
@@ -107,7 +108,7 @@ fn take_figures<L: Land>(
     ensures count { IfOk result (λ figures.
         length figures.items ≡ length (records_left records.old)) }
     ensures fault { IfErr result
-        (AreTractsRefused plat.now.township (records_left records.old)) }
+        (AreTractsRefused STANDARD_LOTS plat.now.township (records_left records.old)) }
 {
     let mut figures = Vec::new(alloc);
     let mut taken = 0;

@@ -40,12 +40,14 @@ agree Holds township other found same answer found_is is true_is holds =
 -- a description that is refused in a township, or for which memory ran out
 pub stops_in : (given : TownshipDesignation) (township : Designation) → IsGivenTownship given township
     → (Accepted : Designation → TownshipAnswer → Type 0) (description : List ℕ) (stopping : Stop)
-    (answer : TownshipAnswer) → answer ≡ stopped stopping → StopsOn township description stopping
+    (answer : TownshipAnswer) → answer ≡ stopped stopping
+    → StopsOn STANDARD_LOTS township description stopping
     → InTownship given (λ township. Answers (Accepted township)
-    (IsRefusedFor (IsNoDescription township description))) answer
+    (IsRefusedFor (IsNoDescription STANDARD_LOTS township description))) answer
 stops_in given township is Accepted description stopping answer same stops =
     in_township township is
-    (subst (Answers (Accepted township) (IsRefusedFor (IsNoDescription township description))) (sym same)
+    (subst (Answers (Accepted township) (IsRefusedFor (IsNoDescription STANDARD_LOTS township description)))
+    (sym same)
     (stopped_on (Accepted township) township description stopping stops))
 
 -- the land that an operation makes has whole lots
@@ -59,17 +61,18 @@ combined_whole operation.Difference places more whole other =
     (combined_lots_are_whole STANDARD_LOTS places more whole other).2
 
 -- the data is land where it stands
-pub given_land : (given : GivenLand) (township : Designation) → IsGivenTownship given.township township
-    → HasWholeLots STANDARD_LOTS (land_of_rows given.rows)
-    → IsGivenLand given township (land_of_rows given.rows)
+pub given_land : (given : GivenLand) (township : Designation)
+    → IsGivenTownship given.township township → HasWholeLots STANDARD_LOTS (land_of_rows given.rows)
+    → IsGivenLand STANDARD_LOTS given township (land_of_rows given.rows)
 given_land given township is whole = record { township_is = is; places_are = refl; whole = whole }
 
 -- the data has no township, or contains part of a lot
-pub without_township : (given : GivenLand) → IsNoGivenTownship given.township → IsNoGivenLand given
+pub without_township : (given : GivenLand) → IsNoGivenTownship given.township
+    → IsNoGivenLand STANDARD_LOTS given
 without_township given none township places is = none township is.township_is
 
 pub with_cut_lot : (given : GivenLand) → ¬ HasWholeLots STANDARD_LOTS (land_of_rows given.rows)
-    → IsNoGivenLand given
+    → IsNoGivenLand STANDARD_LOTS given
 with_cut_lot given cut township places is = cut (subst (HasWholeLots STANDARD_LOTS) is.places_are is.whole)
 
 -- The data has a township, and the call answers that some data is no land: this data, if it contains part
@@ -79,12 +82,12 @@ pub no_land_unless : (given : GivenLand) (township : Designation) → IsGivenTow
     → answer ≡ bare NO_LAND
     → (HasWholeLots STANDARD_LOTS (land_of_rows given.rows)
     → Answers township (land_of_rows given.rows) answer)
-    → OnLand given Answers answer
+    → OnLand STANDARD_LOTS given Answers answer
 no_land_unless given township is Answers answer none other = go (whole_lots_decided (land_of_rows given.rows))
   where
     go : HasWholeLots STANDARD_LOTS (land_of_rows given.rows)
         ⊎ ¬ HasWholeLots STANDARD_LOTS (land_of_rows given.rows)
-        → OnLand given Answers answer
+        → OnLand STANDARD_LOTS given Answers answer
     go (inl whole) =
         on_land township (land_of_rows given.rows) (given_land given township is whole) (other whole)
     go (inr cut) = on_no_land (with_cut_lot given cut) none

@@ -26,7 +26,7 @@ use Rattle.twp_calls.specs.declared.combining.Operation.TheVariants as operation
 use Rattle.twp_calls.specs.declared.designation.TownshipDesignation.{TownshipDesignation}
 use Rattle.twp_calls.specs.declared.land.TownshipLand.{TownshipLand as GivenLand}
 use Rattle.twp_calls.specs.declared.plat.TownshipPlat.{TownshipPlat as GivenPlat}
-use Rattle.twp_grid.specs.Lands.{STANDARD_LOTS}
+use Rattle.twp_grid.specs.Lands.{Lotting, STANDARD_LOTS}
 
 -- The given parts are those of a township, for which the call answers, or of none.
 pub data InTownship (given : TownshipDesignation) (Answers : Designation → TownshipAnswer → Type 0)
@@ -35,13 +35,13 @@ pub data InTownship (given : TownshipDesignation) (Answers : Designation → Tow
       → InTownship given Answers answer
   in_none : IsNoGivenTownship given → answer ≡ bare NO_TOWNSHIP → InTownship given Answers answer
 
--- The given data is land, for which the call answers, or it is none.
-pub data OnLand (given : GivenLand)
+-- The given data is land on a plat with these lots, for which the call answers, or it is none.
+pub data OnLand (lots : Lotting) (given : GivenLand)
     (Answers : Designation → (ℕ → ℕ → ℕ → Bool) → TownshipAnswer → Type 0)
     (answer : TownshipAnswer) : Type 0 where
-  on_land : (township : Designation) (places : ℕ → ℕ → ℕ → Bool) → IsGivenLand given township places
-      → Answers township places answer → OnLand given Answers answer
-  on_no_land : IsNoGivenLand given → answer ≡ bare NO_LAND → OnLand given Answers answer
+  on_land : (township : Designation) (places : ℕ → ℕ → ℕ → Bool) → IsGivenLand lots given township places
+      → Answers township places answer → OnLand lots given Answers answer
+  on_no_land : IsNoGivenLand lots given → answer ≡ bare NO_LAND → OnLand lots given Answers answer
 
 -- The two are in one township, and this holds of the answer; or they are in different townships.
 pub data InOneTownship (township other : Designation) (Answers : TownshipAnswer → Type 0)
@@ -54,21 +54,21 @@ pub data InOneTownship (township other : Designation) (Answers : TownshipAnswer 
 pub record IsLandRead (township : Designation) (description : List ℕ) (new : GivenLand)
     (answer : TownshipAnswer) : Type 0 where
   pub places : ℕ → ℕ → ℕ → Bool
-  pub named : IsLandOf township description places
-  pub given : IsGivenLand new township places
+  pub named : IsLandOf STANDARD_LOTS township description places
+  pub given : IsGivenLand STANDARD_LOTS new township places
   pub answer_is : answer ≡ bare ACCEPTED
 
 abbrev pub IsLandReadCall : TownshipDesignation → List ℕ → GivenLand → TownshipAnswer → Type 0
 IsLandReadCall given description new = InTownship given (λ township.
     Answers (IsLandRead township description new)
-    (IsRefusedFor (IsNoDescription township description)))
+    (IsRefusedFor (IsNoDescription STANDARD_LOTS township description)))
 
 -- what a call answers for land on a plat, by an account
 abbrev pub OnPlatAndLand : GivenPlat → GivenLand → ℕ
     → (TownshipPlat → Account → (ℕ → ℕ → ℕ → Bool) → TownshipAnswer → Type 0)
     → TownshipAnswer → Type 0
 OnPlatAndLand given land code Accepted =
-    OnPlat given (λ plat. OnLand land (λ township places. ByAccount code (λ account.
+    OnPlat given (λ plat. OnLand STANDARD_LOTS land (λ township places. ByAccount code (λ account.
     InOneTownship plat.township township (Accepted plat account places))))
 
 -- `township_land_acres`: the hundredths of an acre of the land
@@ -94,7 +94,7 @@ IsLandAreaCall given land code new = OnPlatAndLand given land code (HasLandArea 
 
 -- `township_land_text`: the canonical text of the land, which nothing refuses
 abbrev pub IsLandTextCall : GivenLand → List ℕ → List ℕ → TownshipAnswer → Type 0
-IsLandTextCall land old new = OnLand land (λ township places.
+IsLandTextCall land old new = OnLand STANDARD_LOTS land (λ township places.
     Answers (IsTextPut (IsCanonicalText STANDARD_LOTS township places) old new) (λ answer. ⊥))
 
 -- the operation that a number stands for
@@ -122,12 +122,12 @@ pub data ByOperation (code : ℕ) (Answers : Operation → TownshipAnswer → Ty
 -- `township_land_combine`: the land that the operation makes of the two
 pub record IsCombined (by : Operation) (township : Designation)
     (places more : ℕ → ℕ → ℕ → Bool) (new : GivenLand) (answer : TownshipAnswer) : Type 0 where
-  pub given : IsGivenLand new township (combined by places more)
+  pub given : IsGivenLand STANDARD_LOTS new township (combined by places more)
   pub answer_is : answer ≡ bare ACCEPTED
 
 abbrev pub IsCombineCall : GivenLand → GivenLand → ℕ → GivenLand → TownshipAnswer → Type 0
-IsCombineCall first second code new = OnLand first (λ township places.
-    OnLand second (λ other more. ByOperation code (λ by.
+IsCombineCall first second code new = OnLand STANDARD_LOTS first (λ township places.
+    OnLand STANDARD_LOTS second (λ other more. ByOperation code (λ by.
     InOneTownship township other (IsCombined by township places more new))))
 
 -- the number of a comparison
@@ -147,5 +147,5 @@ pub record HasComparison (places more : ℕ → ℕ → ℕ → Bool) (new : ℕ
   pub answer_is : answer ≡ bare ACCEPTED
 
 abbrev pub IsCompareCall : GivenLand → GivenLand → ℕ → TownshipAnswer → Type 0
-IsCompareCall first second new = OnLand first (λ township places.
-    OnLand second (λ other more. InOneTownship township other (HasComparison places more new)))
+IsCompareCall first second new = OnLand STANDARD_LOTS first (λ township places.
+    OnLand STANDARD_LOTS second (λ other more. InOneTownship township other (HasComparison places more new)))

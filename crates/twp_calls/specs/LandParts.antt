@@ -76,5 +76,5 @@ pub record ArePartsPut (places : ℕ → ℕ → ℕ → Bool) (old new : List T
 
 -- `township_land_parts`, which nothing refuses
 abbrev pub IsLandPartsCall : GivenLand → List TownshipPart → List TownshipPart → TownshipAnswer → Type 0
-IsLandPartsCall land old new = OnLand land (λ township places.
+IsLandPartsCall land old new = OnLand STANDARD_LOTS land (λ township places.
     Answers (ArePartsPut places old new) (λ answer. ⊥))

@@ -33,7 +33,7 @@ pub fn township_land_read(
     let Some(township) = township.township() else {
         return TownshipAnswer::bare(NO_TOWNSHIP);
     };
-    match land_of(alloc, township, description) {
+    match land_of(alloc, township, description, &StandardLots) {
         Ok(places) => {
             *land = TownshipLand::of(township, &places);
             TownshipAnswer::bare(ACCEPTED)

@@ -13,9 +13,9 @@ use crate::lots::TownshipLots;
 use crate::verdict::{ACCEPTED, NO_LAND, NO_LOTS, OTHER_TOWNSHIP};
 use std::alloc::Global;
 use twp_answers::{Stop, land_of};
-use twp_grid::Bytes;
+use twp_grid::{Bytes, Township};
 use twp_measure::Area;
-use twp_plat::{LotTable, area_by_lots};
+use twp_plat::{LotTable, ReturnedLots, area_by_lots};
 
 /// Reads a lot table.
 pub fn township_lots_read(alloc: Global, table: &[u8], lots: &mut TownshipLots) -> TownshipAnswer
@@ -24,7 +24,7 @@ pub fn township_lots_read(alloc: Global, table: &[u8], lots: &mut TownshipLots) 
 {
     match LotTable::read(alloc, &mut Bytes::new(table)) {
         Ok(read) => {
-            *lots = TownshipLots::of(&read);
+            *lots = TownshipLots::of(read);
             TownshipAnswer::bare(ACCEPTED)
         }
         Err(fault) => TownshipAnswer::of_lots_fault(fault),
@@ -35,10 +35,10 @@ pub fn township_lots_read(alloc: Global, table: &[u8], lots: &mut TownshipLots) 
 pub fn township_lots_acres(alloc: Global, lots: &TownshipLots, description: &[u8]) -> TownshipAnswer
     ensures { IsLotsAcresCall lots.now description.now result }
 {
-    let Some(table) = lots.table() else {
+    let Some(township) = lots.township.township() else {
         return TownshipAnswer::bare(NO_LOTS);
     };
-    match area_described(alloc, &table, description) {
+    match area_described(alloc, township, &lots.lots, description) {
         Ok(area) => TownshipAnswer::of_acres(area.hundredths()),
         Err(stop) => TownshipAnswer::of_stop(stop),
     }
@@ -54,10 +54,10 @@ pub fn township_lots_area(
     ensures answer { IsLotsAreaCall lots.now description.now area.new result }
     ensures kept { result.verdict ≢ ACCEPTED → area.new ≡ area.old }
 {
-    let Some(table) = lots.table() else {
+    let Some(township) = lots.township.township() else {
         return TownshipAnswer::bare(NO_LOTS);
     };
-    match area_described(alloc, &table, description) {
+    match area_described(alloc, township, &lots.lots, description) {
         Ok(exact) => {
             *area = TownshipFraction::of(&exact);
             TownshipAnswer::bare(ACCEPTED)
@@ -70,16 +70,16 @@ pub fn township_lots_area(
 pub fn township_lots_land_acres(lots: &TownshipLots, land: &TownshipLand) -> TownshipAnswer
     ensures { IsLotsLandAcresCall lots.now land.now result }
 {
-    let Some(table) = lots.table() else {
+    let Some(township) = lots.township.township() else {
         return TownshipAnswer::bare(NO_LOTS);
     };
-    let Some(land) = land.land() else {
+    let Some(land) = land.land_on(&lots.lots.plat) else {
         return TownshipAnswer::bare(NO_LAND);
     };
-    if !is_same_township(table.township(), land.township) {
+    if !is_same_township(township, land.township) {
         return TownshipAnswer::bare(OTHER_TOWNSHIP);
     }
-    match area_by_lots(&table, &land.places) {
+    match area_by_lots(&lots.lots, &land.places) {
         Ok(area) => TownshipAnswer::of_acres(area.hundredths()),
         Err(lot) => TownshipAnswer::of_refusal(lot.refusal()),
     }
@@ -94,16 +94,16 @@ pub fn township_lots_land_area(
     ensures answer { IsLotsLandAreaCall lots.now land.now area.new result }
     ensures kept { result.verdict ≢ ACCEPTED → area.new ≡ area.old }
 {
-    let Some(table) = lots.table() else {
+    let Some(township) = lots.township.township() else {
         return TownshipAnswer::bare(NO_LOTS);
     };
-    let Some(land) = land.land() else {
+    let Some(land) = land.land_on(&lots.lots.plat) else {
         return TownshipAnswer::bare(NO_LAND);
     };
-    if !is_same_township(table.township(), land.township) {
+    if !is_same_township(township, land.township) {
         return TownshipAnswer::bare(OTHER_TOWNSHIP);
     }
-    match area_by_lots(&table, &land.places) {
+    match area_by_lots(&lots.lots, &land.places) {
         Ok(exact) => {
             *area = TownshipFraction::of(&exact);
             TownshipAnswer::bare(ACCEPTED)
@@ -113,11 +113,16 @@ pub fn township_lots_land_area(
 }
 
 /// The area of the land described by a lot table, or why there is none.
-fn area_described(alloc: Global, table: &LotTable, description: &[u8]) -> Result<Area, Stop>
-    ensures { AnswersByLots table.now description.now result }
+fn area_described(
+    alloc: Global,
+    township: Township,
+    lots: &ReturnedLots,
+    description: &[u8],
+) -> Result<Area, Stop>
+    ensures { AnswersByLots township lots.now description.now result }
 {
-    let land = land_of(alloc, table.township(), description)?;
-    match area_by_lots(table, &land) {
+    let land = land_of(alloc, township, description, &lots.plat)?;
+    match area_by_lots(lots, &land) {
         Ok(area) => Ok(area),
         Err(lot) => Err(Stop::Refused(lot.refusal())),
     }

@@ -66,7 +66,7 @@ lines_refused stop.Memory bytes notes fault are first is = tt
 pub text_refused : (stopped : SearchStop) (township : Designation) (bytes : List ℕ) (fault : TextFault)
     → IfSome (text_faults.refusal_of fault) (λ _. text_faults.IsFirstTextFault bytes fault)
     → IfFound stopped (λ found. text_faults.refusal_of fault ≡ Some found)
-    → IfFound stopped (IsNoDescription township bytes)
+    → IfFound stopped (IsNoDescription STANDARD_LOTS township bytes)
 text_refused (stop.Found finding) township bytes fault first is =
     inl (record {
       fault = fault;
@@ -81,7 +81,7 @@ pub items_refused : (stopped : SearchStop) (township : Designation) (bytes : Lis
     (fault : PlaceFault)
     → IsReadAs bytes items → place_faults.IsFirstPlaceFault STANDARD_LOTS township items fault
     → IfFound stopped (λ found. place_faults.refusal_of fault ≡ Some found)
-    → IfFound stopped (IsNoDescription township bytes)
+    → IfFound stopped (IsNoDescription STANDARD_LOTS township bytes)
 items_refused (stop.Found finding) township bytes items fault read first is =
     inr (record { items = items; read = read; fault = fault; first = first; refusal_is = is })
 items_refused stop.Memory township bytes items fault read first is = tt
@@ -128,7 +128,7 @@ of_land notes description stop.Memory none = tt
 
 -- and so is a description that is of no land on their plat
 pub of_description : (notes description : List ℕ) (plat : TownshipPlat) (stopped : SearchStop)
-    → ArePlatted notes plat → IfFound stopped (IsNoDescription plat.township description)
+    → ArePlatted notes plat → IfFound stopped (IsNoDescription STANDARD_LOTS plat.township description)
     → IfFound stopped (IsRefusal notes description)
 of_description notes description plat (stop.Found finding) are none =
     inr (record { plat = plat; platted = are; refused = none })
@@ -142,8 +142,10 @@ land_is_none notes description plat verdict are land refusal (inl none) said =
     not_platted notes refusal plat none are
 land_is_none notes description plat verdict are land refusal (inr is) said =
     let same : is.plat ≡ plat = one_plat notes is.plat plat is.platted are in
-    not_described plat.township description refusal land.0
-    (subst (λ (p : TownshipPlat). IsNoDescription p.township description refusal) same is.refused) land.1
+    not_described STANDARD_LOTS plat.township description refusal land.0
+    (subst (λ (p : TownshipPlat). IsNoDescription STANDARD_LOTS p.township description refusal) same
+    is.refused)
+    land.1
 
 -- a text that isn't read is shown up to the sign at fault
 pub text_shows : (stopped : SearchStop) (origin : Origin) (township : Designation) (bytes : List ℕ)

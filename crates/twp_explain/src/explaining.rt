@@ -9,6 +9,7 @@ ghost use Rattle.twp_diagnose.specs.ShownMessages.{ShowsIn};
 ghost use Rattle.twp_explain.specs.FoundFaults.{ShowsFound};
 ghost use Rattle.twp_explain.specs.ShownFaults.{ShowsFault};
 ghost use Rattle.twp_answers.specs.declared.stop.Verdict.TheVariants.{Refused};
+ghost use Rattle.twp_grid.specs.Lands.{STANDARD_LOTS};
 
 use std::alloc::{AllocError, Global};
 use twp_answers::Verdict;
@@ -122,7 +123,7 @@ pub(crate) fn describe<S: Suggests>(
     township: Township,
 ) -> Result<(), SearchStop>
     ensures land { IfOk result (λ _. DescribeLand township bytes.now) }
-    ensures found { IfErr result (λ stop. IfFound stop (IsNoDescription township bytes.now)) }
+    ensures found { IfErr result (λ stop. IfFound stop (IsNoDescription STANDARD_LOTS township bytes.now)) }
     ensures shown { IfErr result (λ stop. IfFinds stop (ShowsFound origin.now township bytes.now)) }
 {
     let description = match Description::read(alloc, bytes) {

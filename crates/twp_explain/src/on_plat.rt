@@ -8,6 +8,7 @@ ghost use Rattle.twp_diagnose.specs.ShownMessages.{ShowsIn};
 ghost use Rattle.twp_explain.specs.ExplainedPlaces.{IsSpotOfStop, IsExplainedWhereRefused};
 ghost use Rattle.twp_diagnose.specs.Findings.{IsOf};
 ghost use Rattle.twp_explain.specs.FoundFaults.{IsMessageOf, ShowsLandIn};
+ghost use Rattle.twp_grid.specs.Lands.{STANDARD_LOTS};
 
 use crate::explaining::{describe, plat_of};
 use crate::list::{explain_fault, fault_of};
@@ -37,7 +38,7 @@ pub fn explain_description<S: Suggests>(
     description: &Given<'_>,
 ) -> Result<Option<Explanation>, AllocError>
     ensures refusal { IfOk result (λ explained. IfSome explained (λ explanation.
-        IsNoDescription township description.now.bytes.now explanation.refusal)) }
+        IsNoDescription STANDARD_LOTS township description.now.bytes.now explanation.refusal)) }
     ensures spot { IfOk result (λ explained. IfSome explained (IsExplainedWhereRefused description.now)) }
     ensures none { IfOk result (λ explained. explained ≡ None
         → DescribeLand township description.now.bytes.now) }
@@ -67,7 +68,7 @@ pub fn explain_tracts<S: Suggests>(
     tracts: &Given<'_>,
 ) -> Result<Option<ExplainedFault>, AllocError>
     ensures first { IfOk result (λ explained. IfSome explained (λ it.
-        IsFirstTractFault plat.now.township tracts.now.bytes.now it.fault)) }
+        IsFirstTractFault STANDARD_LOTS plat.now.township tracts.now.bytes.now it.fault)) }
     ensures refusal { IfOk result (λ explained. IfSome explained (λ it.
         refusal_of it.fault ≡ Some it.explanation.refusal)) }
     ensures none { IfOk result (λ explained. explained ≡ None → HasAccount plat.now tracts.now.bytes.now) }

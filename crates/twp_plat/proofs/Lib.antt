@@ -26,3 +26,5 @@ pub mod PlatLaws
 pub mod FinerAreas
 pub mod CombinedAreas
 pub mod LackingFacts
+pub mod CountFacts
+pub mod StandardUnits

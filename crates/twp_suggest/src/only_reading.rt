@@ -17,7 +17,7 @@ use twp_asides::beyond_of;
 use twp_diagnose::{Suggested, Suggestion, Suggests};
 use twp_draft::FindsPhrases;
 use twp_grid::Township;
-use twp_land::{Land, Lanes};
+use twp_land::{Land, Lanes, StandardLots};
 
 /// The most bytes of a text whose readings are looked for.
 const SHORT: usize = 4_000;
@@ -88,7 +88,7 @@ fn if_on_plat(
     ensures { IfOk result (λ it. IfSome it (λ text. NamesLandOf township text.items)) }
 {
     let mut land = Lanes::empty();
-    if find_land(alloc, text.as_slice(), township, &mut land)? {
+    if find_land(alloc, text.as_slice(), township, &mut land, &StandardLots)? {
         return Ok(Some(text));
     }
     Ok(None)

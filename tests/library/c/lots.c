@@ -8,7 +8,7 @@
 
 #define COUNT(array) (sizeof(array) / sizeof *(array))
 
-_Static_assert(sizeof(township_lots) == 192, "a lot table has 47 figures and a designation");
+_Static_assert(sizeof(township_lots) == 13972, "a lot table has no byte between its fields");
 
 #define HEADING "section,lot,acres\n"
 #define TABLE HEADING "T,2,N,3,W\n5,1,40.45\n5,2,40.55\n6,7,36.86\n"
@@ -27,13 +27,29 @@ static township_lots lots_of(const char *text) {
     return lots;
 }
 
+/* The lots of a regular township: four in each of sections 1 to 5, 7, 18, 19, 30, and 31, and seven in section 6. */
+static township_lots regular_lots(void) {
+    static const char counts[TOWNSHIP_SECTIONS + 1] = "444447400000000004400000000004400000";
+    township_lots lots;
+    uint16_t index = 0;
+
+    memset(&lots, 0, sizeof lots);
+    for (size_t section = 0; section < TOWNSHIP_SECTIONS; section++) {
+        lots.first[section] = index;
+        for (uint8_t lot = 1; lot <= counts[section] - '0'; lot++) {
+            lots.numbers[index++] = lot;
+        }
+    }
+    lots.first[TOWNSHIP_SECTIONS] = index;
+    lots.township = (township_designation){2, TOWNSHIP_NORTH, 3, TOWNSHIP_WEST};
+    return lots;
+}
+
 /* Sections 1 to 4 have four lots each, so lot 1 of section 5 is the 17th; lot 7 of section 6 is the 27th. */
 static void reads_lots(void) {
     township_lots lots = lots_of(TABLE);
-    township_lots wanted;
+    township_lots wanted = regular_lots();
 
-    memset(&wanted, 0, sizeof wanted);
-    wanted.township = (township_designation){2, TOWNSHIP_NORTH, 3, TOWNSHIP_WEST};
     wanted.figures[16] = 4045;
     wanted.figures[17] = 4055;
     wanted.figures[26] = 3686;
@@ -155,15 +171,66 @@ static void refuses_lots(void) {
     township_land part = land;
     township_land other = land;
 
+    /* More than 999.99 acres are none. */
     much.figures[46] = 100000;
+    refuses_text(&much, "sec. 31, lot 4.", refused(TOWNSHIP_REFUSAL_LOTS_LACKING, 3104));
+    measures(&much, "sec. 14.", 64000);
     nowhere.township.number = 0;
     part.rows[1 - 1][31] = 1;
     other.township.range = 4;
-    refuses_text(&much, "", bare(TOWNSHIP_NO_LOTS));
+    refuses_text(&nowhere, "", bare(TOWNSHIP_NO_LOTS));
     refuses_text(&nowhere, "sec. 14.", bare(TOWNSHIP_NO_LOTS));
-    refuses_land(&much, &part, bare(TOWNSHIP_NO_LOTS));
+    refuses_land(&nowhere, &part, bare(TOWNSHIP_NO_LOTS));
     refuses_land(&lots, &part, bare(TOWNSHIP_NO_LAND));
     refuses_land(&lots, &other, bare(TOWNSHIP_OTHER_TOWNSHIP));
+}
+
+/* Section 14 of a plat: lot 1 is its NE1/4NE1/4, and its NW1/4NW1/4 isn't there. Its N1/2NW1/4NE1/4 is lot 2, and the
+   rest of that quarter-quarter lot 5. The plat has no other lots. */
+static township_lots lots_of_lake(void) {
+    static const uint32_t figures[] = {3850, 1225, 1980};
+    static const uint8_t numbers[] = {1, 2, 5};
+    township_lots lots;
+
+    memset(&lots, 0, sizeof lots);
+    memcpy(lots.figures, figures, sizeof figures);
+    memcpy(lots.numbers, numbers, sizeof numbers);
+    for (size_t section = 14; section <= TOWNSHIP_SECTIONS; section++) {
+        lots.first[section] = COUNT(numbers);
+    }
+    /* The northern row of quarter-quarters is the last one, and is counted from the east. */
+    lots.positions[(14 - 1) * 16 + 12] = 1;
+    lots.positions[(14 - 1) * 16 + 13] = 101;
+    lots.positions[(14 - 1) * 16 + 15] = 100;
+    /* Four rows of eight places in the south, and four in the north. */
+    memset(lots.divided, 5, 32);
+    memset(lots.divided + 32, 2, 32);
+    lots.mapped = 1;
+    lots.date = 19120304;
+    lots.township = (township_designation){2, TOWNSHIP_NORTH, 3, TOWNSHIP_WEST};
+    return lots;
+}
+
+static void measures_by_any_plat(void) {
+    township_lots lots = lots_of_lake();
+    township_fraction area;
+    township_land part = land_of("sec. 14, N1/2NW1/4NE1/4NE1/4.");
+
+    CHECK_ANSWER(acres_by(&lots, "sec. 14, lot 1."), acres(3850));
+    CHECK_ANSWER(acres_by(&lots, "sec. 14, lots 2 and 5."), acres(1225 + 1980));
+    /* 16 quarter-quarters, of which one isn't there, and two are lots. */
+    CHECK_ANSWER(acres_by(&lots, "sec. 14."), acres(13 * 4000 + 3850 + 1225 + 1980));
+    CHECK_ANSWER(acres_by(&lots, "sec. 5, NE1/4."), acres(16000));
+    CHECK_ANSWER(area_by(&lots, "sec. 14, lot 2.", &area), bare(TOWNSHIP_ACCEPTED));
+    CHECK(hundredths_of(area) == 1225);
+    /* A lot that there isn't, and a part with a lot. */
+    refuses_text(&lots, "sec. 14, lot 3.", refused(64, 13));
+    refuses_text(&lots, "sec. 5, lot 1.", refused(64, 12));
+    refuses_text(&lots, "sec. 14, NE1/4.", refused(66, 9));
+    lots.figures[1] = 0;
+    refuses_text(&lots, "sec. 14, lots 2 and 5.", refused(TOWNSHIP_REFUSAL_LOTS_LACKING, 1402));
+    /* Land with half of lot 1 is none on this plat. */
+    refuses_land(&lots, &part, bare(TOWNSHIP_NO_LAND));
 }
 
 /* Room for tracts, with one more after it. */
@@ -232,7 +299,7 @@ static void reports_tracts(void) {
 /* The first fault of a list is that of township_account, but a lot that the table lacks is one of its tract. */
 static void refuses_lists(void) {
     township_lots lots = lots_of(TABLE);
-    township_lots much = lots;
+    township_lots nowhere = lots;
     tracts_by_lots none = blank_tracts();
     const struct {
         const char *list;
@@ -256,8 +323,8 @@ static void refuses_lists(void) {
         CHECK_ANSWER(report_by(&lots, rows[i].list, &found, 3), rows[i].wanted);
         CHECK(memcmp(&found, &none, sizeof found) == 0);
     }
-    much.figures[46] = 100000;
-    CHECK_ANSWER(report_by(&much, LIST, &none, 3), bare(TOWNSHIP_NO_LOTS));
+    nowhere.township.range = 0;
+    CHECK_ANSWER(report_by(&nowhere, LIST, &none, 3), bare(TOWNSHIP_NO_LOTS));
 }
 
 void answers_lots(void) {
@@ -266,6 +333,7 @@ void answers_lots(void) {
     measures_land();
     refuses_lacking();
     refuses_lots();
+    measures_by_any_plat();
     reports_tracts();
     refuses_lists();
 }

@@ -7,7 +7,7 @@ from typing import List, NamedTuple
 
 from . import _library
 from ._figures import acres_of_hundredths
-from ._lot_list import lots_of_township
+from ._lot_list import lots_in
 from ._lots import Lots
 from ._refused import failure_of
 from ._township import township_of
@@ -36,7 +36,7 @@ def differences_of(plat: _library.Plat, lots: Lots) -> List[Difference]:
     if answer.verdict != _library.ACCEPTED:
         raise failure_of(answer.verdict)
     differences = []
-    for (section, lot), returned in zip(lots_of_township(), lots._parts.figures):
+    for (section, lot), returned in lots_in(lots._parts):
         computed = figures.lots[section - 1][lot - 1]
         # 0 is the figure of a lot that the table lacks.
         if returned not in (0, computed):

@@ -2,7 +2,7 @@
 from __future__ import annotations
 
 import ctypes
-from ctypes import POINTER, c_char, c_char_p, c_size_t, c_uint8, c_uint32, c_uint64
+from ctypes import POINTER, c_char, c_char_p, c_size_t, c_uint8, c_uint16, c_uint32, c_uint64
 from typing import Any, Callable
 
 from ._loading import LIBRARY
@@ -89,7 +89,10 @@ TRACTS_MOST = 1_000
 NAME_MOST = 64
 NAME_ROOM = 68
 PLACES_ACROSS = 32
-LOTS = 47
+RETURNED_MOST = 1_024
+BOUNDS = 37
+POSITION_BYTES = 576
+DIVIDED_BYTES = 8_192
 READINGS_MOST = 8
 RULE_HALF = 1
 RULE_QUARTER = 2
@@ -219,9 +222,13 @@ class Land(ctypes.Structure):
 
 
 class Lots(ctypes.Structure):
-    """`township_lots`: 192 bytes."""
+    """`township_lots`: 13,972 bytes."""
 
-    _fields_ = [("figures", c_uint32 * LOTS), ("township", Designation)]
+    _fields_ = [
+        ("figures", c_uint32 * RETURNED_MOST), ("first", c_uint16 * BOUNDS), ("numbers", c_uint8 * RETURNED_MOST),
+        ("positions", c_uint8 * POSITION_BYTES), ("divided", c_uint8 * DIVIDED_BYTES), ("mapped", c_uint16),
+        ("date", c_uint32), ("township", Designation),
+    ]
 
 
 class Part(ctypes.Structure):

@@ -10,7 +10,7 @@ from . import _library
 from ._decimals import Number, scaled
 from ._figures import acres_of_hundredths
 from ._lot_faults import table_exception
-from ._lot_list import lots_of_township
+from ._lot_list import lots_in, lots_of_township, standard_table
 from ._lots_answering import LotsAnswering
 from ._refused import LOT_TABLE, Refused, hinted
 from ._spelling import Named, township_named
@@ -109,7 +109,8 @@ class Lots(LotsAnswering):
         ... )
         Fraction(81, 1)
         """
-        parts = _library.Lots(township=_library.Designation(*codes_of(township_named(township))))
+        parts = _library.Lots.from_buffer_copy(standard_table())
+        parts.township = _library.Designation(*codes_of(township_named(township)))
         lots = lots_of_township()
         for key, figure in figures.items():
             if key not in lots:
@@ -138,14 +139,14 @@ class Lots(LotsAnswering):
 
     @property
     def figures(self) -> Mapping[Tuple[int, int], Optional[Decimal]]:
-        """The returned acreage of each of the 47 lots, by section and lot: `None` if the table lacks it.
+        """The returned acreage of each lot of the plat, by section and lot: `None` if the table lacks it.
 
         >>> lots = township.Lots.read("section,lot,acres\\nT,2,N,3,W\\n5,1,40.45\\n")
         >>> lots.figures[5, 1], lots.figures[5, 2]
         (Decimal('40.45'), None)
         """
-        acres = [acres_of_hundredths(each) if each else None for each in self._parts.figures]
-        return MappingProxyType(dict(zip(lots_of_township(), acres)))
+        lots = lots_in(self._parts)
+        return MappingProxyType({lot: acres_of_hundredths(figure) if figure else None for lot, figure in lots})
 
     def csv(self) -> str:
         """Return the table (CSV), from which `Lots.read` makes it again.
@@ -171,8 +172,9 @@ class Lots(LotsAnswering):
         return Lots.read, (self.csv(),)
 
     def __repr__(self) -> str:
-        lots: List[int] = [each for each in self._parts.figures if each]
-        return f"<township.Lots of {self.township}: {len(lots)} of {_library.LOTS} lots>"
+        figures: List[int] = [figure for _, figure in lots_in(self._parts)]
+        has = sum(1 for figure in figures if figure)
+        return f"<township.Lots of {self.township}: {has} of {len(figures)} lots>"
 
 
 def _hundredths(figure: Number) -> int:

@@ -88,7 +88,10 @@ pub(crate) const TRACTS_MOST: usize = 1_000;
 pub(crate) const NAME_MOST: usize = 64;
 pub(crate) const NAME_ROOM: usize = 68;
 pub(crate) const PLACES_ACROSS: usize = 32;
-pub(crate) const LOTS: usize = 47;
+pub(crate) const RETURNED_MOST: usize = 1_024;
+pub(crate) const BOUNDS: usize = 37;
+pub(crate) const POSITION_BYTES: usize = 576;
+pub(crate) const DIVIDED_BYTES: usize = 8_192;
 pub(crate) const READINGS_MOST: usize = 8;
 pub(crate) const RULE_HALF: u32 = 1;
 pub(crate) const RULE_QUARTER: u32 = 2;
@@ -352,13 +355,25 @@ impl Land {
 #[repr(C)]
 #[derive(Clone, Debug, PartialEq, Eq, Hash)]
 pub(crate) struct Lots {
-    pub(crate) figures: [u32; LOTS],
+    pub(crate) figures: [u32; RETURNED_MOST],
+    pub(crate) first: [u16; BOUNDS],
+    pub(crate) numbers: [u8; RETURNED_MOST],
+    pub(crate) positions: [u8; POSITION_BYTES],
+    pub(crate) divided: [u8; DIVIDED_BYTES],
+    pub(crate) mapped: u16,
+    pub(crate) date: u32,
     pub(crate) township: Designation,
 }
 
 impl Lots {
     pub(crate) const BLANK: Lots = Lots {
-        figures: [0; LOTS],
+        figures: [0; RETURNED_MOST],
+        first: [0; BOUNDS],
+        numbers: [0; RETURNED_MOST],
+        positions: [0; POSITION_BYTES],
+        divided: [0; DIVIDED_BYTES],
+        mapped: 0,
+        date: 0,
         township: Designation::BLANK,
     };
 }
@@ -537,7 +552,7 @@ const _: () = assert!(size_of::<TractAnswer>() == 120 && offset_of!(TractAnswer,
 const _: () = assert!(size_of::<Overlap>() == 16 && offset_of!(Overlap, hundredths) == 8);
 const _: () = assert!(size_of::<Designation>() == 4 && offset_of!(Designation, east_west) == 3);
 const _: () = assert!(size_of::<Land>() == 4612 && offset_of!(Land, township) == 4608);
-const _: () = assert!(size_of::<Lots>() == 192 && offset_of!(Lots, township) == 188);
+const _: () = assert!(size_of::<Lots>() == 13972 && offset_of!(Lots, township) == 13968);
 const _: () = assert!(size_of::<Part>() == 6 && offset_of!(Part, rows) == 5);
 const _: () = assert!(size_of::<Change>() == 56 && offset_of!(Change, assumes) == 52);
 const _: () = assert!(size_of::<Reading>() == 40 && offset_of!(Reading, reserved) == 36);

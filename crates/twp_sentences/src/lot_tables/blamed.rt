@@ -7,26 +7,42 @@ ghost use Rattle.twp_sentences.specs.BlamedInTables.{AreUnlikeHeading, IsNotOfLo
 
 use crate::field_notes::{FieldRange, unlike_township};
 use twp_diagnose::{Record, is_text};
-use twp_notes::{FIELDS, section_of};
+use twp_notes::section_of;
 use twp_plat::LotsFault;
 
 /// The number of fields in the record of a lot.
 pub(crate) const LOT_FIELDS: usize = 3;
 
-/// The field of a lot's acreage.
+/// The most fields of the township's record, of which the last is a date.
+const TOWNSHIP_FIELDS: usize = 6;
+
+/// The field of a lot's acreage, that of its land, and that of the date in the township's record.
 const ACRES: usize = 2;
 
+const LAND: usize = 3;
+
+const DATE: usize = 5;
+
 /// The fields of a record that are to blame for its fault.
-pub(crate) fn blamed_in_table(fault: LotsFault, record: &Record<'_>) -> FieldRange
-    ensures { AreBlamedInTable fault (fields_in «record».now) result }
+pub(crate) fn blamed_in_table(
+    fault: LotsFault,
+    record: &Record<'_>,
+    lot_fields: usize,
+) -> FieldRange
+    ensures { AreBlamedInTable fault lot_fields (fields_in «record».now) result }
 {
     match fault {
         LotsFault::Heading => unlike_lots_heading(record),
-        LotsFault::Columns(number) => miscounted(record, columns_of(number)),
+        LotsFault::Columns(number) => miscounted(record, columns_of(number, lot_fields)),
         LotsFault::Township => FieldRange::one(unlike_township(record)),
         LotsFault::NoLot(_) => FieldRange::one(not_of_lot(record)),
         LotsFault::Acres(_) => FieldRange::one(ACRES),
-        LotsFault::Repeated(_) => FieldRange { first: 0, last: 1 },
+        LotsFault::Repeated(_) | LotsFault::TooMany(_) => FieldRange { first: 0, last: 1 },
+        LotsFault::Date => FieldRange::one(DATE),
+        LotsFault::Land(_)
+        | LotsFault::TooFine(_)
+        | LotsFault::Shared(_)
+        | LotsFault::Unfilled(_) => FieldRange::one(LAND),
         _ => FieldRange {
             first: 0,
             last: record.len().saturating_sub(1),
@@ -47,17 +63,25 @@ fn unlike_lots_heading(record: &Record<'_>) -> FieldRange
         FieldRange::one(2)
     } else {
         FieldRange {
-            first: LOT_FIELDS,
+            first: if is_text(record.text(LAND), "land") {
+                LAND + 1
+            } else {
+                LAND
+            },
             last: record.len().saturating_sub(1),
         }
     }
 }
 
-/// How many fields the record of a number has.
-pub(crate) fn columns_of(number: u32) -> usize
-    ensures { result ≡ columns_of number }
+/// The most fields of the record of a number, in a table in which a lot's record has so many.
+pub(crate) fn columns_of(number: u32, lot_fields: usize) -> usize
+    ensures { result ≡ columns_of number lot_fields }
 {
-    if number == 2 { FIELDS } else { LOT_FIELDS }
+    if number == 2 {
+        TOWNSHIP_FIELDS
+    } else {
+        lot_fields
+    }
 }
 
 /// The fields after so many, or the end of a record that has no more.

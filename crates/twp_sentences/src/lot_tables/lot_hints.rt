@@ -43,15 +43,26 @@ enum LotPattern {
     DecimalComma,
     /// The field to blame is an acreage, and a word after it.
     WithUnit,
+    /// The field to blame is empty.
+    EmptyField,
+    /// The field to blame has this byte in it.
+    Contains(u8),
+    /// The field to blame begins with this text, in small letters or capitals.
+    StartsField(&'static str),
+    /// The field to blame is letters of directions alone.
+    Letters,
+    /// Any record.
+    Any,
 }
 
 use LotPattern::{
-    Begins, CasedHeading, CutAcres, DecimalComma, Empty, EmptyFields, LongHeading, LotRecord,
-    OneField, Says, Spaced, SpacedHeading, WithUnit, Worded, Zeros,
+    Any, Begins, CasedHeading, Contains, CutAcres, DecimalComma, Empty, EmptyField, EmptyFields,
+    Letters, LongHeading, LotRecord, OneField, Says, Spaced, SpacedHeading, StartsField, WithUnit,
+    Worded, Zeros,
 };
 
 /// The rows, by the numbers of refusals.
-const LOT_HINTS: [LotHint; 29] = [
+const LOT_HINTS: [LotHint; 36] = [
     LotHint(88, Zeros, "the file looks like UTF-16: save it as UTF-8"),
     LotHint(
         88,
@@ -149,6 +160,37 @@ const LOT_HINTS: [LotHint; 29] = [
         "write a decimal point instead of the comma",
     ),
     LotHint(92, WithUnit, "write only the number"),
+    LotHint(
+        95,
+        EmptyField,
+        "delete the comma before it, or write the date of approval",
+    ),
+    LotHint(95, Spaced, "spaces are significant here: delete the space"),
+    LotHint(
+        95,
+        Contains(b'/'),
+        "write the year first, and hyphens, as in `1912-03-04`",
+    ),
+    LotHint(
+        96,
+        StartsField("sec"),
+        "leave out the section: it is the first field",
+    ),
+    LotHint(
+        96,
+        StartsField("lot"),
+        "write the lot's number in the second field, and the parts in which it lies here",
+    ),
+    LotHint(
+        96,
+        Letters,
+        "write a fraction after each direction, as in `NE1/4NE1/4`",
+    ),
+    LotHint(
+        100,
+        Any,
+        "add the other lots of the quarter-quarter, or a record without lot and acres for what is not there",
+    ),
 ];
 
 /// The words of the heading.
@@ -212,6 +254,11 @@ impl LotPattern {
             LotPattern::Worded(place) => place == field && is_worded(record.text(field)),
             LotPattern::DecimalComma => is_decimal_comma(record.text(field)),
             LotPattern::WithUnit => is_with_unit(record.text(field)),
+            LotPattern::EmptyField => record.text(field).is_empty(),
+            LotPattern::Contains(byte) => record.text(field).contains(&byte),
+            LotPattern::StartsField(word) => begins(record.text(field), word),
+            LotPattern::Letters => is_letters(record.text(field)),
+            LotPattern::Any => true,
         }
     }
 }
@@ -276,4 +323,12 @@ fn is_with_unit(text: &[u8]) -> bool {
         .count();
     let unit = text.get(number..).unwrap_or(b"").trim_ascii_start();
     number > 0 && matches!(unit.first(), Some(b'a'..=b'z' | b'A'..=b'Z'))
+}
+
+/// Whether a text is nothing but letters of directions.
+fn is_letters(text: &[u8]) -> bool {
+    !text.is_empty()
+        && text
+            .iter()
+            .all(|byte| matches!(*byte, b'N' | b'S' | b'E' | b'W'))
 }

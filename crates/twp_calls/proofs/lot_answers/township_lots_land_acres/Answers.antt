@@ -1,6 +1,6 @@
 -- There is no such land; or the townships differ; or the acres are those of the land, or the table lacks a
 -- lot.
-use Rattle.std.proofs.Common.{◌⊎◌, inl, inr}
+use Rattle.std.proofs.Common.{◌⊎◌, inl, inr, refl}
 use Rattle.twp_calls.specs.Calls.{IsRefusedFor}
 use Rattle.twp_calls.specs.LandCalls.{on_land, on_no_land}
 use Rattle.twp_calls.specs.LotCalls.{AreAcresAnswered, by_lots}
@@ -11,26 +11,26 @@ use Rattle.twp_calls.proofs.lot_answers.township_lots_land_acres.Goals as goal
 
 pub returns-in_default-land : goal.returns-in_default-land
 returns-in_default-land c =
-    by_lots c.in-Some.table c.in-Some.ensures
+    by_lots c.in-Some.township c.in-Some.ensures
     (on_no_land c.in_default-land.ensures c.bare-in_default-land.ensures)
 
 pub returns-then-not-is_same_township : goal.returns-then-not-is_same_township
 returns-then-not-is_same_township c =
-    by_lots c.in-Some.table c.in-Some.ensures
+    by_lots c.in-Some.township c.in-Some.ensures
     (on_land c.in-Some-land.land.township _ c.in-Some-land.ensures
-    (differ (λ answer. AreAcresAnswered (HasLotArea c.in-Some.table _) answer
-    ⊎ IsRefusedFor (IsLackingLot c.in-Some.table _) answer) c.in-Some.table.township
-    c.in-Some-land.land.township c.township.result c.is_same_township.result _ c.township.ensures
+    (differ (λ answer. AreAcresAnswered (HasLotArea c.args.lots.now.lots _) answer
+    ⊎ IsRefusedFor (IsLackingLot c.args.lots.now.lots _) answer) c.in-Some.township
+    c.in-Some-land.land.township c.in-Some.township c.is_same_township.result _ refl
     c.is_same_township.ensures
     c.if-not-is_same_township.true c.bare-then-not-is_same_township.ensures))
 
 pub returns-in-Ok : goal.returns-in-Ok
 returns-in-Ok c =
-    by_lots c.in-Some.table c.in-Some.ensures
+    by_lots c.in-Some.township c.in-Some.ensures
     (on_land c.in-Some-land.land.township _ c.in-Some-land.ensures
-    (agree (λ answer. AreAcresAnswered (HasLotArea c.in-Some.table _) answer
-    ⊎ IsRefusedFor (IsLackingLot c.in-Some.table _) answer) c.in-Some.table.township
-    c.in-Some-land.land.township c.township.result c.is_same_township.result _ c.township.ensures
+    (agree (λ answer. AreAcresAnswered (HasLotArea c.args.lots.now.lots _) answer
+    ⊎ IsRefusedFor (IsLackingLot c.args.lots.now.lots _) answer) c.in-Some.township
+    c.in-Some-land.land.township c.in-Some.township c.is_same_township.result _ refl
     c.is_same_township.ensures
     c.if-not-is_same_township.false
     (inl (record {
@@ -43,12 +43,12 @@ returns-in-Ok c =
 
 pub returns-in-Err : goal.returns-in-Err
 returns-in-Err c =
-    by_lots c.in-Some.table c.in-Some.ensures
+    by_lots c.in-Some.township c.in-Some.ensures
     (on_land c.in-Some-land.land.township _ c.in-Some-land.ensures
-    (agree (λ answer. AreAcresAnswered (HasLotArea c.in-Some.table _) answer
-    ⊎ IsRefusedFor (IsLackingLot c.in-Some.table _) answer) c.in-Some.table.township
-    c.in-Some-land.land.township c.township.result c.is_same_township.result _ c.township.ensures
+    (agree (λ answer. AreAcresAnswered (HasLotArea c.args.lots.now.lots _) answer
+    ⊎ IsRefusedFor (IsLackingLot c.args.lots.now.lots _) answer) c.in-Some.township
+    c.in-Some-land.land.township c.in-Some.township c.is_same_township.result _ refl
     c.is_same_township.ensures
     c.if-not-is_same_township.false
-    (inr (lacks_lot c.in-Some.table _ c.in-Err.lot.section c.in-Err.lot.number c.refusal.result _
+    (inr (lacks_lot c.args.lots.now.lots _ c.in-Err.lot.section c.in-Err.lot.number c.refusal.result _
     c.in-Err.ensures.lacking c.refusal.ensures c.of_refusal.ensures))))

@@ -8,6 +8,7 @@ use Rattle.twp_explain.specs.ExplainedPlaces.{IsExplainedWhereRefused}
 use Rattle.twp_explain.proofs.MessageFacts.{shows_notes, shows_text}
 use Rattle.twp_explain.proofs.ShownFacts.{platted_tells_none, tells_where}
 use Rattle.twp_explain.proofs.explaining.explain_land.Goals as goal
+use Rattle.twp_grid.specs.Lands.{STANDARD_LOTS}
 
 pub returns-in-Err-clause-none : goal.returns-in-Err-clause-none
 returns-in-Err-clause-none g c =
@@ -30,7 +31,8 @@ returns-in-Err-describe-clause-none g c =
     (of_description c.args.notes.now.bytes.now c.args.description.now.bytes.now c.in-Ok.plat
     c.in-Err-describe.stop c.in-Ok.ensures.plat
     (subst
-    (λ township. IfFound c.in-Err-describe.stop (IsNoDescription township c.args.description.now.bytes.now))
+    (λ township.
+    IfFound c.in-Err-describe.stop (IsNoDescription STANDARD_LOTS township c.args.description.now.bytes.now))
     c.township.ensures c.in-Err-describe.ensures.found))
     c.explain-in-Err-describe.ensures.none
 

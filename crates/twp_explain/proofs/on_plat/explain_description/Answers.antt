@@ -1,11 +1,12 @@
 use Rattle.twp_answers.specs.Answers.{IsNoDescription}
 use Rattle.twp_explain.proofs.ShownFacts.{found_is, explained_where, shown_land}
 use Rattle.twp_explain.proofs.on_plat.explain_description.Goals as goal
+use Rattle.twp_grid.specs.Lands.{STANDARD_LOTS}
 
 pub returns-in_ok-explain_stop-in-Err-clause-refusal :
     goal.returns-in_ok-explain_stop-in-Err-clause-refusal
 returns-in_ok-explain_stop-in-Err-clause-refusal g c =
-    found_is (IsNoDescription c.args.township c.args.description.now.bytes.now) c.in-Err.stop
+    found_is (IsNoDescription STANDARD_LOTS c.args.township c.args.description.now.bytes.now) c.in-Err.stop
     c.in_ok-explain_stop-in-Err.field-0.refusal c.in-Err.ensures.found
     c.in_ok-explain_stop-in-Err.ensures.refusal
 
