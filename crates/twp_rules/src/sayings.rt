@@ -100,6 +100,7 @@ pub(crate) fn is_more_or_less(seen: &[u8]) -> bool
 }
 
 /// Whether no word limits land, but for those that a phrase of a kind may contain.
+#[tactic(auto, using(crate::proofs::SayingFacts::no_word_at, crate::proofs::SayingFacts::no_limit_at))]
 pub(crate) fn has_no_limit(kind: Saying, seen: &[u8]) -> bool
     ensures { result ≡ has_no_limit kind seen.now }
 {
