@@ -15,5 +15,6 @@ pub mod LotTables
 pub mod LotAreas
 pub mod LotRecords
 pub mod LotsFaults
+pub mod PlainTables
 pub mod LotAreaLaws
 pub mod steps
