@@ -16,5 +16,6 @@ pub mod LotAreas
 pub mod LotRecords
 pub mod LotsFaults
 pub mod PlainTables
+pub mod PlainTableLaws
 pub mod LotAreaLaws
 pub mod steps

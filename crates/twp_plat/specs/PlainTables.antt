@@ -3,7 +3,7 @@
 -- semicolon, or a tab. Each line of the text becomes one line of the plain table, so the lines keep
 -- their numbers. The rules are this project's; no cell is moved, merged, or split, and no number is
 -- changed.
-use Rattle.std.specs.Prelude.{◌≡◌, ◌==◌, ◌&&◌, ◌||◌, ◌⊎◌, ℕ, ◌+◌, ◌-◌, ◌≤◌, Bool, true, false, not, List, []}
+use Rattle.std.specs.Prelude.{◌≡◌, ◌==◌, ◌&&◌, ◌||◌, ℕ, ◌-◌, ◌≤◌, Bool, true, false, not, List, []}
 use Rattle.std.specs.Prelude.{◌∷◌, ◌++◌, length, take, drop, slice_index, codes, if◌then◌else◌}
 use Rattle.std.specs.Char.{is_ascii_digit}
 use Rattle.std.specs.List.{flat_map, list_all, list_any, position_or_len}

@@ -6,3 +6,4 @@ pub mod SectionUnits
 pub mod LackingSteps
 pub mod PassedLotFaults
 pub mod LotEntries
+pub mod CellCuts

@@ -7,8 +7,10 @@ mod lacking;
 mod parsing;
 mod reading;
 mod record;
+mod sheet;
 mod table;
 
 pub use area::area_by_lots;
 pub use fault::LotsFault;
+pub use sheet::plain_table;
 pub use table::{LOTS, LotTable};
