@@ -79,7 +79,7 @@ class Tables(BatchCase):
         neither = b"this is neither field notes nor a lot table: field notes begin with `line,between,and,"
         for text, said in (
             (LOTS + "5,5,40.00\n", b":4: there is no lot 5: section 5 has lots 1 to 4"),
-            ("section;lot;acres\nT;2;N;3;W\n", b":1: the heading must be `section,lot,acres`: "),
+            ("section;lots;acres\nT;2;N;3;W\n", b":1: the heading must be `section,lot,acres`: "),
             ("SECTION,LOT,ACRES\n", b":1: the heading must be `section,lot,acres`: "),
             ("line;between;and\n", b":1: the heading must be `line,between,and,quarter,corner`"),
             (LOTS + " " * 65_536, b": the lot table is longer than 65,536 bytes"),

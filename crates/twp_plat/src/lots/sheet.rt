@@ -6,15 +6,16 @@ ghost use Rattle.std.specs.Prelude.{◌≡◌, ◌++◌, IfOk, OnOk, ◌≤◌, 
 ghost use Rattle.std.specs.List.{position_or_len};
 ghost use Rattle.twp_plat.specs.PlainTables.{IsPlainTable, is_line_end, unclosed_after, first_line};
 ghost use Rattle.twp_plat.specs.PlainTables.{byte_order_mark_of, after_byte_order_mark};
-ghost use Rattle.twp_plat.specs.steps.CellCuts.{separator_of, is_separated, plain_line, plain_lines};
+ghost use Rattle.twp_plat.specs.steps.CellCuts.{separator_of, is_separated};
+ghost use Rattle.twp_plat.specs.steps.CellCuts.{plain_line, plain_lines};
 
 use crate::lots::sheet::cells::{COMMA, QUOTATION_MARK, SEMICOLON, TAB, cells_of};
 use crate::lots::sheet::row::{has_byte_order_mark, write_row};
 use std::alloc::{AllocError, Global};
 
-/// The plain table of a lot table as a spreadsheet saves it: line by line, without the empty cells at
-/// the end of a row, with commas for semicolons or tabs, and with two decimals in the third cell. The
-/// lines keep their numbers, so a refusal of the plain table is at the right line of the text.
+/// The plain table of a lot table as a spreadsheet saves it: line by line, without the empty cells
+/// at the end of a row, with commas for semicolons or tabs, and with two decimals in the third cell.
+/// The lines keep their numbers, so a refusal of the plain table is at the right line of the text.
 pub fn plain_table(alloc: Global, text: &[u8]) -> Result<Vec<u8>, AllocError>
     ensures { IfOk result (λ plain. IsPlainTable text.now plain.items) }
 {
@@ -111,7 +112,8 @@ fn write_line(
     unclosed: bool,
     line: &[u8],
 ) -> Result<(), AllocError>
-    ensures { OnOk result (plain.new.items ≡ plain.old.items ++ plain_line separator unclosed line.now) }
+    ensures { OnOk result (plain.new.items
+        ≡ plain.old.items ++ plain_line separator unclosed line.now) }
 {
     if unclosed {
         return plain.extend_from_slice(line);
