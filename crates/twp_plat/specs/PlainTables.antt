@@ -89,12 +89,13 @@ pub data IsSeparatorOf (line : List ℕ) (separator : ℕ) : Type 0 where
   nothing : ¬ IsSeparated comma line → ¬ IsSeparated semicolon line → ¬ IsSeparated tab line
       → separator ≡ comma → IsSeparatorOf line separator
 
--- the cells without the empty ones at the end
+-- a cell before the others: an empty one is left out if there are no others
 abbrev pub before_empty : List ℕ → List (List ℕ) → List (List ℕ)
 before_empty [] [] = []
 before_empty [] (next ∷ more) = [] ∷ next ∷ more
 before_empty (byte ∷ bytes) cells = (byte ∷ bytes) ∷ cells
 
+-- the cells without the empty ones at the end
 abbrev pub trimmed : List (List ℕ) → List (List ℕ)
 trimmed [] = []
 trimmed (cell ∷ cells) = before_empty cell (trimmed cells)
