@@ -129,6 +129,21 @@ class Tables(BatchCase):
             self.assertTrue(rows[3][5].startswith("NE1/4 SE1/4 is read as one part of 40.00 acres"), rows[3])
             self.assertEqual(rows[4][4], "section 5 has lots 1 to 4")
 
+    def test_table_of_a_spreadsheet(self):
+        table = self.put(LOTS.replace(",", ";").replace("\n", ";;\n"), "lots.csv")
+        run = self.run_words("batch", "--lots", table, self.put('description\n"sec. 5, lot 1."\n'))
+        self.assertEqual((run.returncode, run.stderr), (0, b""))
+        self.assertEqual(records(run.stdout)[1][1], "41.23")
+        # In a folder, too.
+        self.put(table.read_text(), "plats/lots.csv")
+        self.assertEqual(self.answers()[0][0], ("41.23", "lots.csv"))
+
+    def test_workbook_that_is_none(self):
+        table = self.put(LOTS, "lots.xlsx")
+        run = self.run_words("batch", "--lots", table, self.put("description\nsec. 14.\n"))
+        self.assertEqual((run.returncode, run.stdout), (3, b""))
+        self.assertRegex(run.stderr, rb"\Atownship: cannot read \S+/lots.xlsx: [^\n]+\n\Z")
+
     def test_readings_by_a_table(self):
         data = 'description\n"Lot 1, Sec 5"\n"Lot 2, Sec 5"\n'
         run = self.run_words("batch", "--lots", self.put(LOTS, "lots.csv"), self.put(data), "--suggest")
