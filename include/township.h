@@ -602,6 +602,15 @@ township_answer township_land_compare(const township_land *first, const township
 township_answer township_lots_read(const uint8_t *table, size_t table_length, township_lots *lots);
 
 /*
+ * Writes the plain table of a lot table as a spreadsheet saves it: without empty cells at the end of a row, with
+ * commas for semicolons or tabs, and with two decimals in the third cell, such as 40.50 for 40.5; docs/LOTS-FORMAT.md
+ * has the rules. Nothing is refused: a row whose quotation marks do not pair stays as it is. Each line of `table`
+ * becomes one line of the text, so the line in an explanation of the text (township_explain_lots) is the line of
+ * `table`. The plain table of a plain table is that plain table.
+ */
+township_answer township_lots_plain(const uint8_t *table, size_t table_length, uint8_t *text, size_t room);
+
+/*
  * Return in `hundredths` the acres of a description or of land, by a lot table of its township; or write the exact
  * area, before rounding, to `area`. Each whole lot counts at its returned acreage, and other land at its nominal
  * area. If the table lacks a lot of the land, the refusal is TOWNSHIP_REFUSAL_LOTS_LACKING, and its place is the

@@ -34,6 +34,10 @@ SELECT refusal(lots, NULL::text) IS NULL AS description, refusal(lots, NULL::lan
        acres_or_null(lots, NULL::land) IS NULL AS acres
 FROM lot_tables WHERE name = 'some';
 
+-- Lot tables as spreadsheets save them.
+SELECT lots::text = E'section,lot,acres\nT,2,N,3,W\n5,1,40.50\n' AS read
+FROM (VALUES (E'section,lot,acres,,\nT,2,N,3,W\n,,,,\n5,1,40.5,,\n'::lots), (E'section;lot;acres\nT;2;N;3;W\n5;1;40.5\n')) AS saved (lots);
+
 -- Refusals of lot tables.
 SELECT repeat(' ', 65537)::lots;
 SELECT ''::lots;
@@ -41,7 +45,7 @@ SELECT E'section,lot,area\n'::lots;
 SELECT E'section,lot,acres\nT,2,N,3\n'::lots;
 SELECT E'section,lot,acres\nT,2,N,0,W\n'::lots;
 SELECT E'section,lot,acres\nT,2,N,3,W\n5,5,40.00\n'::lots;
-SELECT E'section,lot,acres\nT,2,N,3,W\n5,1,40\n'::lots;
+SELECT E'section,lot,acres\nT,2,N,3,W\n5,1,40.455\n'::lots;
 SELECT E'section,lot,acres\nT,2,N,3,W\n5,1,40.00\n5,1,40.00\n'::lots;
 SELECT a.name, b.name, a.lots = b.lots AS same, a.lots <> b.lots AS different
 FROM lot_tables a, lot_tables b ORDER BY a.name, b.name;

@@ -21,6 +21,35 @@ static int lots_in(int section) {
     return counts[section] - '0';
 }
 
+static township_answer write_plain(const void *given, uint8_t *text, size_t room) {
+    const twpg_bytes *table = given;
+
+    return township_lots_plain(table->start, table->length, text, room);
+}
+
+/* The plain table of a lot table as a spreadsheet saves it. */
+static twpg_bytes plain_of(twpg_bytes table) {
+    char *plain;
+    township_answer answer = twpg_write(write_plain, &table, &plain);
+
+    if (answer.verdict != TOWNSHIP_ACCEPTED) {
+        twpg_fail(answer.verdict);
+    }
+    return (twpg_bytes){(const uint8_t *)plain, (size_t)answer.length};
+}
+
+/* Reads a lot table or, if it is refused, its plain table. */
+static township_answer read_lots(twpg_bytes table, township_lots *lots) {
+    township_answer answer = township_lots_read(table.start, table.length, lots);
+
+    if (answer.verdict == TOWNSHIP_REFUSED && answer.number != TOWNSHIP_REFUSAL_LOTS_TOO_LARGE) {
+        twpg_bytes plain = plain_of(table);
+
+        answer = township_lots_read(plain.start, plain.length, lots);
+    }
+    return answer;
+}
+
 PG_FUNCTION_INFO_V1(twpg_lots_in);
 Datum twpg_lots_in(PG_FUNCTION_ARGS) {
     const char *given = PG_GETARG_CSTRING(0);
@@ -29,7 +58,7 @@ Datum twpg_lots_in(PG_FUNCTION_ARGS) {
     township_answer answer;
 
     check_stack_depth();
-    answer = township_lots_read(table.start, table.length, lots);
+    answer = read_lots(table, lots);
     if (answer.verdict == TOWNSHIP_REFUSED) {
         twpg_refuse_lots(answer);
     }

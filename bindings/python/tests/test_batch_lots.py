@@ -79,7 +79,7 @@ class Tables(BatchCase):
         neither = b"this is neither field notes nor a lot table: field notes begin with `line,between,and,"
         for text, said in (
             (LOTS + "5,5,40.00\n", b":4: there is no lot 5: section 5 has lots 1 to 4"),
-            ("section;lot;acres\nT;2;N;3;W\n", b":1: the heading must be `section,lot,acres`: "),
+            ("section;lots;acres\nT;2;N;3;W\n", b":1: the heading must be `section,lot,acres`: "),
             ("SECTION,LOT,ACRES\n", b":1: the heading must be `section,lot,acres`: "),
             ("line;between;and\n", b":1: the heading must be `line,between,and,quarter,corner`"),
             (LOTS + " " * 65_536, b": the lot table is longer than 65,536 bytes"),
@@ -128,6 +128,21 @@ class Tables(BatchCase):
             self.assertEqual(rows[2][4:], ["the lot table has no record for lot 2 of section 5", "", ""])
             self.assertTrue(rows[3][5].startswith("NE1/4 SE1/4 is read as one part of 40.00 acres"), rows[3])
             self.assertEqual(rows[4][4], "section 5 has lots 1 to 4")
+
+    def test_table_of_a_spreadsheet(self):
+        table = self.put(LOTS.replace(",", ";").replace("\n", ";;\n"), "lots.csv")
+        run = self.run_words("batch", "--lots", table, self.put('description\n"sec. 5, lot 1."\n'))
+        self.assertEqual((run.returncode, run.stderr), (0, b""))
+        self.assertEqual(records(run.stdout)[1][1], "41.23")
+        # In a folder, too.
+        self.put(table.read_text(), "plats/lots.csv")
+        self.assertEqual(self.answers()[0][0], ("41.23", "lots.csv"))
+
+    def test_workbook_that_is_none(self):
+        table = self.put(LOTS, "lots.xlsx")
+        run = self.run_words("batch", "--lots", table, self.put("description\nsec. 14.\n"))
+        self.assertEqual((run.returncode, run.stdout), (3, b""))
+        self.assertRegex(run.stderr, rb"\Atownship: cannot read \S+/lots.xlsx: [^\n]+\n\Z")
 
     def test_readings_by_a_table(self):
         data = 'description\n"Lot 1, Sec 5"\n"Lot 2, Sec 5"\n'

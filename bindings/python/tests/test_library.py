@@ -225,6 +225,7 @@ class Verdicts(unittest.TestCase):
         "land_compare": lambda: LAND <= LAND,
         "land_parts": lambda: LAND.parts,
         "lots_read": lambda: township.Lots.read(b""),
+        "lots_plain": lambda: township.Lots.read(b","),
         "explain_lots_parts": lambda: township.Lots.read(b""),
         "explain_lacking_parts": lambda: LOTS.acres("sec. 31."),
         "lots_acres": lambda: LOTS.acres("sec. 14."),

@@ -8,6 +8,7 @@ use crate::land::Land;
 use crate::lot_faults::{refused_lacking, refused_table, LACKING};
 use crate::refused::{Refused, DESCRIPTION, LAND, LIST, LOT_TABLE};
 use crate::report::{list_of, LotsReport};
+use crate::text::accepted_bytes_by;
 use crate::township::Township;
 use std::error::Error;
 use std::fmt;
@@ -58,6 +59,9 @@ pub enum NoLandAcres {
 impl Lots {
     /// Reads a lot table (CSV, at most 65,536 bytes; see `docs/LOTS-FORMAT.md`).
     ///
+    /// A table may be as a spreadsheet saves it: with empty cells at the end of a row, with semicolons
+    /// or tabs between the cells, or with 40.5 for 40.50 acres.
+    ///
     /// # Errors
     ///
     /// Returns [`Refused`] if it is not a lot table.
@@ -68,6 +72,7 @@ impl Lots {
     /// let lots = Lots::read(b"section,lot,acres\nT,2,N,3,W\n5,1,40.45\n")?;
     /// assert_eq!(lots.township().to_string(), "T. 2 N., R. 3 W.");
     /// assert_eq!(lots.figure(5, 1).unwrap().to_string(), "40.45");
+    /// assert_eq!(lots, Lots::read(b"section;lot;acres;;\nT;2;N;3;W\n5;1;40.45;;\n")?);
     ///
     /// let refused = Lots::read(b"section,lot,acres\nT,2,N,3,W\n14,1,40.00\n").unwrap_err();
     /// assert_eq!((refused.number, refused.at), (91, 3));
@@ -76,9 +81,26 @@ impl Lots {
     /// ```
     pub fn read(table: &[u8]) -> Result<Lots, Refused> {
         let (answer, data) = ffi::lots_read(table);
+        let fault = match answer.accepted() {
+            Ok(_) => return Ok(Lots { data }),
+            Err(fault) => fault,
+        };
+        if fault.refusal.number != ffi::REFUSAL_LOTS_TOO_LARGE {
+            let plain = accepted_bytes_by(|room| ffi::lots_plain(table, room));
+            if plain != table {
+                return Lots::read_plain(&plain);
+            }
+        }
+        Err(refused_table(fault, table, LOT_TABLE))
+    }
+
+    /// Reads the plain table of a lot table that is refused. Its lines are those of the table, but its
+    /// bytes are not.
+    fn read_plain(plain: &[u8]) -> Result<Lots, Refused> {
+        let (answer, data) = ffi::lots_read(plain);
         match answer.accepted() {
             Ok(_) => Ok(Lots { data }),
-            Err(fault) => Err(refused_table(fault, table, LOT_TABLE)),
+            Err(fault) => Err(refused_table(fault, plain, LOT_TABLE).without_bytes()),
         }
     }
 

@@ -169,6 +169,14 @@ impl Refused {
         Refused::new(fault, Explained::default())
     }
 
+    /// Returns the refusal without the bytes of the input that it underlines, and those of the other
+    /// place.
+    pub(crate) fn without_bytes(mut self) -> Refused {
+        self.parts.span = None;
+        self.parts.other = None;
+        self
+    }
+
     /// Returns the bytes of the input that the explanation underlines. `None` if it underlines none.
     pub fn span(&self) -> Option<Range<usize>> {
         self.parts.span.clone()

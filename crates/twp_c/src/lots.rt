@@ -4,6 +4,7 @@ ghost use Rattle.twp_calls.specs.Answers.{ACCEPTED};
 ghost use Rattle.twp_calls.specs.LotCalls.{IsLotsReadCall, IsLotsAcresCall, IsLotsAreaCall};
 ghost use Rattle.twp_calls.specs.LotCalls.{IsLotsLandAcresCall, IsLotsLandAreaCall};
 ghost use Rattle.twp_calls.specs.LotReports.{IsLotsReportCall};
+ghost use Rattle.twp_calls.specs.LotsPlainCalls.{IsLotsPlainCall};
 
 use std::alloc::Global;
 use twp_calls::{TownshipAnswer, TownshipFraction, TownshipLand, TownshipLots, TownshipTract};
@@ -19,6 +20,19 @@ pub extern "C" fn township_lots_read(
     ensures kept { result.verdict ≢ ACCEPTED → lots.new ≡ lots.old }
 {
     twp_calls::township_lots_read(alloc, table, lots)
+}
+
+/// The plain table of a lot table as a spreadsheet saves it.
+#[unsafe(no_mangle)]
+pub extern "C" fn township_lots_plain(
+    alloc: Global,
+    table: &[u8],
+    text: &mut [u8],
+) -> TownshipAnswer
+    ensures answer { IsLotsPlainCall table.now text.old text.new result }
+    ensures kept { result.verdict ≢ ACCEPTED → text.new ≡ text.old }
+{
+    twp_calls::township_lots_plain(alloc, table, text)
 }
 
 /// The acres of a description by a lot table.

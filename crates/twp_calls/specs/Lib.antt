@@ -16,6 +16,7 @@ pub mod LandParts
 pub mod LotCalls
 pub mod LotExplanations
 pub mod LotReports
+pub mod LotsPlainCalls
 pub mod ManyAnswers
 pub mod Suggestions
 pub mod UnreadCalls

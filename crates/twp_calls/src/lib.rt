@@ -31,6 +31,7 @@ mod land_parts;
 pub mod laws;
 mod lot_answers;
 mod lots;
+mod lots_plain;
 mod lots_report_call;
 mod many;
 mod name;
@@ -83,6 +84,7 @@ pub use lot_answers::{
     township_lots_read,
 };
 pub use lots::TownshipLots;
+pub use lots_plain::township_lots_plain;
 pub use lots_report_call::township_lots_report;
 pub use many::township_acres_many;
 pub use overlaps_call::{TownshipOverlap, township_overlaps};

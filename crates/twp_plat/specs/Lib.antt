@@ -15,6 +15,8 @@ pub mod LotTables
 pub mod LotDates
 pub mod LotAreas
 pub mod LotRecords
+pub mod PlainTables
+pub mod PlainTableLaws
 pub mod LotAreaLaws
 pub mod LandTexts
 pub mod LandRecords

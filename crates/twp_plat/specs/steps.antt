@@ -12,3 +12,4 @@ pub mod LandPaints
 pub mod LandEntries
 pub mod Unfilled
 pub mod LotReading
+pub mod CellCuts

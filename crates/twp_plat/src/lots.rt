@@ -18,10 +18,12 @@ mod plat_record;
 mod reading;
 mod record;
 mod returned;
+mod sheet;
 mod table;
 
 pub use area::area_by_lots;
 pub use fault::LotsFault;
 pub use lacking::LackingLot;
 pub use returned::{BOUNDS, FIGURE_MOST, LOT_MOST, LOTS, RETURNED_MOST, ReturnedLots};
+pub use sheet::plain_table;
 pub use table::LotTable;

@@ -284,6 +284,10 @@ static township_answer call_lots_read(void) {
     return township_lots_read(BYTES(TABLE), &lots);
 }
 
+static township_answer call_lots_plain(void) {
+    return township_lots_plain(BYTES("section;lot;acres;\nT;2;N;3;W\n5;1;40.5;\n"), room_text(texts), MOST_TEXT);
+}
+
 static township_lots table;
 
 static township_answer call_explain_lots(void) {
@@ -387,6 +391,7 @@ static const struct {
     {"township_land_combine", call_land_combine},
     {"township_land_compare", call_land_compare},
     {"township_lots_read", call_lots_read},
+    {"township_lots_plain", call_lots_plain},
     {"township_explain_lots", call_explain_lots},
     {"township_explain_lacking", call_explain_lacking},
     {"township_explain_lots_parts", call_explain_lots_parts},

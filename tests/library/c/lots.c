@@ -81,6 +81,59 @@ static void refuses_tables(void) {
     refuses_table(bytes_of(TABLE "5,1,40.45\n"), TOWNSHIP_REFUSAL_LOTS_REPEATED, 6);
 }
 
+/* The plain table of a text is this one, whose own plain table is the same. If there is less room, nothing is
+   written. */
+static void makes_plain(const char *text, const char *wanted) {
+    bytes table = bytes_of(text), plain = bytes_of(wanted);
+    uint8_t made[256], kept[256];
+    township_answer answer;
+
+    memset(made, 0xA5, sizeof made);
+    memset(kept, 0xA5, sizeof kept);
+    if (plain.length > 0) {
+        answer = township_lots_plain(table.at, table.length, made, plain.length - 1);
+        CHECK(answer.verdict == TOWNSHIP_NO_ROOM && answer.length == plain.length);
+        CHECK(memcmp(made, kept, sizeof made) == 0);
+    }
+    answer = township_lots_plain(table.at, table.length, made, sizeof made);
+    CHECK(answer.verdict == TOWNSHIP_ACCEPTED && answer.length == plain.length);
+    CHECK(memcmp(made, plain.at, plain.length) == 0);
+    CHECK(memcmp(made + plain.length, kept, sizeof made - plain.length) == 0);
+    answer = township_lots_plain(plain.at, plain.length, made, sizeof made);
+    CHECK(answer.length == plain.length && memcmp(made, plain.at, plain.length) == 0);
+    drop(table);
+    drop(plain);
+}
+
+static void makes_plain_tables(void) {
+    township_lots lots;
+    bytes plain;
+
+    /* Empty cells at the end of a row, an empty row, and fewer decimals. */
+    makes_plain(HEADING "T,2,N,3,W\n5,1,40.45\n", HEADING "T,2,N,3,W\n5,1,40.45\n");
+    makes_plain("section,lot,acres,,\nT,2,N,3,W\n,,,,\n5,1,40.5,,\n5,2,40,,",
+                HEADING "T,2,N,3,W\n\n5,1,40.50\n5,2,40.00");
+    /* Semicolons and tabs, line ends of Windows, and a byte order mark. */
+    makes_plain("section;lot;acres;;\r\nT;2;N;3;W\r\n5;1;40,5;;\r\n",
+                "section,lot,acres\r\nT,2,N,3,W\r\n5,1,\"40,5\"\r\n");
+    makes_plain("section\tlot\tacres\n5\t1\t40.5\t\n", HEADING "5,1,40.50\n");
+    makes_plain("\xEF\xBB\xBF\"section\",\"lot\",\"acres\"\n", "\xEF\xBB\xBF" HEADING);
+    /* Quotation marks that are needed stay; lines within a quoted cell, and those whose marks don't pair, too. */
+    makes_plain("a,b,5,\"x, \"\"y\"\"\",\n", "a,b,5.00,\"x, \"\"y\"\"\"\n");
+    makes_plain("a,b\n5,1,40,\"x\n5,1,40,\ny\",\n5,2,40,\n", "a,b\n5,1,40,\"x\n5,1,40,\ny\",\n5,2,40.00\n");
+    makes_plain("a;b\n\"5\",1,40.5\n5;1;40\"\n", "a,b\n5,1,40.50\n5;1;40\"\n");
+    /* Other numbers stay as they are, and so does an empty cell between others. */
+    makes_plain("5,1,40.450,\n5,1,40.,\n5,1,.5,\n5,1, 40,\n5,,40,\n5,1,,x\n",
+                "5,1,40.450\n5,1,40.\n5,1,.5\n5,1, 40\n5,,40.00\n5,1,,x\n");
+    makes_plain("", "");
+    makes_plain("\"a;b\",,\n", "\"a;b\"\n");
+    /* The plain table is the one that is read: the strict reader refuses the other. */
+    refuses_table(bytes_of("section,lot,acres,,\nT,2,N,3,W\n"), TOWNSHIP_REFUSAL_LOTS_HEADING, 1);
+    plain = bytes_of(HEADING "T,2,N,3,W\n");
+    CHECK_ANSWER(read_lots(plain, &lots), bare(TOWNSHIP_ACCEPTED));
+    drop(plain);
+}
+
 static township_answer acres_by(const township_lots *lots, const char *text) {
     bytes description = bytes_of(text);
     township_answer answer = township_lots_acres(lots, description.at, description.length);
@@ -330,6 +383,7 @@ static void refuses_lists(void) {
 void answers_lots(void) {
     reads_lots();
     refuses_tables();
+    makes_plain_tables();
     measures_land();
     refuses_lacking();
     refuses_lots();

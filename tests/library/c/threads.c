@@ -71,6 +71,7 @@ static void call_on_land(const township_plat *plat, round_answers *to) {
     answer[21] = township_land_combine(&to->land, &other, TOWNSHIP_UNION, &to->combined);
     answer[22] = township_land_compare(&to->combined, &to->land, &to->comparison);
     answer[23] = township_lots_read(BYTES("section,lot,acres\nT,2,N,3,W\n6,1,40.45\n"), &to->lots);
+    answer[45] = township_lots_plain(BYTES("section;lot;acres;\n6;1;40.5;\n"), to->texts[45], sizeof to->texts[45]);
     to->lots.township = township;
     to->lots.figures[20] = 4000 + plat->number;
     answer[24] = township_lots_acres(&to->lots, BYTES("sec. 6, lot 1; sec. 14."));

@@ -322,6 +322,7 @@ land_parts = _call("township_land_parts", POINTER(Land), POINTER(Part), c_size_t
 land_combine = _call("township_land_combine", POINTER(Land), POINTER(Land), c_uint32, POINTER(Land))
 land_compare = _call("township_land_compare", POINTER(Land), POINTER(Land), POINTER(c_uint32))
 lots_read = _call("township_lots_read", c_char_p, c_size_t, POINTER(Lots))
+lots_plain = _call("township_lots_plain", c_char_p, c_size_t, POINTER(c_char), c_size_t)
 lots_acres = _call("township_lots_acres", POINTER(Lots), c_char_p, c_size_t)
 lots_area = _call("township_lots_area", POINTER(Lots), c_char_p, c_size_t, POINTER(Fraction))
 lots_land_acres = _call("township_lots_land_acres", POINTER(Lots), POINTER(Land))

@@ -5,7 +5,7 @@ from ctypes import byref
 
 from . import _library
 from ._explanation import explained_by
-from ._refused import Refused, exception_of, failure_of, inner_refusal
+from ._refused import Refused, exception_of, failure_of, inner_refusal, without_bytes
 
 #: The number of the refusal of land with a lot that the table lacks.
 LACKING = _library.REFUSAL_LOTS_LACKING
@@ -14,6 +14,17 @@ LACKING = _library.REFUSAL_LOTS_LACKING
 def table_exception(answer: _library.Answer, table: bytes, source: bytes) -> Exception:
     """Return the exception for a lot table that is not accepted. `source` is what the explanation calls it."""
     return exception_of(answer, _library.explain_lots_parts, table, len(table), source=source)
+
+
+def plain_exception(answer: _library.Answer, plain: bytes, source: bytes) -> Exception:
+    """Return the exception for the plain table of a lot table, which is different from the table.
+
+    Its lines are those of the table, but its bytes are not, so none of them are given.
+    """
+    exception = table_exception(answer, plain, source)
+    if not isinstance(exception, Refused):
+        return exception
+    return without_bytes(exception)
 
 
 def lacking_exception(answer: _library.Answer, lots: _library.Lots, source: bytes) -> Exception:

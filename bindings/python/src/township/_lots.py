@@ -9,13 +9,15 @@ from typing import Any, List, Mapping, Optional, Tuple
 from . import _library
 from ._decimals import Number, scaled
 from ._figures import acres_of_hundredths
-from ._lot_faults import table_exception
+from ._lot_faults import plain_exception, table_exception
 from ._lot_list import lots_in, lots_of_township, standard_table
 from ._lots_answering import LotsAnswering
-from ._refused import LOT_TABLE, Refused, hinted
+from ._refused import LOT_TABLE, Refused, failure_of, hinted
 from ._spelling import Named, township_named
 from ._text import Path, Text, encoded, names_a_file, shown
 from ._township import Township, codes_of, township_of
+from ._workbook import is_workbook, table_of_workbook
+from ._written import bytes_by
 
 #: The acreage of a quarter-quarter section.
 _STANDARD = 40
@@ -62,17 +64,20 @@ class Lots(LotsAnswering):
     def open(cls, path: Path) -> Lots:
         """Read a lot table from a file (CSV, at most 65,536 bytes; see `docs/LOTS-FORMAT.md`).
 
+        A file whose name ends with `.xlsx` is a workbook, whose first sheet is read. This takes the package
+        `openpyxl`.
+
         Raise `OSError` if the file cannot be read, and `Refused` if it is not a lot table. The explanation then
         shows the name of the file.
         """
-        with open(path, "rb") as file:
-            # One byte more than the limit is enough for the refusal of a table that is too large.
-            table = file.read(_library.LOTS_TEXT_MOST + 1)
-        return cls._read(table, shown(path).encode("utf-8", "backslashreplace"))
+        return cls._read(_bytes_in(path), shown(path).encode("utf-8", "backslashreplace"))
 
     @classmethod
     def read(cls, table: Text) -> Lots:
         """Read a lot table (CSV, at most 65,536 bytes; see `docs/LOTS-FORMAT.md`).
+
+        A table may be as a spreadsheet saves it: with empty cells at the end of a row, with semicolons or tabs
+        between the cells, or with 40.5 for 40.50 acres.
 
         Raise `Refused` if it is not a lot table. To read a file, call `Lots.open`.
 
@@ -90,11 +95,26 @@ class Lots(LotsAnswering):
 
     @classmethod
     def _read(cls, table: bytes, source: bytes) -> Lots:
-        """Read a lot table, which an explanation calls by this name."""
-        parts = _library.Lots()
-        answer = _library.lots_read(table, len(table), byref(parts))
+        """Read a lot table, which an explanation calls by this name.
+
+        If it is refused, a spreadsheet may have saved it, so read its plain table. The bytes of a table that is too
+        large may be only the first of a file, so its plain table could lack lots.
+        """
+        answer, parts = _parts_of(table)
+        if answer.verdict == _library.REFUSED and answer.number != _library.REFUSAL_LOTS_TOO_LARGE:
+            plain = _plain(table)
+            if plain != table:
+                return cls._read_plain(plain, source)
         if answer.verdict != _library.ACCEPTED:
             raise table_exception(answer, table, source)
+        return cls._of_struct(parts)
+
+    @classmethod
+    def _read_plain(cls, plain: bytes, source: bytes) -> Lots:
+        """Read the plain table of a lot table that is refused. Its lines are those of the table."""
+        answer, parts = _parts_of(plain)
+        if answer.verdict != _library.ACCEPTED:
+            raise plain_exception(answer, plain, source)
         return cls._of_struct(parts)
 
     @classmethod
@@ -175,6 +195,29 @@ class Lots(LotsAnswering):
         figures: List[int] = [figure for _, figure in lots_in(self._parts)]
         has = sum(1 for figure in figures if figure)
         return f"<township.Lots of {self.township}: {has} of {len(figures)} lots>"
+
+
+def _bytes_in(path: Path) -> bytes:
+    """Return the bytes of a file, or the first sheet of a workbook as CSV."""
+    if is_workbook(path):
+        return table_of_workbook(path)
+    with open(path, "rb") as file:
+        # One byte more than the limit is enough for the refusal of a table that is too large.
+        return file.read(_library.LOTS_TEXT_MOST + 1)
+
+
+def _parts_of(table: bytes) -> Tuple[_library.Answer, _library.Lots]:
+    """Return the answer of the library on a lot table, and the table's parts, if it is accepted."""
+    parts = _library.Lots()
+    return _library.lots_read(table, len(table), byref(parts)), parts
+
+
+def _plain(table: bytes) -> bytes:
+    """Return the plain table of a lot table as a spreadsheet saves it."""
+    answer, plain = bytes_by(_library.lots_plain, table, len(table))
+    if answer.verdict != _library.ACCEPTED:
+        raise failure_of(answer.verdict)
+    return plain
 
 
 def _hundredths(figure: Number) -> int:

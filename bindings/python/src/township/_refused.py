@@ -178,6 +178,21 @@ def hinted(refused: Refused, hint: str) -> Refused:
     return again
 
 
+def without_bytes(refused: Refused) -> Refused:
+    """Return a refusal without the bytes of the input that it underlines, and those of the other place."""
+    explained = refused._explained._replace(start=None, end=None, other=None)
+    return Refused(
+        refused.number,
+        refused.at,
+        refused.line,
+        refused.column,
+        refused.explanation,
+        refused.inner,
+        refused.source,
+        explained,
+    )
+
+
 def refused_as_a_whole(source: str, refusal: Refusal, sentence: str) -> Refused:
     """Return the refusal of a text that has no place in it, with a sentence that is not the library's."""
     explained = Explained(source, sentence)

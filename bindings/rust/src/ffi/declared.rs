@@ -629,6 +629,9 @@ extern "C" {
         first: *const Land, second: *const Land, comparison: *mut u32,
     ) -> Answer;
     fn township_lots_read(table: *const u8, table_length: usize, lots: *mut Lots) -> Answer;
+    fn township_lots_plain(
+        table: *const u8, table_length: usize, text: *mut u8, room: usize,
+    ) -> Answer;
     fn township_lots_acres(
         lots: *const Lots, description: *const u8, description_length: usize,
     ) -> Answer;
@@ -914,6 +917,14 @@ pub(crate) fn lots_read(table: &[u8]) -> (Answer, Lots) {
         township_lots_read(table.as_ptr(), table.len(), &mut lots)
     };
     (answer, lots)
+}
+
+/// Calls `township_lots_plain`.
+pub(crate) fn lots_plain(table: &[u8], text: &mut [u8]) -> Answer {
+    // SAFETY: slices and references meet the library's requirements.
+    unsafe {
+        township_lots_plain(table.as_ptr(), table.len(), text.as_mut_ptr(), text.len())
+    }
 }
 
 /// Calls `township_lots_acres`.
