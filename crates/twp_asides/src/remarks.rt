@@ -1,7 +1,7 @@
 //! Remarks beside land: a cell, a line, a sentence, or parentheses that name no land.
 ghost use Rattle.std.specs.Prelude.{◌<◌};
 
-use crate::limits::{is_beyond_remark, limits_land_at};
+use crate::limits::{is_beyond_remark, is_row_of_table, is_type_of_case, limits_land_at};
 use crate::marks::{
     begins_tract, is_homesite_of_acreage, is_initial, is_known_at, is_of_well, is_title_of_other,
 };
@@ -49,6 +49,7 @@ pub fn end_of_remark(pieces: &Pieces<'_>, index: usize, position: Position) -> O
     let mut has_word = false;
     let mut is_sure = position == Position::BeforeLand
         || begins_tract(pieces, index)
+        || is_row_of_table(pieces, index)
         || is_name_of_value(pieces, index)
         || is_homesite_of_acreage(pieces, index);
     let mut next = index;
@@ -84,7 +85,8 @@ fn may_end_remark(pieces: &Pieces<'_>, index: usize, place: usize, position: Pos
 {
     let last = place - 1;
     match position {
-        Position::BeforeLand if place >= pieces.len() || is_title_of_other(pieces, last) => false,
+        Position::BeforeLand if place >= pieces.len() => false,
+        Position::BeforeLand if is_title_of_other(pieces, last) => is_type_of_case(pieces, index),
         _ => place <= plus(index, 1) || !points_into(pieces.lower(last)),
     }
 }

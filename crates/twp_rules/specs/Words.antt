@@ -34,11 +34,12 @@ abbrev pub numbered_words : List (List ℕ)
 numbered_words = words (codes "tract tr parcel no nos number bk book vol pg page p misc inst instrument doc")
     ++ words (codes "case exhibit item comment allotment owner unit property prop psc lease lse est probate")
     ++ words (codes "permit entry cat idi meridian mer jan january feb february mar march apr april may jun")
-    ++ words (codes "june jul july aug august sep sept september oct october nov november dec december")
+    ++ words (codes "june jul july aug august sep sept september oct october nov november dec december row")
+    ++ codes "pasture" ∷ []
 
 -- words for what a number before them counts, and for a meridian
 abbrev pub units : List (List ℕ)
-units = words (codes "acres acre ac acs a net gross yr yrs year years shares feet foot ft pm p mer")
+units = words (codes "acres acre ac acs a net gross yr yrs year years shares feet foot ft pm p mer bm nmpm")
 
 -- marks after the digits of a code, a share, or a measure
 abbrev pub code_marks : List (List ℕ)
