@@ -227,11 +227,22 @@ impl<'a> Pieces<'a> {
         }
         let is_listed = self.is(end, b",") && has_decimals && self.is_after_part(index);
         let is_last = end == self.len() || (is_apart && self.begins_column(end)) || is_listed;
-        if is_last && index > 0 && (has_decimals || is_cell) {
+        let is_in_row = self.follows_quoted_cell(index)
+            && (number > SECTIONS || has_decimals)
+            && (end == self.len() || self.is(end, b","));
+        if (is_last && index > 0 && (has_decimals || is_cell)) || is_in_row {
             Some(end)
         } else {
             None
         }
+    }
+
+    /// Whether a cell in quotes and a comma are before an index, as in `"NENE",40`.
+    fn follows_quoted_cell(&self, index: usize) -> bool {
+        let Some(comma) = index.checked_sub(1) else {
+            return false;
+        };
+        self.is(comma, b",") && self.is_joined(index) && self.follows(comma, b"\"")
     }
 
     /// Where a share ends that is alone in a cell, as `0.125`.

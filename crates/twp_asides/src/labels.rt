@@ -24,6 +24,9 @@ impl<'a> Pieces<'a> {
         let is_after_mark = self.follows(index, b".")
             || self.follows(index, b";")
             || self.follows(index, b":");
+        if self.begins_quoted_cell(index) {
+            return self.end_of_columns(index);
+        }
         if !self.begins_line(index) && !is_after_mark {
             return None;
         }
@@ -259,6 +262,7 @@ impl<'a> Pieces<'a> {
             if is_column(word) {
                 count = plus(count, 1);
             } else if !(is_same(word, b",")
+                || is_same(word, b"\"")
                 || is_same(word, b"|")
                 || is_same(word, b"/")
                 || is_same(word, b"-")

@@ -206,6 +206,28 @@ impl<'a> Pieces<'a> {
                 || self.begins_line(next))
     }
 
+    /// Whether the piece at an index is the first of a cell in quotes.
+    pub fn begins_quoted_cell(&self, index: usize) -> bool {
+        self.follows(index, b"\"") && self.begins_cell(index)
+    }
+
+    /// Whether the quote after a cell, a comma, and the quote before the next cell begin at an index.
+    pub fn is_between_quoted_cells(&self, index: usize) -> bool {
+        self.is(index, b"\"")
+            && self.is(plus(index, 1), b",")
+            && self.is(plus(index, 2), b"\"")
+            && self.is_joined(plus(index, 2))
+    }
+
+    /// The index of the next cell, if a quoted cell ends at an index and another one follows.
+    pub fn after_quoted_cell(&self, index: usize) -> usize {
+        if self.is_between_quoted_cells(index) {
+            plus(index, 3)
+        } else {
+            index
+        }
+    }
+
     /// Whether a line feed or a tab is between the piece at an index and the one before it.
     pub fn has_break_before(&self, index: usize) -> bool {
         match self.list.get(index) {

@@ -282,12 +282,8 @@ impl<'a> Finder<'a> {
         if is_after_heading && !is_after_comma {
             return Some(true);
         }
-        if is_after_heading && pieces.is(next, b",") {
-            let cell = plus(next, 1);
-            let land = self.after_government(plus(cell, usize::from(pieces.is(cell, b"\""))));
-            if pieces.begins_land(land) {
-                return Some(true);
-            }
+        if is_after_heading && pieces.is(next, b",") && self.is_land_of_cell(plus(next, 1)) {
+            return Some(true);
         }
         if pieces.begins_line(index)
             && pieces.bytes(index).len() >= 2
@@ -306,6 +302,20 @@ impl<'a> Finder<'a> {
             return Some(false);
         }
         None
+    }
+
+    /// Whether land is in the cell at an index, also after a quote or the words for government lots, or in the next
+    /// one, after the name of the column for aliquot parts.
+    pub(crate) fn is_land_of_cell(&self, index: usize) -> bool {
+        let pieces = &self.draft.pieces;
+        let first = plus(index, usize::from(pieces.is(index, b"\"")));
+        let cell = match pieces.end_of_column_label(first) {
+            Some(end) if pieces.is(end, b",") => plus(end, 1),
+            _ => first,
+        };
+        let land = self.after_government(plus(cell, usize::from(pieces.is(cell, b"\""))));
+        let is_lot = pieces.is(land, b"l") && pieces.number(plus(land, 1)).is_some();
+        pieces.begins_land(land) || is_lot
     }
 
     /// Whether an item ends before an index, or `and` is there.

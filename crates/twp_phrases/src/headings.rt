@@ -295,8 +295,14 @@ impl<'a> Finder<'a> {
 
     /// Passes over a comma between a township and its range, and leaves out another mark and `of`.
     fn before_range(&mut self, index: usize, has_word: bool) -> usize {
-        let pieces = &self.draft.pieces;
         let mut next = index;
+        if self.draft.pieces.is_between_quoted_cells(next) {
+            self.draft.leave_out(next, plus(next, 1), Rule::Mark);
+            self.draft
+                .leave_out(plus(next, 2), plus(next, 3), Rule::Mark);
+            return plus(next, 3);
+        }
+        let pieces = &self.draft.pieces;
         if matches!(pieces.kind(next), Kind::Comma) {
             next = plus(next, 1);
         }

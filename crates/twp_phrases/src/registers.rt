@@ -49,7 +49,7 @@ impl<'a> Finder<'a> {
     pub(crate) fn letter_of_register(&mut self, index: usize) -> Option<usize> {
         let pieces = &self.draft.pieces;
         let next = plus(index, 1);
-        let is_before_part = match pieces.kind(next) {
+        let is_before_part = match pieces.kind(pieces.after_quoted_cell(next)) {
             Kind::NorthSouth(_) | Kind::EastWest(_) | Kind::Corner(_) | Kind::Other => true,
             _ => false,
         };
