@@ -80,6 +80,16 @@ impl<'a> Pieces<'a> {
         if self.is_label_after_section(index) {
             return Some(plus(index, 2));
         }
+        if let Some(value) = self.after_quoted_name(plus(index, 1)) {
+            let is_label = is_column(self.lower(index)) && !is_acres(self.lower(index));
+            let is_land = self.begins_part(value)
+                || matches!(self.kind(value), Kind::Lot | Kind::All);
+            return if is_label && is_land {
+                Some(value)
+            } else {
+                None
+            };
+        }
         let mut end: Option<usize> = None;
         let mut next = index;
         for place in index..plus(index, 6) {

@@ -190,7 +190,10 @@ fn begins_oil_and_gas(pieces: &Pieces<'_>, index: usize) -> bool {
 /// Whether the name of a value is at an index, as in `CAT=1`.
 fn is_name_of_value(pieces: &Pieces<'_>, index: usize) -> bool {
     let mark = plus(index, 1);
-    pieces.is(mark, b"=") && pieces.is_joined(mark) && pieces.is_joined(plus(mark, 1))
+    let is_value = pieces.is(mark, b"=")
+        && pieces.is_joined(mark)
+        && pieces.is_joined(plus(mark, 1));
+    is_value || pieces.after_quoted_name(mark).is_some()
 }
 
 /// Whether a colon, with white space after it, or a comma is before an index.
@@ -237,7 +240,10 @@ fn ends_remark(pieces: &Pieces<'_>, index: usize, position: Position) -> bool {
 /// Whether a colon at an index may end the label of other land: no word of two letters or more, no price, and
 /// no figure that is that of no section, follows.
 fn may_end_label(pieces: &Pieces<'_>, index: usize) -> bool {
-    let next = plus(index, 1);
+    let next = match index.checked_sub(1) {
+        Some(before) => pieces.after_quoted_name(before).unwrap_or(plus(index, 1)),
+        None => plus(index, 1),
+    };
     let is_word = matches!(pieces.kind(next), Kind::Other)
         && matches!(pieces.lower(next), [b'a'..=b'z', _, ..]);
     matches!(pieces.kind(index), Kind::Colon)

@@ -165,6 +165,11 @@ impl<'a> Finder<'a> {
             return index;
         }
         let next = plus(index, 1);
+        if let Some(value) = self.draft.pieces.after_quoted_name(next) {
+            self.draft.replace(index, letter, Rule::Heading);
+            self.draft.leave_out_each(next, value, Rule::Mark);
+            return value;
+        }
         let is_letter = self.draft.pieces.bytes(index).len() == 1;
         if !is_letter {
             self.draft.replace(index, letter, Rule::Heading);

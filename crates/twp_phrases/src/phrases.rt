@@ -116,6 +116,7 @@ impl<'a> Finder<'a> {
             || pieces.is(index, b"\xE2\x80\x9C")
             || pieces.is(index, b"\xE2\x80\x9D")
             || pieces.is(index, b"\xE2\x80\xA2")
+            || pieces.is_brace_of_record(index)
             || (pieces.is(index, b")") && self.has_open)
     }
 
