@@ -234,6 +234,26 @@ impl<'a> Plan<'a> {
         is_number || pieces.is_east_west(last)
     }
 
+    /// Whether a bar between cells, or the quote around one, is at an index.
+    fn is_edge_of_cell(&self, index: usize) -> bool {
+        self.draft.pieces.is(index, b"|") || self.draft.pieces.is(index, b"\"")
+    }
+
+    /// Whether neither of two lands in cells of their own may be a part of the other: each is of lots, or has two
+    /// steps or more; or the first is of lots, and the second in the cell for aliquot parts.
+    fn are_whole_cells(&self, before: &Phrase, after: &Phrase, left_out: &[Placed]) -> bool {
+        let is_labelled = match left_out {
+            [label] => self
+                .draft
+                .pieces
+                .end_of_column_label(label.phrase.first)
+                .is_some(),
+            _ => false,
+        };
+        (is_whole_cell(before) && is_whole_cell(after))
+            || (before.names == Names::Lots && after.names == Names::Part && is_labelled)
+    }
+
     /// Whether other pieces than commas and semicolons between two lands may mean something else: only an
     /// ampersand or a plus sign doesn't, between parts that both have an `of`, or none, nor a colon after a
     /// section that is named again.
@@ -251,6 +271,9 @@ impl<'a> Plan<'a> {
             if index < next || (pieces.is(index, b":") && has_section(left_out)) {
                 continue;
             }
+            if self.is_edge_of_cell(index) && self.are_whole_cells(before, after, left_out) {
+                continue;
+            }
             if !(pieces.is(index, b"&")
                 || pieces.is(index, b"+")
                 || pieces.is(index, b",")
@@ -260,6 +283,15 @@ impl<'a> Plan<'a> {
             }
         }
         before.names == Names::Part && after.names == Names::Part && before.form != after.form
+    }
+}
+
+/// Whether land in a cell is of lots, or a part of two steps or more.
+fn is_whole_cell(land: &Phrase) -> bool {
+    match land.names {
+        Names::Lots => true,
+        Names::Part => land.steps.end > plus(land.steps.first, 1),
+        _ => false,
     }
 }
 
