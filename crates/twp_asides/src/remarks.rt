@@ -10,7 +10,7 @@ use crate::trailers::end_of_depths;
 use twp_grammar::Kind;
 use twp_words::{
     adds_land, begins_reference, begins_terms, is_acres, is_boundary, is_instrument, is_more,
-    is_of_covering, is_of_time, is_of_water, names_parcel, points_into,
+    is_of_covering, is_of_time, is_of_water, is_state, names_parcel, points_into,
 };
 
 /// The most pieces of a remark.
@@ -229,12 +229,20 @@ fn ends_remark(pieces: &Pieces<'_>, index: usize, position: Position) -> bool {
                 || matches!(pieces.lower_back(index, 1), Some(word) if is_of_covering(word))
                 || matches!(pieces.kind(index), Kind::Semicolon)
                 || pieces.begins_register(index)
+                || begins_code_of_state(pieces, index)
         }
         Position::AfterLand => matches!(pieces.kind(index), Kind::Semicolon),
     };
     let is_colon = position == Position::BeforeLand
         && (matches!(pieces.kind(index), Kind::Colon) || pieces.is(index, b"="));
     is_mark || is_colon || pieces.begins_column(index)
+}
+
+/// Whether the letters of a state are at an index, and a township of a register after them, as in
+/// `ID080020N0030W`.
+fn begins_code_of_state(pieces: &Pieces<'_>, index: usize) -> bool {
+    let next = plus(index, 1);
+    is_state(pieces.lower(index)) && pieces.is_joined(next) && pieces.begins_register(next)
 }
 
 /// Whether a colon at an index may end the label of other land: no word of two letters or more, no price, and

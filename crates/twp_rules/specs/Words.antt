@@ -157,10 +157,10 @@ first_words = words (codes "n s e w north south east west northeast northwest so
 abbrev pub cell_marks : List (List ℕ)
 cell_marks = codes "|" ∷ (9 ∷ []) ∷ []
 
--- the words for a section, with slips, and that of a register
+-- the words for a section, with slips, that of a register, and the names of its column in maps of the survey
 abbrev pub section_names : List (List ℕ)
 section_names = words (codes "sec secs sect sects section sections scc sce seo ec ection sn secton sectlon")
-    ++ words (codes "sectoin seciton sectiou seclion seotion sectior")
+    ++ words (codes "sectoin seciton sectiou seclion seotion sectior frstdivno frstdivlab")
 
 -- the words between the numbers of a list of sections, or before them
 abbrev pub list_words : List (List ℕ)
