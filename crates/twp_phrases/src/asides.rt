@@ -139,7 +139,9 @@ impl<'a> Finder<'a> {
                 }
             }
             if let Some(end) = pieces.end_of_last_figure(index) {
-                return Some((LeftOut::Acreage, end));
+                if !self.may_be_wrong_section(index, end) {
+                    return Some((LeftOut::Acreage, end));
+                }
             }
             if let Some(end) = end_of_trailer(&self.draft.pieces, index) {
                 return Some((LeftOut::Label, end));
@@ -150,6 +152,19 @@ impl<'a> Finder<'a> {
         }
         let end = pieces.end_of_label(index)?;
         Some((LeftOut::Label, end))
+    }
+
+    /// Whether a whole number after a township that isn't that of a section before it, with more of its row after
+    /// it, may be that of a section with a slip.
+    fn may_be_wrong_section(&self, index: usize, end: usize) -> bool {
+        let pieces = &self.draft.pieces;
+        let is_after_heading = match self.draft.phrases.as_slice() {
+            [.., before, last] => {
+                last.phrase.names == Names::Heading && before.phrase.names != Names::Sections
+            }
+            _ => false,
+        };
+        is_after_heading && end == plus(index, 1) && end < pieces.len() && !pieces.begins_line(end)
     }
 
     /// Whether a word or a mark before an index adds what follows, which may then be of other land.
