@@ -16,6 +16,23 @@ const SECTION_ACRES: u16 = 640;
 /// The most pieces of words before acreage, or of a number in words.
 const WORDS_MOST: usize = 12;
 
+/// The most words for a unit after its acreage, a hyphen counted as one.
+const UNIT_MOST: usize = 6;
+
+/// Whether a word, or the hyphen in one, is of a unit, as in `spacing unit`, or `stand-up unit`.
+fn is_of_unit(word: &[u8]) -> bool {
+    is_same(word, b"unit")
+        || is_same(word, b"spacing")
+        || is_same(word, b"drilling")
+        || is_same(word, b"pooled")
+        || is_same(word, b"stand")
+        || is_same(word, b"lay")
+        || is_same(word, b"-")
+        || is_same(word, b"up")
+        || is_same(word, b"down")
+        || is_same(word, b".")
+}
+
 /// The pieces before acreage: the index after them, and whether they name its unit.
 #[derive(Clone, Copy)]
 struct Lead {
@@ -49,6 +66,38 @@ impl<'a> Pieces<'a> {
         }
     }
 
+    /// Where the acreage of a unit at an index ends, as `160 ac unit`, or `640-acre spacing unit`: after land, at the
+    /// end of its line, or before land, with a colon.
+    pub fn end_of_unit(&self, index: usize, names_land: bool) -> Option<usize> {
+        let number = self.number(index)?;
+        let mark = plus(index, 1);
+        let acres = plus(
+            mark,
+            usize::from(self.is(mark, b"-") && self.is_joined(mark)),
+        );
+        if number <= SECTIONS || !is_acres(self.lower(acres)) {
+            return None;
+        }
+        let mut end = plus(acres, 1);
+        for place in end..plus(end, UNIT_MOST) {
+            if place == end && is_of_unit(self.lower(place)) {
+                end = plus(place, 1);
+            }
+        }
+        if !matches!(end.checked_sub(1), Some(last) if self.is(last, b"unit")) {
+            return None;
+        }
+        if !names_land {
+            let is_label = self.begins_line(index) && self.is(end, b":");
+            return if is_label { Some(plus(end, 1)) } else { None };
+        }
+        let is_apart = self.is_after_dash(index)
+            || self.follows(index, b",")
+            || self.begins_column(index);
+        let is_last = end >= self.len() || self.is(end, b";") || self.begins_line(end);
+        if is_apart && is_last { Some(end) } else { None }
+    }
+
     /// The index after acreage with decimals at an index, and a comma, before more that is said of the land, as
     /// in `(120.00 ac., 60.00 net)`.
     pub(crate) fn after_acreage_in_list(&self, index: usize) -> usize {
@@ -72,7 +121,9 @@ impl<'a> Pieces<'a> {
     pub fn end_of_dashed_acreage(&self, index: usize) -> Option<usize> {
         let next = plus(index, 1);
         let is_apart = self.is_dash(index) && !self.is_joined(index) && !self.is_joined(next);
-        if !is_apart || self.number(next).is_none() {
+        // The letter for acres is left out without the dash.
+        let is_letter = self.is(plus(next, 1), b"a");
+        if !is_apart || self.number(next).is_none() || is_letter {
             return None;
         }
         let end = self.end_of_acreage(next)?;
@@ -124,7 +175,7 @@ impl<'a> Pieces<'a> {
         // A total may have no other unit, as in `240.00 gross`.
         let is_total = (self.is_figure_with_decimals(end) && self.begins_column(plus(next, 1)))
             || self.is(plus(next, 1), b")");
-        if is_net_or_gross(self.lower(next)) && is_total {
+        if self.is_kind_of_acreage(next) && is_total {
             return Some(plus(next, 1));
         }
         let is_letter = self.is(next, b"a")
@@ -141,10 +192,15 @@ impl<'a> Pieces<'a> {
         }
         next = self.after_hundredths(next);
         next = self.after_more_or_less(next);
-        if is_net_or_gross(self.lower(next)) {
+        if self.is_kind_of_acreage(next) {
             next = plus(next, 1);
         }
         Some(next)
+    }
+
+    /// Whether `net` or `gross` at an index is of the acreage before it, and doesn't name the next one with a colon.
+    fn is_kind_of_acreage(&self, index: usize) -> bool {
+        is_net_or_gross(self.lower(index)) && !self.is(plus(index, 1), b":")
     }
 
     /// Whether a number at an index is a fraction, with a point and no number before it, as in `.25 acres`.
@@ -182,7 +238,8 @@ impl<'a> Pieces<'a> {
                 break;
             }
             has_word = has_word || is_lead || is_unit;
-            lead.has_unit = lead.has_unit || is_unit;
+            let is_named = is_net_or_gross(word) && self.is(plus(place, 1), b":");
+            lead.has_unit = lead.has_unit || is_unit || is_named;
             lead.end = plus(place, 1);
         }
         if has_word {

@@ -108,6 +108,9 @@ impl<'a> Finder<'a> {
                 return Some(found);
             }
         }
+        if let Some(end) = pieces.end_of_unit(index, self.names_land) {
+            return Some((LeftOut::Label, end));
+        }
         if let Some(end) = pieces.end_of_acreage(index) {
             let is_after_dash = pieces.is_after_dash(index);
             let is_other = self.is_added(index) || (may_be_minus && is_after_dash);
