@@ -69,8 +69,9 @@ impl<'a> Pieces<'a> {
     /// Where the acreage of a unit at an index ends, as `160 ac unit`, or `640-acre spacing unit`: after land, at the
     /// end of its line, or before land, with a colon.
     pub fn end_of_unit(&self, index: usize, names_land: bool) -> Option<usize> {
-        let number = self.number(index)?;
-        let mark = plus(index, 1);
+        let first = self.after_lead_of_unit(index);
+        let number = self.number(first)?;
+        let mark = plus(first, 1);
         let acres = plus(
             mark,
             usize::from(self.is(mark, b"-") && self.is_joined(mark)),
@@ -96,6 +97,14 @@ impl<'a> Pieces<'a> {
             || self.begins_column(index);
         let is_last = end >= self.len() || self.is(end, b";") || self.begins_line(end);
         if is_apart && is_last { Some(end) } else { None }
+    }
+
+    /// The index after `comprising one`, or words like it, before the acreage of a unit.
+    fn after_lead_of_unit(&self, index: usize) -> usize {
+        let next = plus(index, 1);
+        let is_lead = (self.is(index, b"comprising") || self.is(index, b"constituting"))
+            && (self.is(next, b"one") || self.is(next, b"a"));
+        if is_lead { plus(next, 1) } else { index }
     }
 
     /// The index after acreage with decimals at an index, and a comma, before more that is said of the land, as

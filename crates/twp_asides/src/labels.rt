@@ -33,6 +33,9 @@ impl<'a> Pieces<'a> {
         if let Some(end) = self.end_of_request(index) {
             return Some(end);
         }
+        if let Some(end) = self.end_of_farm_unit(index) {
+            return Some(end);
+        }
         if let Some(end) = self.end_of_property(index) {
             return Some(end);
         }
@@ -203,6 +206,42 @@ impl<'a> Pieces<'a> {
             }
         }
         None
+    }
+
+    /// Where the name of a farm unit of a reclamation project at an index ends, before the same land in lots and
+    /// aliquot parts, as `Farm Unit "C", according to the Farm Unit Plat, or`.
+    fn end_of_farm_unit(&self, index: usize) -> Option<usize> {
+        let farm = plus(index, usize::from(self.is(index, b"the")));
+        if !self.is(farm, b"farm") || !self.is(plus(farm, 1), b"unit") {
+            return None;
+        }
+        for place in plus(farm, 2)..plus(index, PIECES_MOST) {
+            if self.is(place, b"or") {
+                let land = plus(place, 1);
+                let is_land = self.begins_part(land) || matches!(self.kind(land), Kind::Lot);
+                return if is_land { Some(land) } else { None };
+            }
+            if !self.is_of_farm_unit(place) {
+                return None;
+            }
+        }
+        None
+    }
+
+    /// Whether the piece at an index is of the name of a farm unit: its letter, in quotes, or its plat.
+    fn is_of_farm_unit(&self, index: usize) -> bool {
+        let is_letter = self.size(index) == 1 && self.begins_with_letter(index);
+        is_letter
+            || self.is(index, b"\"")
+            || self.is(index, b"\xE2\x80\x9C")
+            || self.is(index, b"\xE2\x80\x9D")
+            || self.is(index, b",")
+            || self.is(index, b"according")
+            || self.is(index, b"to")
+            || self.is(index, b"the")
+            || self.is(index, b"farm")
+            || self.is(index, b"unit")
+            || self.is(index, b"plat")
     }
 
     /// Whether the question mark at the end of a request is at an index.

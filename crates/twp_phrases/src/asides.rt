@@ -136,6 +136,9 @@ impl<'a> Finder<'a> {
             }
         }
         if self.names_land {
+            if let Some(end) = pieces.end_of_intent(index) {
+                return Some((LeftOut::Label, end));
+            }
             if self.draft.last_names() != Some(Names::Sections) {
                 if let Some(end) = pieces.end_of_share_in_cell(index) {
                     return Some((LeftOut::Label, end));
