@@ -99,6 +99,23 @@ impl<'a> Pieces<'a> {
         if is_apart && is_last { Some(end) } else { None }
     }
 
+    /// Where gross acreage with an abbreviation ends that begins a column, as `Gr Ac 400`.
+    pub fn end_of_gross_acreage(&self, index: usize) -> Option<usize> {
+        let figure = plus(index, 2);
+        let is_lead = self.is(index, b"gr")
+            && is_acres(self.lower(plus(index, 1)))
+            && self.begins_column(index);
+        if !is_lead || self.number(figure).unwrap_or(0) <= SECTIONS {
+            return None;
+        }
+        let end = self.end_of_decimal(figure)?;
+        if self.begins_column(end) {
+            Some(end)
+        } else {
+            None
+        }
+    }
+
     /// The index after `comprising one`, or words like it, before the acreage of a unit.
     fn after_lead_of_unit(&self, index: usize) -> usize {
         let next = plus(index, 1);

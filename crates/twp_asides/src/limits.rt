@@ -13,7 +13,7 @@ const SECTIONS: u16 = 36;
 
 /// Whether the piece at an index is in no remark.
 pub(crate) fn is_beyond_remark(pieces: &Pieces<'_>, index: usize) -> bool {
-    (pieces.may_be_land(index) && !pieces.is_share(index))
+    (pieces.may_be_land(index) && !pieces.is_share(index) && !pieces.begins_all_of_property(index))
         || pieces.is_day_of_month(index)
         || (is_of_calendar(pieces, index) && pieces.has_column_of_lots())
         || pieces.is_township_word(index)

@@ -50,6 +50,7 @@ pub fn end_of_remark(pieces: &Pieces<'_>, index: usize, position: Position) -> O
     let mut is_sure = position == Position::BeforeLand
         || begins_tract(pieces, index)
         || is_row_of_table(pieces, index)
+        || begins_address(pieces, index)
         || is_name_of_value(pieces, index)
         || is_homesite_of_acreage(pieces, index);
     let mut next = index;
@@ -236,6 +237,14 @@ fn ends_remark(pieces: &Pieces<'_>, index: usize, position: Position) -> bool {
     let is_colon = position == Position::BeforeLand
         && (matches!(pieces.kind(index), Kind::Colon) || pieces.is(index, b"="));
     is_mark || is_colon || pieces.begins_column(index)
+}
+
+/// Whether the address of land is at an index, as in `Commonly known as: 1290 Robinson Rd`.
+fn begins_address(pieces: &Pieces<'_>, index: usize) -> bool {
+    pieces.is(index, b"commonly")
+        && pieces.is(plus(index, 1), b"known")
+        && pieces.is(plus(index, 2), b"as")
+        && pieces.is(plus(index, 3), b":")
 }
 
 /// Whether the letters of a state are at an index, and a township of a register after them, as in

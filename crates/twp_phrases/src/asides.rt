@@ -136,7 +136,10 @@ impl<'a> Finder<'a> {
             }
         }
         if self.names_land {
-            if let Some(end) = pieces.end_of_intent(index) {
+            let unsaid = pieces
+                .end_of_intent(index)
+                .or(pieces.end_of_gross_acreage(index));
+            if let Some(end) = unsaid {
                 return Some((LeftOut::Label, end));
             }
             if self.draft.last_names() != Some(Names::Sections) {
