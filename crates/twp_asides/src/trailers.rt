@@ -127,7 +127,7 @@ fn is_reserved_in_patent(pieces: &Pieces<'_>, index: usize) -> bool {
     let has_words = |count: usize| {
         pieces.is_back(index, count, b"in") && pieces.is_back(index, plus(count, 1), b"reserved")
     };
-    pieces.is(index, b"patent") && (has_words(1) || has_words(2) || has_words(5))
+    pieces.is(index, b"patent") && (has_words(1) || has_words(2) || has_words(5) || has_words(6))
 }
 
 /// What is said at an index.
