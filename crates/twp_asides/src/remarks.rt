@@ -215,7 +215,9 @@ fn is_after_sentence(pieces: &Pieces<'_>, index: usize) -> bool {
     let is_after_acreage = is_acres(pieces.lower(before))
         && pieces.is_back(index, 3, b".")
         && matches!(pieces.lower_back(index, 2), Some([_, _, ..]));
-    is_after_stop || is_after_acreage
+    // The row of a register may have its offices there.
+    let is_of_register = pieces.is(before, b";") && pieces.begins_register(0);
+    is_after_stop || is_after_acreage || is_of_register
 }
 
 /// Whether a remark ends before a piece, or with it, if it is a colon.

@@ -114,8 +114,13 @@ impl<'a> Finder<'a> {
         if let Some(end) = pieces.end_of_acreage(index) {
             let is_after_dash = pieces.is_after_dash(index);
             let is_other = self.is_added(index) || (may_be_minus && is_after_dash);
+            // Without its digits, a letter for acres ends no figure that a rule knows.
+            let is_worn = pieces.end_of_worn_figure(index).is_some()
+                && matches!(end.checked_sub(1), Some(last) if pieces.is(last, b"a"));
             return if is_figure && is_other {
                 None
+            } else if is_worn {
+                Some((LeftOut::Label, end))
             } else {
                 Some((LeftOut::Acreage, end))
             };
