@@ -101,6 +101,10 @@ reserving_words = codes "excepting" ∷ []
 abbrev pub depth_limits : List (List ℕ)
 depth_limits = words (codes "below above between within feet foot ft")
 
+-- what somebody may have in land besides an interest
+abbrev pub claim_words : List (List ℕ)
+claim_words = words (codes "claim claims")
+
 -- what is left of a lease
 abbrev pub lease_limits : List (List ℕ)
 lease_limits = codes "remaining" ∷ []
