@@ -153,6 +153,10 @@ impl<'a> Finder<'a> {
             self.draft.leave_out(next, plus(next, 1), Rule::Word);
             return plus(next, 1);
         }
+        if let Some(value) = self.draft.pieces.after_quoted_name(next) {
+            self.draft.leave_out_each(next, value, Rule::Mark);
+            return value;
+        }
         if matches!(self.draft.pieces.kind(next), Kind::Colon) || self.draft.pieces.is(next, b"=") {
             self.draft.leave_out(next, plus(next, 1), Rule::Mark);
             return plus(next, 1);

@@ -7,11 +7,11 @@ use crate::same::is_among;
 pub fn is_of_label(word: &[u8]) -> bool {
     match word.len() {
         2 => is_among(word, 0x8000_00004000, "no"),
-        3 => is_among(word, 0x100000_00000008, "cat"),
+        3 => is_among(word, 0x900000_00040008, "cat row"),
         4 => is_among(word, 0x102020_00200248, "case file item unit"),
         5 => is_among(word, 0x180020_0010100a, "areas class lease tract"),
         6 => is_among(word, 0x41000_00094000, "number parcel serial"),
-        7 => is_among(word, 0x100000_00000020, "exhibit"),
+        7 => is_among(word, 0x100020_00010020, "exhibit pasture"),
         8 => is_among(word, 0x2080000_00010008, "category premises"),
         _ => false,
     }

@@ -178,6 +178,8 @@ pub(crate) fn is_in_section_names(word: &[u8]) -> bool
         || is_text(word, b"seclion")
         || is_text(word, b"seotion")
         || is_text(word, b"sectior")
+        || is_text(word, b"frstdivno")
+        || is_text(word, b"frstdivlab")
 }
 
 /// The texts `list_words` of the specification.
