@@ -83,6 +83,30 @@ impl<'a> Finder<'a> {
             && (is_before_colon || pieces.bytes(digits).len() >= 2))
             || (is_list && is_before_colon)
             || pieces.is_section_before_land(index)
+            || self.is_section_after_land(index)
+    }
+
+    /// Whether the letter and the number at an index are a section that ends an item, after land, as in
+    /// `SESW S31, L4 S31`: no half has such a number, with or without its slash.
+    fn is_section_after_land(&self, index: usize) -> bool {
+        let pieces = &self.draft.pieces;
+        let digits = plus(index, 1);
+        let end = plus(digits, 1);
+        let is_after_land = match self.draft.phrases.last() {
+            Some(placed) => {
+                placed.phrase.end == index
+                    && matches!(
+                        placed.phrase.names,
+                        Names::Part | Names::Lots | Names::Nothing(LeftOut::Repeated)
+                    )
+            }
+            None => false,
+        };
+        let is_last = end >= pieces.len() || pieces.is(end, b",") || pieces.is(end, b";");
+        is_after_land
+            && is_last
+            && pieces.has_digits(digits, 2)
+            && !(pieces.is(digits, b"12") || pieces.is(digits, b"14"))
     }
 
     /// Whether the letter and the number at an index, before a township that ends at another, may be a half of a
