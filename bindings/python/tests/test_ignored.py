@@ -57,11 +57,11 @@ class Suggested(RefusalCase):
 
     def test_whole_words_in_either_case(self):
         for text, phrase, is_found in (
-            ("TRACT ID KESTREL: NE/4 Sec. 14", "tract id kestrel", True),
+            ("PAYOUT GROUP KESTREL NE/4 Sec. 14", "payout group kestrel", True),
             ("NE/4 Sec. 14, Kestrels", "Kestrel", False),
             ("NE/4 Sec. 14, AKestrel", "Kestrel", False),
             ("NE/4 Sec. 14, (Kestrel)", "Kestrel", True),
-            ("Tract  ID Kestrel: NE/4 Sec. 14", "Tract ID Kestrel", False),
+            ("Payout  group Kestrel NE/4 Sec. 14", "Payout group Kestrel", False),
         ):
             self.assertEqual(bool(township.Phrases([phrase])._places_in(text)), is_found, text)
 
@@ -167,7 +167,7 @@ class Phrases(RefusalCase):
             self.assertEqual(self.refused(township.suggest, TEXT, ignore=["Kestrel", phrase]), refused)
 
     def test_accepted(self):
-        for phrase in ("Unit 7", "5 years", "$2,040.00", "Tract ID Kestrel", "Ed", "", "Bläuling"):
+        for phrase in ("Unit 7", "5 years", "$2,040.00", "Payout group Kestrel", "Ed", "", "Bläuling"):
             self.assertEqual(list(township.Phrases([phrase])), [phrase])
 
     def test_too_large(self):
@@ -211,10 +211,10 @@ class Phrases(RefusalCase):
 class File(BatchCase, RefusalCase):
     def test_lines(self):
         for data in (
-            "Tract ID Kestrel\nUnit 7\n", "\n  Tract ID Kestrel \r\n\r\n\tUnit 7", "Tract ID Kestrel\rUnit 7",
-            codecs.BOM_UTF8 + b"Tract ID Kestrel\nUnit 7", "Tract ID Kestrel\nUnit 7".encode("utf-16"),
+            "Payout group Kestrel\nUnit 7\n", "\n  Payout group Kestrel \r\n\r\n\tUnit 7", "Payout group Kestrel\rUnit 7",
+            codecs.BOM_UTF8 + b"Payout group Kestrel\nUnit 7", "Payout group Kestrel\nUnit 7".encode("utf-16"),
         ):
-            self.assertEqual(list(township.Phrases.open(self.put(data, "phrases.txt"))), ["Tract ID Kestrel", "Unit 7"])
+            self.assertEqual(list(township.Phrases.open(self.put(data, "phrases.txt"))), ["Payout group Kestrel", "Unit 7"])
         self.assertEqual(list(township.Phrases.open(self.put("", "phrases.txt"))), [])
 
     def test_refused(self):
@@ -247,7 +247,7 @@ class Document(RefusalCase):
         self.assertEqual((failed, tried), (0, 6))
 
     def test_phrases(self):
-        for phrase in ("Tract ID Kestrel", "Ed", "5 years", "Unit 7", "$2,040.00"):
+        for phrase in ("Payout group Kestrel", "Ed", "5 years", "Unit 7", "$2,040.00"):
             self.assertIn(f"`{phrase}`", self.TEXT)
             self.assertEqual(len(township.Phrases([phrase])), 1)
         self.assertEqual(township.Phrases(["Ed"])._places_in("Edna"), [])

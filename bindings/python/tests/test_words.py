@@ -41,9 +41,9 @@ class Words(BatchCase):
 
     def test_the_document_shows_what_is_printed(self):
         document = (TOP / "docs" / "PHRASES.md").read_text()
-        text = "Tract ID Kestrel: NE/4 Sec. 14"
+        text = "Payout group Kestrel NE/4 Sec. 14"
         self.assertIn(f"`{text}`", document)
-        words = self.put("Tract ID Kestrel\n", "phrases.txt")
+        words = self.put("Payout group Kestrel\n", "phrases.txt")
         shown = self.run_words("suggest", "--words", words, NOTES, "-", input=text.encode()).stdout.decode()
         self.assertIn("\n\n" + "".join(f"    {line}\n" for line in shown.splitlines()) + "\n", document)
         words = self.put("Kestrel\nLot 3\n", "phrases.txt")
@@ -75,7 +75,7 @@ class Words(BatchCase):
         words = self.put("blah\n", "phrases.txt")
         run = self.run_words("batch", "--plats", plats, "--headings", "--suggest", "--words", words, self.put(data))
         _, row = records(run.stdout)
-        self.assertEqual(row[-5:], ["T2N R3W Sec 14: NE1/4; T3N R3W Sec 32: S1/2.", "1", SAID, "480.00", ""])
+        self.assertEqual(row[-5:], ["T2N R3W Sec 14, NE1/4; T3N R3W Sec 32, S1/2.", "1", SAID, "480.00", ""])
 
     def test_misuse(self):
         words = self.put("Kestrel\n", "phrases.txt")

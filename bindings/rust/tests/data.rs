@@ -40,8 +40,8 @@ fn texts_of_nothing() {
 
 #[test]
 fn phrases() {
-    let phrases = Phrases::new(["Tract ID Kestrel", "Unit 7"]).unwrap();
-    both_ways(phrases, r#"["Tract ID Kestrel","Unit 7"]"#);
+    let phrases = Phrases::new(["Payout group Kestrel", "Unit 7"]).unwrap();
+    both_ways(phrases, r#"["Payout group Kestrel","Unit 7"]"#);
     let error = serde_json::from_str::<Phrases>(r#"["Lot 3"]"#).unwrap_err();
     assert!(error.to_string().contains("`Lot 3` (phrase 1)"), "{error}");
 }

@@ -84,7 +84,7 @@ class Answering(Reporting, Describing):
 
         Phrases that you know are not land can be left out: see `Phrases`.
 
-        >>> plat.suggest("Tract ID Kestrel: NE/4 Sec. 14", ignore=["Tract ID Kestrel"])[0].acres
+        >>> plat.suggest("Payout group Kestrel NE/4 Sec. 14", ignore=["Payout group Kestrel"])[0].acres
         Decimal('160.00')
         """
         code_of(account)

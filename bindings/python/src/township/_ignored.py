@@ -39,7 +39,7 @@ class Phrases(Sequence[str]):
     They are checked when they are made, and can then be used for any number of texts. A phrase is found in uppercase
     or lowercase, as whole words. At each place, the first phrase counts: put longer phrases before shorter ones.
 
-    >>> phrases = township.Phrases(["Tract ID Kestrel", "Unit 7"])
+    >>> phrases = township.Phrases(["Payout group Kestrel", "Unit 7"])
     >>> township.suggest("UNIT 7: NE/4 Sec. 14", ignore=phrases)[0].text
     'sec. 14, NE1/4'
 
@@ -100,8 +100,8 @@ class Phrases(Sequence[str]):
     def _places_in(self, text: Text) -> List[Place]:
         """Return where the phrases are in a text, from left to right. No place begins before the end of another one.
 
-        >>> township.Phrases(["Tract ID Kestrel"])._places_in("TRACT ID KESTREL: NE/4 Sec. 14")
-        [Place(start=0, end=16)]
+        >>> township.Phrases(["Payout group Kestrel"])._places_in("PAYOUT GROUP KESTREL NE/4 Sec. 14")
+        [Place(start=0, end=20)]
         """
         if not self._phrases:
             return []

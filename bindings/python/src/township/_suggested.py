@@ -19,9 +19,9 @@ def suggest(text: Text, ignore: Ignored = ()) -> Readings:
 
     The phrases to `ignore` are left out, and each reading says so: see `Phrases`.
 
-    >>> reading, = township.suggest("Tract ID Kestrel: NE/4 Sec. 14", ignore=["Tract ID Kestrel"])
+    >>> reading, = township.suggest("Payout group Kestrel NE/4 Sec. 14", ignore=["Payout group Kestrel"])
     >>> reading.text, reading.assumptions
-    ('sec. 14, NE1/4', ('without `Tract ID Kestrel`: you said that this is not land',))
+    ('sec. 14, NE1/4', ('without `Payout group Kestrel`: you said that this is not land',))
     """
     given = encoded(text)
     return readings_without(given, phrases_in(ignore)._places_in(given))
@@ -43,17 +43,31 @@ def readings_without(given: bytes, aside: Sequence[Place]) -> Readings:
 def _with_aside(given: bytes, reading: Reading, aside: Sequence[Place]) -> Reading:
     """Return a reading that says what was left out before it was read. Runs of spaces in its text become one space."""
     changes = [part for change in reading.changes for part in _outside(given, change, aside)]
-    spans = [Place(change.start, change.end) for change in reading.changes]
+    spans = _spans_of(reading.changes)
     changes += [_left_out(given, place, spans) for place in aside]
     # What is written where a phrase begins comes before it.
     changes.sort(key=lambda change: (change.start, change.end))
     return reading._replace(text=" ".join(reading.text.split()), changes=tuple(changes))
 
 
+def _spans_of(changes: Sequence[Change]) -> List[Place]:
+    """Return the places of changes, which are in order. Those that touch are one: each space may be a change.
+
+    >>> _spans_of([Change(1, 2, " ", "", "one part"), Change(2, 3, " ", "", "one part"), Change(5, 5, "", ",", "comma")])
+    [Place(start=1, end=3), Place(start=5, end=5)]
+    """
+    spans: List[Place] = []
+    for change in changes:
+        if spans and spans[-1].end == change.start:
+            spans[-1] = Place(spans[-1].start, change.end)
+        else:
+            spans.append(Place(change.start, change.end))
+    return spans
+
+
 def _left_out(given: bytes, place: Place, spans: Sequence[Place]) -> Change:
-    """Return the change that leaves out a place. A space stays, unless a change with one of these spans leaves it out."""
+    """Return the change that leaves out a place. A space stays, unless one of these spans of changes leaves it out."""
     phrase = _text(given, place)
-    # The spans are in order, and none of them begins within another one.
     last = bisect_right(spans, Place(place.start, len(given)))
     is_covered = last > 0 and place.end <= spans[last - 1].end
     return Change(*place, phrase, "" if is_covered else " ", SET_ASIDE, SET_ASIDE, phrase)

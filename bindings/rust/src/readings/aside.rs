@@ -13,9 +13,9 @@ use super::{suggest, Assumption, Change, Phrases, Reading, Rule, Suggestion, Unr
 /// ```
 /// use township::{suggest, suggest_without, Assumption, Phrases};
 ///
-/// let text = "Tract ID Kestrel: NE/4 Sec. 14";
+/// let text = "Payout group Kestrel NE/4 Sec. 14";
 /// assert!(suggest(text).readings.is_empty());
-/// let found = suggest_without(text, &Phrases::new(["Tract ID Kestrel"])?);
+/// let found = suggest_without(text, &Phrases::new(["Payout group Kestrel"])?);
 /// assert_eq!(found.readings[0].text, "sec. 14, NE1/4");
 /// let assumed: Vec<_> = found.readings[0].assumptions().map(|change| change.assumes).collect();
 /// assert_eq!(assumed, [Some(Assumption::SetAside)]);
@@ -67,11 +67,7 @@ fn with_aside(left: &[u8], reading: Reading, aside: &[Range<usize>]) -> Reading 
 
 /// Returns the change that leaves out a place. A space stays, unless the reading leaves that out, too.
 fn left_out(place: &Range<usize>, changes: &[Change]) -> Change {
-    // The changes are in order, and none of them begins within another one.
-    let before = changes.partition_point(|change| change.start <= place.start);
-    let is_covered = changes[..before]
-        .last()
-        .is_some_and(|change| place.end <= change.end);
+    let is_covered = is_left_out(place, changes);
     Change {
         start: place.start,
         end: place.end,
@@ -79,6 +75,24 @@ fn left_out(place: &Range<usize>, changes: &[Change]) -> Change {
         rule: Rule::SetAside,
         assumes: Some(Assumption::SetAside),
     }
+}
+
+/// Returns whether changes leave out all of a place: one that spans it, or several that touch, since
+/// each space may be left out separately.
+fn is_left_out(place: &Range<usize>, changes: &[Change]) -> bool {
+    // The changes are in order, and none of them begins within another one.
+    let after = changes.partition_point(|change| change.start <= place.start);
+    let Some(first) = changes[..after].last() else {
+        return false;
+    };
+    let mut end = first.end;
+    for change in &changes[after..] {
+        if change.start != end {
+            break;
+        }
+        end = change.end;
+    }
+    place.end <= end
 }
 
 /// Returns the parts of a change outside of the places that are left out. The first one writes what

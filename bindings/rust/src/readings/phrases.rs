@@ -64,8 +64,8 @@ impl Phrases {
     /// If a phrase is refused, the refusal has its line.
     ///
     /// ```
-    /// let phrases = township::Phrases::from_lines("Tract ID Kestrel\n\n  Unit 7\n")?;
-    /// assert_eq!(phrases.as_slice(), ["Tract ID Kestrel", "Unit 7"]);
+    /// let phrases = township::Phrases::from_lines("Payout group Kestrel\n\n  Unit 7\n")?;
+    /// assert_eq!(phrases.as_slice(), ["Payout group Kestrel", "Unit 7"]);
     ///
     /// let refused = township::Phrases::from_lines("Kestrel\n\n  Lot 3\n").unwrap_err();
     /// assert_eq!((refused.number, refused.at, refused.line), (51, 2, Some(3)));
