@@ -244,7 +244,7 @@ fn folders_from_which_no_plats_are_made() {
         ("x\n", "a.csv: this is neither field notes nor a lot table"),
         (
             "section,lot,acres\nT,3,N,3,W\n31,9,1.00\n",
-            "a.csv: lots: record 3 is not for a lot: the section has no lot with this number",
+            "a.csv: lots:3: there is no lot 9: section 31 has lots 1 to 4",
         ),
     ] {
         folder.put("a.csv", text);
