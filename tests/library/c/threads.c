@@ -7,7 +7,7 @@
 #include "check.h"
 
 #define THREADS 4
-#define CALLS 46
+#define CALLS 47
 
 /* The stack that the library requires, and room for the thread's own calls. */
 #define STACK ((256 + 64) * 1024)
@@ -71,7 +71,7 @@ static void call_on_land(const township_plat *plat, round_answers *to) {
     answer[21] = township_land_combine(&to->land, &other, TOWNSHIP_UNION, &to->combined);
     answer[22] = township_land_compare(&to->combined, &to->land, &to->comparison);
     answer[23] = township_lots_read(BYTES("section,lot,acres\nT,2,N,3,W\n6,1,40.45\n"), &to->lots);
-    answer[45] = township_lots_plain(BYTES("section;lot;acres;\n6;1;40.5;\n"), to->texts[45], sizeof to->texts[45]);
+    answer[46] = township_lots_plain(BYTES("section;lot;acres;\n6;1;40.5;\n"), to->texts[46], sizeof to->texts[46]);
     to->lots.township = township;
     to->lots.figures[20] = 4000 + plat->number;
     answer[24] = township_lots_acres(&to->lots, BYTES("sec. 6, lot 1; sec. 14."));
