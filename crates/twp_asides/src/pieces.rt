@@ -207,6 +207,18 @@ impl<'a> Pieces<'a> {
                 || self.begins_line(next))
     }
 
+    /// The index of a number after a bar, a name, and an equals sign at an index, as in `Lot|SECDIVNO=3`.
+    pub fn after_bar_and_name(&self, index: usize, name: &[u8]) -> Option<usize> {
+        let mark = plus(index, 2);
+        let value = plus(index, 3);
+        let is_named = self.is(index, b"|") && self.is(plus(index, 1), name) && self.is(mark, b"=");
+        if is_named && self.number(value).is_some() {
+            Some(value)
+        } else {
+            None
+        }
+    }
+
     /// The index of the value after the quote at an index, if that ends a name in a record, as in `"sec":14`, or
     /// `"legal":"NENE"`.
     pub fn after_quoted_name(&self, index: usize) -> Option<usize> {

@@ -51,6 +51,10 @@ impl<'a> Finder<'a> {
             self.draft.replace(word, written, Rule::LotWord);
         }
         let mut next = plus(word, 1);
+        if let Some(value) = self.draft.pieces.after_bar_and_name(next, b"secdivno") {
+            self.leave_out_name(next);
+            return Some(value);
+        }
         if let Some(value) = self.draft.pieces.after_quoted_name(next) {
             self.draft.leave_out_each(next, value, Rule::Mark);
             return Some(value);

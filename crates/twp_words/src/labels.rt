@@ -101,7 +101,11 @@ pub fn is_field(word: &[u8]) -> bool {
         4 => is_among(word, 0x28_00100010, "desc type"),
         5 => is_among(word, 0x1000_00001000, "legal"),
         8 => is_among(word, 0x8000_00080000, "secdivno"),
-        9 => is_among(word, 0x8004_00180040, "frstdivno secdivlab twnshplab"),
+        9 => is_among(
+            word,
+            0x18004_00180040,
+            "frstdivno secdivlab secdivtyp twnshplab",
+        ),
         10 => is_among(word, 0x4_00000040, "frstdivlab"),
         11 => is_among(word, 0x4000_00000010, "description"),
         _ => false,
