@@ -55,6 +55,7 @@ applications 4
 conflicts 5
 deeds 4
 descriptions 3
+labels 2
 latest_plats 1
 lease_acres 5
 leases 5

@@ -111,7 +111,7 @@ class Tables(BatchCase):
         self.put("section\n", "bad/lots.csv")
         run = self.run_words("batch", "--plats", self.folder / "bad", self.put(self.DATA))
         self.assertEqual(run.returncode, 1)
-        self.assertIn(b"lots.csv: record 1 is not the heading of a lot table", run.stderr)
+        self.assertIn(b"bad/lots.csv:1: the heading must be `section,lot,acres`: it has 1 field\n", run.stderr)
 
     def test_one_table(self):
         table = self.put(LOTS, "lots.csv")
@@ -153,9 +153,9 @@ class Tables(BatchCase):
     def test_one_table_that_is_refused(self):
         listed = self.put("description\nsec. 14.\n")
         for name, text, status, said in (
-            ("lots.csv", LOTS + "5,1,40.00\n", 1, b"lots.csv: record 4 is for a lot that an earlier record is for\n"),
-            ("notes.csv", NOTES.read_text(), 1, b"`section,lot,acres`\n  this file contains field notes\n"),
-            ("other.csv", "line,between\n", 1, b"1 is not the heading of a lot table, `section,lot,acres`\n"),
+            ("lots.csv", LOTS + "5,1,40.00\n", 1, b"\n  record 3 at line 3 is also for this lot\n"),
+            ("notes.csv", NOTES.read_text(), 1, b"\n  these are field notes, not a lot table\n  this file contains field notes\n"),
+            ("other.csv", "line,between\n", 1, b"\n  these are field notes, not a lot table\n"),
             ("none.csv", None, 3, b"none.csv: No such file or directory\n"),
         ):
             if text:

@@ -209,7 +209,7 @@ class Command(BatchCase):
 
     def test_the_document_shows_what_is_printed(self):
         document = (TOP / "docs" / "DESCRIPTIONS.md").read_text()
-        for text in (MANY, TWO, "that portion of the NE/4 lying north of the road", "20 net mineral acres in NE/4 Sec 9"):
+        for text in (MANY, TWO, "that portion of the NE/4 lying north of the road", "NE/4 Sec 9 by the old mill"):
             shown = self.run_words("suggest", NOTES, "-", input=text.encode()).stdout.decode()
             self.assertIn("\n\n" + "".join(f"    {line}\n" for line in shown.splitlines()) + "\n", document)
 

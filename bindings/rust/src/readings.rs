@@ -111,9 +111,9 @@ pub struct Change {
 /// assert!(none.readings.is_empty());
 /// assert_eq!(none.beyond.unwrap().reason, "a portion needs a survey");
 ///
-/// let text = "20 net mineral acres in NE/4 Sec 9";
+/// let text = "NE/4 Sec 9 by the old mill";
 /// let unread = township::suggest(text).unread;
-/// assert_eq!(&text[unread[0].start..unread[0].end], "20 net mineral acres");
+/// assert_eq!(&text[unread[0].start..unread[0].end], "by the old mill");
 /// # Ok::<(), township::Refused>(())
 /// ```
 pub fn suggest(text: impl AsRef<[u8]>) -> Suggestion {

@@ -143,9 +143,9 @@ class Reading(NamedTuple):
 class Unread(NamedTuple):
     """Why a text has no reading: some words that are not understood, or a phrase that can be read in two ways.
 
-    >>> for unread in township.suggest("An undivided 20 net mineral acres in W/2 SW/4 Sec. 9-2N-3W").unread:
+    >>> for unread in township.suggest("W/2 SW/4 Sec. 9-2N-3W by the old mill").unread:
     ...     print(unread)
-    not understood: `An undivided 20 net mineral acres`
+    not understood: `by the old mill`
     """
 
     #: The place: the bytes of the text in UTF-8 from `start` to before `end`.
