@@ -158,7 +158,7 @@ def test_a_phrase_is_left_out_of_the_other_texts(page: Page) -> None:
     page.wait_for_text("#compare-readings", "The first description. Perhaps this was meant")
     page.tab("tracts")
     page.put("#tracts", 'A,"sec. 14, blah NW1/4"\n')
-    page.wait_for_text("#tracts-table", "Refused")
+    page.wait_for_text("#tracts-table", "refused 44")
     press(page, "Show the readings")
     page.wait_for_text("#tracts-readings", "Tract A. Perhaps this was meant")
     press(page, "Read `blah` again")
@@ -169,7 +169,8 @@ def press(page: Page, words: str) -> None:
     """Press the button with these words that is shown."""
 
     def shown() -> "object":
-        return next((each for each in page.all("[role=tabpanel] button") if each.text == words and each.is_displayed()), None)
+        buttons = page.all("[role=tabpanel] button")
+        return next((each for each in buttons if each.text == words and each.is_displayed()), None)
 
     page.wait_for(shown).click()
 
