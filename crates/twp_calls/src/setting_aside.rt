@@ -1,4 +1,4 @@
-//! Where in a text phrases stand that the caller says aren't land.
+//! Finding phrases in a text that the caller says aren't land.
 ghost use Rattle.std.specs.Prelude.{◌≡◌, ◌≢◌, ◌<◌, ◌≤◌, IfOk, MatchOption, map};
 ghost use Rattle.twp_calls.specs.Answers.{ACCEPTED};
 ghost use Rattle.twp_calls.specs.SetAsides.{AreRanges, IsSetAsideCall, PHRASES_LIMIT, phrases_between};
@@ -75,7 +75,7 @@ fn phrases_between<'a>(
     Ok(Some(given))
 }
 
-/// Where phrases stand in a text, as data.
+/// The places of phrases in a text, as data.
 fn stretches_of(
     alloc: Global,
     text: &[u8],

@@ -110,7 +110,7 @@ impl<'a> Finder<'a> {
     }
 
     /// Whether the letter and the number at an index, before a township that ends at another, may be a half of a
-    /// section that was named, or of one that is missing: `S2`, unless land follows. After land, `S4` is none.
+    /// section that was named, or of one that is missing: `S2`, unless land follows. After land, `S4` isn't one.
     fn may_be_half(&self, index: usize, heading: Option<usize>) -> bool {
         let pieces = &self.draft.pieces;
         let digits = plus(index, 1);

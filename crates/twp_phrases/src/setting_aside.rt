@@ -22,8 +22,8 @@ pub fn first_of_land(phrases: &[&[u8]]) -> Option<usize>
     None
 }
 
-/// Where the phrases stand in a text, from left to right: at each place past the last of them, the first phrase
-/// that stands there, in letters of either case, as whole words.
+/// The places of the phrases in a text, from left to right: at each place past the last of them, the first phrase
+/// that is there, in letters of either case, as whole words.
 pub fn set_aside(alloc: Global, text: &[u8], phrases: &[&[u8]]) -> Result<Vec<Stretch>, AllocError>
     ensures { IfOk result (λ it.
         it.items ≡ set_aside (map (λ phrase. phrase.now) phrases.now) text.now) }
