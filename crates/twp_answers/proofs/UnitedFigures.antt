@@ -7,7 +7,7 @@ use Rattle.twp_grid.specs.Places.{IsPlace}
 use Rattle.twp_land.proofs.CombinedLots.{combined_lots_are_whole}
 use Rattle.twp_plat.proofs.CountFacts.{counted_some}
 use Rattle.twp_plat.specs.LotAreas.{HasFigures, contains_lot, count_of_lot, size_of_lot}
-use Rattle.twp_plat.proofs.lots.ContainedLots.{decided, empty_contains, of_lot}
+use Rattle.twp_plat.proofs.ContainedLots.{decided, empty_contains, of_lot}
 use Rattle.twp_answers.proofs.TractLands.{either_way}
 
 -- no lot of no land is lacking

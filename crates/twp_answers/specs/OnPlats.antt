@@ -14,7 +14,7 @@ use Rattle.twp_answers.specs.PlatAnswers.{plat_text}
 use Rattle.twp_answers.specs.declared.stop.Stop.{Stop}
 use Rattle.twp_answers.specs.declared.stop.Stop.TheVariants as stop
 use Rattle.twp_answers.specs.declared.stop.RunFault.TheVariants as run
-use Rattle.twp_grid.specs.Lands.{STANDARD_LOTS}
+use Rattle.twp_grid.specs.Lands.{Lotting, STANDARD_LOTS}
 
 -- the bytes describe land on the plat, and this is its area by the account
 pub record HasAreaOn (plat : TownshipPlat) (description : List ℕ) (account : Account)

@@ -2,6 +2,7 @@
 ghost use Rattle.std.specs.Prelude.{◌≡◌, ◌≤◌, [], length, OnOk, IfOk, IfErr};
 ghost use Rattle.std.specs.List.{flat_map};
 ghost use Rattle.csv.specs.Records.{fields_of};
+ghost use Rattle.twp_grid.specs.Lands.{STANDARD_LOTS};
 ghost use Rattle.twp_notes.specs.Records.{records_left, IsBetweenRecords};
 ghost use Rattle.twp_answers.specs.Tracts.{TRACTS_MOST, IsTractRecord};
 ghost use Rattle.twp_answers.specs.Tracts.{name_in, tract_records};

@@ -27,4 +27,5 @@ pub mod FinerAreas
 pub mod CombinedAreas
 pub mod LackingFacts
 pub mod CountFacts
+pub mod ContainedLots
 pub mod StandardUnits

@@ -31,7 +31,7 @@ use Rattle.twp_plat.proofs.CountFacts.{count-ext}
 use Rattle.twp_plat.proofs.LotSums.{at_lot, by_position, filtered, held_of, over_table}
 use Rattle.twp_plat.proofs.PositionSums.{positions-ext, positions-zero, positions_differ}
 use Rattle.twp_plat.proofs.SectionSums.{of_lots, of_lots-next, of_lots-none}
-use Rattle.twp_plat.proofs.lots.ContainedLots.{absent, total-rest, units_unless}
+use Rattle.twp_plat.proofs.ContainedLots.{absent, total-rest, units_unless}
 
 -- the lot has this number
 abbrev is_number : ℕ → Option ℕ → Bool

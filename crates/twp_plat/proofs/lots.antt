@@ -1,7 +1,6 @@
 pub mod Among
 pub mod EnteredSections
 pub mod StandardFigures
-pub mod ContainedLots
 pub mod IndexFacts
 pub mod SumFacts
 pub mod LotLaws

@@ -24,7 +24,7 @@ use Rattle.twp_plat.proofs.AreaLaws.{some_places}
 use Rattle.twp_plat.proofs.CountFacts.{SomePlace, counted_none, counted_some, counts_add}
 use Rattle.twp_plat.proofs.PlatLaws.{shared, one_share}
 use Rattle.twp_plat.proofs.StandardUnits.{units_alike, off_alike}
-use Rattle.twp_plat.proofs.lots.ContainedLots.{decided, of_lot}
+use Rattle.twp_plat.proofs.ContainedLots.{decided, of_lot}
 
 -- the units of all lots that the set contains, and how many of its places are land in no lot
 abbrev all_units : Lotting → (ℕ → ℕ → ℕ) → (ℕ → ℕ → ℕ → Bool) → ℕ

@@ -12,7 +12,7 @@ use Rattle.twp_plat.specs.LotAreas.{units_of_lots}
 use Rattle.twp_plat.specs.steps.Bounds.{REGULAR_PLACE_UNITS}
 use Rattle.twp_plat.specs.steps.LackingSteps.{IsFirstLackingIn}
 use Rattle.twp_plat.specs.steps.SectionUnits.{section_units}
-use Rattle.twp_plat.proofs.lots.ContainedLots.{empty_has, empty_units, total-rest}
+use Rattle.twp_plat.proofs.ContainedLots.{empty_has, empty_units, total-rest}
 
 -- the units of the sections before a number, no lot of which is lacking
 pub record AreSummed (lots : Lotting) (figure : ℕ → ℕ → ℕ) (places : ℕ → ℕ → ℕ → Bool) (number units : ℕ)

@@ -5,8 +5,8 @@ use Rattle.twp_land.specs.LotMaps.{land_off_lots}
 use Rattle.twp_land.specs.steps.PlatLotsLots.{plat_are_lots}
 use Rattle.twp_plat.specs.LotTables.{figure_of, lots_of}
 use Rattle.twp_plat.proofs.SectionSums.{few_places}
-use Rattle.twp_plat.proofs.lots.ContainedLots.{met_contains, next_first, unmet_lacks, units_first, units_if}
-use Rattle.twp_plat.proofs.lots.ContainedLots.{units_last, units_next, units_unless}
+use Rattle.twp_plat.proofs.ContainedLots.{met_contains, next_first, unmet_lacks, units_first, units_if}
+use Rattle.twp_plat.proofs.ContainedLots.{units_last, units_next, units_unless}
 use Rattle.twp_plat.proofs.lots.area.units_in_section.Goals as goal
 
 none_left : (n : ℕ) → (0 < n → ⊥) → n ≡ 0

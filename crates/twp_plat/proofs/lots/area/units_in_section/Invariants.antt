@@ -2,7 +2,7 @@ use Rattle.std.proofs.Common.{◌-◌, ◌*◌, ◌≤◌}
 use Rattle.twp_grid.specs.Lands.{LOT_NUMBER_MOST}
 use Rattle.twp_plat.specs.LotTables.{figure_of, lots_of}
 use Rattle.twp_plat.specs.steps.SectionUnits.{LOT_UNITS_MOST}
-use Rattle.twp_plat.proofs.lots.ContainedLots.{AreUnitsTo}
+use Rattle.twp_plat.proofs.ContainedLots.{AreUnitsTo}
 use Rattle.twp_plat.proofs.lots.area.units_in_section.Given as goal
 
 -- the units of the lots so far

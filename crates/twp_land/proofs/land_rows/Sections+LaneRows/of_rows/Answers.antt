@@ -4,7 +4,7 @@ use Rattle.twp_land.specs.Storage.{held_by_lane, land_of_rows}
 use Rattle.twp_land.proofs.LandFacts.{kept_at}
 use Rattle.twp_land.proofs.LotFacts.{section_is}
 use Rattle.twp_land.proofs.RowLands.{to_none, to_all, put_next, skip_next}
-use Rattle.twp_land.proofs.land_rows.stored.Goals as goal
+use Rattle.twp_land.proofs.land_rows.Sections+LaneRows.of_rows.Goals as goal
 
 pub loop-number-init : goal.loop-number-init
 loop-number-init c =
