@@ -1,10 +1,11 @@
 -- Which fields of a refused record of a lot table are to blame, and where that is shown.
 use Rattle.std.specs.Prelude.{◌≡◌, ◌≢◌, ⊤, ℕ, zero, suc, ◌-◌, ◌<◌, ◌≤◌, ◌==◌, if◌then◌else◌, List, length}
 use Rattle.std.specs.Prelude.{codes}
-use Rattle.twp_notes.specs.Records.{Fields, field, records_of}
+use Rattle.twp_notes.specs.Records.{Fields, field, records_of, record_numbered}
 use Rattle.twp_notes.specs.FieldNotes.{FIELDS, IsSectionNumber, IsTownshipRecord}
 use Rattle.twp_notes.specs.NotesFaults.{HasNone}
 use Rattle.twp_plat.specs.LotRecords.{LOT_FIELDS, lots_heading}
+use Rattle.twp_plat.specs.LandRecords.{LAND_FIELDS}
 use Rattle.twp_plat.specs.declared.lots.fault.LotsFault.{LotsFault}
 use Rattle.twp_plat.specs.declared.lots.fault.LotsFault.TheVariants as fault
 use Rattle.twp_diagnose.specs.RecordFields.{fields_in, fields_span, IsRecordAt}
@@ -25,12 +26,18 @@ pub record BeginsAsHeading (fields : Fields) : Type 0 where
   pub lot : field fields 1 ≡ codes "lot"
   pub acres : field fields 2 ≡ codes "acres"
 
+-- how many fields the heading has whose first three these fields have: `land` may be the fourth
+pub data AreColumns (fields : Fields) (columns : ℕ) : Type 0 where
+  of_standard_lots : field fields LOT_FIELDS ≢ codes "land" → columns ≡ LOT_FIELDS → AreColumns fields columns
+  with_land : field fields LOT_FIELDS ≡ codes "land" → columns ≡ LAND_FIELDS → AreColumns fields columns
+
 -- Of a record that is not the heading: a field that differs from the heading's, or all fields after those of
 -- the heading.
 pub data AreUnlikeHeading (fields : Fields) (range : FieldRange) : Type 0 where
   a_field : IsOneField (λ place. field fields place ≢ field lots_heading place) range
       → AreUnlikeHeading fields range
-  more_fields : BeginsAsHeading fields → AreSurplus LOT_FIELDS fields range → AreUnlikeHeading fields range
+  more_fields : (columns : ℕ) → BeginsAsHeading fields → AreColumns fields columns
+      → AreSurplus columns fields range → AreUnlikeHeading fields range
 
 -- the most fields of the township's record
 abbrev pub TOWNSHIP_FIELDS : ℕ
@@ -58,8 +65,10 @@ abbrev pub AreBlamedInTable : LotsFault → ℕ → Fields → FieldRange → Ty
 AreBlamedInTable fault.TooLarge lot_fields fields range = AreAllFields fields range
 AreBlamedInTable fault.Empty lot_fields fields range = AreAllFields fields range
 AreBlamedInTable fault.Heading lot_fields fields range = fields ≢ lots_heading → AreUnlikeHeading fields range
-AreBlamedInTable (fault.Columns number) lot_fields fields range = AreMiscounted (columns_of number lot_fields) fields range
-AreBlamedInTable fault.Township lot_fields fields range = length fields ≡ FIELDS → HasNone (IsTownshipRecord fields)
+AreBlamedInTable (fault.Columns number) lot_fields fields range =
+    AreMiscounted (columns_of number lot_fields) fields range
+AreBlamedInTable fault.Township lot_fields fields range =
+    length fields ≡ FIELDS → HasNone (IsTownshipRecord fields)
     → IsOneField (IsNotOfTownship fields) range
 AreBlamedInTable (fault.NoLot number) lot_fields fields range = IsOneField (IsNotOfLot fields) range
 AreBlamedInTable (fault.Acres number) lot_fields fields range = IsOneField (λ place. place ≡ 2) range

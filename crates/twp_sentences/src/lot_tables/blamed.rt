@@ -2,7 +2,7 @@
 ghost use Rattle.std.specs.Prelude.{◌≡◌, ◌≢◌};
 ghost use Rattle.twp_plat.specs.LotRecords.{lots_heading};
 ghost use Rattle.twp_diagnose.specs.RecordFields.{fields_in};
-ghost use Rattle.twp_sentences.specs.BlamedInTables.{AreBlamedInTable, AreMiscounted};
+ghost use Rattle.twp_sentences.specs.BlamedInTables.{AreBlamedInTable, AreColumns, AreMiscounted};
 ghost use Rattle.twp_sentences.specs.BlamedInTables.{AreUnlikeHeading, IsNotOfLot, columns_of};
 
 use crate::field_notes::{FieldRange, unlike_township};
@@ -12,6 +12,9 @@ use twp_plat::LotsFault;
 
 /// The number of fields in the record of a lot.
 pub(crate) const LOT_FIELDS: usize = 3;
+
+/// The number in a table with land.
+const LAND_FIELDS: usize = 4;
 
 /// The most fields of the township's record, of which the last is a date.
 const TOWNSHIP_FIELDS: usize = 6;
@@ -63,13 +66,20 @@ fn unlike_lots_heading(record: &Record<'_>) -> FieldRange
         FieldRange::one(2)
     } else {
         FieldRange {
-            first: if is_text(record.text(LAND), "land") {
-                LAND + 1
-            } else {
-                LAND
-            },
+            first: heading_fields(record),
             last: record.len().saturating_sub(1),
         }
+    }
+}
+
+/// How many fields the heading has whose first three a record has.
+fn heading_fields(record: &Record<'_>) -> usize
+    ensures { AreColumns (fields_in «record».now) result }
+{
+    if is_text(record.text(LAND), "land") {
+        LAND_FIELDS
+    } else {
+        LOT_FIELDS
     }
 }
 

@@ -1,6 +1,6 @@
 //! What is wrong with a lot table.
 ghost use Rattle.std.specs.Prelude.{◌≡◌, ◌≤◌, ◌<◌, length, IfOk, MatchOption};
-ghost use Rattle.twp_notes.specs.Records.{records_of};
+ghost use Rattle.twp_notes.specs.Records.{records_of, record_numbered};
 ghost use Rattle.twp_diagnose.specs.RecordFields.{fields_in};
 ghost use Rattle.twp_sentences.specs.BlamedInTables.{IsOfTableRecord, IsTableRecordOf, ShowsBlamedInTable};
 ghost use Rattle.twp_sentences.specs.OtherTableRecords.{IsOtherTableRecord};
@@ -72,7 +72,10 @@ fn refused_record<'a>(
 }
 
 /// How many fields a lot's record has: as many as the heading.
-fn lot_fields_of(alloc: Global, table: &Given<'_>) -> Result<usize, AllocError> {
+fn lot_fields_of(alloc: Global, table: &Given<'_>) -> Result<usize, AllocError>
+    ensures { IfOk result
+        (λ count. count ≡ length (record_numbered (records_of table.now.bytes.now) 1)) }
+{
     match Record::numbered(alloc, table.bytes, 1)? {
         Some(heading) => Ok(heading.len()),
         None => Ok(0),
