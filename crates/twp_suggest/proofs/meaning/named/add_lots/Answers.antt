@@ -1,5 +1,5 @@
 -- Lot by lot, the added places grow by those of a lot that shares none with the land before.
-use Rattle.std.proofs.Common.{◌≡◌, ◌-◌, ◌+◌, IsTrue, subst, ◌∙◌, arith}
+use Rattle.std.proofs.Common.{◌≡◌, ◌-◌, ◌+◌, IsTrue, subst, arith}
 use Rattle.twp_grid.specs.Lands.{lotting, lot_places}
 use Rattle.twp_resolve.specs.steps.ResolvingSteps.{lots_from, AreAdded}
 use Rattle.twp_resolve.proofs.RangeFacts.{added_none, more_added, next_lot, no_lots, number_of_lot}

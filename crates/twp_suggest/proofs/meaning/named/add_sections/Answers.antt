@@ -1,5 +1,5 @@
 -- Section by section, the added places grow by its land, which shares none with the land before.
-use Rattle.std.proofs.Common.{◌≡◌, ◌-◌, ◌+◌, IsTrue, subst, ◌∙◌, arith}
+use Rattle.std.proofs.Common.{◌≡◌, ◌-◌, ◌+◌, IsTrue, subst, arith}
 use Rattle.twp_grid.specs.Lands.{lotting, section_places}
 use Rattle.twp_land.proofs.LotFacts.{section_is}
 use Rattle.twp_resolve.specs.steps.ResolvingSteps.{sections_from, AreAdded}

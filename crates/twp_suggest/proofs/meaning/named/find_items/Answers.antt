@@ -14,7 +14,7 @@ loop-item-preserved g c =
 
 pub returns : goal.returns
 returns g c = λ _.
-    rw ← c.items-items.ensures.items
+    rw (← c.items-items.ensures.items)
     (named_all (lotting (g.P.Lotting.layout c.args.lots.now)) c.items-items.result.now
     c.loop-item.item-index (number_of_section c.loop-item.section) (g.L.PlaceSet.places c.loop-item.land)
     (omega (arith, c.loop-item-test.false)) c.loop-item.invariant)

@@ -1,4 +1,3 @@
-use Rattle.std.proofs.Common.{true}
 use Rattle.twp_suggest.proofs.meaning.NamedFacts.{none_lacks}
 use Rattle.twp_suggest.proofs.meaning.named.is_on_land_in.Goals as goal
 

@@ -1,7 +1,7 @@
 use Rattle.std.proofs.Common.{◌≡◌, length, map}
 use Rattle.twp_grammar.specs.Tokens.{seen}
 use Rattle.twp_read.specs.Doubts.{after_part}
-use Rattle.twp_suggest.proofs.sharing.after_part.Given as goal
+use Rattle.twp_suggest.proofs.part_tokens.after_part.Given as goal
 
 -- what was passed over is of the part
 abbrev pub invariant-loop-left : goal.invariant-loop-left
