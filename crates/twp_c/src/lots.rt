@@ -2,7 +2,8 @@
 ghost use Rattle.std.specs.Prelude.{◌≡◌, ◌≢◌};
 ghost use Rattle.twp_calls.specs.Answers.{ACCEPTED};
 ghost use Rattle.twp_calls.specs.LotCalls.{IsLotsReadCall, IsLotsAcresCall, IsLotsAreaCall};
-ghost use Rattle.twp_calls.specs.LotCalls.{IsLotsLandAcresCall, IsLotsLandAreaCall};
+ghost use Rattle.twp_calls.specs.LotLandCalls.{IsLotsLandAcresCall, IsLotsLandAreaCall};
+ghost use Rattle.twp_calls.specs.LotLandCalls.{IsLotsLandReadCall, IsLotsLandTextCall};
 ghost use Rattle.twp_calls.specs.LotReports.{IsLotsReportCall};
 ghost use Rattle.twp_calls.specs.LotsPlainCalls.{IsLotsPlainCall};
 
@@ -59,6 +60,34 @@ pub extern "C" fn township_lots_area(
     ensures kept { result.verdict ≢ ACCEPTED → area.new ≡ area.old }
 {
     twp_calls::township_lots_area(alloc, lots, description, area)
+}
+
+/// The land that a description names on the plat of a lot table.
+#[unsafe(no_mangle)]
+pub extern "C" fn township_lots_land_read(
+    alloc: Global,
+    lots: &TownshipLots,
+    description: &[u8],
+    land: &mut TownshipLand,
+) -> TownshipAnswer
+    ensures answer { IsLotsLandReadCall lots.now description.now land.new result }
+    ensures kept { result.verdict ≢ ACCEPTED → land.new ≡ land.old }
+{
+    twp_calls::township_lots_land_read(alloc, lots, description, land)
+}
+
+/// The canonical text of land on the plat of a lot table.
+#[unsafe(no_mangle)]
+pub extern "C" fn township_lots_land_text(
+    alloc: Global,
+    lots: &TownshipLots,
+    land: &TownshipLand,
+    text: &mut [u8],
+) -> TownshipAnswer
+    ensures answer { IsLotsLandTextCall lots.now land.now text.old text.new result }
+    ensures kept { result.verdict ≢ ACCEPTED → text.new ≡ text.old }
+{
+    twp_calls::township_lots_land_text(alloc, lots, land, text)
 }
 
 /// The acres of land by a lot table.

@@ -26,12 +26,13 @@ use Rattle.twp_answers.specs.declared.tract_fault.TractFault.TheVariants as faul
 use Rattle.twp_calls.specs.GivenPlats.{IsGivenPlat}
 use Rattle.twp_calls.specs.declared.plat.TownshipPlat.{TownshipPlat as GivenPlat}
 use Rattle.twp_calls.specs.declared.answer.TownshipAnswer.{TownshipAnswer}
-use Rattle.twp_grid.specs.Lands.{STANDARD_LOTS}
+use Rattle.twp_grid.specs.Lands.{Lotting, STANDARD_LOTS}
 
 -- a description that is refused, or for which memory ran out
-pub stopped_on : (Accepted : TownshipAnswer → Type 0) (township : Designation) (description : List ℕ)
-    (stopping : Stop) → StopsOn STANDARD_LOTS township description stopping
-    → Answers Accepted (IsRefusedFor (IsNoDescription STANDARD_LOTS township description)) (stopped stopping)
+pub stopped_on : {lots : Lotting} (Accepted : TownshipAnswer → Type 0) (township : Designation)
+    (description : List ℕ)
+    (stopping : Stop) → StopsOn lots township description stopping
+    → Answers Accepted (IsRefusedFor (IsNoDescription lots township description)) (stopped stopping)
 stopped_on Accepted township description (stop.Refused refusal) first =
     refused_for (record { refusal = refusal; first = first; answer_is = refl })
 stopped_on Accepted township description (stop.Failed cause) is = no_memory refl
@@ -102,11 +103,12 @@ text_put IsSuch explained text made old new answer explained_is text_is such is_
     }
 
 -- the refusal of a description that stopped for it
-pub refused_on : (township : Designation) (description : List ℕ) (stopping : Stop) (refusal : Refusal)
-    → stopping ≡ stop.Refused refusal → StopsOn STANDARD_LOTS township description stopping
-    → IsNoDescription STANDARD_LOTS township description refusal
-refused_on township description stopping refusal same stops =
-    subst (StopsOn STANDARD_LOTS township description) same stops
+pub refused_on : {lots : Lotting} (township : Designation) (description : List ℕ) (stopping : Stop)
+    (refusal : Refusal)
+    → stopping ≡ stop.Refused refusal → StopsOn lots township description stopping
+    → IsNoDescription lots township description refusal
+refused_on {lots = lots} township description stopping refusal same stops =
+    subst (StopsOn lots township description) same stops
 
 -- the refusal of notes that stopped for it
 pub refused_in : (notes : List ℕ) (stopping : Stop) (refusal : Refusal) → stopping ≡ stop.Refused refusal

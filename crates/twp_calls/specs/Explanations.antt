@@ -25,7 +25,7 @@ use Rattle.twp_calls.specs.Answers.{ACCEPTED, IsRefused, bare, refused, verdict_
 use Rattle.twp_calls.specs.Calls.{Answers, IsPut, OnPlat}
 use Rattle.twp_calls.specs.declared.answer.TownshipAnswer.{TownshipAnswer}
 use Rattle.twp_calls.specs.declared.plat.TownshipPlat.{TownshipPlat as GivenPlat}
-use Rattle.twp_grid.specs.Lands.{STANDARD_LOTS}
+use Rattle.twp_grid.specs.Lands.{Lotting, STANDARD_LOTS}
 
 -- an answer with a line and a column
 abbrev pub located_at : TownshipAnswer → ℕ → ℕ → TownshipAnswer
@@ -127,16 +127,17 @@ pub data IsWhereRefused (text : List ℕ) (refusal : Refusal) (line column : ℕ
   at_the_end : AllPass is_white (drop refusal.at text) → IsLineAndColumn text (end_of text) line column
       → IsWhereRefused text refusal line column
 
--- the refusal of the description is explained, with the line and the column of its place
-pub record IsExplainedDescription (township : Designation) (description old new : List ℕ)
-    (answer : TownshipAnswer) : Type 0 where
-  pub explained : IsExplainedRefusal (IsNoDescription STANDARD_LOTS township description) old new answer
+-- the refusal of the description on the plat with these lots is explained, with the line and the column of
+-- its place
+pub record IsExplainedDescription (lots : Lotting) (township : Designation)
+    (description old new : List ℕ) (answer : TownshipAnswer) : Type 0 where
+  pub explained : IsExplainedRefusal (IsNoDescription lots township description) old new answer
   pub place : IsWhereRefused description explained.refusal answer.line answer.column
 
 abbrev pub ExplainsDescription : GivenPlat → List ℕ → List ℕ → List ℕ → TownshipAnswer → Type 0
 ExplainsDescription given description old new = OnPlat given (λ plat.
     Answers (IsOfArea plat description old new)
-    (IsExplainedDescription plat.township description old new))
+    (IsExplainedDescription STANDARD_LOTS plat.township description old new))
 
 -- `township_explain_list`: of a list that has an account on the plat, there may be a note
 pub record IsOfAccount (plat : TownshipPlat) (list old new : List ℕ) (answer : TownshipAnswer)

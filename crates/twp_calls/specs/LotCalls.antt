@@ -1,20 +1,17 @@
 -- What each call by a lot table answers, for all that it can be given.
-use Rattle.std.specs.Prelude.{◌≡◌, ◌⊎◌, ℕ, List, Bool}
+use Rattle.std.specs.Prelude.{◌≡◌, ℕ, List}
 use Rattle.twp_measure.specs.Areas.{Fraction, IsRounded}
 use Rattle.twp_plat.specs.LotTexts.{AreLots}
 use Rattle.twp_grid.specs.Townships.{Designation}
-use Rattle.twp_plat.specs.LotTables.{lots_of}
 use Rattle.twp_plat.specs.declared.lots.table.LotTable.{LotTable}
-use Rattle.twp_answers.specs.LotLands.{HasLotArea, HasLotAreaOf, HasNoLotAreaOf, IsLackingLot}
+use Rattle.twp_answers.specs.LotLands.{HasLotAreaOf, HasNoLotAreaOf}
 use Rattle.twp_explain.specs.LotRefusals.{AreNoLots}
 use Rattle.twp_calls.specs.Answers.{ACCEPTED, NO_LOTS, bare, accepted_acres}
 use Rattle.twp_calls.specs.Calls.{Answers, IsFractionOf, IsRefusedFor}
 use Rattle.twp_calls.specs.GivenLots.{given_lots}
 use Rattle.twp_calls.specs.GivenTownships.{IsGivenTownship, IsNoGivenTownship}
-use Rattle.twp_calls.specs.LandCalls.{InOneTownship, OnLand}
 use Rattle.twp_calls.specs.declared.answer.TownshipAnswer.{TownshipAnswer}
 use Rattle.twp_calls.specs.declared.fraction.TownshipFraction.{TownshipFraction}
-use Rattle.twp_calls.specs.declared.land.TownshipLand.{TownshipLand as GivenLand}
 use Rattle.twp_calls.specs.declared.lots.TownshipLots.{TownshipLots as GivenLots}
 
 -- The given township is one, in which the call answers by the given lots, or it is none.
@@ -61,21 +58,3 @@ abbrev pub IsLotsAreaCall : GivenLots → List ℕ → TownshipFraction → Town
 IsLotsAreaCall given description new = ByLots given (λ township.
     Answers (IsAreaAnswered (HasLotAreaOf township given.lots description) new)
     (IsRefusedFor (HasNoLotAreaOf township given.lots description)))
-
--- what a call by a lot table answers for land in the table's township: this holds of the answer; or
--- the table lacks a lot of the land
-abbrev pub OfLandByLots : GivenLots → GivenLand → ((ℕ → ℕ → ℕ → Bool) → TownshipAnswer → Type 0)
-    → TownshipAnswer → Type 0
-OfLandByLots given land Accepted = ByLots given (λ township.
-    OnLand (lots_of given.lots) land (λ other places. InOneTownship township other (λ answer.
-    Accepted places answer ⊎ IsRefusedFor (IsLackingLot given.lots places) answer)))
-
--- `township_lots_land_acres`: the hundredths of an acre of the land
-abbrev pub IsLotsLandAcresCall : GivenLots → GivenLand → TownshipAnswer → Type 0
-IsLotsLandAcresCall given land =
-    OfLandByLots given land (λ places. AreAcresAnswered (HasLotArea given.lots places))
-
--- `township_lots_land_area`: the parts of its exact area
-abbrev pub IsLotsLandAreaCall : GivenLots → GivenLand → TownshipFraction → TownshipAnswer → Type 0
-IsLotsLandAreaCall given land new =
-    OfLandByLots given land (λ places. IsAreaAnswered (HasLotArea given.lots places) new)

@@ -14,6 +14,7 @@ use crate::verdict::{ACCEPTED, NO_LOTS, NO_MEMORY};
 use std::alloc::Global;
 use twp_explain::{explain_lacking, explain_lots};
 use twp_grid::Section;
+use twp_land::Lotting;
 use twp_plat::ReturnedLots;
 
 /// Explains why bytes are no lot table.
@@ -90,9 +91,9 @@ pub fn township_explain_lacking_parts(
     ensures shows { IsRefused result.verdict
         → IsShownInParts [] name.now text.old text.new explanation.new result }
 {
-    if lots.township.township().is_none() {
+    let Some(_township) = lots.township.township() else {
         return TownshipAnswer::bare(NO_LOTS);
-    }
+    };
     let Some(lot) = lacking_at(&lots.lots, at) else {
         return TownshipAnswer::bare(ACCEPTED);
     };
@@ -128,6 +129,9 @@ fn lacking_at(lots: &ReturnedLots, at: u32) -> Option<LotOfSection>
     }
     let section = Section::new((at / 100) as u8)?;
     let number = (at % 100) as u8;
+    if !lots.plat.has_lot(section, u16::from(number)) {
+        return None;
+    }
     if lots.figure(section, number).is_some() {
         return None;
     }

@@ -1,16 +1,13 @@
-//! The calls that answer by a lot table, which is plain data.
+//! The calls that read a lot table, which is plain data, and answer for a description by it.
 ghost use Rattle.std.specs.Prelude.{◌≡◌, ◌≢◌};
 ghost use Rattle.twp_calls.specs.Answers.{ACCEPTED};
 ghost use Rattle.twp_calls.specs.LotCalls.{IsLotsReadCall, IsLotsAcresCall, IsLotsAreaCall};
-ghost use Rattle.twp_calls.specs.LotCalls.{IsLotsLandAcresCall, IsLotsLandAreaCall};
 ghost use Rattle.twp_calls.specs.steps.LotSteps.{AnswersByLots};
 
 use crate::answer::TownshipAnswer;
-use crate::designation::is_same_township;
 use crate::fraction::TownshipFraction;
-use crate::land::TownshipLand;
 use crate::lots::TownshipLots;
-use crate::verdict::{ACCEPTED, NO_LAND, NO_LOTS, OTHER_TOWNSHIP};
+use crate::verdict::{ACCEPTED, NO_LOTS};
 use std::alloc::Global;
 use twp_answers::{Stop, land_of};
 use twp_grid::{Bytes, Township};
@@ -63,52 +60,6 @@ pub fn township_lots_area(
             TownshipAnswer::bare(ACCEPTED)
         }
         Err(stop) => TownshipAnswer::of_stop(stop),
-    }
-}
-
-/// The acres of land by a lot table.
-pub fn township_lots_land_acres(lots: &TownshipLots, land: &TownshipLand) -> TownshipAnswer
-    ensures { IsLotsLandAcresCall lots.now land.now result }
-{
-    let Some(township) = lots.township.township() else {
-        return TownshipAnswer::bare(NO_LOTS);
-    };
-    let Some(land) = land.land_on(&lots.lots.plat) else {
-        return TownshipAnswer::bare(NO_LAND);
-    };
-    if !is_same_township(township, land.township) {
-        return TownshipAnswer::bare(OTHER_TOWNSHIP);
-    }
-    match area_by_lots(&lots.lots, &land.places) {
-        Ok(area) => TownshipAnswer::of_acres(area.hundredths()),
-        Err(lot) => TownshipAnswer::of_refusal(lot.refusal()),
-    }
-}
-
-/// The exact area, of which `township_lots_land_acres` has the hundredths.
-pub fn township_lots_land_area(
-    lots: &TownshipLots,
-    land: &TownshipLand,
-    area: &mut TownshipFraction,
-) -> TownshipAnswer
-    ensures answer { IsLotsLandAreaCall lots.now land.now area.new result }
-    ensures kept { result.verdict ≢ ACCEPTED → area.new ≡ area.old }
-{
-    let Some(township) = lots.township.township() else {
-        return TownshipAnswer::bare(NO_LOTS);
-    };
-    let Some(land) = land.land_on(&lots.lots.plat) else {
-        return TownshipAnswer::bare(NO_LAND);
-    };
-    if !is_same_township(township, land.township) {
-        return TownshipAnswer::bare(OTHER_TOWNSHIP);
-    }
-    match area_by_lots(&lots.lots, &land.places) {
-        Ok(exact) => {
-            *area = TownshipFraction::of(&exact);
-            TownshipAnswer::bare(ACCEPTED)
-        }
-        Err(lot) => TownshipAnswer::of_refusal(lot.refusal()),
     }
 }
 

@@ -1,8 +1,10 @@
 //! Lot tables as plain data.
 ghost use Rattle.std.specs.Prelude.{◌≡◌};
 ghost use Rattle.twp_calls.specs.GivenLots.{given_lots};
+ghost use Rattle.twp_calls.specs.WhichPlats.{plat_of_lots};
 
 use crate::designation::TownshipDesignation;
+use crate::which_plat::WhichPlat;
 use twp_plat::{LotTable, ReturnedLots};
 
 /// The parts of a lot table. Any are valid if the township's are.
@@ -27,6 +29,17 @@ impl TownshipLots {
             township: TownshipDesignation::of(table.township),
             date: table.date,
             lots: table.lots,
+        }
+    }
+
+    /// The plat that the table is of.
+    pub(crate) fn plat(&self) -> WhichPlat
+        ensures { result ≡ plat_of_lots self.now }
+    {
+        let own_lots = if self.lots.plat.mapped == 0 { 0 } else { 1 };
+        WhichPlat {
+            date: self.date,
+            own_lots,
         }
     }
 }
