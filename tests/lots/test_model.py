@@ -230,7 +230,7 @@ class Edited:
         sys.modules.update(kept)
         self.model = types.SimpleNamespace(**{k: v for each in copies.values() for k, v in vars(each).items()})
 
-    def read(self, table, is_standard):
+    def read(self, table):
         try:
             self.table = self.model.table_of(table)
         except self.model.Faulty as faulty:
@@ -249,7 +249,10 @@ class Edited:
         area = self.model.area_of(self.table, self.land(description))
         return area.numerator, area.denominator
 
-    def text(self, township, description):
+    def land_acres(self, description):
+        return self.acres(description)
+
+    def text(self, description):
         return self.model.text_of(self.table, self.land(description))
 
 
@@ -268,7 +271,7 @@ def test_the_model_agrees_with_itself():
     ("meaning", "hundredths += lot.hundredths", "hundredths += here.lots[min(here.lots)].hundredths or 0"),
     # Land that is not there: counted, named, or not known.
     ("tables", "return WHOLE & ~self.missing", "return WHOLE"),
-    ("meaning", ", (NOT_THERE, here.missing)", ""),
+    ("meaning", "(NOT_THERE, here.missing), ", ""),
     ("tables", "        here.missing |= places\n", "        pass\n"),
     ("meaning", "if not all(there for _, there in named)", "if False"),
     # Lots where the standard lots are; a section without its lots; parts that include lots.
