@@ -17,8 +17,7 @@ static township_answer read_lots(bytes table, township_lots *lots) {
     return township_lots_read(table.at, table.length, lots);
 }
 
-/* The lot table of a text that is one. */
-static township_lots lots_of(const char *text) {
+township_lots table_of(const char *text) {
     bytes table = bytes_of(text);
     township_lots lots;
 
@@ -47,7 +46,7 @@ static township_lots regular_lots(void) {
 
 /* Sections 1 to 4 have four lots each, so lot 1 of section 5 is the 17th; lot 7 of section 6 is the 27th. */
 static void reads_lots(void) {
-    township_lots lots = lots_of(TABLE);
+    township_lots lots = table_of(TABLE);
     township_lots wanted = regular_lots();
 
     wanted.figures[16] = 4045;
@@ -55,7 +54,7 @@ static void reads_lots(void) {
     wanted.figures[26] = 3686;
     CHECK(memcmp(&lots, &wanted, sizeof lots) == 0);
     /* The last lot of all is lot 4 of section 31. */
-    lots = lots_of(HEADING "T,99,S,1,E\n31,4,999.99\n");
+    lots = table_of(HEADING "T,99,S,1,E\n31,4,999.99\n");
     CHECK(lots.figures[46] == 99999 && lots.township.number == 99 && lots.township.east_west == TOWNSHIP_EAST);
 }
 
@@ -180,7 +179,7 @@ static void refuses_land(const township_lots *lots, const township_land *land, t
 }
 
 static void measures_land(void) {
-    township_lots lots = lots_of(TABLE);
+    township_lots lots = table_of(TABLE);
     township_land lot = land_of("sec. 5, lot 1.");
     township_fraction area;
 
@@ -195,7 +194,7 @@ static void measures_land(void) {
 
 /* The refusal of a lot that the table lacks is at 100 times its section, plus its number. */
 static void refuses_lacking(void) {
-    township_lots lots = lots_of(TABLE);
+    township_lots lots = table_of(TABLE);
     const struct {
         const char *text;
         uint32_t at;
@@ -217,7 +216,7 @@ static void refuses_lacking(void) {
 }
 
 static void refuses_lots(void) {
-    township_lots lots = lots_of(TABLE);
+    township_lots lots = table_of(TABLE);
     township_lots much = lots;
     township_lots nowhere = lots;
     township_land land = land_of("sec. 14.");
@@ -268,7 +267,10 @@ static void measures_by_any_plat(void) {
     township_lots lots = lots_of_lake();
     township_fraction area;
     township_land part = land_of("sec. 14, N1/2NW1/4NE1/4NE1/4.");
+    township_land half = part;
 
+    half.date = lots.date;
+    half.own_lots = 1;
     CHECK_ANSWER(acres_by(&lots, "sec. 14, lot 1."), acres(3850));
     CHECK_ANSWER(acres_by(&lots, "sec. 14, lots 2 and 5."), acres(1225 + 1980));
     /* 16 quarter-quarters, of which one isn't there, and two are lots. */
@@ -282,8 +284,9 @@ static void measures_by_any_plat(void) {
     refuses_text(&lots, "sec. 14, NE1/4.", refused(66, 9));
     lots.figures[1] = 0;
     refuses_text(&lots, "sec. 14, lots 2 and 5.", refused(TOWNSHIP_REFUSAL_LOTS_LACKING, 1402));
-    /* Land with half of lot 1 is none on this plat. */
-    refuses_land(&lots, &part, bare(TOWNSHIP_NO_LAND));
+    /* Land with part of lot 1 is none on this plat; land that was read without a table is on another. */
+    refuses_land(&lots, &half, bare(TOWNSHIP_NO_LAND));
+    refuses_land(&lots, &part, bare(TOWNSHIP_OTHER_PLAT));
 }
 
 /* Room for tracts, with one more after it. */
@@ -325,7 +328,7 @@ static township_answer totaled(uint32_t verdict, uint64_t hundredths, size_t cou
 #define LIST "name,description\n"
 
 static void reports_tracts(void) {
-    township_lots lots = lots_of(TABLE);
+    township_lots lots = table_of(TABLE);
     tracts_by_lots none = blank_tracts();
     tracts_by_lots found = none;
     /* 40.45 acres; 40.55 and 80 acres. */
@@ -351,7 +354,7 @@ static void reports_tracts(void) {
 
 /* The first fault of a list is that of township_account, but a lot that the table lacks is one of its tract. */
 static void refuses_lists(void) {
-    township_lots lots = lots_of(TABLE);
+    township_lots lots = table_of(TABLE);
     township_lots nowhere = lots;
     tracts_by_lots none = blank_tracts();
     const struct {
