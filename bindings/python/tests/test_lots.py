@@ -119,7 +119,9 @@ class Refusals(RefusalCase):
                 # A record is on the line with its number.
                 self.assertEqual((refused.line, refused.column is None), (at, False) if is_shown else (None, True))
                 self.assertEqual(str(refused), f"lots:{at}: {refused.sentence}" if is_shown else f"lots: {refused.sentence}")
-                self.assertTrue(refused.explanation.startswith(f"township: {refused}\n"))
+                # A long sentence takes more than one line.
+                words = " ".join(refused.explanation.split())
+                self.assertTrue(words.startswith(f"township: {refused}"), words)
                 self.assertEqual("^" in refused.explanation or refused.start == refused.end, True)
 
     def test_table_is_shown_at_the_fields_that_are_wrong(self):

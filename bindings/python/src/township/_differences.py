@@ -31,6 +31,9 @@ def differences_of(plat: _library.Plat, lots: Lots) -> List[Difference]:
     """Return the lots whose acreage differs, in order."""
     if township_of(plat) != lots.township:
         raise failure_of(_library.OTHER_TOWNSHIP, township_of(plat), lots.township)
+    if lots.has_land:
+        # Field notes make a plat with the standard lots.
+        raise failure_of(_library.OTHER_PLAT, lots.township)
     figures = _library.PlatFigures()
     answer = _library.figures(byref(plat), byref(figures))
     if answer.verdict != _library.ACCEPTED:

@@ -1,4 +1,4 @@
-"""Lot tables: the acreage that the approved plat returns for each lot."""
+"""Lot tables: the lots of the approved plat, and the acreage that it returns for each."""
 from __future__ import annotations
 
 from ctypes import byref
@@ -27,7 +27,7 @@ _MOST = 99_999
 
 
 class Lots(LotsAnswering):
-    """A lot table: the acreage that the approved plat returns for the lots of a township.
+    """A lot table: the lots of a township's approved plat, and the acreage that it returns for each.
 
     By a lot table, each whole lot counts at its returned acreage, and other land at its nominal area, 40 acres
     for each quarter-quarter section. No field notes are needed. To make a table, call `Lots.open` with the name
@@ -37,9 +37,18 @@ class Lots(LotsAnswering):
     >>> lots.acres("sec. 5, lots 1 and 2, S1/2NE1/4.")
     Decimal('161.00')
 
+    A table with the column `land` says where its lots lie. All other tables are for the standard lots.
+
+    >>> lake = township.Lots.read("section,lot,acres,land\\nT,2,N,3,W\\n14,1,38.50,NE1/4NE1/4\\n14,,,NW1/4NE1/4\\n")
+    >>> print(lake.land("sec. 14, NW1/4, lot 1.").text, end="")
+    T. 2 N., R. 3 W.,
+    sec. 14, lot 1, NW1/4.
+    >>> lake.acres("sec. 14.")
+    Decimal('598.50')
+
     A table is immutable, can be pickled, and can be used from several threads at once. Two tables are equal if
-    their townships and figures are. Methods raise `Refused` if a description is refused, or with the number 94
-    if the land contains a lot that the table lacks; `at` is then 100 times the section's number plus the
+    their townships, dates, lots, and figures are. Methods raise `Refused` if a description is refused, or with the
+    number 94 if the land contains a lot that the table lacks; `at` is then 100 times the section's number plus the
     lot's.
 
     >>> lots.acres("sec. 5, lots 1 to 4.")
@@ -168,18 +177,6 @@ class Lots(LotsAnswering):
         lots = lots_in(self._parts)
         return MappingProxyType({lot: acres_of_hundredths(figure) if figure else None for lot, figure in lots})
 
-    def csv(self) -> str:
-        """Return the table (CSV), from which `Lots.read` makes it again.
-
-        >>> print(township.Lots.of_figures((2, "N", 3, "W"), {(5, 1): "40.45"}).csv(), end="")
-        section,lot,acres
-        T,2,N,3,W
-        5,1,40.45
-        """
-        records = ["section,lot,acres", ",".join(map(str, ("T", *self.township)))]
-        records += [f"{section},{lot},{acres}" for (section, lot), acres in self.figures.items() if acres]
-        return "\n".join(records) + "\n"
-
     def __eq__(self, other: object) -> bool:
         if not isinstance(other, Lots):
             return NotImplemented
@@ -189,12 +186,17 @@ class Lots(LotsAnswering):
         return hash(bytes(self._parts))
 
     def __reduce__(self) -> Tuple[Any, ...]:
-        return Lots.read, (self.csv(),)
+        table = self.csv()
+        # A table with very many small parts may have no text that is short enough.
+        return (Lots.read, (table,)) if len(table) <= _library.LOTS_TEXT_MOST else (_restored, (bytes(self._parts),))
 
     def __repr__(self) -> str:
         figures: List[int] = [figure for _, figure in lots_in(self._parts)]
         has = sum(1 for figure in figures if figure)
-        return f"<township.Lots of {self.township}: {has} of {len(figures)} lots>"
+        plat = f"{self.township}, {self.date}" if self.date else str(self.township)
+        if self.has_land:
+            return f"<township.Lots of {plat}: {len(figures)} {'lot' if len(figures) == 1 else 'lots'}>"
+        return f"<township.Lots of {plat}: {has} of {len(figures)} lots>"
 
 
 def _bytes_in(path: Path) -> bytes:
@@ -210,6 +212,11 @@ def _parts_of(table: bytes) -> Tuple[_library.Answer, _library.Lots]:
     """Return the answer of the library on a lot table, and the table's parts, if it is accepted."""
     parts = _library.Lots()
     return _library.lots_read(table, len(table), byref(parts)), parts
+
+
+def _restored(parts: bytes) -> Lots:
+    """Return the lot table with these bytes, which were those of a lot table."""
+    return Lots._of_struct(_library.Lots.from_buffer_copy(parts))
 
 
 def _plain(table: bytes) -> bytes:
