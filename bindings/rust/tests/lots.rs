@@ -143,9 +143,9 @@ fn refused_tables() {
         };
         let sentence = refused.sentence();
         assert_eq!(refused.to_string(), format!("lots{place}: {sentence}"));
-        assert!(refused
-            .explanation
-            .starts_with(&format!("township: {refused}\n")));
+        // A long sentence takes more than one line.
+        let words: Vec<&str> = refused.explanation.split_whitespace().collect();
+        assert!(words.join(" ").starts_with(&format!("township: {refused}")));
     }
 }
 
@@ -330,7 +330,7 @@ fn refused_lists() {
 fn land_in_another_township() {
     let other = Land::empty("T. 3 N., R. 3 W.".parse().unwrap());
     let error = table().land_acres(&other).unwrap_err();
-    assert!(matches!(&error, NoLandAcres::OtherTownship(one) if one.first == other.township()));
+    assert!(matches!(&error, NoLandAcres::OtherPlat(one) if one.first == other.township()));
     let message = "T. 3 N., R. 3 W. and T. 2 N., R. 3 W. are two different townships";
     assert_eq!(error.to_string(), message);
 }

@@ -10,7 +10,7 @@ const ANY: &[u8] = b"section,lot,acres\nT,1,N,1,E\n";
 /// figure, which is 0 if the table lacks the lot.
 pub(super) fn lots_in(table: &ffi::Lots) -> impl Iterator<Item = (u8, u8, u32)> + '_ {
     let sections = (0..SECTIONS).zip(1..);
-    sections.flat_map(|(before, section)| {
+    sections.flat_map(move |(before, section)| {
         let indexes = usize::from(table.first[before])..usize::from(table.first[before + 1]);
         indexes.map(move |index| (section, table.numbers[index], table.figures[index]))
     })
