@@ -85,6 +85,7 @@ extern "C" {
 #define TOWNSHIP_REFUSAL_LAND_TOO_FINE 65u
 #define TOWNSHIP_REFUSAL_LAND_ON_LOT 66u
 #define TOWNSHIP_REFUSAL_LAND_OVERLAP 67u
+#define TOWNSHIP_REFUSAL_LAND_NO_LAND 68u
 /* A list of tracts: */
 #define TOWNSHIP_REFUSAL_TRACTS_TOO_LARGE 80u
 #define TOWNSHIP_REFUSAL_TRACT_ROW 81u
@@ -102,6 +103,13 @@ extern "C" {
 #define TOWNSHIP_REFUSAL_LOTS_ACRES 92u
 #define TOWNSHIP_REFUSAL_LOTS_REPEATED 93u
 #define TOWNSHIP_REFUSAL_LOTS_LACKING 94u
+#define TOWNSHIP_REFUSAL_LOTS_DATE 95u
+#define TOWNSHIP_REFUSAL_LOTS_LAND 96u
+#define TOWNSHIP_REFUSAL_LOTS_TOO_FINE 97u
+#define TOWNSHIP_REFUSAL_LOTS_SHARED 98u
+#define TOWNSHIP_REFUSAL_LOTS_TOO_MANY 99u
+#define TOWNSHIP_REFUSAL_LOTS_UNFILLED 100u
+#define TOWNSHIP_REFUSAL_LOTS_DIVIDED 101u
 /* End of the lines that tools/header_names.py makes. */
 
 /* The number of section lines in a township. */
@@ -134,20 +142,23 @@ extern "C" {
                                      description are not a range of the bytes given; township_set_aside: two
                                      offsets are not */
 #define TOWNSHIP_NO_LAND 8u       /* the land you passed is not valid: it has no township, or contains part of a
-                                     lot */
-#define TOWNSHIP_NO_LOTS 9u       /* the lot table you passed is not valid */
+                                     lot; or `own_lots` is neither 0 nor 1 */
+#define TOWNSHIP_NO_LOTS 9u       /* the township of the lot table you passed is not valid */
 #define TOWNSHIP_NO_TOWNSHIP 10u  /* the designation you passed is not valid */
 #define TOWNSHIP_NO_OPERATION 11u /* township_land_combine: the operation you passed is not valid */
 #define TOWNSHIP_OTHER_TOWNSHIP 12u /* two arguments are in different townships: land and land, land and a plat,
                                        or land and a lot table */
+#define TOWNSHIP_OTHER_PLAT 13u   /* two arguments are of different plats of one township: land and land, or land
+                                     and a lot table; or the call is for the standard lots, and the land has others */
 
 /*
  * If several verdicts apply, a call returns the first of these: TOWNSHIP_NO_PLAT, TOWNSHIP_NO_LOTS, or
  * TOWNSHIP_NO_TOWNSHIP; TOWNSHIP_NO_LAND; TOWNSHIP_NO_ACCOUNT or TOWNSHIP_NO_OPERATION; TOWNSHIP_OTHER_TOWNSHIP;
- * TOWNSHIP_REFUSED or TOWNSHIP_TRACT_REFUSED; TOWNSHIP_NO_ROOM. There are two exceptions: a function that explains
- * returns TOWNSHIP_NO_ROOM for a refused input if its buffer is too small for the text, and township_answer_many
- * checks its buffer first. TOWNSHIP_NO_MEMORY is returned only if the arguments are valid, in place of a refusal,
- * TOWNSHIP_NO_ROOM, or TOWNSHIP_ACCEPTED.
+ * TOWNSHIP_OTHER_PLAT; TOWNSHIP_REFUSED or TOWNSHIP_TRACT_REFUSED; TOWNSHIP_NO_ROOM. There are three exceptions: a
+ * function that takes land and a lot table checks last whether the land contains part of a lot of the table
+ * (TOWNSHIP_NO_LAND); a function that explains returns TOWNSHIP_NO_ROOM for a refused input if its buffer is too small
+ * for the text; and township_answer_many checks its buffer first. TOWNSHIP_NO_MEMORY is returned only if the arguments
+ * are valid, in place of a refusal, TOWNSHIP_NO_ROOM, or TOWNSHIP_ACCEPTED.
  */
 
 /* Accounts: how whole lots count. */
@@ -267,9 +278,18 @@ typedef struct township_overlap {
     uint64_t hundredths; /* of an acre: the land in both, rounded once, half up */
 } township_overlap;
 
-/* The number of places along a side of a section, and the number of lots in a township. */
+/* The number of places along a side of a section. */
 #define TOWNSHIP_PLACES_ACROSS 32
-#define TOWNSHIP_LOTS 47
+
+/*
+ * The maximum number of figures in a lot table, and the number of their bounds. The numbers of bytes that say where
+ * the lots of a plat lie: one for each quarter-quarter of the township, and one for each place of those that are
+ * divided, of which there are at most 128.
+ */
+#define TOWNSHIP_RETURNED_MOST 1024
+#define TOWNSHIP_BOUNDS 37
+#define TOWNSHIP_POSITION_BYTES 576
+#define TOWNSHIP_DIVIDED_BYTES 8192
 
 /* The designation of a township, with the same fields as in a plat. */
 typedef struct township_designation {
@@ -284,19 +304,41 @@ typedef struct township_designation {
  * section's side. `rows[section - 1][row]` is a row of places, counted from 0 in the south of the section; its bit
  * `k`, counted from the lowest, is the place in column `k`, counted from 0 in the east. You may copy land, store it,
  * compare it byte by byte, or fill it in by hand: each function that takes land checks that it contains each lot
- * wholly or not at all. Land needs no plat; only its area depends on a plat or a lot table.
+ * wholly or not at all.
+ *
+ * Land is on one of the township's plats. Without a lot table it is on a plat of a regular township: `date` and
+ * `own_lots` are 0. On the plat of a lot table, `date` is the table's, and `own_lots` is 1 if the table says where its
+ * lots lie. Then only functions that take the table know the lots; the others combine and compare places.
  */
 typedef struct township_land {
     uint32_t rows[TOWNSHIP_SECTIONS][TOWNSHIP_PLACES_ACROSS];
+    uint32_t date;     /* of the plat's approval, as in a lot table, or 0 */
+    uint32_t own_lots; /* 0: the standard lots; 1: the lots of a table */
     township_designation township;
 } township_land;
 
 /*
- * A lot table: the acreage that the approved plat returns for each lot, in hundredths of an acre: 1 to 99,999,
- * or 0 if the table does not have the lot. The lots are sorted by section number and then by lot number.
+ * A lot table: the lots of a township's approved plat, and the acreage that it returns for each. You may copy it, store
+ * it, compare it byte by byte, or fill it in by hand: any values are a lot table if its township is valid.
+ *
+ * `figures` are in hundredths of an acre: 1 to 99,999, or any other value if the table lacks the lot. The figures of
+ * a section are those from `first[section - 1]` to before `first[section]`, and `numbers` has the number of the lot
+ * that each is for.
+ *
+ * If `mapped` is 0, the lots are those of a regular township, at their places. If it is not, `positions` has 16 bytes
+ * for each section, by number: one for each quarter-quarter section, by row from the south, and in a row from the
+ * east. A byte is the number of the lot that the quarter-quarter is in, 0 if it is land in no lot, or 100 if the plat
+ * has no land there. A larger byte is for a quarter-quarter that is divided: 101 for the first one of `divided`, which
+ * has such a byte for each of its 64 places, by row from the south, and in a row from the east.
  */
 typedef struct township_lots {
-    uint32_t figures[TOWNSHIP_LOTS];
+    uint32_t figures[TOWNSHIP_RETURNED_MOST];
+    uint16_t first[TOWNSHIP_BOUNDS];
+    uint8_t numbers[TOWNSHIP_RETURNED_MOST];
+    uint8_t positions[TOWNSHIP_POSITION_BYTES];
+    uint8_t divided[TOWNSHIP_DIVIDED_BYTES];
+    uint16_t mapped;
+    uint32_t date; /* of approval: year * 10,000 + month * 100 + day, or 0 if it is not known */
     township_designation township;
 } township_lots;
 
@@ -526,12 +568,13 @@ township_answer township_designation_read(const uint8_t *text, size_t text_lengt
 /* Writes the name of a township in the form `T. 2 N., R. 3 W.`, which township_designation_read reads. */
 township_answer township_designation_text(const township_designation *township, uint8_t *text, size_t room);
 
-/* Writes to `land` the land that a description names in a township. The description is refused exactly if it is
-   refused on the plats of that township. On any verdict other than TOWNSHIP_ACCEPTED, `land` is unchanged. */
+/* Writes to `land` the land that a description names in a township with the standard lots. The description is refused
+   exactly if it is refused on the plats of that township that field notes make. On any verdict other than
+   TOWNSHIP_ACCEPTED, `land` is unchanged. */
 township_answer township_land_read(const township_designation *township, const uint8_t *description,
                                    size_t description_length, township_land *land);
 
-/* Returns in `hundredths` the acres of land, on a plat of its township and by an account. */
+/* Returns in `hundredths` the acres of land with the standard lots, on a plat of its township and by an account. */
 township_answer township_land_acres(const township_plat *plat, const township_land *land, uint32_t account);
 
 /* Writes to `area` the exact area, which township_land_acres rounds. On any verdict other than
@@ -539,14 +582,15 @@ township_answer township_land_acres(const township_plat *plat, const township_la
 township_answer township_land_area(const township_plat *plat, const township_land *land, uint32_t account,
                                    township_fraction *area);
 
-/* Writes the canonical text of land, which is a description of that land unless it exceeds the maximum size of a
-   description. The text of empty land is empty. */
+/* Writes the canonical text of land with the standard lots, which is a description of that land unless it exceeds the
+   maximum size of a description. The text of empty land is empty. */
 township_answer township_land_text(const township_land *land, uint8_t *text, size_t room);
 
 /*
- * Writes the parts of land, in the order of its canonical text. A section that the land contains wholly is
- * one block; for any other section, the lots come first, and then the other blocks. `length` is the number of parts;
- * if `room`, the number of elements of `parts`, is smaller, the verdict is TOWNSHIP_NO_ROOM, and nothing is written.
+ * Writes the parts of land with the standard lots, in the order of its canonical text. A section that the land contains
+ * wholly is one block; for any other section, the lots come first, and then the other blocks. `length` is the number of
+ * parts; if `room`, the number of elements of `parts`, is smaller, the verdict is TOWNSHIP_NO_ROOM, and nothing is
+ * written.
  */
 township_answer township_land_parts(const township_land *land, township_part *parts, size_t room);
 
@@ -555,8 +599,8 @@ township_answer township_land_parts(const township_land *land, township_part *pa
 #define TOWNSHIP_INTERSECTION 1u
 #define TOWNSHIP_DIFFERENCE 2u
 
-/* Writes to `land` the union, the intersection, or the difference of `first` and `second`. On any verdict other than
-   TOWNSHIP_ACCEPTED, `land` is unchanged. */
+/* Writes to `land` the union, the intersection, or the difference of `first` and `second`, which are on one plat. On
+   any verdict other than TOWNSHIP_ACCEPTED, `land` is unchanged. */
 township_answer township_land_combine(const township_land *first, const township_land *second,
                                       uint32_t operation, township_land *land);
 
@@ -567,14 +611,41 @@ township_answer township_land_combine(const township_land *first, const township
 #define TOWNSHIP_OVERLAPS 3u     /* they share land, and each contains land that the other does not */
 #define TOWNSHIP_DISJOINT 4u     /* they share no land, and neither is empty */
 
-/* Writes to `comparison` how `first` compares to `second`. On any verdict other than TOWNSHIP_ACCEPTED, `comparison`
-   is unchanged. */
+/* Writes to `comparison` how `first` compares to `second`, which are on one plat. On any verdict other than
+   TOWNSHIP_ACCEPTED, `comparison` is unchanged. */
 township_answer township_land_compare(const township_land *first, const township_land *second,
                                       uint32_t *comparison);
 
 /* Reads a lot table (CSV; see docs/LOTS-FORMAT.md). On any verdict other than TOWNSHIP_ACCEPTED, `lots` is
    unchanged. */
 township_answer township_lots_read(const uint8_t *table, size_t table_length, township_lots *lots);
+
+/*
+ * Writes the plain table of a lot table as a spreadsheet saves it: without empty cells at the end of a row, with
+ * commas for semicolons or tabs, and with two decimals in the third cell, such as 40.50 for 40.5; docs/LOTS-FORMAT.md
+ * has the rules. Nothing is refused: a row whose quotation marks do not pair stays as it is. Each line of `table`
+ * becomes one line of the text, so the line in an explanation of the text (township_explain_lots) is the line of
+ * `table`. The plain table of a plain table is that plain table.
+ */
+township_answer township_lots_plain(const uint8_t *table, size_t table_length, uint8_t *text, size_t room);
+
+/*
+ * Writes to `land` the land that a description names on the plat of a lot table. A lot is taken whole, wherever it
+ * lies; a section named alone is all land that the plat has there. On any verdict other than TOWNSHIP_ACCEPTED, `land`
+ * is unchanged.
+ */
+township_answer township_lots_land_read(const township_lots *lots, const uint8_t *description,
+                                        size_t description_length, township_land *land);
+
+/*
+ * Writes the canonical text of land on the plat of a lot table, which township_lots_land_read reads by this table as
+ * the same land, unless it exceeds the maximum size of a description. The land is on the table's plat if its date and
+ * `own_lots` are those of the table. Land that was read without a table is also on the plat of any table with the
+ * standard lots. A table whose `mapped` is 1 and whose `positions` are 0 has no lots, so this writes land in aliquot
+ * parts alone.
+ */
+township_answer township_lots_land_text(const township_lots *lots, const township_land *land, uint8_t *text,
+                                        size_t room);
 
 /*
  * Return in `hundredths` the acres of a description or of land, by a lot table of its township; or write the exact
@@ -633,6 +704,12 @@ township_answer township_explain_lots(const uint8_t *table, size_t table_length,
 township_answer township_explain_lacking(const township_lots *lots, uint32_t at, const uint8_t *name,
                                          size_t name_length, uint8_t *text, size_t room);
 
+/* The same for a description by a lot table, as township_lots_acres answers it: on the table's plat, with its lots.
+   Notes give no acres. */
+township_answer township_lots_explain_description(const township_lots *lots, const uint8_t *description,
+                                                  size_t description_length, const uint8_t *name,
+                                                  size_t name_length, uint8_t *text, size_t room);
+
 /* The part of the input that an explanation shows. */
 #define TOWNSHIP_SHOWN_NOTHING 0u /* nothing: the fault is not at one place */
 #define TOWNSHIP_SHOWN_LINE 1u    /* a line, whose number is in the text; it contains the byte `start` */
@@ -684,6 +761,10 @@ township_answer township_explain_lots_parts(const uint8_t *table, size_t table_l
 township_answer township_explain_lacking_parts(const township_lots *lots, uint32_t at, const uint8_t *name,
                                                size_t name_length, uint8_t *text, size_t room,
                                                township_explanation *explanation);
+township_answer township_lots_explain_description_parts(const township_lots *lots, const uint8_t *description,
+                                                        size_t description_length, const uint8_t *name,
+                                                        size_t name_length, uint8_t *text, size_t room,
+                                                        township_explanation *explanation);
 
 /*
  * Suggests how a text would be written as a description, without a plat: writes its readings, in a fixed order, their

@@ -13,12 +13,12 @@ IS 'the land described, in the township of a plat, or NULL if the description is
 
 CREATE FUNCTION acres_or_null(plat plat, land land, account text DEFAULT 'exact') RETURNS numeric
 AS 'MODULE_PATHNAME', 'twpg_acres_of_land_or_null' LANGUAGE C IMMUTABLE STRICT PARALLEL SAFE COST 20;
-COMMENT ON FUNCTION acres_or_null(plat, land, text) IS 'the acres of land, or NULL if it is in another township';
+COMMENT ON FUNCTION acres_or_null(plat, land, text) IS 'the acres of land, or NULL if it is in another township, or on a plat with other lots';
 
 CREATE FUNCTION acres_or_null(lots lots, land land) RETURNS numeric
 AS 'MODULE_PATHNAME', 'twpg_acres_of_land_by_lots_or_null' LANGUAGE C IMMUTABLE STRICT PARALLEL SAFE COST 20;
 COMMENT ON FUNCTION acres_or_null(lots, land)
-IS 'the acres of land, by the returned acreage of lots, or NULL if the table lacks one of its lots';
+IS 'the acres of land, by the returned acreage of lots, or NULL if the table lacks one of its lots or is of another plat';
 
 -- Why a lot table gives no acreage.
 

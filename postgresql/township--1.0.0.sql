@@ -224,6 +224,9 @@ AS 'MODULE_PATHNAME', 'twpg_land_contains' LANGUAGE C IMMUTABLE STRICT PARALLEL 
 CREATE FUNCTION land_contained(land, land) RETURNS bool
 AS 'MODULE_PATHNAME', 'twpg_land_contained' LANGUAGE C IMMUTABLE STRICT PARALLEL SAFE COST 10;
 
+CREATE FUNCTION land_restrictsel(internal, oid, internal, int4) RETURNS float8
+AS 'MODULE_PATHNAME', 'twpg_land_restrictsel' LANGUAGE C STABLE STRICT PARALLEL SAFE;
+
 CREATE FUNCTION land_joinsel(internal, oid, internal, int2, internal) RETURNS float8
 AS 'MODULE_PATHNAME', 'twpg_land_joinsel' LANGUAGE C STABLE STRICT PARALLEL SAFE;
 
@@ -238,19 +241,19 @@ COMMENT ON OPERATOR - (land, land) IS 'the land in the first that is not in the 
 
 CREATE OPERATOR && (
     LEFTARG = land, RIGHTARG = land, FUNCTION = land_overlaps, COMMUTATOR = &&,
-    RESTRICT = matchingsel, JOIN = land_joinsel
+    RESTRICT = land_restrictsel, JOIN = land_joinsel
 );
 COMMENT ON OPERATOR && (land, land) IS 'whether they share land';
 
 CREATE OPERATOR @> (
     LEFTARG = land, RIGHTARG = land, FUNCTION = land_contains, COMMUTATOR = <@,
-    RESTRICT = matchingsel, JOIN = land_joinsel
+    RESTRICT = land_restrictsel, JOIN = land_joinsel
 );
 COMMENT ON OPERATOR @> (land, land) IS 'whether the first contains the second';
 
 CREATE OPERATOR <@ (
     LEFTARG = land, RIGHTARG = land, FUNCTION = land_contained, COMMUTATOR = @>,
-    RESTRICT = matchingsel, JOIN = land_joinsel
+    RESTRICT = land_restrictsel, JOIN = land_joinsel
 );
 COMMENT ON OPERATOR <@ (land, land) IS 'whether the second contains the first';
 
@@ -395,11 +398,12 @@ CREATE TYPE lots (
     OUTPUT = lots_out,
     RECEIVE = lots_recv,
     SEND = lots_send,
-    INTERNALLENGTH = 192,
+    INTERNALLENGTH = variable,
     ALIGNMENT = int4,
-    STORAGE = plain
+    STORAGE = extended
 );
-COMMENT ON TYPE lots IS 'the acreage that the approved plat returns for lots; its text is a lot table (CSV)';
+COMMENT ON TYPE lots
+IS 'the lots of an approved plat, and the acreage that it returns for each; its text is a lot table (CSV)';
 
 CREATE FUNCTION lots_eq(lots, lots) RETURNS bool
 AS 'MODULE_PATHNAME', 'twpg_lots_eq' LANGUAGE C IMMUTABLE STRICT PARALLEL SAFE;

@@ -250,3 +250,70 @@ CREATE AGGREGATE total_acres(numerator numeric, denominator numeric) (
 );
 COMMENT ON AGGREGATE total_acres(numeric, numeric)
 IS 'the exact sum of areas, rounded once to hundredths; NULL if any of them is missing';
+
+-- Land on the plat of a lot table.
+
+CREATE FUNCTION land(lots lots, description text) RETURNS land
+AS 'MODULE_PATHNAME', 'twpg_land_by_lots' LANGUAGE C IMMUTABLE STRICT PARALLEL SAFE COST 30;
+COMMENT ON FUNCTION land(lots, text) IS 'the land described, on the plat of a lot table';
+
+CREATE FUNCTION land_or_null(lots lots, description text) RETURNS land
+AS 'MODULE_PATHNAME', 'twpg_land_by_lots_or_null' LANGUAGE C IMMUTABLE STRICT PARALLEL SAFE COST 30;
+COMMENT ON FUNCTION land_or_null(lots, text)
+IS 'the land described, on the plat of a lot table, or NULL if the description is refused';
+
+CREATE FUNCTION normal(lots lots, land land) RETURNS text
+AS 'MODULE_PATHNAME', 'twpg_normal_of_land_by_lots' LANGUAGE C IMMUTABLE STRICT PARALLEL SAFE COST 40;
+COMMENT ON FUNCTION normal(lots, land) IS 'the canonical description of land, with the lots of a lot table';
+
+CREATE FUNCTION normal(lots lots, description text) RETURNS text
+AS 'MODULE_PATHNAME', 'twpg_normal_by_lots' LANGUAGE C IMMUTABLE STRICT PARALLEL SAFE COST 60;
+COMMENT ON FUNCTION normal(lots, text)
+IS 'the canonical description of the land described, with the lots of a lot table';
+
+CREATE FUNCTION normal(notes text, description text) RETURNS text
+AS 'MODULE_PATHNAME', 'twpg_normal_by_notes' LANGUAGE C IMMUTABLE STRICT PARALLEL SAFE COST 150;
+COMMENT ON FUNCTION normal(text, text)
+IS 'the canonical description of the land described, on the plat of field notes';
+
+CREATE FUNCTION plat_date(land land) RETURNS date
+AS 'MODULE_PATHNAME', 'twpg_land_plat_date' LANGUAGE C IMMUTABLE STRICT PARALLEL SAFE;
+COMMENT ON FUNCTION plat_date(land)
+IS 'the date on which the plat that the land is on was approved, or NULL if it is not known';
+
+CREATE FUNCTION has_own_lots(land land) RETURNS bool
+AS 'MODULE_PATHNAME', 'twpg_land_has_own_lots' LANGUAGE C IMMUTABLE STRICT PARALLEL SAFE;
+COMMENT ON FUNCTION has_own_lots(land)
+IS 'whether the lots of the plat that the land is on are those of a lot table, and not the standard ones';
+
+CREATE FUNCTION plat_date(lots lots) RETURNS date
+AS 'MODULE_PATHNAME', 'twpg_lots_plat_date' LANGUAGE C IMMUTABLE STRICT PARALLEL SAFE;
+COMMENT ON FUNCTION plat_date(lots)
+IS 'the date on which the plat of a lot table was approved, or NULL if it is not known';
+
+CREATE FUNCTION has_own_lots(lots lots) RETURNS bool
+AS 'MODULE_PATHNAME', 'twpg_lots_has_own_lots' LANGUAGE C IMMUTABLE STRICT PARALLEL SAFE;
+COMMENT ON FUNCTION has_own_lots(lots)
+IS 'whether a lot table says where its lots lie, and so has not the standard ones';
+
+CREATE FUNCTION plat_date(description text) RETURNS date
+AS 'MODULE_PATHNAME', 'twpg_text_plat_date' LANGUAGE C IMMUTABLE STRICT PARALLEL SAFE COST 40;
+COMMENT ON FUNCTION plat_date(text)
+IS 'the date on which the plat of a description with a heading was approved, or NULL if it is not known';
+
+CREATE FUNCTION has_own_lots(description text) RETURNS bool
+AS 'MODULE_PATHNAME', 'twpg_text_has_own_lots' LANGUAGE C IMMUTABLE STRICT PARALLEL SAFE COST 40;
+COMMENT ON FUNCTION has_own_lots(text)
+IS 'whether a description with a heading is of a plat with the lots of a lot table, and not the standard ones';
+
+CREATE FUNCTION quarter_quarters(
+    lots lots, land land, OUT section int4, OUT lot int4, OUT quarter_quarter text, OUT whole bool, OUT part land
+) RETURNS SETOF record
+AS 'MODULE_PATHNAME', 'twpg_quarter_quarters_by_lots' LANGUAGE C IMMUTABLE STRICT PARALLEL SAFE COST 100 ROWS 8;
+COMMENT ON FUNCTION quarter_quarters(lots, land)
+IS 'the lots and quarter-quarter sections that have some of the land, with the lots of a lot table';
+
+CREATE FUNCTION parts(lots lots, land land, OUT section int4, OUT lot int4, OUT part land) RETURNS SETOF record
+AS 'MODULE_PATHNAME', 'twpg_parts_by_lots' LANGUAGE C IMMUTABLE STRICT PARALLEL SAFE COST 100 ROWS 4;
+COMMENT ON FUNCTION parts(lots, land)
+IS 'the parts of land that its description by a lot table names: lots, and other parts of sections';

@@ -28,16 +28,17 @@ RENAMED = {"township_print": "print_plat"}
 OF_ONE_BYTE = {"NORTH", "SOUTH", "EAST", "WEST"}
 
 PYTHON_TYPES = {
-    "uint8_t": "c_uint8", "char": "c_char", "uint32_t": "c_uint32", "uint64_t": "c_uint64", "size_t": "c_size_t"
+    "uint8_t": "c_uint8", "char": "c_char", "uint16_t": "c_uint16", "uint32_t": "c_uint32", "uint64_t": "c_uint64",
+    "size_t": "c_size_t",
 }
-RUST_TYPES = {"uint8_t": "u8", "char": "u8", "uint32_t": "u32", "uint64_t": "u64", "size_t": "usize"}
+RUST_TYPES = {"uint8_t": "u8", "char": "u8", "uint16_t": "u16", "uint32_t": "u32", "uint64_t": "u64", "size_t": "usize"}
 
 PYTHON_BEGIN = '''\
 """The library's constants, structs, and calls. Made from include/township.h by tools/bindings.py, not by hand."""
 from __future__ import annotations
 
 import ctypes
-from ctypes import POINTER, c_char, c_char_p, c_size_t, c_uint8, c_uint32, c_uint64
+from ctypes import POINTER, c_char, c_char_p, c_size_t, c_uint8, c_uint16, c_uint32, c_uint64
 from typing import Any, Callable
 
 from ._loading import LIBRARY

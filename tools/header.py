@@ -14,7 +14,7 @@ HEADER = Path(__file__).resolve().parents[1] / "include" / "township.h"
 CONSTANTS, NAMES = "TOWNSHIP_", "township_"
 
 #: The sizes of the types that are no structs, in bytes.
-SIZES = {"uint8_t": 1, "char": 1, "uint32_t": 4, "uint64_t": 8, "size_t": 8}
+SIZES = {"uint8_t": 1, "char": 1, "uint16_t": 2, "uint32_t": 4, "uint64_t": 8, "size_t": 8}
 
 
 class Constant(NamedTuple):

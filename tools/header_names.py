@@ -47,7 +47,7 @@ GROUPS = (
     Group(range(50, 60), "PHRASES_", "Phrases that are not land"),
     Group(range(60, 80), "LAND_", "The land that a description names"),
     Group(range(80, 86), "", "A list of tracts"),
-    Group(range(86, 95), "LOTS_", "A lot table, and land measured by it"),
+    Group(range(86, 102), "LOTS_", "A lot table, and land measured by it"),
 )
 
 

@@ -24,11 +24,14 @@ CRATES = Path(__file__).resolve().parents[1] / "crates"
 #: The parameters of a call, or the fields of a struct: their names, and their types in Rattle.
 Declared = Mapping[str, list[tuple[str, str]]]
 
-NUMBERS = {"uint8_t": "u8", "char": "u8", "uint32_t": "u32", "uint64_t": "u64", "size_t": "usize"}
+NUMBERS = {"uint8_t": "u8", "char": "u8", "uint16_t": "u16", "uint32_t": "u32", "uint64_t": "u64", "size_t": "usize"}
 
 EXPORTS = r'^pub extern "C" fn (township_\w+)\(([^)]*)\)\s+-> TownshipAnswer$'
 CALLS = r"^pub fn (township_\w+)\(([^)]*)\)\s+-> TownshipAnswer$"
 STRUCTS = r"^#\[repr\(C\)\]\n(?:#.*\n)*pub struct Township(\w+) \{\n((?:    .*\n)*)\}"
+#: Structs that aren't the header's, of which a struct of the header has all fields.
+PARTS = r"^#\[repr\(C\)\]\n(?:#.*\n)*pub struct (?!Township)(\w+) \{\n((?:    .*\n)*)\}"
+FIELDS = r"^    (?:pub )?(\w+): (\[*\w+)(.*),$"
 CONSTANTS = r"^(?:pub(?:\(crate\))? )?const (\w+): \w+ = ([\d_]+);"
 
 
@@ -97,13 +100,28 @@ def structs_in(sources: str, found: Header) -> Declared:
     """Return the same of the library's code, whose arrays may have the header's names for their lengths."""
     counts = {constant.name: constant.value for constant in found.constants if not constant.is_code}
     counts.update({name: int(value) for name, value in re.findall(CONSTANTS, sources, re.M)})
+    parts = dict(re.findall(PARTS, all_sources(), re.M))
     return {
         name: [
             (field, array_of(kind.lstrip("["), [counts[count] for count in re.findall(r"; (\w+)", lengths)]))
-            for field, kind, lengths in re.findall(r"^    pub (\w+): (\[*\w+)(.*),$", inside, re.M)
+            for field, kind, lengths in fields_in(inside, parts)
         ]
         for name, inside in re.findall(STRUCTS, sources, re.M)
     }
+
+
+def fields_in(inside: str, parts: Mapping[str, str]) -> Iterator[tuple[str, str, str]]:
+    """Yield the fields of a struct, and in place of a part its fields: name, type, and lengths."""
+    for field, kind, lengths in re.findall(FIELDS, inside, re.M):
+        if kind in parts:
+            yield from fields_in(parts[kind], parts)
+        else:
+            yield field, kind, lengths
+
+
+def all_sources() -> str:
+    """Return the sources of all crates."""
+    return "\n".join(file.read_text(encoding="utf-8") for file in sorted(CRATES.glob("*/src/**/*.rt")))
 
 
 def array_of(kind: str, counts: list[int]) -> str:

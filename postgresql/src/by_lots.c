@@ -7,13 +7,10 @@
 
 #include "miscadmin.h"
 
-/* Why a description is refused: the table lacks a lot of its land, or the reason is in the text. That is the same on
-   all plats of a township. */
+/* Why a description is refused: the table lacks a lot of its land, or the reason is in the text. */
 static twpg_explanation explanation_of(township_answer answer, const township_lots *lots, twpg_bytes description) {
-    township_plat plat = twpg_even_plat(&lots->township);
-
-    return answer.number == TOWNSHIP_REFUSAL_LOTS_LACKING ? twpg_explain_lacking(answer.at)
-                                                          : twpg_explain_description(&plat, description);
+    return answer.number == TOWNSHIP_REFUSAL_LOTS_LACKING ? twpg_explain_lacking(lots, answer.at)
+                                                          : twpg_explain_by_lots(lots, description);
 }
 
 /* The error for any verdict but ACCEPTED. */

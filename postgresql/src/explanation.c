@@ -8,7 +8,7 @@
  *
  * The database shows the sentence, the excerpt, and the hints in places of their own, and breaks no lines.
  */
-#include "twpg.h"
+#include "lots.h"
 
 #include "lib/stringinfo.h"
 
@@ -19,10 +19,12 @@ static const uint8_t NAME[] = {'d'};
 /* Every line of a sentence continues the one before. */
 #define ALL_LINES UINT32_MAX
 
-/* Field notes, or a description with the plat that it is on; and the parts of the explanation, which the library
-   writes. */
+/* Field notes, a lot table, or a description with the plat that it is on, or with a lot table of that plat; or a lot table
+   and the place of a lot that it lacks; and the parts of the explanation, which the library writes. */
 typedef struct twpg_explaining {
     const township_plat *plat;
+    const township_lots *lots;
+    uint32_t at;
     twpg_bytes given;
     township_explanation *parts;
 } twpg_explaining;
@@ -34,10 +36,29 @@ static township_answer write_of_description(const void *given, uint8_t *text, si
                                               room, it->parts);
 }
 
+static township_answer write_by_lots(const void *given, uint8_t *text, size_t room) {
+    const twpg_explaining *it = given;
+
+    return township_lots_explain_description_parts(it->lots, it->given.start, it->given.length, NAME, sizeof NAME, text,
+                                                   room, it->parts);
+}
+
 static township_answer write_of_notes(const void *given, uint8_t *text, size_t room) {
     const twpg_explaining *it = given;
 
     return township_explain_notes_parts(it->given.start, it->given.length, NAME, sizeof NAME, text, room, it->parts);
+}
+
+static township_answer write_of_lots(const void *given, uint8_t *text, size_t room) {
+    const twpg_explaining *it = given;
+
+    return township_explain_lots_parts(it->given.start, it->given.length, NAME, sizeof NAME, text, room, it->parts);
+}
+
+static township_answer write_of_lacking(const void *given, uint8_t *text, size_t room) {
+    const twpg_explaining *it = given;
+
+    return township_explain_lacking_parts(it->lots, it->at, NAME, sizeof NAME, text, room, it->parts);
 }
 
 /* The lines of a part, without their indentation. A line continues the one before if its bit is set: then they are one
@@ -69,13 +90,13 @@ static char *excerpt_of(const char *text, const township_explanation *parts) {
 }
 
 /* The explanation that a writer writes. Want of memory is an error, and any other verdict has no text. */
-static twpg_explanation explanation_by(twpg_writer writer, const township_plat *plat, twpg_bytes given) {
+static twpg_explanation explanation_by(twpg_writer writer, twpg_explaining explaining) {
     township_explanation parts = {0};
-    twpg_explaining explaining = {plat, given, &parts};
     twpg_explanation explained = {0};
     township_answer answer;
     char *text;
 
+    explaining.parts = &parts;
     answer = twpg_write(writer, &explaining, &text);
     if (answer.verdict != TOWNSHIP_ACCEPTED && answer.verdict != TOWNSHIP_REFUSED) {
         twpg_fail(answer.verdict);
@@ -93,9 +114,21 @@ static twpg_explanation explanation_by(twpg_writer writer, const township_plat *
 }
 
 twpg_explanation twpg_explain_description(const township_plat *plat, twpg_bytes description) {
-    return explanation_by(write_of_description, plat, description);
+    return explanation_by(write_of_description, (twpg_explaining){.plat = plat, .given = description});
+}
+
+twpg_explanation twpg_explain_by_lots(const township_lots *lots, twpg_bytes description) {
+    return explanation_by(write_by_lots, (twpg_explaining){.lots = lots, .given = description});
 }
 
 twpg_explanation twpg_explain_notes(twpg_bytes notes) {
-    return explanation_by(write_of_notes, NULL, notes);
+    return explanation_by(write_of_notes, (twpg_explaining){.given = notes});
+}
+
+twpg_explanation twpg_explain_lots(twpg_bytes table) {
+    return explanation_by(write_of_lots, (twpg_explaining){.given = table});
+}
+
+twpg_explanation twpg_explain_lacking(const township_lots *lots, uint32_t at) {
+    return explanation_by(write_of_lacking, (twpg_explaining){.lots = lots, .at = at});
 }

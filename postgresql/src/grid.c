@@ -30,6 +30,9 @@ township_part *twpg_parts_of(const township_land *land, size_t *count) {
         parts = repalloc(parts, (size_t)answer.length * sizeof *parts);
         answer = township_land_parts(land, parts, (size_t)answer.length);
     }
+    if (answer.verdict == TOWNSHIP_OTHER_PLAT) {
+        twpg_fail_of_own_lots("Pass its lot table, too: parts(lots, land).");
+    }
     if (answer.verdict != TOWNSHIP_ACCEPTED) {
         twpg_fail(answer.verdict);
     }
@@ -44,7 +47,8 @@ static township_land all_but_corners(const township_designation *township) {
     int section;
     int row;
 
-    memset(&land, 0xFF, sizeof land);
+    memset(&land, 0, sizeof land);
+    memset(land.rows, 0xFF, sizeof land.rows);
     land.township = *township;
     for (section = 0; section < TOWNSHIP_SECTIONS; section++) {
         for (row = 0; row < PLACES_OF_CELL; row++) {
@@ -71,4 +75,54 @@ void twpg_find_lots(const township_designation *township, twpg_lot_numbers *lots
         }
     }
     pfree(parts);
+}
+
+/* The number at a place of a section by a table that says where its lots lie. */
+static uint8_t mapped_at(const township_lots *lots, int section, int row, int column) {
+    int cell = row / PLACES_OF_CELL * TWPG_CELLS_ACROSS + column / PLACES_OF_CELL;
+    int place = row % PLACES_OF_CELL * PLACES_OF_CELL + column % PLACES_OF_CELL;
+    uint8_t number = lots->positions[TWPG_CELLS_ACROSS * TWPG_CELLS_ACROSS * section + cell];
+
+    return number <= TWPG_NOT_THERE
+               ? number
+               : lots->divided[PLACES_OF_CELL * PLACES_OF_CELL * (number - TWPG_NOT_THERE - 1) + place];
+}
+
+/* The lots of a section, by a table that says where they lie, or else the standard ones. */
+void twpg_find_section(const township_lots *mapped, const twpg_lot_numbers *standard, twpg_lotted *section) {
+    int row;
+    int column;
+
+    for (row = 0; row < TOWNSHIP_PLACES_ACROSS; row++) {
+        for (column = 0; column < TOWNSHIP_PLACES_ACROSS; column++) {
+            section->lots[row][column] =
+                mapped != NULL ? mapped_at(mapped, section->index, row, column)
+                               : standard->at[section->index][row / PLACES_OF_CELL][column / PLACES_OF_CELL];
+        }
+    }
+}
+
+/* The places of a lot in a section. */
+twpg_places twpg_places_of_lot(const twpg_lotted *section, uint8_t lot) {
+    twpg_places places = {{0}};
+    int row;
+    int column;
+
+    for (row = 0; row < TOWNSHIP_PLACES_ACROSS; row++) {
+        for (column = 0; column < TOWNSHIP_PLACES_ACROSS; column++) {
+            places.rows[row] |= (uint32_t)(section->lots[row][column] == lot) << column;
+        }
+    }
+    return places;
+}
+
+/* Whether some of the land is in a section. */
+bool twpg_is_touched(const township_land *land, int section) {
+    uint32_t any = 0;
+    int row;
+
+    for (row = 0; row < TOWNSHIP_PLACES_ACROSS; row++) {
+        any |= land->rows[section][row];
+    }
+    return any != 0;
 }

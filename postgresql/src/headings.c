@@ -97,16 +97,6 @@ twpg_heading twpg_find_heading(twpg_bytes given, township_designation *township,
     return TWPG_HEADING;
 }
 
-/* The same, but an impossible number is an error. Returns whether there is a heading. */
-bool twpg_read_heading(twpg_bytes given, township_designation *township, size_t *end) {
-    twpg_heading found = twpg_find_heading(given, township, end);
-
-    if (found == TWPG_IMPOSSIBLE_HEADING) {
-        ereport(ERROR, (errcode(ERRCODE_INVALID_TEXT_REPRESENTATION), errmsg(TWPG_IMPOSSIBLE_NUMBERS)));
-    }
-    return found == TWPG_HEADING;
-}
-
 /* Finds the township that a text spells. Returns whether there is one. */
 bool twpg_find_township(const text *given, township_designation *township) {
     twpg_bytes bytes = twpg_bytes_of_text(given);

@@ -1,5 +1,6 @@
 /*
- * Lands as values of the database, and their binary form: a version, and the bytes of the packed land.
+ * Lands as values of the database, and their binary form: a version, and the bytes of the packed land. Land on the plat
+ * of a lot table has a version of its own, so that those who know only the standard lots refuse it.
  */
 #include "land.h"
 
@@ -7,29 +8,14 @@
 #include "miscadmin.h"
 
 #define BINARY_VERSION 1
+#define BINARY_VERSION_ON_PLAT 2
 
 StaticAssertDecl(sizeof(township_designation) == 4, "the designation is the first four bytes of a packed land");
-
-/* Which townships two things are in. */
-char *twpg_two_townships(const uint8_t *first, const uint8_t *second) {
-    return psprintf("The first is in %s; the second is in %s",
-                    twpg_township_text(first[0], first[1], first[2], first[3]),
-                    twpg_township_text(second[0], second[1], second[2], second[3]));
-}
-
-/* The error for what is in two different townships, or for another verdict. */
-void twpg_fail_of_two(uint32_t verdict, const uint8_t *first, const uint8_t *second) {
-    if (verdict == TOWNSHIP_OTHER_TOWNSHIP) {
-        ereport(ERROR, (errcode(twpg_sqlstate_of(TWPG_OTHER_TOWNSHIP)), errmsg("%s", TWPG_TWO_TOWNSHIPS),
-                        errdetail("%s", twpg_two_townships(first, second))));
-    }
-    twpg_fail(verdict);
-}
 
 twpg_packed twpg_packed_of(const struct varlena *stored) {
     twpg_packed packed = {(const uint8_t *)VARDATA_ANY(stored), VARSIZE_ANY_EXHDR(stored)};
 
-    if (packed.length < TWPG_LAND_HEAD) {
+    if (!twpg_has_head(packed)) {
         twpg_fail(TOWNSHIP_NO_LAND);
     }
     return packed;
@@ -51,13 +37,19 @@ Datum twpg_land_datum(const township_land *land) {
     return PointerGetDatum(stored);
 }
 
+static int version_of(twpg_packed packed) {
+    twpg_site site = twpg_site_of_packed(packed);
+
+    return site.date == 0 && site.own_lots == 0 ? BINARY_VERSION : BINARY_VERSION_ON_PLAT;
+}
+
 PG_FUNCTION_INFO_V1(twpg_land_send);
 Datum twpg_land_send(PG_FUNCTION_ARGS) {
     twpg_packed packed = twpg_packed_of(PG_GETARG_LAND(0));
     StringInfoData sent;
 
     pq_begintypsend(&sent);
-    pq_sendbyte(&sent, BINARY_VERSION);
+    pq_sendbyte(&sent, version_of(packed));
     pq_sendbytes(&sent, (const char *)packed.start, (int)packed.length);
     PG_RETURN_BYTEA_P(pq_endtypsend(&sent));
 }
@@ -66,11 +58,15 @@ static void refuse_received(const char *why) {
     ereport(ERROR, (errcode(ERRCODE_INVALID_BINARY_REPRESENTATION), errmsg("these bytes are no land: %s", why)));
 }
 
-/* Whether a land is valid, the library says: any call does, such as a comparison with itself. */
+/* Whether a land is valid, the library says: any call does, such as a comparison with itself. It takes any number for
+   the date of a plat, but the text of land needs a day that there is. */
 static void check_received(const township_land *land) {
     uint32_t comparison;
     uint32_t verdict;
 
+    if (land->date != 0 && !twpg_is_date(land->date)) {
+        refuse_received("there is no such date");
+    }
     check_stack_depth();
     verdict = township_land_compare(land, land, &comparison).verdict;
     if (verdict == TOWNSHIP_NO_LAND) {
@@ -84,15 +80,16 @@ static void check_received(const township_land *land) {
 PG_FUNCTION_INFO_V1(twpg_land_recv);
 Datum twpg_land_recv(PG_FUNCTION_ARGS) {
     StringInfo received = (StringInfo)PG_GETARG_POINTER(0);
+    int version = pq_getmsgbyte(received);
     twpg_packed packed;
     township_land land;
 
-    if (pq_getmsgbyte(received) != BINARY_VERSION) {
+    if (version != BINARY_VERSION && version != BINARY_VERSION_ON_PLAT) {
         refuse_received("unknown version");
     }
     packed.length = (size_t)(received->len - received->cursor);
     packed.start = (const uint8_t *)pq_getmsgbytes(received, (int)packed.length);
-    if (!twpg_unpack(packed, &land)) {
+    if (!twpg_unpack(packed, &land) || version_of(packed) != version) {
         refuse_received("they are not in the form of one");
     }
     check_received(&land);

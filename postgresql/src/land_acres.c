@@ -44,20 +44,30 @@ static township_answer area_of(const twpg_measured *measured, township_fraction 
                                   : township_lots_land_area(measured->lots, &measured->land, area);
 }
 
-/* The designation of the plat or of the lot table. */
-static const uint8_t *township_of(const twpg_measured *measured) {
-    return measured->plat != NULL ? &measured->plat->number : &measured->lots->township.number;
+/* The error for any verdict but ACCEPTED and REFUSED. */
+_Noreturn static void fail(uint32_t verdict, const twpg_measured *measured) {
+    twpg_site land = twpg_site_of(&measured->land);
+    twpg_site plat;
+
+    if (measured->lots != NULL) {
+        twpg_fail_on_table(verdict, measured->lots, &measured->land);
+    }
+    if (verdict == TOWNSHIP_OTHER_PLAT) {
+        twpg_fail_of_own_lots("Measure it by its lot table: acres(lots, land) or area(lots, land).");
+    }
+    plat = twpg_site_of_plat(measured->plat);
+    twpg_fail_of_two(verdict, &plat, &land);
 }
 
 /* The error for any verdict but ACCEPTED. Land is refused only by a lot table, which lacks one of its lots. */
 static void check(township_answer answer, const twpg_measured *measured) {
     if (answer.verdict == TOWNSHIP_REFUSED) {
-        twpg_explanation explained = twpg_explain_lacking(answer.at);
+        twpg_explanation explained = twpg_explain_lacking(measured->lots, answer.at);
 
         twpg_refuse(answer, &explained);
     }
     if (answer.verdict != TOWNSHIP_ACCEPTED) {
-        twpg_fail_of_two(answer.verdict, township_of(measured), &measured->land.township.number);
+        fail(answer.verdict, measured);
     }
 }
 
@@ -68,11 +78,11 @@ static Datum acres(const twpg_measured *measured) {
     return twpg_acres_datum(answer.hundredths);
 }
 
-/* The same, or NULL if the lot table lacks a lot of the land, or if the land is in another township. */
+/* The same, or NULL if the lot table lacks a lot of the land, or if the land is on another plat. */
 static Datum acres_or_null(FunctionCallInfo fcinfo, const twpg_measured *measured) {
     township_answer answer = acres_of(measured);
 
-    if (answer.verdict == TOWNSHIP_REFUSED || answer.verdict == TOWNSHIP_OTHER_TOWNSHIP) {
+    if (answer.verdict == TOWNSHIP_REFUSED || twpg_is_elsewhere(answer.verdict, &measured->land)) {
         PG_RETURN_NULL();
     }
     check(answer, measured);
@@ -103,10 +113,10 @@ OF_LAND(twpg_acres_of_land_by_lots, get_by_lots, acres(&measured))
 OF_LAND(twpg_acres_of_land_by_lots_or_null, get_by_lots, acres_or_null(fcinfo, &measured))
 OF_LAND(twpg_area_of_land_by_lots, get_by_lots, area(fcinfo, &measured))
 
-/* Why a lot table gives no acres, or NULL. A table of another township has a number, but no place. */
+/* Why a lot table gives no acres, or NULL. A table of another plat has a number, but no place. */
 PG_FUNCTION_INFO_V1(twpg_refusal_of_land_by_lots);
 Datum twpg_refusal_of_land_by_lots(PG_FUNCTION_ARGS) {
-    twpg_explanation explained = {0, 0, NULL, NULL, NULL};
+    twpg_explanation explained;
     twpg_measured measured;
     township_answer answer;
 
@@ -115,12 +125,11 @@ Datum twpg_refusal_of_land_by_lots(PG_FUNCTION_ARGS) {
     if (answer.verdict == TOWNSHIP_ACCEPTED) {
         PG_RETURN_NULL();
     }
-    if (answer.verdict == TOWNSHIP_OTHER_TOWNSHIP) {
-        answer.number = TWPG_OTHER_TOWNSHIP;
-        explained.sentence = pstrdup(TWPG_TWO_TOWNSHIPS);
-        explained.help = twpg_two_townships(township_of(&measured), &measured.land.township.number);
+    if (twpg_is_elsewhere(answer.verdict, &measured.land)) {
+        answer.number = TWPG_OTHER_SITE;
+        explained = twpg_explain_on_table(answer.verdict, measured.lots, &measured.land);
     } else if (answer.verdict == TOWNSHIP_REFUSED) {
-        explained = twpg_explain_lacking(answer.at);
+        explained = twpg_explain_lacking(measured.lots, answer.at);
     } else {
         twpg_fail(answer.verdict);
     }

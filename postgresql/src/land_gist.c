@@ -62,6 +62,12 @@ static bool may_be_answer(const twpg_key *key, const twpg_key *query, StrategyNu
     }
 }
 
+/* Whether land under a key may be on another plat than a query's in the same township. Then the operator has to be
+   asked, whatever places they have: it fails, so that no constraint passes over such land. Only `=` never fails. */
+static bool may_fail(const twpg_key *key, const twpg_key *query, StrategyNumber strategy) {
+    return strategy != RTSameStrategyNumber && !twpg_keys_on_one_plat(key, query);
+}
+
 PG_FUNCTION_INFO_V1(twpg_land_consistent);
 Datum twpg_land_consistent(PG_FUNCTION_ARGS) {
     const GISTENTRY *entry = (const GISTENTRY *)PG_GETARG_POINTER(0);
@@ -75,6 +81,9 @@ Datum twpg_land_consistent(PG_FUNCTION_ARGS) {
         PG_RETURN_BOOL(false);
     }
     key = twpg_unpack_key(entry->key);
+    if (may_fail(&key, query, strategy)) {
+        PG_RETURN_BOOL(true);
+    }
     PG_RETURN_BOOL(GIST_LEAF(entry) ? may_be_answer(&key, query, strategy) : may_have_answer(&key, query, strategy));
 }
 

@@ -8,11 +8,14 @@
 #define BOX_BYTES 4
 #define MASK_BYTES 5
 #define EMPTY_BIT (UINT64_C(1) << TOWNSHIP_SECTIONS)
+#define OWN_LOTS_BIT (EMPTY_BIT << 1)
+#define DATED_BIT (EMPTY_BIT << 2)
+#define SEVERAL_BIT (EMPTY_BIT << 3)
 #define EVERY_SECTION (EMPTY_BIT - 1)
 #define PLACES_IN_CELL 8
 #define CELLS_ACROSS 4
 #define EVERY_CELL 0xFFFF
-#define KEY_MOST (BOX_BYTES + MASK_BYTES + 2 * TOWNSHIP_SECTIONS)
+#define KEY_MOST (BOX_BYTES + MASK_BYTES + TWPG_DATE_BYTES + 2 * TOWNSHIP_SECTIONS)
 
 static twpg_position position_of(const township_designation *township) {
     int tier = township->north_south == TOWNSHIP_NORTH ? township->number - 1 : -township->number;
@@ -56,6 +59,8 @@ twpg_key twpg_key_of(const struct varlena *stored) {
     key.least = position_of(&land.township);
     key.most = key.least;
     key.has_empty = sections == 0;
+    key.date = land.date;
+    key.own_lots = land.own_lots;
     key.sections = sections;
     while (sections != 0) {
         int section = take_section(&sections);
@@ -69,36 +74,68 @@ bool twpg_is_single(const twpg_key *key) {
     return key->least.tier == key->most.tier && key->least.range == key->most.range;
 }
 
+/* Whether all lands under two keys of one township are on one plat of it. */
+bool twpg_keys_on_one_plat(const twpg_key *first, const twpg_key *second) {
+    return !first->has_several_plats && !second->has_several_plats && first->date == second->date &&
+           first->own_lots == second->own_lots;
+}
+
+static uint64_t mask_of(const twpg_key *key) {
+    return key->sections | (key->has_empty ? EMPTY_BIT : 0) | (key->own_lots != 0 ? OWN_LOTS_BIT : 0) |
+           (key->date != 0 ? DATED_BIT : 0) | (key->has_several_plats ? SEVERAL_BIT : 0);
+}
+
+/* Writes the lowest bytes of a number, from the lowest one. */
+static size_t put_bytes(uint8_t *bytes, uint64_t number, int count) {
+    int index;
+
+    for (index = 0; index < count; index++) {
+        bytes[index] = (uint8_t)(number >> (8 * index) & 0xFF);
+    }
+    return (size_t)count;
+}
+
+static uint64_t get_bytes(const uint8_t *bytes, int count) {
+    uint64_t number = 0;
+    int index;
+
+    for (index = 0; index < count; index++) {
+        number |= (uint64_t)bytes[index] << (8 * index);
+    }
+    return number;
+}
+
 bytea *twpg_pack_key(const twpg_key *key) {
     bytea *stored = palloc0(VARHDRSZ + KEY_MOST);
     uint8_t *bytes = (uint8_t *)VARDATA(stored);
     size_t length = BOX_BYTES;
-    uint64_t mask = key->sections | (key->has_empty ? EMPTY_BIT : 0);
     uint64_t sections = key->sections;
-    int index;
 
     memcpy(bytes, &key->least, sizeof key->least);
     memcpy(bytes + sizeof key->least, &key->most, sizeof key->most);
     if (twpg_is_single(key)) {
-        for (index = 0; index < MASK_BYTES; index++) {
-            bytes[length++] = (uint8_t)(mask >> (8 * index) & 0xFF);
-        }
+        length += put_bytes(bytes + length, mask_of(key), MASK_BYTES);
+        length += put_bytes(bytes + length, key->date, key->date != 0 ? TWPG_DATE_BYTES : 0);
         while (sections != 0) {
-            uint16_t cells = key->cells[take_section(&sections)];
-
-            bytes[length++] = (uint8_t)(cells & 0xFF);
-            bytes[length++] = (uint8_t)(cells >> 8);
+            length += put_bytes(bytes + length, key->cells[take_section(&sections)], 2);
         }
     }
     SET_VARSIZE(stored, VARHDRSZ + length);
     return stored;
 }
 
-/* Nothing is known of the sections of several townships: any may be touched. */
+static void put_several_plats(twpg_key *key) {
+    key->has_several_plats = true;
+    key->date = 0;
+    key->own_lots = 0;
+}
+
+/* Nothing is known of the sections and plats of several townships: any may be touched. */
 static void touch_all(twpg_key *key) {
     key->sections = EVERY_SECTION;
     memset(key->cells, EVERY_CELL & 0xFF, sizeof key->cells);
     key->has_empty = true;
+    put_several_plats(key);
 }
 
 _Noreturn static void refuse_key(void) {
@@ -106,21 +143,21 @@ _Noreturn static void refuse_key(void) {
 }
 
 static void unpack_cells(const uint8_t *bytes, size_t length, twpg_key *key) {
-    uint64_t mask = 0;
+    uint64_t mask = get_bytes(bytes, MASK_BYTES);
+    int date_bytes = (mask & DATED_BIT) != 0 ? TWPG_DATE_BYTES : 0;
+    size_t at = MASK_BYTES + (size_t)date_bytes;
     uint64_t sections;
-    size_t at = MASK_BYTES;
-    int index;
 
-    for (index = 0; index < MASK_BYTES; index++) {
-        mask |= (uint64_t)bytes[index] << (8 * index);
-    }
     key->has_empty = (mask & EMPTY_BIT) != 0;
+    key->has_several_plats = (mask & SEVERAL_BIT) != 0;
+    key->own_lots = (mask & OWN_LOTS_BIT) != 0;
     key->sections = mask & EVERY_SECTION;
-    if (length != MASK_BYTES + 2 * (size_t)pg_popcount64(key->sections)) {
+    if (length != at + 2 * (size_t)pg_popcount64(key->sections)) {
         refuse_key();
     }
+    key->date = (uint32_t)get_bytes(bytes + MASK_BYTES, date_bytes);
     for (sections = key->sections; sections != 0; at += 2) {
-        key->cells[take_section(&sections)] = (uint16_t)(bytes[at] | bytes[at + 1] << 8);
+        key->cells[take_section(&sections)] = (uint16_t)get_bytes(bytes + at, 2);
     }
 }
 
@@ -190,6 +227,7 @@ bool twpg_keys_nested(const twpg_key *outer, const twpg_key *inner) {
 }
 
 void twpg_extend(twpg_key *key, const twpg_key *other) {
+    bool on_one_plat = twpg_keys_on_one_plat(key, other);
     int section;
 
     key->least.tier = Min(key->least.tier, other->least.tier);
@@ -199,6 +237,9 @@ void twpg_extend(twpg_key *key, const twpg_key *other) {
     if (!twpg_is_single(key)) {
         touch_all(key);
         return;
+    }
+    if (!on_one_plat) {
+        put_several_plats(key);
     }
     key->has_empty = key->has_empty || other->has_empty;
     key->sections |= other->sections;
@@ -222,7 +263,8 @@ static int added_cells(const twpg_key *key, const twpg_key *added) {
 }
 
 /* How much worse a key gets by what is added to it. Townships count first, so that each page comes to contain
-   few of them; and in one township, the quarter-quarters that are touched in addition. */
+   few of them; in one township, whether there is more than one plat; and on one plat, the quarter-quarters that are
+   touched in addition. */
 float twpg_growth(const twpg_key *key, const twpg_key *added) {
     twpg_key both = *key;
     int growth;
@@ -233,7 +275,9 @@ float twpg_growth(const twpg_key *key, const twpg_key *added) {
         return (float)(1000 * growth + (twpg_is_single(key) ? 500 : 0));
     }
     if (twpg_is_single(key)) {
-        return (float)added_cells(key, added) / (16 * TOWNSHIP_SECTIONS + 1);
+        bool is_mixed = both.has_several_plats && !key->has_several_plats;
+
+        return (is_mixed ? 500 : 0) + (float)added_cells(key, added) / (16 * TOWNSHIP_SECTIONS + 1);
     }
     return 1 + (float)edge_of(key) / 1000;
 }
@@ -257,8 +301,13 @@ static uint32_t rank_of(const twpg_key *key) {
     return interleaved((uint8_t)(tier + 128), (uint8_t)(range + 128));
 }
 
-/* The order of keys for sorting them into pages: by townships, and in a township by the first sections and
-   quarter-quarters that they touch. */
+/* The plat of a key as one number, in the order of their dates. */
+static uint64_t plat_of(const twpg_key *key) {
+    return (uint64_t)key->has_several_plats << 33 | (uint64_t)key->date << 1 | key->own_lots;
+}
+
+/* The order of keys for sorting them into pages: by townships, in a township by plats, and on a plat by the first
+   sections and quarter-quarters that they touch. */
 int twpg_compare_keys(const twpg_key *first, const twpg_key *second) {
     uint32_t one = rank_of(first);
     uint32_t other = rank_of(second);
@@ -266,6 +315,9 @@ int twpg_compare_keys(const twpg_key *first, const twpg_key *second) {
 
     if (one != other) {
         return one < other ? -1 : 1;
+    }
+    if (plat_of(first) != plat_of(second)) {
+        return plat_of(first) < plat_of(second) ? -1 : 1;
     }
     for (section = 0; section < TOWNSHIP_SECTIONS; section++) {
         uint16_t here = first->cells[section];

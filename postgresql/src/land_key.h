@@ -1,12 +1,13 @@
 /*
  * Keys of the GiST index on lands. A key says in which townships lands are, as a box of townships, and if
- * they are all in one township, which quarter-quarters of its sections they touch, and whether one of them is
- * empty.
+ * they are all in one township, which quarter-quarters of its sections they touch, whether one of them is
+ * empty, and on which plat they are, or that they are on several.
  *
  * The bytes of a packed key: the box, in four bytes, and for a single township the sections that are touched,
- * in five bytes, with the bit after the last section for an empty land; and for each of these sections in
- * order two bytes, with a bit for each quarter-quarter. A key of several townships has only the box, since
- * lands in many townships together touch nearly everything.
+ * in five bytes, with four bits after those of the sections: for an empty land; for a plat with lots of its own;
+ * for a plat with a date; and for several plats. The date follows in four bytes, if there is one; and for each of
+ * these sections in order two bytes, with a bit for each quarter-quarter. A key of several townships has only the
+ * box, since lands in many townships together touch nearly everything.
  */
 #ifndef TWPG_LAND_KEY_H
 #define TWPG_LAND_KEY_H
@@ -24,6 +25,9 @@ typedef struct twpg_key {
     twpg_position least;
     twpg_position most;
     bool has_empty;
+    bool has_several_plats; /* and then the next two are 0 */
+    uint32_t date;
+    uint32_t own_lots;
     uint64_t sections; /* those that are touched: bit `section - 1` */
     uint16_t cells[TOWNSHIP_SECTIONS];
 } twpg_key;
@@ -34,6 +38,7 @@ twpg_key twpg_unpack_key(Datum stored);
 bool twpg_is_covered(Datum stored, twpg_position position);
 
 bool twpg_is_single(const twpg_key *key);
+bool twpg_keys_on_one_plat(const twpg_key *first, const twpg_key *second);
 bool twpg_keys_share(const twpg_key *first, const twpg_key *second);
 bool twpg_keys_nested(const twpg_key *outer, const twpg_key *inner);
 void twpg_extend(twpg_key *key, const twpg_key *other);

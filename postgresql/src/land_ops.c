@@ -8,11 +8,32 @@
 #include "common/hashfn.h"
 #include "miscadmin.h"
 
+/* Whether two lands are in one township. If they are on two plats of it, that is an error, whatever their places
+   are. */
 static bool in_one_township(twpg_packed first, twpg_packed second) {
-    return twpg_compare_townships(first.start, second.start) == 0;
+    twpg_site one;
+    twpg_site other;
+
+    if (twpg_compare_townships(first.start, second.start) != 0) {
+        return false;
+    }
+    one = twpg_site_of_packed(first);
+    other = twpg_site_of_packed(second);
+    if (twpg_compare_sites(&one, &other) != 0) {
+        twpg_fail_of_two(TOWNSHIP_OTHER_PLAT, &one, &other);
+    }
+    return true;
 }
 
-/* Combines two lands. Lands in two different townships are an error. */
+/* The error for two lands that the library doesn't combine or compare. */
+_Noreturn static void fail(uint32_t verdict, const township_land *first, const township_land *second) {
+    twpg_site one = twpg_site_of(first);
+    twpg_site other = twpg_site_of(second);
+
+    twpg_fail_of_two(verdict, &one, &other);
+}
+
+/* Combines two lands. Lands in two different townships, or on two plats of one, are an error. */
 static Datum combined(FunctionCallInfo fcinfo, uint32_t operation) {
     township_land first;
     township_land second;
@@ -24,7 +45,7 @@ static Datum combined(FunctionCallInfo fcinfo, uint32_t operation) {
     twpg_land_of(PG_GETARG_LAND(1), &second);
     verdict = township_land_combine(&first, &second, operation, &land).verdict;
     if (verdict != TOWNSHIP_ACCEPTED) {
-        twpg_fail_of_two(verdict, &first.township.number, &second.township.number);
+        fail(verdict, &first, &second);
     }
     return twpg_land_datum(&land);
 }
@@ -44,7 +65,7 @@ Datum twpg_land_difference(PG_FUNCTION_ARGS) {
     return combined(fcinfo, TOWNSHIP_DIFFERENCE);
 }
 
-/* Compares two lands in one township as sets of places. */
+/* Compares two lands on one plat as sets of places. */
 static uint32_t comparison_of(const struct varlena *first, const struct varlena *second) {
     township_land one;
     township_land other;
@@ -56,7 +77,7 @@ static uint32_t comparison_of(const struct varlena *first, const struct varlena 
     twpg_land_of(second, &other);
     verdict = township_land_compare(&one, &other, &comparison).verdict;
     if (verdict != TOWNSHIP_ACCEPTED) {
-        twpg_fail_of_two(verdict, &one.township.number, &other.township.number);
+        fail(verdict, &one, &other);
     }
     return comparison;
 }
@@ -107,11 +128,13 @@ Datum twpg_land_is_empty(PG_FUNCTION_ARGS) {
     PG_RETURN_BOOL(twpg_sections_of(twpg_packed_of(PG_GETARG_LAND(0))) == 0);
 }
 
-/* The order of lands: by township; in one township, first the one that touches the first section that the
+/* The order of lands: by township and plat; on one plat, first the one that touches the first section that the
    other one doesn't; and if they touch the same ones, by their bytes, which are the same only for the same
    land. */
 static int order_of(twpg_packed first, twpg_packed second) {
-    int order = twpg_compare_townships(first.start, second.start);
+    twpg_site here = twpg_site_of_packed(first);
+    twpg_site there = twpg_site_of_packed(second);
+    int order = twpg_compare_sites(&here, &there);
     uint64_t one = twpg_sections_of(first);
     uint64_t differ = one ^ twpg_sections_of(second);
 

@@ -1,6 +1,6 @@
 /*
- * How a full page of the GiST index on lands is split: between two townships if there are several, or else
- * between two sections, as near the middle as possible.
+ * How a full page of the GiST index on lands is split: between two townships if there are several, or else between two
+ * plats or two sections, as near the middle as possible.
  */
 #include "land_key.h"
 
@@ -23,6 +23,10 @@ static int compare_entries(const void *first, const void *second) {
 static bool in_other_township(const twpg_key *first, const twpg_key *second) {
     return memcmp(&first->least, &second->least, sizeof first->least) != 0 ||
            memcmp(&first->most, &second->most, sizeof first->most) != 0;
+}
+
+static bool on_other_plat(const twpg_key *first, const twpg_key *second) {
+    return !twpg_keys_on_one_plat(first, second);
 }
 
 static int first_section(const twpg_key *key) {
@@ -61,6 +65,9 @@ static int cut_between(const twpg_entry *entries, int count, bool (*differ)(cons
 static int cut_of(const twpg_entry *entries, int count) {
     int cut = cut_between(entries, count, in_other_township);
 
+    if (cut == 0) {
+        cut = cut_between(entries, count, on_other_plat);
+    }
     if (cut == 0) {
         cut = cut_between(entries, count, in_other_section);
     }

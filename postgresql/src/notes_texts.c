@@ -10,9 +10,12 @@ Datum twpg_land_in(PG_FUNCTION_ARGS);
 Datum twpg_plat_township(PG_FUNCTION_ARGS);
 Datum twpg_land_township(PG_FUNCTION_ARGS);
 Datum twpg_land_is_empty(PG_FUNCTION_ARGS);
+Datum twpg_land_plat_date(PG_FUNCTION_ARGS);
+Datum twpg_land_has_own_lots(PG_FUNCTION_ARGS);
 Datum twpg_acres(PG_FUNCTION_ARGS);
 Datum twpg_acres_or_null(PG_FUNCTION_ARGS);
 Datum twpg_area(PG_FUNCTION_ARGS);
+Datum twpg_normal(PG_FUNCTION_ARGS);
 Datum twpg_acres_of_land(PG_FUNCTION_ARGS);
 Datum twpg_acres_of_land_or_null(PG_FUNCTION_ARGS);
 Datum twpg_area_of_land(PG_FUNCTION_ARGS);
@@ -34,19 +37,19 @@ static void read_first(FunctionCallInfo fcinfo, PGFunction input) {
 OF_TEXT(twpg_acres_by_notes, twpg_plat_in, twpg_acres)
 OF_TEXT(twpg_acres_by_notes_or_null, twpg_plat_in, twpg_acres_or_null)
 OF_TEXT(twpg_area_by_notes, twpg_plat_in, twpg_area)
+OF_TEXT(twpg_normal_by_notes, twpg_plat_in, twpg_normal)
 OF_TEXT(twpg_acres_of_land_by_notes, twpg_plat_in, twpg_acres_of_land)
 OF_TEXT(twpg_acres_of_land_by_notes_or_null, twpg_plat_in, twpg_acres_of_land_or_null)
 OF_TEXT(twpg_area_of_land_by_notes, twpg_plat_in, twpg_area_of_land)
 OF_TEXT(twpg_suggest_by_notes, twpg_plat_in, twpg_suggest_on_plat)
 OF_TEXT(twpg_text_is_empty, twpg_land_in, twpg_land_is_empty)
+OF_TEXT(twpg_text_plat_date, twpg_land_in, twpg_land_plat_date)
+OF_TEXT(twpg_text_has_own_lots, twpg_land_in, twpg_land_has_own_lots)
 
 /* The township of a description with a heading of its own, or else of field notes. */
 PG_FUNCTION_INFO_V1(twpg_township_of_text);
 Datum twpg_township_of_text(PG_FUNCTION_ARGS) {
-    township_designation township;
-    size_t end;
-
-    if (twpg_find_heading(twpg_bytes_of_text(PG_GETARG_TEXT_PP(0)), &township, &end) == TWPG_NO_HEADING) {
+    if (!twpg_is_land_text(twpg_bytes_of_text(PG_GETARG_TEXT_PP(0)))) {
         read_first(fcinfo, twpg_plat_in);
         return twpg_plat_township(fcinfo);
     }

@@ -6,6 +6,11 @@
 #define MASK_BYTES 5
 #define DESIGNATION_BYTES 4
 
+/* Bits after those of the sections. */
+#define EVERY_SECTION ((UINT64_C(1) << TOWNSHIP_SECTIONS) - 1)
+#define OWN_LOTS (UINT64_C(1) << TOWNSHIP_SECTIONS)
+#define DATED (OWN_LOTS << 1)
+
 static int side_of(int level) {
     return 1 << level;
 }
@@ -117,30 +122,81 @@ static size_t pack_section(const uint32_t *rows, uint8_t *bytes) {
     return 1 + bytes_of_cells(level);
 }
 
+static void pack_date(uint32_t date, uint8_t *bytes) {
+    int index;
+
+    for (index = 0; index < TWPG_DATE_BYTES; index++) {
+        bytes[index] = (uint8_t)(date >> (8 * (TWPG_DATE_BYTES - 1 - index)));
+    }
+}
+
+static uint32_t unpack_date(const uint8_t *bytes) {
+    uint32_t date = 0;
+    int index;
+
+    for (index = 0; index < TWPG_DATE_BYTES; index++) {
+        date = date << 8 | bytes[index];
+    }
+    return date;
+}
+
 /* Packs a land in at most TWPG_LAND_MOST bytes, and returns how many they are. */
 size_t twpg_pack(const township_land *land, uint8_t *bytes) {
+    uint64_t mask = (land->own_lots != 0 ? OWN_LOTS : 0) | (land->date != 0 ? DATED : 0);
     size_t length = TWPG_LAND_HEAD;
     int section;
+    int index;
 
     memcpy(bytes, &land->township, DESIGNATION_BYTES);
-    memset(bytes + DESIGNATION_BYTES, 0, MASK_BYTES);
+    if (land->date != 0) {
+        pack_date(land->date, bytes + length);
+        length += TWPG_DATE_BYTES;
+    }
     for (section = 0; section < TOWNSHIP_SECTIONS; section++) {
         if (is_touched(land->rows[section])) {
-            bytes[DESIGNATION_BYTES + section / 8] |= (uint8_t)(1 << section % 8);
+            mask |= UINT64_C(1) << section;
             length += pack_section(land->rows[section], bytes + length);
         }
+    }
+    for (index = 0; index < MASK_BYTES; index++) {
+        bytes[DESIGNATION_BYTES + index] = (uint8_t)(mask >> (8 * index));
     }
     return length;
 }
 
-uint64_t twpg_sections_of(twpg_packed packed) {
-    uint64_t sections = 0;
+/* The bits of the sections and those after them. */
+static uint64_t mask_of(twpg_packed packed) {
+    uint64_t mask = 0;
     int index;
 
     for (index = 0; index < MASK_BYTES; index++) {
-        sections |= (uint64_t)packed.start[DESIGNATION_BYTES + index] << (8 * index);
+        mask |= (uint64_t)packed.start[DESIGNATION_BYTES + index] << (8 * index);
     }
-    return sections;
+    return mask;
+}
+
+uint64_t twpg_sections_of(twpg_packed packed) {
+    return mask_of(packed) & EVERY_SECTION;
+}
+
+static size_t head_of(uint64_t mask) {
+    return TWPG_LAND_HEAD + ((mask & DATED) != 0 ? TWPG_DATE_BYTES : 0);
+}
+
+/* Whether there are all bytes that come before those of the sections. */
+bool twpg_has_head(twpg_packed packed) {
+    return packed.length >= TWPG_LAND_HEAD && packed.length >= head_of(mask_of(packed));
+}
+
+/* The plat that a land is on, whose bytes have a head. */
+twpg_site twpg_site_of_packed(twpg_packed packed) {
+    uint64_t mask = mask_of(packed);
+    twpg_site site;
+
+    memcpy(&site.township, packed.start, DESIGNATION_BYTES);
+    site.date = (mask & DATED) != 0 ? unpack_date(packed.start + TWPG_LAND_HEAD) : 0;
+    site.own_lots = (mask & OWN_LOTS) != 0;
+    return site;
 }
 
 /* The cells of a row, so many from a bit on: they begin a byte, or all of them are in one byte, and other bits may be
@@ -183,22 +239,32 @@ static size_t unpack_section(twpg_packed packed, size_t at, uint32_t *rows) {
     return at + 1 + bytes_of_cells(level);
 }
 
+/* Whether the bits after those of the sections, and the date that they announce, are as twpg_pack writes them. */
+static bool is_site_packed(uint64_t mask, const twpg_site *site) {
+    return (mask & ~(EVERY_SECTION | OWN_LOTS | DATED)) == 0 && ((mask & DATED) == 0) == (site->date == 0);
+}
+
 /* Unpacks a land. Returns whether these bytes have the form of one; whether it is a valid one, the library
    says. */
 bool twpg_unpack(twpg_packed packed, township_land *land) {
-    size_t at = TWPG_LAND_HEAD;
+    twpg_site site;
     uint64_t sections;
+    size_t at;
     int section;
 
-    if (packed.length < TWPG_LAND_HEAD) {
+    if (!twpg_has_head(packed)) {
         return false;
     }
+    site = twpg_site_of_packed(packed);
+    if (!is_site_packed(mask_of(packed), &site)) {
+        return false;
+    }
+    at = head_of(mask_of(packed));
     sections = twpg_sections_of(packed);
-    if (sections >> TOWNSHIP_SECTIONS != 0) {
-        return false;
-    }
     memset(land, 0, sizeof *land);
-    memcpy(&land->township, packed.start, DESIGNATION_BYTES);
+    land->township = site.township;
+    land->date = site.date;
+    land->own_lots = site.own_lots;
     for (section = 0; section < TOWNSHIP_SECTIONS && at > 0; section++) {
         if (sections >> section & 1) {
             at = unpack_section(packed, at, land->rows[section]);

@@ -18,7 +18,7 @@ typedef struct twpg_drawn {
     township_land land;
     const township_plat *plat;
     int section;
-    twpg_lot_numbers lots;
+    twpg_lot_numbers lots; /* the standard ones, or none if the land is on a plat with others */
     township_plat_figures figures; /* if there is a plat */
 } twpg_drawn;
 
@@ -262,8 +262,14 @@ static char *caption_of(const twpg_drawn *drawn, const township_land *land) {
     township_answer answer = township_land_acres(drawn->plat, land, TOWNSHIP_EXACT);
     uint64_t all = drawn->section < 0 ? drawn->figures.township : drawn->figures.sections[drawn->section];
 
+    if (answer.verdict == TOWNSHIP_OTHER_PLAT) {
+        twpg_fail_of_own_lots("Draw it without a plat: svg(land).");
+    }
     if (answer.verdict != TOWNSHIP_ACCEPTED) {
-        twpg_fail_of_two(answer.verdict, &drawn->plat->number, &land->township.number);
+        twpg_site first = twpg_site_of_plat(drawn->plat);
+        twpg_site second = twpg_site_of(land);
+
+        twpg_fail_of_two(answer.verdict, &first, &second);
     }
     return psprintf("%s of %s acres", acres_text(answer.hundredths), acres_text(all));
 }
@@ -348,7 +354,10 @@ static text *draw(const township_plat *plat, const struct varlena *land, int sec
     twpg_land_of(land, &drawn->land);
     drawn->plat = plat;
     drawn->section = section;
-    twpg_find_lots(&drawn->land.township, &drawn->lots);
+    memset(&drawn->lots, 0, sizeof drawn->lots);
+    if (drawn->land.own_lots == 0) {
+        twpg_find_lots(&drawn->land.township, &drawn->lots);
+    }
     if (plat != NULL) {
         uint32_t verdict = township_figures(plat, &drawn->figures).verdict;
 

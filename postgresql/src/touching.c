@@ -76,19 +76,27 @@ static bool adjoin(const twpg_grid *first, const twpg_grid *second) {
     return found;
 }
 
-/* Parcels in two townships have no common grid, so whether they adjoin is not known. */
+/* Parcels in two townships have no common grid, so whether they adjoin is not known. Those on two plats of one township
+   are an error. */
 PG_FUNCTION_INFO_V1(twpg_land_touches);
 Datum twpg_land_touches(PG_FUNCTION_ARGS) {
     township_land first;
     township_land second;
+    twpg_site here;
+    twpg_site there;
     twpg_grid one;
     twpg_grid other;
 
     check_stack_depth();
     twpg_land_of(PG_GETARG_LAND(0), &first);
     twpg_land_of(PG_GETARG_LAND(1), &second);
-    if (twpg_compare_townships(&first.township.number, &second.township.number) != 0) {
+    here = twpg_site_of(&first);
+    there = twpg_site_of(&second);
+    if (twpg_compare_townships(&here.township.number, &there.township.number) != 0) {
         PG_RETURN_NULL();
+    }
+    if (twpg_compare_sites(&here, &there) != 0) {
+        twpg_fail_of_two(TOWNSHIP_OTHER_PLAT, &here, &there);
     }
     lay_out(&first, &one);
     lay_out(&second, &other);

@@ -26,8 +26,9 @@
 /* An argument that is a plat, which is stored as the library's plain data. */
 #define PG_GETARG_PLAT(n) ((const township_plat *)PG_GETARG_POINTER(n))
 
-/* The number of what is in two different townships, which is no refusal of a text. The library has a verdict for it. */
-#define TWPG_OTHER_TOWNSHIP 100u
+/* The number of what is in two different townships, or on two plats of one, which is no refusal of a text. The library
+   has verdicts for it; the number is greater than those of all refusals. */
+#define TWPG_OTHER_SITE 112u
 
 /* A function for SQL that returns a value. */
 #define TWPG_RETURNS(name, value)                                                                                     \

@@ -174,13 +174,12 @@ while read -r description; do
     ends "offered: $description" 0 "$(grep -x '[0-9]*[.][0-9][0-9] acres' found)"
 done < offered
 
-# Its tables, and that of docs/LOTS-FORMAT.md, contain the numbers and the names in the code, and no others. The
-# refusal of land that a plat lacks isn't in them, since no field notes and no lot table lead to it yet.
+# Its tables, and that of docs/LOTS-FORMAT.md, contain the numbers and the names in the code, and no others.
 {
     find "$root/crates" -path '*/src/*' -name '*.rt' -exec \
         sed -n 's/^ *[A-Za-z]*Fault::\([A-Za-z]*\).* => (\([0-9][0-9]*\), .*/\2 \1/p' {} +
     sed -n 's/^ *Refusal { number: \([0-9][0-9]*\), at }$/\1 Lacking/p' "$root/crates/twp_plat/src/lots/lacking.rt"
-} | grep -vx '68 NoLand' | sort > in_code
+} | sort > in_code
 {
     sed -n 's/^| \([0-9][0-9]*\) | \([A-Z][A-Za-z]*\) |.*/\1 \2/p' "$docs/REFUSALS.md"
     sed -n 's/^| \([0-9][0-9]*\) `\([A-Z][A-Za-z]*\)` |.*/\1 \2/p' "$docs/LOTS-FORMAT.md"

@@ -49,6 +49,8 @@ class GeneratedTable:
         self.sections = {}
         if self.is_standard or has_standard_places:
             self._add_standard()
+        elif random.random() < 0.01:
+            self._add_divided()
         else:
             for section in random.sample(range(1, 37), random.choice((0, *[1] * 8, 2, 2, 2, 3, 3, 6))):
                 self._add_section(section)
@@ -75,6 +77,17 @@ class GeneratedTable:
             if self.is_standard:
                 records = [record[:-1] for record in records if random.random() < share]
             self.records += records
+
+    def _add_divided(self):
+        """About as many divided quarter-quarters as there can be, or one more."""
+        random = self.random
+        sections = random.sample(range(1, 37), 9)
+        halves = [(half, small, large) for large in QUARTERS for small in QUARTERS for half in ("n", "s")]
+        for number in sections:
+            parts = halves if number != sections[-1] else random.choice(([], halves[:2]))
+            section = GeneratedSection(dict(enumerate([[steps] for steps in parts], 1)))
+            self.sections[number] = section
+            self.records += [self._record(number, lot, parts) for lot, parts in section.lots.items()]
 
     def _add_section(self, number):
         random = self.random

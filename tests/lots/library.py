@@ -4,11 +4,11 @@ import ctypes
 
 ACCEPTED, REFUSED = 0, 1
 
-#: More bytes than a lot table or land has as data.
+#: More bytes than a lot table has as data, or a canonical text.
 _ROOM = 65_536
 
-_NORTH_SOUTH = {"N": 0, "S": 1}
-_EAST_WEST = {"E": 0, "W": 1}
+#: The bytes of land: its rows, the date and the kind of lots, and the township.
+_LAND_BYTES = 36 * 32 * 4 + 2 * 4 + 4
 
 
 class _Answer(ctypes.Structure):
@@ -34,18 +34,16 @@ class Library:
 
     def __init__(self, path):
         self._calls = ctypes.CDLL(path)
-        for name in ("lots_read", "lots_acres", "lots_area", "land_read", "land_text"):
+        for name in (
+            "lots_read", "lots_acres", "lots_area", "lots_land_read", "lots_land_text", "lots_land_acres",
+        ):
             getattr(self._calls, f"township_{name}").restype = _Answer
         self._lots = ctypes.create_string_buffer(_ROOM)
-        self._land = ctypes.create_string_buffer(_ROOM)
         self._text = ctypes.create_string_buffer(_ROOM)
-        self._township = ctypes.create_string_buffer(4)
         self._area = _Fraction()
-        self._is_standard = True
 
-    def read(self, table, is_standard):
+    def read(self, table):
         """Read a lot table, which the other calls are then about. Return its refusal, or None."""
-        self._is_standard = is_standard
         answer = self._calls.township_lots_read(table, ctypes.c_size_t(len(table)), self._lots)
         return self._refusal(answer)
 
@@ -62,23 +60,30 @@ class Library:
             raise Failed(f"the area is refused: {answer.number} at {answer.at}")
         return (self._area.units_high << 64) + self._area.units_low, self._area.over * 10_000_000
 
-    def text(self, township, description):
-        """The canonical text of a description that is accepted, or None if the library has no call for it.
-
-        So far it has one for standard lots only; that for other lots goes here.
-        """
-        if not self._is_standard:
-            return None
-        number, north_south, range_number, east_west = township
-        self._township.raw = bytes((number, _NORTH_SOUTH[north_south], range_number, _EAST_WEST[east_west]))
-        length = ctypes.c_size_t(len(description))
-        answer = self._calls.township_land_read(self._township, description, length, self._land)
-        if self._refusal(answer) is not None:
-            raise Failed(f"the land is refused: {answer.number} at {answer.at}")
-        answer = self._calls.township_land_text(self._land, self._text, ctypes.c_size_t(_ROOM))
+    def text(self, description):
+        """The canonical text of a description that is accepted, which is read back as the same land."""
+        land = self._land(description)
+        answer = self._calls.township_lots_land_text(self._lots, land, self._text, ctypes.c_size_t(_ROOM))
         if answer.verdict != ACCEPTED:
             raise Failed(f"the canonical text has the verdict {answer.verdict}")
-        return self._text.raw[: answer.length].decode()
+        text = self._text.raw[: answer.length]
+        if self._land(text) != land:
+            raise Failed(f"the canonical text is read as other land: {text.decode()}")
+        return text.decode()
+
+    def land_acres(self, description):
+        """The refusal of the land of a description that is accepted and 0, or None and its acreage in hundredths."""
+        answer = self._calls.township_lots_land_acres(self._lots, self._land(description))
+        return self._refusal(answer), answer.hundredths
+
+    def _land(self, description):
+        """The land of a description that is accepted, as data."""
+        land = ctypes.create_string_buffer(_LAND_BYTES)
+        length = ctypes.c_size_t(len(description))
+        answer = self._calls.township_lots_land_read(self._lots, description, length, land)
+        if self._refusal(answer) is not None:
+            raise Failed(f"the land is refused: {answer.number} at {answer.at}")
+        return land.raw
 
     def _refusal(self, answer):
         if answer.verdict == ACCEPTED:

@@ -40,7 +40,7 @@ def _named(table, section, land, item):
         return _sections(table, land, item)
     if isinstance(item, All):
         there = table.section(section).there
-        fault = (67, item.at) if land.get(section) else (NOT_THERE, item.at) if not there else None
+        fault = (NOT_THERE, item.at) if not there else (67, item.at) if land.get(section) else None
         return fault, [(section, there)]
     return ((61, item.at) if item.township != table.township else None), []
 
@@ -49,7 +49,8 @@ def _part(here, section, land, item):
     places = part(item.steps)
     if places is None:
         return (65, item.at), []
-    for number, others in ((66, here.in_lots), (67, land.get(section, 0)), (NOT_THERE, here.missing)):
+    # Of the faults of one item, an overlap comes last.
+    for number, others in ((66, here.in_lots), (NOT_THERE, here.missing), (67, land.get(section, 0))):
         if places & others:
             return (number, item.at), []
     return None, [(section, places)]
@@ -77,10 +78,10 @@ def _sections(table, land, item):
     if not item.whole:
         return None, []
     named = [(number, table.section(number).there) for number in range(item.first, item.last + 1)]
-    if any(number in land for number, _ in named):
-        return (67, item.at), []
     if not all(there for _, there in named):
         return (NOT_THERE, item.at if not named[0][1] else item.last_at), []
+    if any(number in land for number, _ in named):
+        return (67, item.at), []
     return None, named
 
 

@@ -34,7 +34,7 @@ ENOUGH = 20_000
 
 #: The kinds of answers: the faults of tables, the refusals of descriptions, and what is accepted.
 REFUSALS = (*range(41, 45), *range(61, NOT_THERE + 1), LACKING)
-FAULTS_OF_LAND = (Fault.LAND, Fault.TOO_FINE, Fault.SHARED, Fault.TOO_MANY, Fault.UNFILLED)
+FAULTS_OF_LAND = (Fault.LAND, Fault.TOO_FINE, Fault.SHARED, Fault.TOO_MANY, Fault.UNFILLED, Fault.DIVIDED)
 ACCEPTED_TABLE, ACCEPTED = "accepted table", "accepted description"
 
 #: How many failures are shown.
@@ -80,22 +80,22 @@ class Comparison:
             table = table_of(text)
         except Faulty as faulty:
             self.kinds[faulty.fault] += 1
-            self._count_fault(where, text, faulty, generated.is_standard)
+            self._count_fault(where, text, faulty)
             return
         self.kinds[ACCEPTED_TABLE] += 1
         if self.library is not None:
-            refusal = self.library.read(text, generated.is_standard)
+            refusal = self.library.read(text)
             if refusal is not None:
                 self.count(f"{where}\n{shown(text)}", (None,), refusal)
                 return
         for number in range(DESCRIPTIONS):
             self._description(table, description(source, generated), f"{where}, description {number}")
 
-    def _count_fault(self, where, text, faulty, is_standard):
+    def _count_fault(self, where, text, faulty):
         if self.library is None:
             self.passed += 1
             return
-        refusal = self.library.read(text, is_standard)
+        refusal = self.library.read(text)
         number = NUMBERS[faulty.fault]
         if refusal is not None and refusal[0] != number:
             self.other_numbers[faulty.fault, refusal[0]] += 1
@@ -117,7 +117,7 @@ class Comparison:
             self.count(f"{where}: {shown(text)}", ("the canonical text names this land",), (canonical,))
             return
         expected = ((None, rounded(area)), area.numerator, area.denominator, canonical)
-        found = expected if self.library is None else self._accepted(table, text, area, canonical)
+        found = expected if self.library is None else self._accepted(text, area)
         self.count(f"{where}: {shown(text)}", expected, found)
 
     def _acres(self, text):
@@ -126,7 +126,7 @@ class Comparison:
         except Failed as failed:
             return str(failed), 0
 
-    def _accepted(self, table, text, area, canonical):
+    def _accepted(self, text, area):
         """What the library answers to a description that the model accepts."""
         try:
             acres = self.library.acres(text)
@@ -135,8 +135,9 @@ class Comparison:
             over, under = self.library.area(text)
             if over * area.denominator == under * area.numerator:
                 over, under = area.numerator, area.denominator
-            named = self.library.text(table.township, text)
-            return acres, over, under, canonical if named is None else named
+            if self.library.land_acres(text) != acres:
+                raise Failed("the land has other acres than the description")
+            return acres, over, under, self.library.text(text)
         except Failed as failed:
             return (str(failed),)
 

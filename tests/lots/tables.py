@@ -18,9 +18,13 @@ LIMIT = 65_536
 HEADING = ["section", "lot", "acres"]
 HEADING_WITH_LAND = [*HEADING, "land"]
 
-#: The highest number of a lot, and the most lots of a section.
+#: The highest number of a lot, and the most lots of a section and of a township.
 NUMBER_MOST = 99
 LOTS_MOST = 64
+TOWNSHIP_LOTS_MOST = 1024
+
+#: The most quarter-quarters that can be divided among lots and other land.
+DIVIDED_MOST = 128
 
 SHORT_NUMBER = re.compile(r"[0-9]{1,2}")
 ACRES = re.compile(r"[0-9]{1,3}\.[0-9]{2}")
@@ -42,12 +46,13 @@ class Fault(enum.Enum):
     LAND = "the fourth field is not a sequence of aliquot parts"
     TOO_FINE = "an aliquot part is too small"
     SHARED = "a place is in two parts, of the same record or of two"
-    TOO_MANY = "a section has more than 64 lots"
+    TOO_MANY = "a section has more than 64 lots, or the township more than 1,024"
     UNFILLED = "a quarter-quarter with a lot is not made up of lots and of land that is not there"
+    DIVIDED = "more than 128 quarter-quarters are divided"
 
 
-#: The refusal of each fault. If a record has several faults, the one with the lowest number is reported. Those above
-#: 94 are provisional: docs/LOTS-FORMAT.md decides.
+#: The refusal of each fault. If a record has several faults, the one with the lowest number is reported. 100 and 101
+#: come after those of all records.
 NUMBERS = {
     Fault.TOO_LARGE: 86,
     Fault.EMPTY: 87,
@@ -63,6 +68,7 @@ NUMBERS = {
     Fault.SHARED: 98,
     Fault.TOO_MANY: 99,
     Fault.UNFILLED: 100,
+    Fault.DIVIDED: 101,
 }
 
 
@@ -135,6 +141,7 @@ def table_of(text):
             raise Faulty(min(faults, key=NUMBERS.get), number)
     if not standard:
         _check_filled(table)
+        _check_divided(table, len(records))
     return table
 
 
@@ -218,7 +225,7 @@ def _read_land(table, fields, record, seen):
     here = table.sections.setdefault(section, Section()) if section in SECTIONS else Section()
     if places & (here.in_lots | here.missing):
         faults.add(Fault.SHARED)
-    if is_lot and len(here.lots) >= LOTS_MOST:
+    if is_lot and (len(here.lots) >= LOTS_MOST or len(seen) >= TOWNSHIP_LOTS_MOST):
         faults.add(Fault.TOO_MANY)
     if not faults and is_lot:
         seen.add((section, number))
@@ -261,3 +268,14 @@ def _check_filled(table):
                 at = lot.record if at is None else min(at, lot.record)
     if at is not None:
         raise Faulty(Fault.UNFILLED, at)
+
+
+def _check_divided(table, last):
+    """Raise `Faulty` at the last record if too many quarter-quarters have places of different lots or other land."""
+    count = 0
+    for section in table.sections.values():
+        others = WHOLE & ~section.in_lots & ~section.missing
+        sets = [*(lot.places for lot in section.lots.values()), section.missing, others]
+        count += sum(sum(bool(places & each) for each in sets) > 1 for places in QUARTER_QUARTERS.values())
+    if count > DIVIDED_MOST:
+        raise Faulty(Fault.DIVIDED, last)

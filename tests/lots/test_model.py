@@ -183,6 +183,21 @@ def test_too_many_lots():
     assert answer("sec. 14.", HEAD + "".join(lots)) == 64000
     halves = [f"14,{number},5.00,{half}1/2{quarters[0]}\n" for number, half in ((98, "N"), (99, "S"))]
     assert fault(HEAD + "".join([*lots[1:], *halves])) == (Fault.TOO_MANY, 67)
+    # 16 sections with 64 lots each have 1,024; also too many quarter-quarters are divided, but that comes later.
+    all_lots = [f"{section},{number},10.00,{quarter}\n" for section in range(1, 18)
+                for number, quarter in enumerate(quarters, 1)]
+    assert fault(HEAD + "".join(all_lots[:1024])) == (Fault.DIVIDED, 1026)
+    assert fault(HEAD + "".join(all_lots[:1025])) == (Fault.TOO_MANY, 1027)
+
+
+def test_too_many_divided():
+    quarters = ("NE", "NW", "SW", "SE")
+    halves = [f"{half}1/2{a}1/4{b}1/4" for b in quarters for a in quarters for half in "NS"]
+    # 8 sections with 16 quarter-quarters each have 128; one that is in one lot is not divided.
+    lots = [f"{section},{number},20.00,{half}\n" for section in range(1, 9) for number, half in enumerate(halves, 1)]
+    whole = "9,1,40.00,NE1/4NE1/4\n"
+    assert answer("sec. 9.", HEAD + "".join([*lots, whole])) == 64000
+    assert fault(HEAD + "".join([*lots, "9,1,20.00,N1/2NE1/4NE1/4\n", "9,,,S1/2NE1/4NE1/4\n"])) == (Fault.DIVIDED, 260)
 
 
 def test_random_cases():
@@ -215,7 +230,7 @@ class Edited:
         sys.modules.update(kept)
         self.model = types.SimpleNamespace(**{k: v for each in copies.values() for k, v in vars(each).items()})
 
-    def read(self, table, is_standard):
+    def read(self, table):
         try:
             self.table = self.model.table_of(table)
         except self.model.Faulty as faulty:
@@ -234,7 +249,10 @@ class Edited:
         area = self.model.area_of(self.table, self.land(description))
         return area.numerator, area.denominator
 
-    def text(self, township, description):
+    def land_acres(self, description):
+        return self.acres(description)
+
+    def text(self, description):
         return self.model.text_of(self.table, self.land(description))
 
 
@@ -253,7 +271,7 @@ def test_the_model_agrees_with_itself():
     ("meaning", "hundredths += lot.hundredths", "hundredths += here.lots[min(here.lots)].hundredths or 0"),
     # Land that is not there: counted, named, or not known.
     ("tables", "return WHOLE & ~self.missing", "return WHOLE"),
-    ("meaning", ", (NOT_THERE, here.missing)", ""),
+    ("meaning", "(NOT_THERE, here.missing), ", ""),
     ("tables", "        here.missing |= places\n", "        pass\n"),
     ("meaning", "if not all(there for _, there in named)", "if False"),
     # Lots where the standard lots are; a section without its lots; parts that include lots.
@@ -272,6 +290,7 @@ def test_the_model_agrees_with_itself():
     ("tables", "if places & aliquot and places & section.in_lots", "if False"),
     ("tables", "min(faults, key", "max(faults, key"),
     ("tables", "len(here.lots) >= LOTS_MOST", "len(here.lots) > LOTS_MOST"),
+    ("tables", "if count > DIVIDED_MOST", "if count > DIVIDED_MOST + 1"),
 ])
 def test_another_meaning_fails(edited, old, new):
     comparison = Comparison(Edited(edited, old, new))

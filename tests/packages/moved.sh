@@ -48,7 +48,7 @@ try 'a database of the first version' createdb -T template0 first
 sql -d first -c "CREATE EXTENSION township VERSION '1.0.0'" -v notes="$(cat "$samples/b1.csv")" \
     -f "$root/tests/postgresql/made_up.sql" -f "$root/tests/postgresql/dumps.sql" > "$work/lost"
 for database in documents first; do contents $database > "$work/$database"; done
-# What there is to compare: 505 lands, and the leases of the page with their acres.
+# What there is to compare: 510 lands, and the leases of the page with their acres.
 sed -n '/^[a-z_]* [0-9][0-9]*$/p' "$work/documents" "$work/first" > "$work/found"
 cat > "$work/wanted" << 'END'
 applications 4
@@ -56,6 +56,8 @@ conflicts 5
 deeds 4
 descriptions 3
 labels 2
+lake 1
+lake_leases 5
 latest_plats 1
 lease_acres 5
 leases 5
@@ -68,9 +70,9 @@ permits 4
 plats 1
 returned 1
 tracts 2
-lands 505
+lands 510
 leases 2
-lot_tables 2
+lot_tables 3
 plats 1
 END
 same 'the rows of the older server'

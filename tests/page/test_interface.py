@@ -57,7 +57,8 @@ def test_refusals(server: Interface) -> None:
 
 def test_lot_table(server: Interface) -> None:
     table = "section,lot,acres\nT,2,N,3,W\n5,1,40.45\n5,2,40.5"
-    assert server.ask("land", lots=table, description="sec. 14.")["refused"]["of"] == "lots"
+    assert server.ask("land", lots=table + "x", description="sec. 14.")["refused"]["of"] == "lots"
+    assert server.ask("land", lots=table.replace(",", ";"), description="sec. 5, lot 2.")["acres"] == {"lots": "40.50"}
     # 40.45 + 40.50, and two quarter-quarter sections of 40 acres.
     answer = server.ask("land", lots=table + "0\n", description="sec. 5, lots 1 and 2, S1/2NE1/4.")
     assert answer["acres"] == {"lots": "160.95"} and answer["area"] == {"lots": "3219/20"}

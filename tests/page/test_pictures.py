@@ -12,6 +12,7 @@ from typing import Any, Callable, Dict, Iterator, Optional
 import pytest
 
 from page import Page
+from test_interface_lots import LAKE
 
 PICTURES = Path(__file__).parent / "pictures"
 
@@ -81,6 +82,14 @@ def a_lot_table(page: Page) -> None:
     page.wait_for_text("#land-answer", "160.95 acres")
 
 
+def lots_around_a_lake(page: Page) -> str:
+    page.put("#lots-text", LAKE)
+    page.driver.execute_script("document.querySelector('#lot-records').open = true")
+    page.wait_for_text("#plat-answer", "22,982.10 acres")
+    page.open_section(14)
+    return "#lot-records"
+
+
 def refused_notes(page: Page) -> None:
     page.type("#corner-53", "99.6")
     page.wait_for_text("#plat-answer", "Refused 23")
@@ -97,6 +106,7 @@ STATES: Dict[str, Callable[[Page], Optional[str]]] = {
     "tracts": tracts,
     "doubts": doubtful_tracts,
     "table": a_lot_table,
+    "lake": lots_around_a_lake,
     "notes": refused_notes,
 }
 

@@ -107,6 +107,7 @@ EXAMPLES: Dict[str, Dict[str, Tuple[str, ...]]] = {
     "Field notes": {"#plat-answer": ("23,037.57 acres",), "#lot-7\\.4": ("39.03",)},
     # 40.45 + 40.55, and two quarter-quarter sections of 40 acres.
     "Lot table": {"#land-answer": ("161.00 acres", "Each lot counts at its returned acreage"), "#plat-answer": ("There is only a lot table.",)},
+    "Lots around a lake": {"#land-answer": ("150.55 acres",), "#drawing": ("Lot 2", "No land"), "#plat-answer": ("22,982.10",)},
     # As docs/TRACTS-FORMAT.md and the README show the sample's lots: 161.00, and 156.40 or 156.42.
     "Description": {"#land-answer": ("317.40 acres", "317.42 acres")},
     "Text of a lease": {"#readings": ("Perhaps this was meant", "120.00 acres", "is section, township, and range")},

@@ -26,6 +26,7 @@ areas_rounded
 land_joinsel
 land_overlaps_add
 land_overlaps_pairs
+land_restrictsel
 max
 min
 overlaps

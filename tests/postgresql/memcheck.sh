@@ -22,7 +22,12 @@ REINDEX TABLE lands
 SELECT count(value::text::land) FROM received_land
 SELECT count(svg(value)) FROM (SELECT value FROM received_land LIMIT 20) AS some
 SELECT count(svg(plat, land, 14)) FROM plats, lands WHERE township(land) = township(plat)
-SELECT count(cell) FROM received_land, quarter_quarters(value) AS cell
+SELECT count(cell) FROM received_land, quarter_quarters(value) AS cell WHERE NOT has_own_lots(value)
+SELECT count(plat_date(value)) FROM received_land
+SELECT count(cell) FROM lot_tables, quarter_quarters(lots, land(lots, 'secs. 1 thru 36.')) AS cell
+SELECT count(part) FROM lot_tables, parts(lots, land(lots, 'sec. 14, S1/2.')) AS part
+SELECT count(land(lots, 'sec. 14.')), count(normal(lots, 'sec. 14, S1/2.')), count(normal(lots, land(lots, 'sec. 36.'))) FROM lot_tables
+SELECT count(land_or_null('plat ' || left('1912-03-04 with its lots: T2N R3W sec. 14', n))) FROM generate_series(0, 41) AS n
 SELECT acres(plat::text, 'sec. 5, lot 1.'), township(plat::text), township(land::text) FROM plats, lands WHERE lands.id = 1001
 SELECT count(value::text::plat) FROM received_plat
 SELECT count(value::text::lots) FROM received_lots

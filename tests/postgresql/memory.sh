@@ -1,8 +1,8 @@
 # Memory that is refused to the library is the database's error, from which a connection recovers.
 new_database memory
 sql -d memory -v notes="$(cat "$root/samples/b1.csv")" << 'END' > "$work/lost"
-CREATE TABLE plats (plat plat, land land);
-INSERT INTO plats VALUES (:'notes', 'T. 2 N., R. 3 W., sec. 14, NE1/4.');
+CREATE TABLE plats (plat plat, land land, lots lots);
+INSERT INTO plats VALUES (:'notes', 'T. 2 N., R. 3 W., sec. 14, NE1/4.', E'section,lot,acres\nT,2,N,3,W\n');
 END
 try 'what refuses memory compiles' "${CC:-cc}" -std=c11 -O1 -shared -fPIC -o "$work/refuse_memory.so" "$tests/refuse_memory.c" -ldl
 (
@@ -36,11 +36,14 @@ SELECT refusal('line,between,and,quarter,corner');
 SELECT ''::plat;
 SELECT 'T. 2 N., R. 3 W., sec. 14.'::land;
 SELECT land('T. 2 N., R. 3 W.', 'sec. 14.');
+SELECT 'plat with its lots: T. 2 N., R. 3 W., sec. 14.'::land;
+SELECT land(lots, 'sec. 14.') FROM plats;
+SELECT normal(lots, land) FROM plats;
 SELECT E'section,lot,acres\nT,2,N,3,W\n'::lots;
 END
     echo "\\! rm $work/refused"
     echo "SELECT acres(plat, 'sec. 5, lot 1.') FROM plats;"
 } > "$work/refusing.sql"
-{ yes 'ERROR:  53200' | head -n 23; echo 40.45; } > "$work/wanted"
+{ yes 'ERROR:  53200' | head -n 26; echo 40.45; } > "$work/wanted"
 sql -d memory < "$work/refusing.sql" > "$work/found"
 same 'refused memory'

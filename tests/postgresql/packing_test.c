@@ -58,6 +58,8 @@ static township_land random_land(void) {
     land.township.range = (uint8_t)(1 + chance(99));
     land.township.north_south = (uint8_t)chance(2);
     land.township.east_west = (uint8_t)chance(2);
+    land.date = chance(2) == 0 ? 0 : 1 + chance(99991231);
+    land.own_lots = chance(2);
     while (sections-- > 0) {
         fill(land.rows[chance(36)], (int)chance(6));
     }
@@ -80,6 +82,31 @@ static size_t packed_length(const township_land *land) {
     uint8_t bytes[TWPG_LAND_MOST];
 
     return twpg_pack(land, bytes);
+}
+
+/* Land on the plat of a lot table takes four bytes more if that has a date, and none for its own lots. */
+static void test_plats(void) {
+    static const uint8_t wanted[] = {2, 0, 3, 1, 0, 0, 0, 0, 1 << 5 | 1 << 4, 0x01, 0x23, 0xC0, 0xB0};
+    uint8_t bytes[TWPG_LAND_MOST];
+    township_land land;
+
+    memset(&land, 0, sizeof land);
+    land.own_lots = 1;
+    check(packed_length(&land) == 9, "empty land of a plat with its lots");
+    land.date = 19120304;
+    check(packed_length(&land) == 9 + 4, "empty land of a plat with a date");
+    land.township.number = 2;
+    land.township.range = 3;
+    land.township.east_west = TOWNSHIP_WEST;
+    check(twpg_pack(&land, bytes) == sizeof wanted && memcmp(bytes, wanted, sizeof wanted) == 0, "the bytes of a plat");
+    /* 19120304 is 0x0123C0B0. A date that is 0, and the two bits above, are in no packed land. */
+    memset(bytes + 9, 0, 4);
+    check(!unpack(bytes, sizeof wanted, &land), "a date that is 0");
+    memcpy(bytes, wanted, sizeof wanted);
+    bytes[8] |= 1 << 6;
+    check(!unpack(bytes, sizeof wanted, &land), "a bit after that of the date");
+    memcpy(bytes, wanted, sizeof wanted);
+    check(!unpack(bytes, 12, &land) && !unpack(bytes, 9, &land), "part of a date");
 }
 
 static void test_lengths(void) {
@@ -207,8 +234,8 @@ static void test_round(void) {
 
     check(length <= TWPG_LAND_MOST, "no more bytes than the most");
     check(unpack(bytes, length, &unpacked) && memcmp(&land, &unpacked, sizeof land) == 0, "unpacked again");
-    check(length == 9 || !unpack(bytes, length - 1, &unpacked), "a byte is missing");
-    check(!unpack(bytes, chance((uint32_t)length), &unpacked) || length == 9, "bytes are missing");
+    check(!unpack(bytes, length - 1, &unpacked), "a byte is missing");
+    check(!unpack(bytes, chance((uint32_t)length), &unpacked), "bytes are missing");
     for (at = 0; at < 3; at++) {
         bytes[chance((uint32_t)length)] ^= (uint8_t)(1 << chance(8));
     }
@@ -229,7 +256,7 @@ static void test_random_bytes(void) {
         bytes[at] = (uint8_t)(at >= 9 && chance(3) == 0 ? chance(7) : chance(256));
     }
     if (length > 8) {
-        bytes[8] &= chance(4) == 0 ? 0xFF : 0x0F;
+        bytes[8] &= chance(4) == 0 ? 0xFF : chance(2) == 0 ? 0x0F : 0x3F;
     }
     /* What is unpacked from other bytes is packed in the form that there is one of. */
     if (unpack(bytes, length, &land)) {
@@ -241,6 +268,7 @@ int main(void) {
     int round;
 
     test_lengths();
+    test_plats();
     test_levels();
     test_bytes();
     for (round = 0; round < ROUNDS; round++) {

@@ -38,6 +38,13 @@ shows 'pairs that overlap' 19912 sql -d queries -c "SELECT count(*) FROM ($pairs
 try "the planner expects enough of them: $expected" [ "${expected:-0}" -gt 5000 ]
 try "the planner expects not too many: $expected" [ "${expected:-0}" -lt 80000 ]
 
+# And about as many lands that overlap given land: 110 of these 4,000.
+given="SELECT FROM spread WHERE land && 'T. 1 N., R. 1 W., secs. 8 thru 17.'"
+expected=$(sql -d queries -c "EXPLAIN $given" | sed -n '1s/.* rows=\([0-9]*\) .*/\1/p')
+shows 'lands that overlap given land' 110 sql -d queries -c "SELECT count(*) FROM ($given) AS lands"
+try "the planner expects enough of them: $expected" [ "${expected:-0}" -gt 50 ]
+try "the planner expects not too many: $expected" [ "${expected:-0}" -lt 400 ]
+
 # An aggregate with 200 million pairs to compare ends at once when its time is over.
 sql -d queries -c "CREATE TABLE crowded AS SELECT n AS id, land(made_up_township(1, 1), made_up_description(n)) AS land
     FROM generate_series(1, 20000) AS n" > "$work/lost"

@@ -45,3 +45,40 @@ shows 'no deadlock' 0 sql -d races -c "SELECT deadlocks FROM pg_stat_database WH
 # The longest wait for an answer was 0.3 s on four idle processors; other tests run beside this.
 shows 'nobody waits 10 seconds' t sql -d races -c "SELECT max(waited) < interval '10 seconds' FROM answers"
 try 'the races were races' [ "$(sql -d races -c 'SELECT count(*) FROM leases')" -gt 20 ]
+
+# Leases on two plats of each township, from 8 connections at the same time. Each connection leases land on one of the
+# plats, in a section of its own, so that no two leases share land. In the end no township has leases on both plats:
+# whoever came second was refused.
+new_database plats
+sql -d plats << 'END' > "$work/lost" 2>&1
+CREATE TABLE leases (land land NOT NULL, CONSTRAINT no_land_twice EXCLUDE USING gist (land WITH &&));
+CREATE TABLE refused (connection int);
+CREATE PROCEDURE try_all(connection int) LANGUAGE plpgsql AS $$
+DECLARE
+    plat text := CASE connection % 2 WHEN 0 THEN 'plat 1912-03-04' ELSE 'plat 1935-06-01 with its lots' END;
+BEGIN
+    FOR n IN 0..79 LOOP
+        BEGIN
+            INSERT INTO leases VALUES (format('%s: T. %s N., R. 3 W., sec. %s, %s1/4.', plat, 1 + n % 20, 8 + connection,
+                (ARRAY['NE', 'NW', 'SW', 'SE'])[1 + n / 20])::land)
+            ON CONFLICT DO NOTHING;
+        EXCEPTION WHEN SQLSTATE 'TW112' THEN
+            INSERT INTO refused VALUES (connection);
+        END;
+        COMMIT;
+    END LOOP;
+END $$;
+END
+racers=
+for connection in 1 2 3 4 5 6 7 8; do
+    sql -d plats -c "CALL try_all($connection)" > "$work/race.$connection" 2>&1 &
+    racers="$racers $!"
+done
+wait $racers
+for connection in 1 2 3 4 5 6 7 8; do cat "$work/race.$connection"; done > "$work/found"
+: > "$work/wanted"
+same 'errors of the races on two plats'
+shows 'no township has leases on two plats' 0 sql -d plats -c '
+    SELECT count(*) FROM (SELECT FROM leases GROUP BY township(land) HAVING count(DISTINCT plat_date(land)) > 1) AS mixed'
+shows 'each township has leases' 20 sql -d plats -c 'SELECT count(DISTINCT township(land)) FROM leases'
+try 'leases on another plat are refused' [ "$(sql -d plats -c 'SELECT count(*) FROM refused')" -gt 300 ]

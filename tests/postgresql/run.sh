@@ -47,13 +47,17 @@ try 'the extension is installed' install_server "$library" "$headers"
 nm -D --defined-only "$extension/township.so" | sed 's/.* //' | grep -v '^\(pg_finfo_\)\?twpg_' > "$work/found"
 echo Pg_magic_func > "$work/wanted"
 same 'the names that the module exports'
-# How lands are packed for storage, with a sanitizer that sees each byte beyond them, if the compiler has one.
+# How lands and lot tables are packed for storage, with a sanitizer that sees each byte beyond them, if the compiler has
+# one.
 headers_of_server=$("$postgres/bin/pg_config" --includedir-server)
-for sanitizer in '-fsanitize=address,undefined -fno-sanitize-recover=all' ''; do
-    "${CC:-cc}" -std=c11 -D_GNU_SOURCE -O1 -g $sanitizer -I"$headers" -isystem "$headers_of_server" -o "$work/packing" \
-        "$tests/packing_test.c" "$root/postgresql/src/packing.c" > "$work/lost" 2>&1 && break
+for packing in packing lots_packing; do
+    for sanitizer in '-fsanitize=address,undefined -fno-sanitize-recover=all' ''; do
+        "${CC:-cc}" -std=c11 -D_GNU_SOURCE -O1 -g $sanitizer -I"$headers" -isystem "$headers_of_server" \
+            -o "$work/$packing" "$tests/${packing}_test.c" "$root/postgresql/src/$packing.c" > "$work/lost" 2>&1 && break
+    done
 done
 try 'how lands are packed' "$work/packing"
+try 'how lot tables are packed' "$work/lots_packing"
 
 if ! start_server; then
     fail 'the server starts' "$work/initdb" "$work/started"

@@ -23,12 +23,12 @@ CREATE VIEW measured AS SELECT lands.id, acres_or_null(plat, description) AS acr
 FROM plats, lands, LATERAL (SELECT 'sec. 14.'::text AS description) AS described WHERE lands.id < 10;
 END
 tables=$(sql -d first -c "SELECT tablename FROM pg_tables WHERE schemaname = 'public' ORDER BY 1")
-# How many rows each table has, since comparing empty ones would show nothing: dumps.sql makes 500 lands and 5 more, of
+# How many rows each table has, since comparing empty ones would show nothing: dumps.sql makes 500 lands and 10 more, of
 # which the view has the first 9.
 rows_in() { for table in $tables measured; do echo "$table $(sql -d "$1" -c "SELECT count(*) FROM $table")"; done; }
-shows 'the rows of the first version' 'lands 505
+shows 'the rows of the first version' 'lands 510
 leases 2
-lot_tables 2
+lot_tables 3
 plats 1
 measured 9' rows_in first
 contents() { for table in $tables measured; do sql -d "$1" -c "COPY (SELECT * FROM $table ORDER BY 1) TO STDOUT"; done; }

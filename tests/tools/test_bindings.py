@@ -20,7 +20,7 @@ import header  # noqa: E402
 import signatures  # noqa: E402
 
 #: What is in the files of the library that are compared with the header.
-LIBRARY = re.compile(r"^pub (?:extern \"C\" )?fn township_|^pub struct Township\w|^pub const NO_ROOM", re.M)
+LIBRARY = re.compile(r"^pub (?:extern \"C\" )?fn township_|^#\[repr\(C\)\]$|^pub const NO_ROOM", re.M)
 
 MADE = ("bindings/python/src/township/_library.py", "bindings/rust/src/ffi/declared.rs")
 

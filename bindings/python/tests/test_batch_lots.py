@@ -4,6 +4,11 @@ import unittest
 from batches import ADDED, EVEN_NOTES, HEADING, LOTS, NOTES, BatchCase, records
 
 
+def on_one_line(text):
+    """A message without the breaks of its lines, which depend on the length of a file's name."""
+    return b" ".join(text.split()) + b" "
+
+
 class Tables(BatchCase):
     """Lot tables, in a file or in a folder beside field notes."""
 
@@ -77,10 +82,11 @@ class Tables(BatchCase):
 
     def test_files_that_are_refused(self):
         neither = b"this is neither field notes nor a lot table: field notes begin with `line,between,and,"
+        heading = b":1: the heading must be `section,lot,acres`, or `section,lot,acres,land`: "
         for text, said in (
             (LOTS + "5,5,40.00\n", b":4: there is no lot 5: section 5 has lots 1 to 4"),
-            ("section;lot;acres\nT;2;N;3;W\n", b":1: the heading must be `section,lot,acres`: "),
-            ("SECTION,LOT,ACRES\n", b":1: the heading must be `section,lot,acres`: "),
+            ("section;lots;acres\nT;2;N;3;W\n", heading),
+            ("SECTION,LOT,ACRES\n", heading),
             ("line;between;and\n", b":1: the heading must be `line,between,and,quarter,corner`"),
             (LOTS + " " * 65_536, b": the lot table is longer than 65,536 bytes"),
             ("township,description\n", b":1: " + neither),
@@ -91,7 +97,7 @@ class Tables(BatchCase):
                 bad = self.put(text, "plats/bad.csv")
                 _, errors = self.answers(status=1)
                 self.assertEqual(errors.count("township: "), 1)
-                self.assertTrue(errors.encode().startswith(b"township: " + bytes(bad) + said), errors)
+                self.assertTrue(on_one_line(errors.encode()).startswith(b"township: " + bytes(bad) + said), errors)
 
     def test_list_and_answers_in_the_folder(self):
         folder = self.folder / "plats"
@@ -111,7 +117,8 @@ class Tables(BatchCase):
         self.put("section\n", "bad/lots.csv")
         run = self.run_words("batch", "--plats", self.folder / "bad", self.put(self.DATA))
         self.assertEqual(run.returncode, 1)
-        self.assertIn(b"bad/lots.csv:1: the heading must be `section,lot,acres`: it has 1 field\n", run.stderr)
+        said = b"bad/lots.csv:1: the heading must be `section,lot,acres`, or `section,lot,acres,land`: it has 1 field "
+        self.assertIn(said, on_one_line(run.stderr))
 
     def test_one_table(self):
         table = self.put(LOTS, "lots.csv")
@@ -128,6 +135,21 @@ class Tables(BatchCase):
             self.assertEqual(rows[2][4:], ["the lot table has no record for lot 2 of section 5", "", ""])
             self.assertTrue(rows[3][5].startswith("NE1/4 SE1/4 is read as one part of 40.00 acres"), rows[3])
             self.assertEqual(rows[4][4], "section 5 has lots 1 to 4")
+
+    def test_table_of_a_spreadsheet(self):
+        table = self.put(LOTS.replace(",", ";").replace("\n", ";;\n"), "lots.csv")
+        run = self.run_words("batch", "--lots", table, self.put('description\n"sec. 5, lot 1."\n'))
+        self.assertEqual((run.returncode, run.stderr), (0, b""))
+        self.assertEqual(records(run.stdout)[1][1], "41.23")
+        # In a folder, too.
+        self.put(table.read_text(), "plats/lots.csv")
+        self.assertEqual(self.answers()[0][0], ("41.23", "lots.csv"))
+
+    def test_workbook_that_is_none(self):
+        table = self.put(LOTS, "lots.xlsx")
+        run = self.run_words("batch", "--lots", table, self.put("description\nsec. 14.\n"))
+        self.assertEqual((run.returncode, run.stdout), (3, b""))
+        self.assertRegex(run.stderr, rb"\Atownship: cannot read \S+/lots.xlsx: [^\n]+\n\Z")
 
     def test_readings_by_a_table(self):
         data = 'description\n"Lot 1, Sec 5"\n"Lot 2, Sec 5"\n'

@@ -56,6 +56,48 @@ class Rows(unittest.TestCase):
         self.assertEqual(tested, 4)
 
 
+class TableRows(unittest.TestCase):
+    """Land on the plat of a table that says where its lots lie."""
+
+    #: A lake covers the NW1/4NW1/4 of section 14, and half of a quarter-quarter of section 15 without lots.
+    TABLE = """section,lot,acres,land
+T,2,N,3,W,1912-03-04
+14,1,38.50,NE1/4NE1/4
+14,2,12.25,N1/2NW1/4NE1/4
+14,3,19.80,S1/2NW1/4NE1/4
+14,4,71.10,E1/2NW1/4
+14,,,NW1/4NW1/4
+15,7,30.00,"W1/2SE1/4SE1/4, SW1/4SE1/4"
+15,,,"E1/2SE1/4SE1/4, N1/2NE1/4NE1/4"
+16,1,600.00,"N1/2, S1/2"
+"""
+
+    def rows(self, description):
+        lots = Lots.read(self.TABLE)
+        return [tuple(row[1:]) for row in rows_of(lots, lots.land(description))]
+
+    def test_lots_of_a_section(self):
+        lots = [("NENE", 1, 1, ""), ("NWNE", 2, 1, ""), ("NWNE", 3, 1, ""), ("NENW", 4, 1, ""), ("SENW", 4, 1, "")]
+        self.assertEqual(self.rows("sec. 14, lots 1 to 4."), lots)
+        others = [quarter for quarter in ALL if quarter not in ("NENE", "NWNE", "NENW", "SENW", "NWNW")]
+        self.assertEqual(self.rows("sec. 14."), lots + [(quarter, None, 1, "") for quarter in others])
+        self.assertEqual(len(others), 11)
+
+    def test_land_beside_a_lake(self):
+        self.assertEqual(self.rows("sec. 15, lot 7, S1/2NE1/4NE1/4, NE1/4SE1/4NE1/4."), [
+            ("SWSE", 7, 1, ""), ("SESE", 7, 1, ""), ("NENE", None, Decimal("0.5"), "S1/2NE1/4NE1/4"),
+            ("SENE", None, Decimal("0.25"), "NE1/4SE1/4NE1/4")])
+
+    def test_a_lot_that_is_a_section(self):
+        self.assertEqual(self.rows("sec. 16, lot 1."), [(quarter, 1, 1, "") for quarter in ALL])
+        self.assertEqual(self.rows("sec. 16."), self.rows("sec. 16, lot 1."))
+
+    def test_other_sections(self):
+        # In a regular township, section 5 has lots; here it has none.
+        self.assertEqual(self.rows("sec. 5, N1/2N1/2."), [
+            (quarter, None, 1, "") for quarter in ("NENE", "NWNE", "NENW", "NWNW")])
+
+
 class Command(BatchCase):
     def parts(self, description, *words):
         lots = self.put(Lots.new(TOWNSHIP).csv(), "lots.csv")
@@ -78,6 +120,17 @@ class Command(BatchCase):
         keys = {(each[1], each[3], each[4]) for each in found}
         self.assertEqual(len(keys), 8)
         self.assertLessEqual(keys, polygons)
+
+    def test_a_table_with_land(self):
+        lots = self.put(TableRows.TABLE, "lots.csv")
+        run = self.run_words("parts", "--gis", "--plss-id", "ID080020N0030W0", lots, "-", input=b"sec. 14, lots 2 and 4.")
+        self.assertEqual((run.returncode, run.stderr), (0, b""))
+        self.assertEqual([row[1:] for row in records(run.stdout)[1:]], [
+            ["ID080020N0030W0SN140", "14", quarter, lot, "1", ""]
+            for quarter, lot in (("NWNE", "2"), ("NENW", "4"), ("SENW", "4"))])
+        for description, number in ((b"sec. 14, NW1/4NW1/4.", 68), (b"sec. 14, NE1/4.", 66), (b"sec. 14, lot 5.", 64)):
+            run = self.run_words("parts", "--gis", lots, "-", input=description)
+            self.assertEqual((run.returncode, run.stdout.split()[:2]), (1, [b"refused", b"%d" % number]))
 
     def test_note_and_refusals(self):
         run = self.parts(b"sec. 14, NE1/4 SE1/4.")

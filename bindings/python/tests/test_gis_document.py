@@ -11,7 +11,7 @@ from township._cadnsdi import COLUMNS
 
 PAGE = (TOP / "docs" / "GIS.md").read_text()
 BLOCKS = ["".join(line[4:] for line in block.splitlines(True)) for block in re.findall(r"(?m)(?:^    .*\n)+", PAGE)]
-IMPORT, SAID, TABLE, REPORT, FILES, PARTS, ROWS, PARTS_BY_ID, ROWS_BY_ID = BLOCKS
+IMPORT, SAID, TABLE, REPORT, FILES, PARTS, ROWS, LAKE_PARTS, LAKE_ROWS, PARTS_BY_ID, ROWS_BY_ID = BLOCKS
 
 #: What a command begins with.
 BEGIN = ["python3", "-m", "township"]
@@ -45,6 +45,13 @@ class Page(BatchCase):
         for line, rows in ((PARTS, ROWS), (PARTS_BY_ID, ROWS_BY_ID)):
             run = self.run_line(line)
             self.assertEqual((run.returncode, run.stdout.decode(), run.stderr), (0, rows, b""))
+
+    def test_parts_of_the_imported_table(self):
+        self.run_line(IMPORT)
+        [description] = re.findall(r"For `lake.txt`, which contains `([^`]*)`", " ".join(PAGE.split()))
+        self.put(description, "lake.txt")
+        run = self.run_line(LAKE_PARTS)
+        self.assertEqual((run.returncode, run.stdout.decode(), run.stderr), (0, LAKE_ROWS, b""))
 
     def test_columns(self):
         rows = re.findall(r"(?m)^\| `(--[a-z-]+)` \| `([A-Z]+)` \|", PAGE)

@@ -19,6 +19,7 @@ HEADER = (TOP / "include" / "township.h").read_text()
 
 LAND = township.Land.of((2, "N", 3, "W"), "sec. 14.")
 LOTS = township.Lots.read("section,lot,acres\nT,2,N,3,W\n")
+LAND_OF_LOTS = township.Lots.read("section,lot,acres,land\nT,2,N,3,W\n14,1,38.50,NE1/4NE1/4\n").land("sec. 14, lot 1.")
 
 
 class Found(unittest.TestCase):
@@ -75,7 +76,7 @@ class Declared(unittest.TestCase):
         structs = (_library.Tract, _library.Totals, _library.Explanation)
         self.assertEqual([ctypes.sizeof(struct) for struct in structs], [80, 16, 112])
         structs = (_library.Designation, _library.Land, _library.Lots, _library.Part)
-        self.assertEqual([ctypes.sizeof(struct) for struct in structs], [4, 4612, 192, 6])
+        self.assertEqual([ctypes.sizeof(struct) for struct in structs], [4, 4620, 13972, 6])
         structs = (_library.TractAnswer, _library.Overlap)
         self.assertEqual([ctypes.sizeof(struct) for struct in structs], [120, 16])
         structs = (_library.Reading, _library.Change, _library.Suggestion)
@@ -191,6 +192,7 @@ class Verdicts(unittest.TestCase):
         (_library.NO_LOTS, ValueError),
         (_library.NO_TOWNSHIP, ValueError),
         (_library.NO_OPERATION, ValueError),
+        (_library.OTHER_PLAT, ValueError),
         (99, RuntimeError),
     )
 
@@ -216,7 +218,8 @@ class Verdicts(unittest.TestCase):
         "explain_description_parts": lambda: uneven().acres(""),
         "explain_list_parts": lambda: uneven().report_csv(b""),
         "designation_read": lambda: township.Township.of("98N-97W"),
-        "designation_text": lambda: str(uneven().township),
+        # The texts of townships are remembered: no other test writes this one.
+        "designation_text": lambda: str(township.Township(97, "S", 98, "E")),
         "land_read": lambda: uneven().land("sec. 14."),
         "land_acres": lambda: uneven().acres(LAND),
         "land_area": lambda: uneven().area(LAND),
@@ -225,10 +228,14 @@ class Verdicts(unittest.TestCase):
         "land_compare": lambda: LAND <= LAND,
         "land_parts": lambda: LAND.parts,
         "lots_read": lambda: township.Lots.read(b""),
+        "lots_plain": lambda: township.Lots.read(b","),
         "explain_lots_parts": lambda: township.Lots.read(b""),
         "explain_lacking_parts": lambda: LOTS.acres("sec. 31."),
         "lots_acres": lambda: LOTS.acres("sec. 14."),
         "lots_area": lambda: LOTS.area("sec. 14."),
+        "lots_land_read": lambda: LOTS.land("sec. 14."),
+        "lots_land_text": lambda: LAND_OF_LOTS.text,
+        "lots_explain_description_parts": lambda: LOTS.acres(""),
         "lots_land_acres": lambda: LOTS.acres(LAND),
         "lots_land_area": lambda: LOTS.area(LAND),
         "lots_report": lambda: LOTS.report([]),
@@ -281,6 +288,8 @@ class Verdicts(unittest.TestCase):
             ((plat, b"name\n", 5), _library.explain_list, _library.explain_list_parts),
             ((b"section", 7), _library.explain_lots, _library.explain_lots_parts),
             ((ctypes.byref(LOTS._parts), 503), _library.explain_lacking, _library.explain_lacking_parts),
+            ((ctypes.byref(LOTS._parts), b"sec. 14, NE1/4 SE1/4.", 21), _library.lots_explain_description,
+             _library.lots_explain_description_parts),
         ):
             parts = _library.Explanation()
             with_parts_of = functools.partial(self.call_with, with_parts, ctypes.byref(parts))

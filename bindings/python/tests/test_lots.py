@@ -106,7 +106,7 @@ class Refusals(RefusalCase):
             ("section,lot,acres\n", 90, 2),
             (HEADING + "5,1,40.45\n5,5,40.00\n", 91, 4),
             (HEADING + "14,1,40.00\n", 91, 3),
-            (HEADING + "5,1,40\n", 92, 3),
+            (HEADING + "5,1,40.455\n", 92, 3),
             (HEADING + "5,1,0.00\n", 92, 3),
             (HEADING + "5,1,1000.00\n", 92, 3),
             (HEADING + "5,1,40.45\n5,2,40.45\n5,1,40.45\n", 93, 5),
@@ -119,14 +119,16 @@ class Refusals(RefusalCase):
                 # A record is on the line with its number.
                 self.assertEqual((refused.line, refused.column is None), (at, False) if is_shown else (None, True))
                 self.assertEqual(str(refused), f"lots:{at}: {refused.sentence}" if is_shown else f"lots: {refused.sentence}")
-                self.assertTrue(refused.explanation.startswith(f"township: {refused}\n"))
+                # A long sentence takes more than one line.
+                words = " ".join(refused.explanation.split())
+                self.assertTrue(words.startswith(f"township: {refused}"), words)
                 self.assertEqual("^" in refused.explanation or refused.start == refused.end, True)
 
     def test_table_is_shown_at_the_fields_that_are_wrong(self):
-        table = HEADING + "5,1,40.45\n5,2,40.5\n"
+        table = HEADING + "5,1,40.45\n5,2,40.5000\n"
         refused = self.refused(Lots.read, table)
         self.assertEqual((refused.number, refused.line, refused.column), (92, 4, 5))
-        self.assertEqual(table[refused.start : refused.end], "40.5")
+        self.assertEqual(table[refused.start : refused.end], "40.5000")
         self.assertEqual(refused.hints, ("write `40.50`",))
         again = HEADING + "5,1,40.45\n05,1,40.50\n"
         refused = self.refused(Lots.read, again)

@@ -6,6 +6,7 @@ from fractions import Fraction
 
 from batches import BatchCase, records
 from samples import TOP
+from township import Lots
 from township._cadnsdi.dividing import divided
 from township._cadnsdi.quarters import QUARTER_QUARTERS, quarter_quarter_of
 
@@ -272,6 +273,17 @@ class Files(ImportCase):
         self.assertIn(b"--replace replaces it", self.run.stderr)
         self.assertEqual(self.imported(rows, "--replace")[::2], (0, {"2N-3W.csv": table}))
 
+    def test_tables_that_are_refused(self):
+        """More quarter-quarters with two lots than a table can divide: 16 in each of 9 sections, and not 128."""
+        rows = [row(2 * place + side, quarter, "20.00", section) for section in range(1, 10)
+                for place, quarter in enumerate(QUARTER_QUARTERS, 1) for side in (0, 1)]
+        status, report, tables = self.imported(rows)
+        self.assertEqual((status, report, list(tables)), (1, [], ["2N-3W.csv.incomplete"]))
+        self.assertIn(b"2N-3W.csv.incomplete", self.run.stderr)
+        self.assertIn(b"1 lot tables", self.run.stderr)
+        status, report, tables = self.imported([each for each in rows if not each.startswith(f"{ID},9,")])
+        self.assertEqual((status, report, "2N-3W.csv" in tables), (0, [], True))
+
     def test_encodings_and_standard_input(self):
         data = HEADING + row(1, "NENE", "38.50")
         for encoding in ("utf-8", "utf-8-sig", "utf-16"):
@@ -329,6 +341,12 @@ class Random(ImportCase):
         status, report, tables = self.imported(rows)
         self.assertEqual((status, report, len(tables)), (0, [], 20))
         read = {number: table_of(tables[f"{number}N-3W.csv"].encode()) for number in range(1, 21)}
+        for number in range(1, 21):
+            # The library reads it, too, and writes the same lots.
+            lots = Lots.read(tables[f"{number}N-3W.csv"])
+            self.assertEqual(Lots.read(lots.csv()).csv(), lots.csv())
+            found = {key: round(100 * figure) for key, figure in lots.figures.items()}
+            self.assertEqual(found, {key[1:]: acres[key] for key in acres if key[0] == number})
         self.assertEqual(sum(len(each.lots) for table in read.values() for each in table.sections.values()), len(acres))
         self.assertGreater(len(acres), 1_000)
         for (number, section, lot), hundredths in acres.items():

@@ -72,13 +72,13 @@ class Acres(MeasuringCase):
         self.assertTrue(run.stderr.startswith(f"township: {TRACTS}:1".encode()), run.stderr)
 
     def test_refused_lot_table(self):
-        lots, description = self.put(TABLE + "5,3,40\n"), self.put("sec. 5, lots 1 to 4.", "land.txt")
+        lots, description = self.put(TABLE + "5,3,40.455\n"), self.put("sec. 5, lots 1 to 4.", "land.txt")
         run = self.run_words("acres", "--lots", lots, description)
         self.assertEqual((run.returncode, run.stdout), (1, b"refused 92 at 5\n"))
         said, _, excerpt = run.stderr.decode().partition("\n  5 | ")
-        acres = "`40` is not an acreage: write 0.01 to 999.99, with two decimals, as in `40.45`"
+        acres = "`40.455` is not an acreage: write 0.01 to 999.99, with two decimals, as in `40.45`"
         self.assertEqual(" ".join(said.split()), f"township: {lots}:5: {acres}")
-        self.assertEqual(excerpt, "5,3,40\n    |     ^^\n  write `40.00`\n")
+        self.assertEqual(excerpt, "5,3,40.455\n    |     ^^^^^^\n")
         said = (
             "township: land: the lot table has no record for lot 3 of section 5\n"
             "  of section 5, it has these lots: 1, 2\n"

@@ -23,9 +23,14 @@ pub(crate) enum Verdict {
     NoTownship,
     NoOperation,
     OtherTownship,
+    OtherPlat,
 }
 
-/// The error for land, plats, and lot tables of two different townships.
+/// The error for land, plats, and lot tables of two different townships, or of two different plats
+/// of one.
+///
+/// Two plats of a township are different if their dates are, or if one has the standard lots and the
+/// other has not.
 ///
 /// ```
 /// let other = township::Land::empty("T. 3 N., R. 3 W.".parse()?);
@@ -39,11 +44,13 @@ pub(crate) enum Verdict {
 /// # Ok::<(), Box<dyn std::error::Error>>(())
 /// ```
 #[derive(Clone, Copy, Debug, PartialEq, Eq, Hash)]
+#[cfg_attr(feature = "serde", derive(serde::Serialize, serde::Deserialize))]
 #[non_exhaustive]
-pub struct OtherTownship {
+pub struct OtherPlat {
     /// The township of the first land, or of the land.
     pub first: Township,
-    /// The township of the second land, or of the plat or the lot table.
+    /// The township of the second land, or of the plat or the lot table. It is the same one if they
+    /// are on two different plats of it.
     pub second: Township,
 }
 
@@ -71,6 +78,7 @@ impl Answer {
             ffi::NO_TOWNSHIP => Verdict::NoTownship,
             ffi::NO_OPERATION => Verdict::NoOperation,
             ffi::OTHER_TOWNSHIP => Verdict::OtherTownship,
+            ffi::OTHER_PLAT => Verdict::OtherPlat,
             unknown => panic!("the library answered with verdict {unknown}, which is unknown here"),
         }
     }
@@ -79,7 +87,7 @@ impl Answer {
     ///
     /// Panics if memory runs out. The other verdicts cannot occur: the types rule out plats, land, and
     /// so on that are not valid, every text gets the buffer that it needs, and callers look for
-    /// different townships first.
+    /// different townships and plats first.
     pub(crate) fn accepted(self) -> Result<Answer, Fault> {
         match self.verdict() {
             Verdict::Accepted => Ok(self),
@@ -94,22 +102,31 @@ impl Answer {
             | Verdict::NoLots
             | Verdict::NoTownship
             | Verdict::NoOperation
-            | Verdict::OtherTownship) => {
+            | Verdict::OtherTownship
+            | Verdict::OtherPlat) => {
                 unreachable!("the library was given what it takes, and answered {verdict:?}")
             }
         }
     }
 
-    /// Returns this answer unless it says that the call was given these two different townships.
-    pub(crate) fn in_one_township(
+    /// Returns this answer unless it says that the call was given these two different townships, or
+    /// two plats of one.
+    pub(crate) fn on_one_plat(
         self,
         first: Township,
         second: Township,
-    ) -> Result<Answer, OtherTownship> {
+    ) -> Result<Answer, OtherPlat> {
         match self.verdict() {
-            Verdict::OtherTownship => Err(OtherTownship { first, second }),
+            Verdict::OtherTownship | Verdict::OtherPlat => Err(OtherPlat { first, second }),
             _ => Ok(self),
         }
+    }
+
+    /// Returns whether this is the answer of a call that explains a fault, even if it had no room for the
+    /// text.
+    pub(crate) fn is_of(&self, fault: Fault) -> bool {
+        let inner = (self.inner_number > 0).then(|| self.inner_refusal());
+        self.fault(inner) == fault
     }
 
     /// Returns the length of this answer's text in bytes, or the number of its parts.
@@ -133,17 +150,17 @@ impl Answer {
     }
 }
 
-impl fmt::Display for OtherTownship {
+impl fmt::Display for OtherPlat {
     fn fmt(&self, f: &mut fmt::Formatter<'_>) -> fmt::Result {
-        write!(
-            f,
-            "{} and {} are two different townships",
-            self.first, self.second
-        )
+        let (first, second) = (self.first, self.second);
+        if first == second {
+            return write!(f, "these are on two different plats of {first}");
+        }
+        write!(f, "{first} and {second} are two different townships")
     }
 }
 
-impl Error for OtherTownship {}
+impl Error for OtherPlat {}
 
 /// Panics because there is not enough memory.
 pub(crate) fn out_of_memory() -> ! {
@@ -219,6 +236,7 @@ mod tests {
             (ffi::NO_TOWNSHIP, "NoTownship"),
             (ffi::NO_OPERATION, "NoOperation"),
             (ffi::OTHER_TOWNSHIP, "OtherTownship"),
+            (ffi::OTHER_PLAT, "OtherPlat"),
         ] {
             let panic = std::panic::catch_unwind(|| with(verdict).accepted()).unwrap_err();
             let message = panic.downcast_ref::<String>().unwrap();
@@ -230,11 +248,16 @@ mod tests {
     fn different_townships() {
         let township = |text: &str| text.parse::<Township>().unwrap();
         let (first, second) = (township("T. 2 N., R. 3 W."), township("T. 3 N., R. 3 W."));
-        let error = OtherTownship { first, second };
-        let answer = with(ffi::OTHER_TOWNSHIP).in_one_township(first, second);
+        let error = OtherPlat { first, second };
+        let answer = with(ffi::OTHER_TOWNSHIP).on_one_plat(first, second);
         assert_eq!(answer, Err(error));
         let answer = with(ffi::ACCEPTED);
-        assert_eq!(answer.in_one_township(first, second), Ok(answer));
+        assert_eq!(answer.on_one_plat(first, second), Ok(answer));
+        let answer = with(ffi::OTHER_PLAT).on_one_plat(first, first);
+        assert_eq!(
+            answer.unwrap_err().to_string(),
+            "these are on two different plats of T. 2 N., R. 3 W."
+        );
     }
 
     #[test]

@@ -1,12 +1,14 @@
 //! The forms in which `serde` writes and reads the types here, with the feature `serde`.
 //!
-//! Acreage, areas, townships, sides, accounts, and lot tables are the texts that they display. A plat
+//! Acreage, areas, dates, townships, sides, accounts, and lot tables are the texts that they display. A plat
 //! has its two parts, `township` and `closing_quarters`; land has `township` and, for each section
-//! with land, `rows`. They are checked as by `Plat::from_parts` and `Land::from_rows`.
+//! with land, `rows`, and if it is on the plat of a lot table with a date, or with the places of its
+//! lots, `date` or `lots`. They are checked as by `Plat::from_parts` and `Land::from_rows`.
 
 use crate::ffi::{PLACES_ACROSS, SECTIONS};
 use crate::{
-    Account, Acres, Area, EastWest, Land, Lots, NoLand, NoPlat, NorthSouth, Plat, Township, LINES,
+    Account, Acres, Area, Date, EastWest, Land, Lots, NoLand, NoPlat, NorthSouth, Plat, Township,
+    LINES,
 };
 use serde::de::{self, Visitor};
 use serde::{Deserialize, Deserializer, Serialize, Serializer};
@@ -50,7 +52,7 @@ macro_rules! as_text {
     )*};
 }
 
-as_text!(Account, Acres, Area, EastWest, Lots, NorthSouth, Township);
+as_text!(Account, Acres, Area, Date, EastWest, Lots, NorthSouth, Township);
 
 /// The parts of a plat, as they are written.
 #[derive(Clone, Serialize, Deserialize)]
@@ -85,6 +87,12 @@ pub(crate) struct LandData {
     township: Township,
     /// By the number of the section.
     rows: BTreeMap<u8, Vec<u32>>,
+    /// The date of the plat, if its lots are the standard lots.
+    #[serde(default, skip_serializing_if = "Option::is_none")]
+    date: Option<Date>,
+    /// The lot table that says where the lots of the land lie.
+    #[serde(default, skip_serializing_if = "Option::is_none")]
+    lots: Option<Lots>,
 }
 
 impl From<Land> for LandData {
@@ -93,6 +101,8 @@ impl From<Land> for LandData {
         LandData {
             township: land.township(),
             rows: land.sections().map(rows_in).collect(),
+            date: land.date().filter(|_| land.lots().is_none()),
+            lots: land.lots().cloned(),
         }
     }
 }
@@ -107,6 +117,10 @@ impl TryFrom<LandData> for Land {
             let places = index.and_then(|index| rows.get_mut(index)).ok_or(NoLand)?;
             *places = given.try_into().map_err(|_| NoLand)?;
         }
-        Land::from_rows(data.township, rows)
+        match data.lots {
+            Some(lots) if lots.township() == data.township => Land::from_rows_on(&lots, rows),
+            Some(_) => Err(NoLand),
+            None => Land::from_rows_of(data.township, data.date, rows),
+        }
     }
 }

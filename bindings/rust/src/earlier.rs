@@ -16,8 +16,8 @@ pub(crate) struct EarlierLands {
 }
 
 /// The same for one township.
-struct EarlierLand {
-    all: Land,
+pub(crate) struct EarlierLand {
+    all: Option<Land>,
     /// The indexes of the lands in each section.
     by_section: [Vec<usize>; SECTIONS],
     lands: HashMap<usize, Land>,
@@ -27,11 +27,7 @@ impl EarlierLands {
     /// Adds lands, with an index greater than those before.
     pub(crate) fn add(&mut self, index: usize, lands: Lands) {
         for land in lands {
-            let township = land.township();
-            let earlier = self
-                .by_township
-                .entry(township)
-                .or_insert_with(|| EarlierLand::of(township));
+            let earlier = self.by_township.entry(land.township()).or_default();
             earlier.add(index, land);
         }
     }
@@ -56,26 +52,35 @@ impl EarlierLands {
     }
 }
 
-impl EarlierLand {
-    fn of(township: Township) -> EarlierLand {
+impl Default for EarlierLand {
+    fn default() -> EarlierLand {
         EarlierLand {
-            all: Land::empty(township),
+            all: None,
             by_section: std::array::from_fn(|_| Vec::new()),
             lands: HashMap::new(),
         }
     }
+}
 
-    fn add(&mut self, index: usize, land: Land) {
+impl EarlierLand {
+    /// Adds land, with an index greater than those before.
+    pub(crate) fn add(&mut self, index: usize, land: Land) {
         for section in sections_of(&land) {
             self.by_section[section].push(index);
         }
-        self.all |= &land;
+        self.all = Some(match self.all.take() {
+            None => land.clone(),
+            Some(all) => all | &land,
+        });
         self.lands.insert(index, land);
     }
 
     /// Returns what land shares with each of those that were added, and their indexes, in order.
-    fn shared(&self, land: &Land) -> Vec<(usize, Land)> {
-        let both = &self.all & land;
+    pub(crate) fn shared(&self, land: &Land) -> Vec<(usize, Land)> {
+        let Some(all) = &self.all else {
+            return Vec::new();
+        };
+        let both = all & land;
         let near: BTreeSet<usize> = sections_of(&both)
             .flat_map(|section| self.by_section[section].iter().copied())
             .collect();

@@ -3,6 +3,7 @@
 use crate::answer::Fault;
 use crate::ffi;
 use crate::land::{shortened, Land};
+use crate::lots::Lots;
 use crate::refused::{refused_in, Refusal, Refused, DESCRIPTION};
 use crate::split::{split, TownshipText};
 use crate::township::{EastWest, NorthSouth, Township};
@@ -54,9 +55,9 @@ impl Lands {
     /// # Errors
     ///
     /// Returns [`Refused`] if the text can't be split (38 or 39), if a part does not begin with a heading
-    /// (31 to 36), or if it is refused (41 to 67); the place is then in this part, and the explanation
-    /// names its township. If a part names land of an earlier part, the number is 67, and the place is
-    /// that of the part in the text.
+    /// (31 to 36), or if it is refused (41 to 44, 61 to 68); the place is then in this part, and the
+    /// explanation names its township. If a part names land of an earlier part, the number is 67, and
+    /// the place is that of the part in the text.
     ///
     /// ```
     /// let refused = township::Lands::read("T2N R3W sec. 14; T3N R3W sec. 37").unwrap_err();
@@ -66,9 +67,17 @@ impl Lands {
     /// );
     /// ```
     pub fn read(text: &str) -> Result<Lands, Refused> {
+        Lands::read_by(text, |_| None)
+    }
+
+    /// The same, with the lots of a lot table in the townships that have one.
+    pub(crate) fn read_by<'a>(
+        text: &str,
+        table_of: impl Fn(Township) -> Option<&'a Lots>,
+    ) -> Result<Lands, Refused> {
         let mut lands: Vec<Land> = Vec::new();
         for part in split(text)? {
-            let land = land_of(&part)?;
+            let land = land_of(&part, &table_of)?;
             match lands
                 .iter_mut()
                 .find(|other| other.township() == land.township())
@@ -145,9 +154,15 @@ fn on_one_line(text: &str) -> String {
 }
 
 /// Returns the land of a part of a text. In explanations, the part is called by its township.
-fn land_of(part: &TownshipText<'_>) -> Result<Land, Refused> {
+fn land_of<'a>(
+    part: &TownshipText<'_>,
+    table_of: impl Fn(Township) -> Option<&'a Lots>,
+) -> Result<Land, Refused> {
     let township = part.township()?;
     let name = township.to_string();
+    if let Some(lots) = table_of(township) {
+        return lots.land_as(&name, part.text.as_bytes());
+    }
     let plat = township.nominal_plat();
     Land::read_as(&name, &plat, township, part.text.as_bytes())
 }

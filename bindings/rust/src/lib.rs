@@ -37,6 +37,7 @@ mod answer;
 mod area;
 #[cfg(feature = "serde")]
 mod data;
+mod date;
 mod difference;
 mod earlier;
 mod explanation;
@@ -62,14 +63,15 @@ mod township_faults;
 
 pub use self::account::Account;
 pub use self::acres::Acres;
-pub use self::answer::OtherTownship;
+pub use self::answer::OtherPlat;
 pub use self::area::Area;
+pub use self::date::Date;
 pub use self::difference::Difference;
 pub use self::explanation::OtherPlace;
 pub use self::figures::{Figures, Section};
 pub use self::land::{Comparison, Land, NoLand, Rows};
 pub use self::lands::Lands;
-pub use self::lots::{Lots, NoLandAcres};
+pub use self::lots::{Lots, NoLandAcres, PlatLot};
 pub use self::note::Note;
 pub use self::parse::ParseError;
 pub use self::part::Part;

@@ -15,6 +15,19 @@ pub(crate) fn refused_table(fault: Fault, table: &[u8], source: &str) -> Refused
     })
 }
 
+/// Returns the refusal of a description on the plat of a lot table, with its explanation, which calls the
+/// description `source`.
+pub(crate) fn refused_on_plat(
+    fault: Fault,
+    lots: &ffi::Lots,
+    description: &[u8],
+    source: &str,
+) -> Refused {
+    Refused::explained(fault, |room| {
+        ffi::lots_explain_description_parts(lots, description, source.as_bytes(), room)
+    })
+}
+
 /// Returns the refusal of land, a description, or a list with a lot that the table lacks, with its
 /// explanation. `source` is the name of what is refused.
 pub(crate) fn refused_lacking(fault: Fault, lots: &ffi::Lots, source: &str) -> Refused {

@@ -1,25 +1,31 @@
-//! Lot tables: the acreage that the approved plat returns for each lot.
+//! Lot tables: the lots of the approved plat, and the acreage that it returns for each.
 
 use crate::acres::Acres;
-use crate::answer::{Fault, OtherTownship};
+use crate::answer::{Fault, OtherPlat};
 use crate::area::Area;
+use crate::date::Date;
 use crate::ffi::{self, TRACTS_MOST};
 use crate::land::Land;
-use crate::lot_faults::{refused_lacking, refused_table, LACKING};
+use crate::lot_faults::{refused_lacking, refused_on_plat, refused_table, LACKING};
 use crate::refused::{Refused, DESCRIPTION, LAND, LIST, LOT_TABLE};
 use crate::report::{list_of, LotsReport};
+use crate::text::accepted_bytes_by;
 use crate::township::Township;
 use std::error::Error;
 use std::fmt;
+use std::sync::Arc;
 
 mod list;
 mod many;
+mod places;
 mod text;
+
+pub use self::places::PlatLot;
 
 /// The acreage of a quarter-quarter section, in hundredths.
 const STANDARD: u32 = 4_000;
 
-/// A lot table: the acreage that the approved plat returns for the lots of a township.
+/// A lot table: the lots of a township's approved plat, and the acreage that it returns for each.
 ///
 /// By a lot table, each whole lot counts at its returned acreage, and other land at its nominal
 /// area, 40 acres for each quarter-quarter section. No field notes are needed. To make a table, call
@@ -37,26 +43,40 @@ const STANDARD: u32 = 4_000;
 /// # Ok::<(), township::Refused>(())
 /// ```
 ///
+/// A table with the column `land` says where its lots lie. All other tables are for the standard lots.
+///
+/// ```
+/// let table = b"section,lot,acres,land\nT,2,N,3,W\n14,1,38.50,NE1/4NE1/4\n14,,,NW1/4NE1/4\n";
+/// let lots = township::Lots::read(table)?;
+/// assert_eq!(lots.normal("sec. 14, NW1/4, lot 1.")?, "T. 2 N., R. 3 W.,\nsec. 14, lot 1, NW1/4.\n");
+/// assert_eq!(lots.acres("sec. 14.")?.to_string(), "598.50");
+/// # Ok::<(), township::Refused>(())
+/// ```
+///
 /// # Panics
 ///
 /// If memory runs out, these functions panic with the message `township: out of memory`.
 #[derive(Clone, PartialEq, Eq, Hash)]
 pub struct Lots {
-    data: ffi::Lots,
+    // Land on the plat of a table has the same.
+    data: Arc<ffi::Lots>,
 }
 
 /// The error for land that has no acreage by a lot table.
 #[derive(Clone, Debug, PartialEq, Eq, Hash)]
 #[non_exhaustive]
 pub enum NoLandAcres {
-    /// The land is in another township than the table.
-    OtherTownship(OtherTownship),
+    /// The land is in another township than the table, or on another plat of it.
+    OtherPlat(OtherPlat),
     /// The land contains a lot that the table lacks: a refusal with the number 94.
     Lacking(Refused),
 }
 
 impl Lots {
     /// Reads a lot table (CSV, at most 65,536 bytes; see `docs/LOTS-FORMAT.md`).
+    ///
+    /// A table may be as a spreadsheet saves it: with empty cells at the end of a row, with semicolons
+    /// or tabs between the cells, or with 40.5 for 40.50 acres.
     ///
     /// # Errors
     ///
@@ -68,6 +88,7 @@ impl Lots {
     /// let lots = Lots::read(b"section,lot,acres\nT,2,N,3,W\n5,1,40.45\n")?;
     /// assert_eq!(lots.township().to_string(), "T. 2 N., R. 3 W.");
     /// assert_eq!(lots.figure(5, 1).unwrap().to_string(), "40.45");
+    /// assert_eq!(lots, Lots::read(b"section;lot;acres;;\nT;2;N;3;W\n5;1;40.45;;\n")?);
     ///
     /// let refused = Lots::read(b"section,lot,acres\nT,2,N,3,W\n14,1,40.00\n").unwrap_err();
     /// assert_eq!((refused.number, refused.at), (91, 3));
@@ -76,9 +97,26 @@ impl Lots {
     /// ```
     pub fn read(table: &[u8]) -> Result<Lots, Refused> {
         let (answer, data) = ffi::lots_read(table);
+        let fault = match answer.accepted() {
+            Ok(_) => return Ok(Lots::of(data)),
+            Err(fault) => fault,
+        };
+        if fault.refusal.number != ffi::REFUSAL_LOTS_TOO_LARGE {
+            let plain = accepted_bytes_by(|room| ffi::lots_plain(table, room));
+            if plain != table {
+                return Lots::read_plain(&plain);
+            }
+        }
+        Err(refused_table(fault, table, LOT_TABLE))
+    }
+
+    /// Reads the plain table of a lot table that is refused. Its lines are those of the table, but its
+    /// bytes are not.
+    fn read_plain(plain: &[u8]) -> Result<Lots, Refused> {
+        let (answer, data) = ffi::lots_read(plain);
         match answer.accepted() {
-            Ok(_) => Ok(Lots { data }),
-            Err(fault) => Err(refused_table(fault, table, LOT_TABLE)),
+            Ok(_) => Ok(Lots::of(data)),
+            Err(fault) => Err(refused_table(fault, plain, LOT_TABLE).without_bytes()),
         }
     }
 
@@ -94,12 +132,27 @@ impl Lots {
     /// # Ok::<(), township::Refused>(())
     /// ```
     pub fn new(township: Township) -> Lots {
+        let mut data = list::standard_table().clone();
+        let count = list::lots_in(&data).count();
+        data.figures[..count].fill(STANDARD);
+        data.township = township.designation();
+        Lots::of(data)
+    }
+
+    /// Makes a lot table of valid data.
+    fn of(data: ffi::Lots) -> Lots {
         Lots {
-            data: ffi::Lots {
-                figures: [STANDARD; ffi::LOTS],
-                township: township.designation(),
-            },
+            data: Arc::new(data),
         }
+    }
+
+    pub(crate) fn data(&self) -> &ffi::Lots {
+        &self.data
+    }
+
+    /// Returns the date on which the plat was approved. It is `None` if the table does not say.
+    pub fn date(&self) -> Option<Date> {
+        Date::from_number(self.data.date)
     }
 
     /// Returns the township's designation.
@@ -115,8 +168,8 @@ impl Lots {
             .2
     }
 
-    /// Returns an iterator over all 47 lots of the township: the section and the number of each, and
-    /// its returned acreage, or `None` if the table lacks it.
+    /// Returns an iterator over the lots of the plat: the section and the number of each, and its
+    /// returned acreage, or `None` if the table lacks it. A regular township has 47 lots.
     ///
     /// ```
     /// let lots = township::Lots::read(b"section,lot,acres\nT,2,N,3,W\n5,1,40.45\n")?;
@@ -125,20 +178,18 @@ impl Lots {
     /// # Ok::<(), township::Refused>(())
     /// ```
     pub fn figures(&self) -> impl Iterator<Item = (u8, u8, Option<Acres>)> + '_ {
-        list::lots_of_township().iter().zip(&self.data.figures).map(
-            |(&(section, lot), &hundredths)| {
-                let acres = (hundredths > 0).then(|| Acres::from_hundredths(hundredths.into()));
-                (section, lot, acres)
-            },
-        )
+        list::lots_in(&self.data).map(|(section, lot, hundredths)| {
+            let acres = (hundredths > 0).then(|| Acres::from_hundredths(hundredths.into()));
+            (section, lot, acres)
+        })
     }
 
     /// Returns the acreage of the land described, rounded once to hundredths, half up.
     ///
     /// # Errors
     ///
-    /// Returns [`Refused`], with a number from 41 to 67, if the description is refused, or with the
-    /// number 94 if the land contains a lot that the table lacks: `at` is then 100 times the
+    /// Returns [`Refused`], with a number from 41 to 44 or 61 to 68, if the description is refused, or
+    /// with the number 94 if the land contains a lot that the table lacks: `at` is then 100 times the
     /// section's number, plus the lot's number.
     pub fn acres(&self, description: impl AsRef<[u8]>) -> Result<Acres, Refused> {
         let description = description.as_ref();
@@ -166,8 +217,8 @@ impl Lots {
     ///
     /// # Errors
     ///
-    /// Returns [`NoLandAcres`] if the land is in another township, or contains a lot that the table
-    /// lacks.
+    /// Returns [`NoLandAcres`] if the land is in another township, on another plat of it, or contains a
+    /// lot that the table lacks.
     ///
     /// ```
     /// # use township::{Land, Lots};
@@ -178,7 +229,7 @@ impl Lots {
     /// ```
     pub fn land_acres(&self, land: &Land) -> Result<Acres, NoLandAcres> {
         let answer = ffi::lots_land_acres(&self.data, land.data());
-        let answer = answer.in_one_township(land.township(), self.township())?;
+        let answer = answer.on_one_plat(land.township(), self.township())?;
         match answer.accepted() {
             Ok(answer) => Ok(Acres::from_hundredths(answer.hundredths)),
             Err(fault) => Err(self.land_refused(fault)),
@@ -192,7 +243,7 @@ impl Lots {
     /// The same as for [`Lots::land_acres`].
     pub fn land_area(&self, land: &Land) -> Result<Area, NoLandAcres> {
         let (answer, area) = ffi::lots_land_area(&self.data, land.data());
-        let answer = answer.in_one_township(land.township(), self.township())?;
+        let answer = answer.on_one_plat(land.township(), self.township())?;
         match answer.accepted() {
             Ok(_) => Ok(Area::from_fraction(area)),
             Err(fault) => Err(self.land_refused(fault)),
@@ -269,8 +320,11 @@ impl Lots {
         if fault.inner.is_some_and(|inner| inner.number == LACKING) {
             return refused_lacking(fault, &self.data, LIST);
         }
+        if self.has_land() && OF_LAND.contains(&fault.refusal.number) {
+            return refused_for_land(fault);
+        }
         let plat = self.township().nominal_plat();
-        Refused::explained(fault, |room| {
+        Refused::explained_if_same(fault, |room| {
             ffi::explain_list_parts(&plat, list, LIST.as_bytes(), room)
         })
     }
@@ -280,23 +334,37 @@ impl Lots {
         if fault.refusal.number == LACKING {
             return refused_lacking(fault, &self.data, DESCRIPTION);
         }
-        let plat = self.township().nominal_plat();
-        Refused::explained(fault, |room| {
-            ffi::explain_description_parts(&plat, description, DESCRIPTION.as_bytes(), room)
-        })
+        refused_on_plat(fault, &self.data, description, DESCRIPTION)
     }
 }
 
-impl From<OtherTownship> for NoLandAcres {
-    fn from(error: OtherTownship) -> NoLandAcres {
-        NoLandAcres::OtherTownship(error)
+/// The refusals of a list that depend on which lots a plat has. The library does not explain them by a
+/// lot table.
+const OF_LAND: [u32; 2] = [ffi::REFUSAL_TRACT_REFUSED, ffi::REFUSAL_TRACTS_OVERLAP];
+
+/// Returns the refusal of a list for the land of a tract, without words of the library.
+fn refused_for_land(fault: Fault) -> Refused {
+    let sentence = match fault.inner {
+        Some(inner) => format!(
+            "the description of this tract is refused on the plat of the lot table: {} at {}",
+            inner.number, inner.at
+        ),
+        None => "the land of this tract overlaps that of an earlier one".to_owned(),
+    };
+    let record = usize::try_from(fault.refusal.at).expect("a list has few records");
+    Refused::of_record(fault, LIST, record, sentence)
+}
+
+impl From<OtherPlat> for NoLandAcres {
+    fn from(error: OtherPlat) -> NoLandAcres {
+        NoLandAcres::OtherPlat(error)
     }
 }
 
 impl fmt::Display for NoLandAcres {
     fn fmt(&self, f: &mut fmt::Formatter<'_>) -> fmt::Result {
         match self {
-            NoLandAcres::OtherTownship(error) => fmt::Display::fmt(error, f),
+            NoLandAcres::OtherPlat(error) => fmt::Display::fmt(error, f),
             NoLandAcres::Lacking(refused) => fmt::Display::fmt(refused, f),
         }
     }

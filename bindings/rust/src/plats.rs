@@ -2,6 +2,7 @@
 
 use crate::account::Account;
 use crate::acres::Acres;
+use crate::answer::OtherPlat;
 use crate::area::Area;
 use crate::land::Land;
 use crate::lands::Lands;
@@ -22,6 +23,8 @@ pub use self::report::{PlatsReport, PlatsTract};
 /// What acreage in a township is computed by: the plat of field notes, or a lot table.
 #[derive(Clone, Debug, PartialEq, Eq, Hash)]
 #[cfg_attr(feature = "serde", derive(serde::Serialize, serde::Deserialize))]
+// There are few of them, so it doesn't matter that a plat takes 340 bytes.
+#[allow(clippy::large_enum_variant)]
 pub enum Basis {
     /// The plat that field notes make.
     Plat(Plat),
@@ -79,6 +82,8 @@ pub enum NoAcres {
     MissingPlat(Township),
     /// The text is refused, or the lot table of a township lacks a lot of the land (94).
     Refused(Refused),
+    /// The land was read without the lot table of its township, or by another, and has other lots.
+    OtherPlat(OtherPlat),
 }
 
 /// The error for two different plats, or two different lot tables, of one township.
@@ -152,7 +157,7 @@ impl Plats {
     ///
     /// The same as for [`Lands::read`].
     pub fn land(&self, text: &str) -> Result<Lands, Refused> {
-        Lands::read(text)
+        Lands::read_by(text, |township| self.table_of(township))
     }
 
     /// Returns the acreage of the land that a text names, rounded once to hundredths, half up.
@@ -199,7 +204,7 @@ impl Plats {
     ///
     /// The same as for [`Plats::acres`].
     pub fn area_by(&self, text: &str, account: Account) -> Result<Area, NoAcres> {
-        self.lands_area_by(&Lands::read(text)?, account)
+        self.lands_area_by(&self.land(text)?, account)
     }
 
     /// Returns the acreage of the land that a text names in each township. Each figure is rounded
@@ -209,7 +214,7 @@ impl Plats {
     ///
     /// The same as for [`Plats::acres`].
     pub fn acres_by_township(&self, text: &str) -> Result<Vec<(Township, Acres)>, NoAcres> {
-        let areas = self.areas(&Lands::read(text)?, Account::Exact)?;
+        let areas = self.areas(&self.land(text)?, Account::Exact)?;
         Ok(each_rounded(&areas))
     }
 
@@ -242,6 +247,14 @@ impl Plats {
         Ok(areas.iter().map(|(_, area)| area).sum())
     }
 
+    /// Returns the lot table of a township, if it says where its lots lie: then descriptions are read by it.
+    fn table_of(&self, township: Township) -> Option<&Lots> {
+        match self.get(township) {
+            Some(Basis::Lots(lots)) => Some(lots).filter(|lots| lots.has_land()),
+            _ => None,
+        }
+    }
+
     /// Returns the exact area of land in each of its townships.
     fn areas(&self, lands: &Lands, account: Account) -> Result<Vec<(Township, Area)>, NoAcres> {
         lands
@@ -268,7 +281,7 @@ impl Basis {
     }
 
     /// Returns the exact area of land in the township. A refusal names the township.
-    fn area(&self, land: &Land, account: Account) -> Result<Area, Refused> {
+    fn area(&self, land: &Land, account: Account) -> Result<Area, NoAcres> {
         let found = match self {
             Basis::Plat(plat) => plat.land_area_by(land, account).map_err(NoLandAcres::from),
             Basis::Lots(lots) => lots.land_area(land),
@@ -276,11 +289,9 @@ impl Basis {
         match found {
             Ok(area) => Ok(area),
             Err(NoLandAcres::Lacking(refused)) => {
-                Err(refused.of_source(&self.township().to_string()))
+                Err(refused.of_source(&self.township().to_string()).into())
             }
-            Err(NoLandAcres::OtherTownship(error)) => {
-                unreachable!("it is the land in the township, and {error}")
-            }
+            Err(NoLandAcres::OtherPlat(error)) => Err(NoAcres::OtherPlat(error)),
         }
     }
 }
@@ -334,6 +345,7 @@ impl fmt::Display for NoAcres {
                 "there are no field notes and no lot table for {township}"
             ),
             NoAcres::Refused(refused) => fmt::Display::fmt(refused, f),
+            NoAcres::OtherPlat(error) => fmt::Display::fmt(error, f),
         }
     }
 }

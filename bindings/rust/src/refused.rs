@@ -50,8 +50,8 @@ pub struct Refusal {
 #[cfg_attr(feature = "serde", derive(serde::Serialize, serde::Deserialize))]
 #[non_exhaustive]
 pub struct Refused {
-    /// What is wrong: 1 to 11 and 21 to 23 for field notes, 41 to 44 and 61 to 67 for a
-    /// description, 50 and 51 for phrases to leave out, 80 to 85 for a list of tracts, 86 to 94 for
+    /// What is wrong: 1 to 11 and 21 to 23 for field notes, 41 to 44 and 61 to 68 for a
+    /// description, 50 and 51 for phrases to leave out, 80 to 85 for a list of tracts, 86 to 101 for
     /// a lot table.
     pub number: u32,
     /// The location. Its meaning depends on the number: a record counted from 1, the index of a
@@ -123,6 +123,19 @@ impl Refused {
         }
     }
 
+    /// Returns the refusal for a fault, with the library's explanation if it is of this fault: on another
+    /// plat, an earlier one may be explained.
+    pub(crate) fn explained_if_same(
+        fault: Fault,
+        explain: impl Fn(&mut [u8]) -> (Answer, ffi::Explanation),
+    ) -> Refused {
+        if explain(&mut []).0.is_of(fault) {
+            Refused::explained(fault, explain)
+        } else {
+            Refused::unexplained(fault)
+        }
+    }
+
     /// Returns the refusal for a fault that is on no line.
     pub(crate) fn new(fault: Fault, mut explained: Explained) -> Refused {
         Refused {
@@ -167,6 +180,14 @@ impl Refused {
     /// Returns the refusal for a fault, without an explanation.
     pub(crate) fn unexplained(fault: Fault) -> Refused {
         Refused::new(fault, Explained::default())
+    }
+
+    /// Returns the refusal without the bytes of the input that it underlines, and those of the other
+    /// place.
+    pub(crate) fn without_bytes(mut self) -> Refused {
+        self.parts.span = None;
+        self.parts.other = None;
+        self
     }
 
     /// Returns the bytes of the input that the explanation underlines. `None` if it underlines none.

@@ -23,6 +23,22 @@ pub(crate) fn text_by(mut call: impl FnMut(&mut [u8]) -> Answer) -> (Answer, Str
     (answer, text_in(&enough, answer))
 }
 
+/// Returns the bytes written by a call that cannot refuse, which may be any bytes. Panics if memory
+/// runs out.
+pub(crate) fn accepted_bytes_by(call: impl Fn(&mut [u8]) -> Answer) -> Vec<u8> {
+    let mut bytes = vec![0; USUAL_ROOM];
+    let mut answer = call(&mut bytes);
+    if answer.verdict() == Verdict::NoRoom {
+        bytes.resize(answer.text_length(), 0);
+        answer = call(&mut bytes);
+    }
+    match answer.accepted() {
+        Ok(_) => bytes.truncate(answer.text_length()),
+        Err(fault) => unreachable!("the library has nothing to refuse, and {}", fault.refusal),
+    }
+    bytes
+}
+
 /// Returns the text written by a call that cannot refuse. Panics if memory runs out.
 pub(crate) fn accepted_text_by(call: impl Fn(&mut [u8]) -> Answer) -> String {
     let (answer, text) = text_by(call);

@@ -66,6 +66,38 @@ fn plats() {
 }
 
 #[test]
+fn lands_of_lot_tables() {
+    let table = "section,lot,acres,land\nT,2,N,3,W,1912-03-04\n14,1,38.50,NE1/4NE1/4\n";
+    let lots: Lots = table.parse().unwrap();
+    let rows = [["0"; 24].join(","), ["255"; 8].join(",")].join(",");
+    let land = r#"{"township":"T. 2 N., R. 3 W.","rows":{"14":[ROWS]}"#.replace("ROWS", &rows);
+    let json = format!(
+        r#"{land},"lots":{}}}"#,
+        serde_json::to_string(&lots).unwrap()
+    );
+    both_ways(lots.land("sec. 14, lot 1.").unwrap(), &json);
+    let again: Land = serde_json::from_str(&json).unwrap();
+    assert_eq!(again.lots(), Some(&lots));
+    // With the standard lots, only the date is the table's.
+    let dated: Lots = "section,lot,acres\nT,2,N,3,W,1912-03-04\n".parse().unwrap();
+    let json = format!(r#"{land},"date":"1912-03-04"}}"#);
+    both_ways(dated.land("sec. 14, NE1/4NE1/4.").unwrap(), &json);
+    both_ways(dated.date().unwrap(), r#""1912-03-04""#);
+    assert!(serde_json::from_str::<township::Date>(r#""1913-02-29""#).is_err());
+
+    let of_table = serde_json::to_string(&lots.land("sec. 14, lot 1.").unwrap()).unwrap();
+    for (old, new, message) in [
+        ("255", "254", "these places contain part of a lot"),
+        ("T. 2 N.", "T. 3 N.", "these places contain part of a lot"),
+        ("NE1/4NE1/4", "NENE", "lots:3"),
+    ] {
+        let wrong = of_table.replacen(old, new, 1);
+        let error = serde_json::from_str::<Land>(&wrong).unwrap_err();
+        assert!(error.to_string().starts_with(message), "{error}");
+    }
+}
+
+#[test]
 fn lands() {
     let land = even().land("sec. 5, lot 2.").unwrap();
     // The lot is the northern quarter of the rows.

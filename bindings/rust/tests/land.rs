@@ -4,7 +4,7 @@ mod samples;
 
 use samples::{even, uneven};
 use std::collections::HashSet;
-use township::{Account, Acres, Area, Comparison, Land, NoLand, OtherTownship, Township};
+use township::{Account, Acres, Area, Comparison, Land, NoLand, OtherPlat, Township};
 
 fn township(text: &str) -> Township {
     text.parse().unwrap()
@@ -102,7 +102,7 @@ fn in_different_townships() {
         Land::difference,
         Land::symmetric_difference,
     ] {
-        let error: OtherTownship = combine(&one, &other).unwrap_err();
+        let error: OtherPlat = combine(&one, &other).unwrap_err();
         assert_eq!(
             (error.first, error.second),
             (one.township(), other.township())

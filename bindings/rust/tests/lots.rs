@@ -125,7 +125,7 @@ fn refused_tables() {
         ("section,lot,acres\nT,100,N,3,W\n".to_owned(), 90, 2),
         ("section,lot,acres\n".to_owned(), 90, 2),
         (records("5,1,40.45\n5,5,40.00\n"), 91, 4),
-        (records("5,1,40\n"), 92, 3),
+        (records("5,1,40.455\n"), 92, 3),
         (records("5,1,40.45\n5,2,40.45\n5,1,40.45\n"), 93, 5),
     ] {
         let refused = Lots::read(table.as_bytes()).unwrap_err();
@@ -143,21 +143,42 @@ fn refused_tables() {
         };
         let sentence = refused.sentence();
         assert_eq!(refused.to_string(), format!("lots{place}: {sentence}"));
-        assert!(refused
-            .explanation
-            .starts_with(&format!("township: {refused}\n")));
+        // A long sentence takes more than one line.
+        let words: Vec<&str> = refused.explanation.split_whitespace().collect();
+        assert!(words.join(" ").starts_with(&format!("township: {refused}")));
     }
 }
 
 #[test]
+fn tables_are_read_as_spreadsheets_save_them() {
+    let wanted: Lots = TABLE.parse().unwrap();
+    for table in [
+        "section,lot,acres,,\nT,2,N,3,W\n5,1,40.45,,\n,,,,\n6,7,36.86,,\n5,2,40.5,,\n",
+        "section;lot;acres;;\r\nT;2;N;3;W\r\n5;1;40.45;;\r\n6;7;36.86;;\r\n5;2;40.5;;\r\n",
+        "section\tlot\tacres\nT\t2\tN\t3\tW\n5\t1\t40.45\n6\t7\t36.86\n5\t2\t40.5\n",
+    ] {
+        assert_eq!(table.parse(), Ok(wanted.clone()));
+    }
+}
+
+#[test]
+fn refusal_of_a_spreadsheet_has_its_line_and_no_bytes() {
+    let table = "section;lot;acres;;\nT;2;N;3;W\n;;;;\n5;1;40,5;;\n";
+    let refused = Lots::read(table.as_bytes()).unwrap_err();
+    assert_eq!((refused.number, refused.at, refused.line), (92, 3, Some(4)));
+    assert_eq!((refused.span(), refused.other()), (None, None));
+    assert!(refused.explanation.contains("  4 | 5,1,\"40,5\"\n"));
+}
+
+#[test]
 fn table_is_shown_at_the_fields_that_are_wrong() {
-    let table = HEADING.to_owned() + "5,1,40.45\n5,2,40.5\n";
+    let table = HEADING.to_owned() + "5,1,40.45\n5,2,40.5000\n";
     let refused = Lots::read(table.as_bytes()).unwrap_err();
     assert_eq!(
         (refused.number, refused.line, refused.column),
         (92, Some(4), Some(5))
     );
-    assert_eq!(&table[refused.span().unwrap()], "40.5");
+    assert_eq!(&table[refused.span().unwrap()], "40.5000");
     assert_eq!(refused.hints(), ["write `40.50`"]);
 
     let again = HEADING.to_owned() + "5,1,40.45\n05,1,40.50\n";
@@ -309,7 +330,7 @@ fn refused_lists() {
 fn land_in_another_township() {
     let other = Land::empty("T. 3 N., R. 3 W.".parse().unwrap());
     let error = table().land_acres(&other).unwrap_err();
-    assert!(matches!(&error, NoLandAcres::OtherTownship(one) if one.first == other.township()));
+    assert!(matches!(&error, NoLandAcres::OtherPlat(one) if one.first == other.township()));
     let message = "T. 3 N., R. 3 W. and T. 2 N., R. 3 W. are two different townships";
     assert_eq!(error.to_string(), message);
 }

@@ -6,7 +6,7 @@ use samples::{uneven, NOTES, TRACTS};
 use std::sync::Barrier;
 use std::thread;
 use township::{Account, Acres, Area, Comparison, Difference, Figures, Land, Lots, LotsReport};
-use township::{NoLandAcres, Note, OtherTownship, Part, Plat, Refused, Report, Township};
+use township::{NoLandAcres, Note, OtherPlat, Part, Plat, Refused, Report, Township};
 
 const THREADS: usize = 4;
 const ROUNDS: usize = 200;
@@ -35,15 +35,15 @@ struct Answers {
     comparison: Comparison,
     land_text: String,
     land_parts: Vec<Part>,
-    land_acres: Result<Acres, OtherTownship>,
-    land_area: Result<Area, OtherTownship>,
+    land_acres: Result<Acres, OtherPlat>,
+    land_area: Result<Area, OtherPlat>,
     lots: Result<Lots, Refused>,
     lots_acres: Result<Acres, Refused>,
     lots_area: Result<Area, Refused>,
     lots_land_acres: Result<Acres, NoLandAcres>,
     lots_land_area: Result<Area, NoLandAcres>,
     lots_report: Result<LotsReport, Refused>,
-    differences: Result<Vec<Difference>, OtherTownship>,
+    differences: Result<Vec<Difference>, OtherPlat>,
     refused: Result<Acres, Refused>,
     refused_notes: Result<Plat, Refused>,
     refused_list: Result<String, Refused>,

@@ -23,6 +23,7 @@ use Rattle.twp_answers.specs.declared.names.NamesSoFar.{NamesSoFar}
 use Rattle.twp_answers.specs.declared.tract_fault.TractFault.{TractFault}
 use Rattle.twp_answers.specs.declared.tract_fault.TractFault.TheVariants as fault
 use Rattle.twp_answers.proofs.TractLands.{earlier_or_last, either_way, with_left, with_right}
+use Rattle.twp_grid.specs.Lands.{STANDARD_LOTS}
 
 -- one more answer
 pub answers_next : (plat : TownshipPlat) (rows : List Fields) (count : ℕ) (answers : List TractAnswer)
@@ -106,7 +107,7 @@ module _ (township : Designation) (rows : List Fields) (index : ℕ) where
       → HasOwnFault township rows index (fault.TractRow (index + 2))
   no_record bad = record { has = (refl, bad); own = omega arith; first = least }
     where
-      least : (other : TractFault) → HasAt township rows index other → 1 ≤ turn_of other
+      least : (other : TractFault) → HasAt STANDARD_LOTS township rows index other → 1 ≤ turn_of other
       least (fault.TractRow n) has = omega arith
       least (fault.NameRepeated n) has = omega arith
       least (fault.TractRefused n inner) has = omega arith
@@ -120,7 +121,7 @@ module _ (township : Designation) (rows : List Fields) (index : ℕ) where
       → HasOwnFault township rows index (fault.NameRepeated (index + 2))
   repeated is again = record { has = (refl, again); own = omega arith; first = least }
     where
-      least : (other : TractFault) → HasAt township rows index other → 2 ≤ turn_of other
+      least : (other : TractFault) → HasAt STANDARD_LOTS township rows index other → 2 ≤ turn_of other
       least (fault.TractRow n) (e, bad) = absurd (bad is)
       least (fault.NameRepeated n) has = omega arith
       least (fault.TractRefused n inner) has = omega arith
@@ -131,11 +132,11 @@ module _ (township : Designation) (rows : List Fields) (index : ℕ) where
 
   -- its name is new, but its description is refused
   pub refused : IsTractRecord (record_at rows index) → ¬ IsNameRepeated rows index → (inner : Refusal)
-      → IsNoDescription township (description_in (record_at rows index)) inner
+      → IsNoDescription STANDARD_LOTS township (description_in (record_at rows index)) inner
       → HasOwnFault township rows index (fault.TractRefused (index + 2) inner)
   refused is anew inner none = record { has = (refl, none); own = omega arith; first = least }
     where
-      least : (other : TractFault) → HasAt township rows index other → 3 ≤ turn_of other
+      least : (other : TractFault) → HasAt STANDARD_LOTS township rows index other → 3 ≤ turn_of other
       least (fault.TractRow n) (e, bad) = absurd (bad is)
       least (fault.NameRepeated n) (e, again) = absurd (anew again)
       least (fault.TractRefused n inner) has = omega arith

@@ -6,7 +6,7 @@ use Rattle.std.proofs.lemmas.Slice.Eq.{bytes_eq-Decides}
 use Rattle.twp_grid.specs.Places.{PLACE_DIGITS}
 use Rattle.twp_grid.specs.Townships.{Designation}
 use Rattle.twp_grid.specs.Lands.{no_places, union, HasWholeLots, SharePlace}
-use Rattle.twp_grid.specs.Lands.{STANDARD_LOTS}
+use Rattle.twp_grid.specs.Lands.{Lotting}
 use Rattle.twp_notes.specs.Records.{Fields, record_at}
 use Rattle.twp_answers.specs.Answers.{Describe}
 use Rattle.twp_answers.specs.EarlierTracts.{AreEarlier, TractsSoFar, TakesLand, IsTractRefused, IsUnread}
@@ -19,10 +19,10 @@ use Rattle.twp_answers.proofs.TractLands.{earlier_or_last, either_way, with_left
 use Rattle.twp_answers.proofs.TractLands.{land_next}
 
 -- no tracts
-pub no_earlier : (township : Designation) (rows : List Fields) (earlier : TractsSoFar)
+pub no_earlier : (lots : Lotting) (township : Designation) (rows : List Fields) (earlier : TractsSoFar)
     → ((name : List ℕ) → has_name earlier.names name ≡ false) → earlier.places ≡ no_places
-    → AreEarlier township rows 0 earlier
-no_earlier township rows earlier names places = record {
+    → AreEarlier lots township rows 0 earlier
+no_earlier lots township rows earlier names places = record {
   tracts = record {
     each = λ index below. absurd (omega arith);
     once = λ earlier index before below. absurd (omega arith);
@@ -30,12 +30,13 @@ no_earlier township rows earlier names places = record {
   };
   named = λ index below. absurd (omega arith);
   names = λ name is. cc (sym is ∙ names name);
-  land = subst (IsLandOfTracts township rows 0) (sym places) (no_land township rows);
+  land = subst (IsLandOfTracts lots township rows 0) (sym places) (no_land lots township rows);
   whole = rw places (λ section lot range. record { alike = λ column row column' row' lies lies'. refl });
 }
 
-module _ (township : Designation) (fields : Fields) (old new : TractsSoFar) (more : ℕ → ℕ → ℕ → Bool)
-    (takes : TakesLand township fields old new more) where
+module _ (lots : Lotting) (township : Designation) (fields : Fields) (old new : TractsSoFar)
+    (more : ℕ → ℕ → ℕ → Bool)
+    (takes : TakesLand lots township fields old new more) where
   -- the name was added
   pub taken_names : (other : List ℕ)
       → has_name new.names other ≡ (bytes_eq (name_in fields) other || has_name old.names other)
@@ -49,21 +50,21 @@ module _ (township : Designation) (fields : Fields) (old new : TractsSoFar) (mor
   pub taken_apart : ¬ SharePlace old.places more
   taken_apart shared = takes.adds.apart (subst (λ p. SharePlace p more) (sym takes.reads.places_are) shared)
 
-module _ (township : Designation) (rows : List Fields) (count : ℕ) (old new : TractsSoFar)
-    (more : ℕ → ℕ → ℕ → Bool) (before : AreEarlier township rows count old)
-    (takes : TakesLand township (record_at rows count) old new more) where
+module _ (lots : Lotting) (township : Designation) (rows : List Fields) (count : ℕ) (old new : TractsSoFar)
+    (more : ℕ → ℕ → ℕ → Bool) (before : AreEarlier lots township rows count old)
+    (takes : TakesLand lots township (record_at rows count) old new more) where
   names_are : (other : List ℕ)
       → has_name new.names other
       ≡ (bytes_eq (name_in (record_at rows count)) other || has_name old.names other)
-  names_are = taken_names township (record_at rows count) old new more takes
+  names_are = taken_names lots township (record_at rows count) old new more takes
 
   places_are : new.places ≡ union old.places more
-  places_are = taken_places township (record_at rows count) old new more takes
+  places_are = taken_places lots township (record_at rows count) old new more takes
 
   are_apart : ¬ SharePlace old.places more
-  are_apart = taken_apart township (record_at rows count) old new more takes
+  are_apart = taken_apart lots township (record_at rows count) old new more takes
 
-  each : (index : ℕ) → index < count + 1 → IsTract township (record_at rows index)
+  each : (index : ℕ) → index < count + 1 → IsTract lots township (record_at rows index)
   each index below = elim (earlier_or_last count index below) [
     | inl earlier ↦ before.tracts.each index earlier
     | inr next ↦
@@ -81,15 +82,15 @@ module _ (township : Designation) (rows : List Fields) (count : ℕ) (old new : 
   ]
 
   apart : (earlier index : ℕ) → earlier < index → index < count + 1
-      → Overlap township (record_at rows earlier) (record_at rows index) → ⊥
+      → Overlap lots township (record_at rows earlier) (record_at rows index) → ⊥
   apart earlier index first below overlap = elim (earlier_or_last count index below) [
     | inl known ↦ before.tracts.apart earlier index first known overlap
     | inr next ↦
-        let land : Describe township (description_in (record_at rows count)) overlap.more =
-        subst (λ i. Describe township (description_in (record_at rows i)) overlap.more) next
+        let land : Describe lots township (description_in (record_at rows count)) overlap.more =
+        subst (λ i. Describe lots township (description_in (record_at rows i)) overlap.more) next
         overlap.other_land in
         let same : overlap.more ≡ more =
-        one_land township (description_in (record_at rows count)) overlap.more more land
+        one_land lots township (description_in (record_at rows count)) overlap.more more land
         takes.reads.land in
         are_apart (record {
           section = overlap.shared.section;
@@ -135,12 +136,12 @@ module _ (township : Designation) (rows : List Fields) (count : ℕ) (old new : 
             (found.0, omega arith, found.2)
       ]
 
-  land : IsLandOfTracts township rows (count + 1) new.places
+  land : IsLandOfTracts lots township rows (count + 1) new.places
   land =
-      subst (IsLandOfTracts township rows (count + 1)) (sym places_are)
-      (land_next township rows count old.places more before.land takes.reads.land)
+      subst (IsLandOfTracts lots township rows (count + 1)) (sym places_are)
+      (land_next lots township rows count old.places more before.land takes.reads.land)
 
-  whole : HasWholeLots STANDARD_LOTS new.places
+  whole : HasWholeLots lots new.places
   whole = rw places_are (λ section lot range. record {
     alike = λ column row column' row' lies lies' i.
         (before.whole section lot range).alike column row column' row' lies lies' i
@@ -148,7 +149,7 @@ module _ (township : Designation) (rows : List Fields) (count : ℕ) (old new : 
   })
 
   -- the tracts with one more
-  pub next_earlier : AreEarlier township rows (count + 1) new
+  pub next_earlier : AreEarlier lots township rows (count + 1) new
   next_earlier = record {
     tracts = record { each = each; once = once; apart = apart };
     named = named;
@@ -158,13 +159,14 @@ module _ (township : Designation) (rows : List Fields) (count : ℕ) (old new : 
   }
 
 -- a record that is no tract is refused
-pub unread_is_refused : (township : Designation) (fields : Fields) (earlier : TractsSoFar) (number : ℕ)
-    (is : TractFault) → IsUnread township fields earlier number is
-    → IsTractRefused township fields earlier number is
-unread_is_refused township fields earlier number (fault.TractRow n) has = has
-unread_is_refused township fields earlier number (fault.NameRepeated n) has = has
-unread_is_refused township fields earlier number (fault.TractRefused n inner) has = has
-unread_is_refused township fields earlier number (fault.TractsOverlap n) has = absurd has
-unread_is_refused township fields earlier number fault.TractsTooLarge has = has
-unread_is_refused township fields earlier number fault.TooManyTracts has = has
-unread_is_refused township fields earlier number fault.Memory has = has
+pub unread_is_refused : (lots : Lotting) (township : Designation) (fields : Fields) (earlier : TractsSoFar)
+    (number : ℕ)
+    (is : TractFault) → IsUnread lots township fields earlier number is
+    → IsTractRefused lots township fields earlier number is
+unread_is_refused lots township fields earlier number (fault.TractRow n) has = has
+unread_is_refused lots township fields earlier number (fault.NameRepeated n) has = has
+unread_is_refused lots township fields earlier number (fault.TractRefused n inner) has = has
+unread_is_refused lots township fields earlier number (fault.TractsOverlap n) has = absurd has
+unread_is_refused lots township fields earlier number fault.TractsTooLarge has = has
+unread_is_refused lots township fields earlier number fault.TooManyTracts has = has
+unread_is_refused lots township fields earlier number fault.Memory has = has

@@ -21,10 +21,11 @@ use Rattle.twp_answers.specs.declared.stop.Verdict.TheVariants.{Accepted, Refuse
 use Rattle.twp_answers.specs.declared.tract_fault.TractFault.{TractFault}
 use Rattle.twp_answers.specs.declared.tract_fault.TractFault.TheVariants as fault
 use Rattle.twp_answers.proofs.OneAnswer.{not_described}
+use Rattle.twp_grid.specs.Lands.{Lotting, STANDARD_LOTS}
 
 -- the next record is refused, for its first fault
-module _ (township : Designation) (rows : List Fields) (count : ℕ) (known : TractsSoFar)
-    (before : AreEarlier township rows count known) where
+module _ (lots : Lotting) (township : Designation) (rows : List Fields) (count : ℕ) (known : TractsSoFar)
+    (before : AreEarlier lots township rows count known) where
   -- a name that no tract so far has is not repeated
   not_repeated : has_name known.names (name_in (record_at rows count)) ≡ false → IsNameRepeated rows count → ⊥
   not_repeated anew repeated =
@@ -40,8 +41,8 @@ module _ (township : Designation) (rows : List Fields) (count : ℕ) (known : Tr
       record { earlier = found.0; is_earlier = found.1; same = found.2 }
 
   -- land that contains a place of the tracts so far overlaps one of them
-  pub overlaps_one : OverlapsEarlierLand township (record_at rows count) known
-      → OverlapsEarlier township rows count
+  pub overlaps_one : OverlapsEarlierLand lots township (record_at rows count) known
+      → OverlapsEarlier lots township rows count
   overlaps_one overlaps =
       let there =
       (before.land overlaps.shared.section overlaps.shared.column overlaps.shared.row).0
@@ -65,7 +66,7 @@ module _ (township : Designation) (rows : List Fields) (count : ℕ) (known : Tr
       }
 
   -- each fault of the record has a turn, and later ones if there is none of the earlier
-  pub any_turn : (other : TractFault) → HasAt township rows count other → 1 ≤ turn_of other
+  pub any_turn : (other : TractFault) → HasAt lots township rows count other → 1 ≤ turn_of other
   any_turn (fault.TractRow n) has = omega arith
   any_turn (fault.NameRepeated n) has = omega arith
   any_turn (fault.TractRefused n inner) has = omega arith
@@ -75,7 +76,7 @@ module _ (township : Designation) (rows : List Fields) (count : ℕ) (known : Tr
   any_turn fault.Memory has = absurd has
 
   pub turn_of_record : IsTractRecord (record_at rows count) → (other : TractFault)
-      → HasAt township rows count other → 2 ≤ turn_of other
+      → HasAt lots township rows count other → 2 ≤ turn_of other
   turn_of_record is (fault.TractRow n) (e, bad) = absurd (bad is)
   turn_of_record is (fault.NameRepeated n) has = omega arith
   turn_of_record is (fault.TractRefused n inner) has = omega arith
@@ -85,7 +86,7 @@ module _ (township : Designation) (rows : List Fields) (count : ℕ) (known : Tr
   turn_of_record is fault.Memory has = absurd has
 
   pub turn_of_name : IsNamedAnew (record_at rows count) known → (other : TractFault)
-      → HasAt township rows count other → 3 ≤ turn_of other
+      → HasAt lots township rows count other → 3 ≤ turn_of other
   turn_of_name (is, anew) (fault.TractRow n) (e, bad) = absurd (bad is)
   turn_of_name (is, anew) (fault.NameRepeated n) (e, repeated) = absurd (not_repeated anew repeated)
   turn_of_name (is, anew) (fault.TractRefused n inner) has = omega arith
@@ -95,21 +96,21 @@ module _ (township : Designation) (rows : List Fields) (count : ℕ) (known : Tr
   turn_of_name (is, anew) fault.Memory has = absurd has
 
   pub turn_of_land : IsNamedAnew (record_at rows count) known → (more : ℕ → ℕ → ℕ → Bool)
-      → Describe township (description_in (record_at rows count)) more
-      → (other : TractFault) → HasAt township rows count other → 4 ≤ turn_of other
+      → Describe lots township (description_in (record_at rows count)) more
+      → (other : TractFault) → HasAt lots township rows count other → 4 ≤ turn_of other
   turn_of_land (is, anew) more land (fault.TractRow n) (e, bad) = absurd (bad is)
   turn_of_land (is, anew) more land (fault.NameRepeated n) (e, repeated) = absurd (not_repeated anew repeated)
   turn_of_land (is, anew) more land (fault.TractRefused n inner) (e, none) =
-      absurd (not_described township (description_in (record_at rows count)) inner more none land)
+      absurd (not_described lots township (description_in (record_at rows count)) inner more none land)
   turn_of_land (is, anew) more land (fault.TractsOverlap n) has = omega arith
   turn_of_land (is, anew) more land fault.TractsTooLarge has = absurd has
   turn_of_land (is, anew) more land fault.TooManyTracts has = absurd has
   turn_of_land (is, anew) more land fault.Memory has = absurd has
 
   refused : count < length rows → count < TRACTS_MOST → (tract_fault : TractFault)
-      → HasAt township rows count tract_fault
-      → ((other : TractFault) → HasAt township rows count other → turn_of tract_fault ≤ turn_of other)
-      → IsNextRefused township rows tract_fault
+      → HasAt lots township rows count tract_fault
+      → ((other : TractFault) → HasAt lots township rows count other → turn_of tract_fault ≤ turn_of other)
+      → IsNextRefused lots township rows tract_fault
   refused within below tract_fault has first = record {
     index = count;
     within = within;
@@ -120,8 +121,8 @@ module _ (township : Designation) (rows : List Fields) (count : ℕ) (known : Tr
   }
 
   pub refused_next : count < length rows → count < TRACTS_MOST → (tract_fault : TractFault)
-      → IsTractRefused township (record_at rows count) known (count + 2) tract_fault
-      → AreTractsRefused township rows tract_fault
+      → IsTractRefused lots township (record_at rows count) known (count + 2) tract_fault
+      → AreTractsRefused lots township rows tract_fault
   refused_next within below (fault.TractRow number) (at_record, bad) =
       refused within below (fault.TractRow number) (at_record, bad) any_turn
   refused_next within below (fault.NameRepeated number) (at_record, is, has_it) =
@@ -136,9 +137,9 @@ module _ (township : Designation) (rows : List Fields) (count : ℕ) (known : Tr
   refused_next within below fault.TooManyTracts is = absurd is
 
 -- more bytes than a list can have
-pub large_first : (township : Designation) (bytes : List ℕ) → TRACTS_LIMIT < length bytes
-    → IsFirstTractFault township bytes fault.TractsTooLarge
-large_first township bytes large =
+pub large_first : (lots : Lotting) (township : Designation) (bytes : List ℕ) → TRACTS_LIMIT < length bytes
+    → IsFirstTractFault lots township bytes fault.TractsTooLarge
+large_first lots township bytes large =
     record { is = large; first = λ other has. from (record_of other) (turn_of other) }
   where
     from : (number turn : ℕ) → (0 < number) ⊎ ((0 ≡ number) × (0 ≤ turn))
@@ -147,20 +148,20 @@ large_first township bytes large =
       | inr over ↦ inr (omega arith, omega arith)
     ]
 
-module _ (township : Designation) (bytes : List ℕ) (size : length bytes ≤ TRACTS_LIMIT)
+module _ (lots : Lotting) (township : Designation) (bytes : List ℕ) (size : length bytes ≤ TRACTS_LIMIT)
     (heading_is : record_numbered (records_of bytes) 1 ≡ tracts_heading) where
   -- the tracts before have no fault
-  pub none_before : (index : ℕ) → AreTracts township (tract_records bytes) index
-      → (other : TractFault) (at_tract : HasAtTract township (tract_records bytes) other)
+  pub none_before : (index : ℕ) → AreTracts lots township (tract_records bytes) index
+      → (other : TractFault) (at_tract : HasAtTract lots township (tract_records bytes) other)
       → at_tract.index < index → ⊥
   none_before index tracts other at_tract earlier = at_earlier other at_tract.has
     where
-      at_earlier : (other : TractFault) → HasAt township (tract_records bytes) at_tract.index other → ⊥
+      at_earlier : (other : TractFault) → HasAt lots township (tract_records bytes) at_tract.index other → ⊥
       at_earlier (fault.TractRow n) (e, bad) = bad (tracts.each at_tract.index earlier).is_record
       at_earlier (fault.NameRepeated n) (e, repeated) =
           tracts.once repeated.earlier at_tract.index repeated.is_earlier earlier repeated.same
       at_earlier (fault.TractRefused n inner) (e, none) =
-          not_described township (description_in (record_at (tract_records bytes) at_tract.index)) inner
+          not_described lots township (description_in (record_at (tract_records bytes) at_tract.index)) inner
           (tracts.each at_tract.index earlier).places none (tracts.each at_tract.index earlier).land
       at_earlier (fault.TractsOverlap n) (e, overlaps) =
           tracts.apart overlaps.earlier at_tract.index overlaps.is_earlier earlier overlaps.overlap
@@ -168,7 +169,7 @@ module _ (township : Designation) (bytes : List ℕ) (size : length bytes ≤ TR
       at_earlier fault.TooManyTracts has = has
       at_earlier fault.Memory has = has
 
-  pub number_is : (index : ℕ) (other : TractFault) → HasAt township (tract_records bytes) index other
+  pub number_is : (index : ℕ) (other : TractFault) → HasAt lots township (tract_records bytes) index other
       → record_of other ≡ index + 2
   number_is index (fault.TractRow n) has = has.0
   number_is index (fault.NameRepeated n) has = has.0
@@ -181,9 +182,9 @@ module _ (township : Designation) (bytes : List ℕ) (size : length bytes ≤ TR
   -- each fault is at the record beyond the limit, in the list's size, or at a tract
   pub data Where (other : TractFault) : Type 0 where
     too_many : record_of other ≡ TRACTS_MOST + 2 → Where other
-    at_tract : HasAtTract township (tract_records bytes) other → Where other
+    at_tract : HasAtTract lots township (tract_records bytes) other → Where other
 
-  pub where_is : (other : TractFault) → HasTractFault township bytes other → Where other
+  pub where_is : (other : TractFault) → HasTractFault lots township bytes other → Where other
   where_is fault.TractsTooLarge large = absurd (omega arith)
   where_is fault.TooManyTracts many = too_many refl
   where_is (fault.TractRow n) (inl (e, bad)) = absurd (bad heading_is)
@@ -198,9 +199,9 @@ module _ (township : Designation) (bytes : List ℕ) (size : length bytes ≤ TR
   where_is fault.Memory (inr is) = at_tract is
 
   -- the first fault of a record is the first of the list
-  first_of_next : (tract_fault : TractFault) → IsNextRefused township (tract_records bytes) tract_fault
-      → HasTractFault township bytes tract_fault
-      → IsFirstTractFault township bytes tract_fault
+  first_of_next : (tract_fault : TractFault) → IsNextRefused lots township (tract_records bytes) tract_fault
+      → HasTractFault lots township bytes tract_fault
+      → IsFirstTractFault lots township bytes tract_fault
   first_of_next tract_fault next has =
       record { is = has; first = λ other there. first other (where_is other there) }
     where
@@ -214,15 +215,16 @@ module _ (township : Designation) (bytes : List ℕ) (size : length bytes ≤ TR
         | inl earlier ↦ absurd (none_before next.index next.tracts other is earlier)
         | inr over ↦ elim (cases_eq is.index next.index) [
           | inl same ↦
-              let there : HasAt township (tract_records bytes) next.index other =
-              subst (λ i. HasAt township (tract_records bytes) i other) same is.has in
+              let there : HasAt lots township (tract_records bytes) next.index other =
+              subst (λ i. HasAt lots township (tract_records bytes) i other) same is.has in
               inr (here ∙ sym (number_is next.index other there), next.first other there)
           | inr later ↦ inl (let e = number_is is.index other is.has in omega (arith, here, e))
         ]
       ]
 
-  pub first_refused : (tract_fault : TractFault) → AreTractsRefused township (tract_records bytes) tract_fault
-      → IfSome (verdict_of tract_fault) (λ _. IsFirstTractFault township bytes tract_fault)
+  pub first_refused : (tract_fault : TractFault)
+      → AreTractsRefused lots township (tract_records bytes) tract_fault
+      → IfSome (verdict_of tract_fault) (λ _. IsFirstTractFault lots township bytes tract_fault)
   first_refused (fault.TractRow n) next = first_of_next (fault.TractRow n) next (inr (record {
     index = next.index;
     within = next.within;
@@ -270,7 +272,7 @@ after_of_word bytes fields rest split = record { first = rw split refl; after = 
 -- the lines of a list's refusal are its answer
 pub list_refused : (plat : TownshipPlat) (bytes answer : List ℕ) (verdict : Verdict)
     (tract_fault : TractFault)
-    → IsFirstTractFault plat.township bytes tract_fault
+    → IsFirstTractFault STANDARD_LOTS plat.township bytes tract_fault
     → verdict_of tract_fault ≡ Some verdict → verdict ≢ Accepted → answer ≡ refusal_lines verdict
     → AnswersList plat bytes answer verdict
 list_refused plat bytes answer Accepted tract_fault first is other lines = absurd (other refl)

@@ -15,7 +15,7 @@ use Rattle.twp_resolve.specs.declared.place_fault.PlaceFault.{PlaceFault}
 use Rattle.twp_read.proofs.OneAnswer as texts
 use Rattle.twp_resolve.proofs.PlaceAnswers as lands
 use Rattle.twp_answers.specs.Answers.{ArePlatted, Describe, AreRefused, IsNoDescription, IsNoPlat, IsRefusal}
-use Rattle.twp_grid.specs.Lands.{STANDARD_LOTS}
+use Rattle.twp_grid.specs.Lands.{Lotting, STANDARD_LOTS}
 
 -- the plat of notes, or their fault
 abbrev made : TownshipPlat → Result TownshipPlat PlatFault
@@ -42,14 +42,15 @@ one_plat notes plat plat' are are' =
     cc both
 
 -- a description names only one land
-pub one_land : (township : Designation) (description : List ℕ) (places places' : ℕ → ℕ → ℕ → Bool)
-    → Describe township description places
-    → Describe township description places' → places ≡ places'
-one_land township description places places' is is' =
+pub one_land : (lots : Lotting) (township : Designation) (description : List ℕ)
+    (places places' : ℕ → ℕ → ℕ → Bool)
+    → Describe lots township description places
+    → Describe lots township description places' → places ≡ places'
+one_land lots township description places places' is is' =
     let same : is.items ≡ is'.items = texts.one_reading description is.items is'.items is.read is'.read in
-    let land : place_faults.IsLandOfItems STANDARD_LOTS township is'.items places = rw same at is.land in
+    let land : place_faults.IsLandOfItems lots township is'.items places = rw same at is.land in
     let both : found places ≡ found places' =
-    lands.one_answer STANDARD_LOTS township is'.items (Ok places) (Ok places') land is'.land in
+    lands.one_answer lots township is'.items (Ok places) (Ok places') land is'.land in
     cc both
 
 -- bytes that are refused as notes are not notes
@@ -69,16 +70,17 @@ not_platted notes refusal plat (inr is) are =
     cc both
 
 -- bytes that are not a description of land describe none
-pub not_described : (township : Designation) (d : List ℕ) (refusal : Refusal) (places : ℕ → ℕ → ℕ → Bool)
-    → IsNoDescription township d refusal
-    → Describe township d places → ⊥
-not_described township d refusal places (inl is) land =
+pub not_described : (lots : Lotting) (township : Designation) (d : List ℕ) (refusal : Refusal)
+    (places : ℕ → ℕ → ℕ → Bool)
+    → IsNoDescription lots township d refusal
+    → Describe lots township d places → ⊥
+not_described lots township d refusal places (inl is) land =
     texts.no_fault d land.items is.fault land.read is.first.is
-not_described township d refusal places (inr is) land =
+not_described lots township d refusal places (inr is) land =
     let same : is.items ≡ land.items = texts.one_reading d is.items land.items is.read land.read in
     let both : found places ≡ unfound is.fault =
-    lands.one_answer STANDARD_LOTS township land.items (Ok places) (Err is.fault) land.land
-    (subst (λ i. place_faults.IsFirstPlaceFault STANDARD_LOTS township i is.fault) same is.first) in
+    lands.one_answer lots township land.items (Ok places) (Err is.fault) land.land
+    (subst (λ i. place_faults.IsFirstPlaceFault lots township i is.fault) same is.first) in
     cc both
 
 -- only one refusal of notes or plat is the first
@@ -99,21 +101,21 @@ one_plat_refusal notes r r' (inr is) (inr is') =
     cc refusals
 
 -- only one refusal of a description is the first
-pub one_description_refusal : (township : Designation) (d : List ℕ) (r r' : Refusal)
-    → IsNoDescription township d r → IsNoDescription township d r' → r ≡ r'
-one_description_refusal township d r r' (inl is) (inl is') =
+pub one_description_refusal : (lots : Lotting) (township : Designation) (d : List ℕ) (r r' : Refusal)
+    → IsNoDescription lots township d r → IsNoDescription lots township d r' → r ≡ r'
+one_description_refusal lots township d r r' (inl is) (inl is') =
     let refusals : Some r ≡ Some r' =
     sym is.refusal_is ∙ texts.one_refusal d is.fault is'.fault is.first is'.first ∙ is'.refusal_is in
     cc refusals
-one_description_refusal township d r r' (inl is) (inr is') =
+one_description_refusal lots township d r r' (inl is) (inr is') =
     absurd (texts.no_fault d is'.items is.fault is'.read is.first.is)
-one_description_refusal township d r r' (inr is) (inl is') =
+one_description_refusal lots township d r r' (inr is) (inl is') =
     absurd (texts.no_fault d is.items is'.fault is.read is'.first.is)
-one_description_refusal township d r r' (inr is) (inr is') =
+one_description_refusal lots township d r r' (inr is) (inr is') =
     let same : is.items ≡ is'.items = texts.one_reading d is.items is'.items is.read is'.read in
     let both : unfound is.fault ≡ unfound is'.fault =
-    lands.one_answer STANDARD_LOTS township is'.items (Err is.fault) (Err is'.fault)
-    (subst (λ i. place_faults.IsFirstPlaceFault STANDARD_LOTS township i is.fault) same is.first) is'.first in
+    lands.one_answer lots township is'.items (Err is.fault) (Err is'.fault)
+    (subst (λ i. place_faults.IsFirstPlaceFault lots township i is.fault) same is.first) is'.first in
     let fault : is.fault ≡ is'.fault = cc both in
     let refusals : Some r ≡ Some r' = sym is.refusal_is ∙ rw fault is'.refusal_is in
     cc refusals
@@ -125,5 +127,5 @@ one_refusal notes d r r' (inl is) (inr is') = absurd (not_platted notes r is'.pl
 one_refusal notes d r r' (inr is) (inl is') = absurd (not_platted notes r' is.plat is' is.platted)
 one_refusal notes d r r' (inr is) (inr is') =
     let same : is.plat ≡ is'.plat = one_plat notes is.plat is'.plat is.platted is'.platted in
-    one_description_refusal is'.plat.township d r r'
-    (subst (λ (p : TownshipPlat). IsNoDescription p.township d r) same is.refused) is'.refused
+    one_description_refusal STANDARD_LOTS is'.plat.township d r r'
+    (subst (λ (p : TownshipPlat). IsNoDescription STANDARD_LOTS p.township d r) same is.refused) is'.refused

@@ -80,19 +80,21 @@ pub apart : (township : Designation) (fields other : Fields) (places more : ℕ 
     → AreOverlapping township fields other → ⊥
 apart township fields other places more one two none are =
     let first =
-    one_land township (description_in fields) are.overlap.places places are.overlap.land one.land in
+    one_land STANDARD_LOTS township (description_in fields) are.overlap.places places are.overlap.land
+    one.land in
     let second =
-    one_land township (description_in other) are.overlap.more more are.overlap.other_land two.land in
+    one_land STANDARD_LOTS township (description_in other) are.overlap.more more are.overlap.other_land
+    two.land in
     none (subst (λ p. SharePlace p more) first
     (subst (λ m. SharePlace are.overlap.places m) second are.overlap.shared))
 
 -- a record that is no tract overlaps none
-pub no_first : (township : Designation) (fields other : Fields) → ¬ IsTract township fields
+pub no_first : (township : Designation) (fields other : Fields) → ¬ IsTract STANDARD_LOTS township fields
     → AreOverlapping township fields other → ⊥
 no_first township fields other none are =
     none (record { is_record = are.is_first; places = are.overlap.places; land = are.overlap.land })
 
-pub no_second : (township : Designation) (fields other : Fields) → ¬ IsTract township other
+pub no_second : (township : Designation) (fields other : Fields) → ¬ IsTract STANDARD_LOTS township other
     → AreOverlapping township fields other → ⊥
 no_second township fields other none are =
     none (record { is_record = are.is_second; places = are.overlap.more; land = are.overlap.other_land })
@@ -114,11 +116,11 @@ as_overlap plat fields other places more (Some hundredths) one two has =
 
 -- a tract's description that is refused names no land
 pub no_tract : (township : Designation) (fields : Fields) (description : List ℕ) (inner : Refusal)
-    → description ≡ description_in fields → IsNoDescription township description inner
-    → ¬ IsTract township fields
+    → description ≡ description_in fields → IsNoDescription STANDARD_LOTS township description inner
+    → ¬ IsTract STANDARD_LOTS township fields
 no_tract township fields description inner same none = λ is.
-    not_described township (description_in fields) inner is.places
-    (subst (λ d. IsNoDescription township d inner) same none) is.land
+    not_described STANDARD_LOTS township (description_in fields) inner is.places
+    (subst (λ d. IsNoDescription STANDARD_LOTS township d inner) same none) is.land
 
 -- each land has whole lots
 pub whole_lands : {L : Type 0} (places : L → ℕ → ℕ → ℕ → Bool) (township : Designation) (rows : List Fields)

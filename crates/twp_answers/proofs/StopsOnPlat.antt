@@ -18,38 +18,41 @@ use Rattle.twp_answers.specs.declared.stop.Stop.{Stop}
 use Rattle.twp_answers.specs.declared.stop.Stop.TheVariants as stop
 use Rattle.twp_answers.specs.declared.stop.RunFault.{RunFault}
 use Rattle.twp_answers.specs.declared.stop.RunFault.TheVariants.{Memory, Read, Write}
-use Rattle.twp_grid.specs.Lands.{STANDARD_LOTS}
+use Rattle.twp_grid.specs.Lands.{Lotting}
 
 -- items that do not lie on the plat stop the run with their refusal
-pub stopped_by_places : (township : Designation) (d : List ℕ) (is : List Item) (fault : PlaceFault)
+pub stopped_by_places : (lots : Lotting) (township : Designation) (d : List ℕ) (is : List Item)
+    (fault : PlaceFault)
     (stopped : Stop)
     → IsReadAs d is
-    → IsFirstPlaceFault STANDARD_LOTS township is fault → IsStopOfPlaces fault stopped
-    → IfRefused stopped (IsNoDescription township d)
-stopped_by_places township d is fault (stop.Refused refusal) read first by =
+    → IsFirstPlaceFault lots township is fault → IsStopOfPlaces fault stopped
+    → IfRefused stopped (IsNoDescription lots township d)
+stopped_by_places lots township d is fault (stop.Refused refusal) read first by =
     inr (record { items = is; read = read; fault = fault; first = first; refusal_is = by })
-stopped_by_places township d is fault (stop.Failed failed) read first by = tt
+stopped_by_places lots township d is fault (stop.Failed failed) read first by = tt
 
 -- on an existing plat, a text that cannot be read stops a call with its refusal, or for want of memory
-pub text_stops_on : (township : Designation) (d : List ℕ) (fault : TextFault) (stopped : Stop)
+pub text_stops_on : (lots : Lotting) (township : Designation) (d : List ℕ) (fault : TextFault)
+    (stopped : Stop)
     → IfSome (text_faults.refusal_of fault) (λ _. text_faults.IsFirstTextFault d fault)
     → IsStopOfText fault stopped
-    → StopsOn township d stopped
-text_stops_on township d fault (stop.Refused refusal) first by =
+    → StopsOn lots township d stopped
+text_stops_on lots township d fault (stop.Refused refusal) first by =
     inl (record { fault = fault; first = rw by at first; refusal_is = by })
-text_stops_on township d fault (stop.Failed Memory) first by = refl
-text_stops_on township d fault (stop.Failed Read) first by = absurd by
-text_stops_on township d fault (stop.Failed Write) first by = absurd by
+text_stops_on lots township d fault (stop.Failed Memory) first by = refl
+text_stops_on lots township d fault (stop.Failed Read) first by = absurd by
+text_stops_on lots township d fault (stop.Failed Write) first by = absurd by
 
 -- and items that do not lie on it, with theirs
-pub places_stop_on : (township : Designation) (d : List ℕ) (is : List Item) (fault : PlaceFault)
+pub places_stop_on : (lots : Lotting) (township : Designation) (d : List ℕ) (is : List Item)
+    (fault : PlaceFault)
     (stopped : Stop)
     → IsReadAs d is
-    → IsFirstPlaceFault STANDARD_LOTS township is fault → IsStopOfPlaces fault stopped
-    → StopsOn township d stopped
-places_stop_on township d is fault (stop.Refused refusal) read first by =
+    → IsFirstPlaceFault lots township is fault → IsStopOfPlaces fault stopped
+    → StopsOn lots township d stopped
+places_stop_on lots township d is fault (stop.Refused refusal) read first by =
     inr (record { items = is; read = read; fault = fault; first = first; refusal_is = by })
-places_stop_on township d is fault (stop.Failed failed) read first by = absurd by
+places_stop_on lots township d is fault (stop.Failed failed) read first by = absurd by
 
 -- they do not stop it for anything that failed
 pub places_never_fail : (fault : PlaceFault) (stopped : Stop) (Holds : RunFault → Type 0)

@@ -16,6 +16,7 @@ use Rattle.twp_answers.specs.ReportAnswers.{total_lines, IsAccountOf}
 use Rattle.twp_answers.specs.steps.TractTaking.{Tally, AreTotals, TakesTract, IsTallyOf, EndsAccount}
 use Rattle.twp_answers.proofs.EarlierFacts.{next_earlier, no_earlier}
 use Rattle.twp_answers.proofs.TractLands.{earlier_or_last}
+use Rattle.twp_grid.specs.Lands.{STANDARD_LOTS}
 
 -- the tally of no records
 pub no_tally : (plat : TownshipPlat) (rows : List Fields) (tally : Tally)
@@ -23,7 +24,7 @@ pub no_tally : (plat : TownshipPlat) (rows : List Fields) (tally : Tally)
     → tally.earlier.places ≡ no_places → AreTotals plat no_places tally.totals → tally.text ≡ []
     → IsTallyOf plat rows 0 tally
 no_tally plat rows tally names places totals text = record {
-  earlier = no_earlier plat.township rows tally.earlier names places;
+  earlier = no_earlier STANDARD_LOTS plat.township rows tally.earlier names places;
   totals_are = subst (λ p. AreTotals plat p tally.totals) (sym places) totals;
   lines = [];
   lines_are = record { count_is = refl; each = λ index below. absurd (omega arith) };
@@ -75,7 +76,8 @@ module _ (plat : TownshipPlat) (rows : List Fields) (count : ℕ) (old new : Tal
   pub next_tally : IsTallyOf plat rows (count + 1) new
   next_tally = record {
     earlier =
-        next_earlier plat.township rows count old.earlier new.earlier takes.more before.earlier takes.takes;
+        next_earlier STANDARD_LOTS plat.township rows count old.earlier new.earlier takes.more before.earlier
+        takes.takes;
     totals_are = takes.totals_are;
     lines = before.lines ++ line ∷ [];
     lines_are = lines_are;

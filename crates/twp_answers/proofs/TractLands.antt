@@ -8,6 +8,7 @@ use Rattle.twp_notes.specs.Records.{Fields, record_at}
 use Rattle.twp_answers.specs.Answers.{Describe}
 use Rattle.twp_answers.specs.Tracts.{description_in, IsInTract, IsLandOfTracts}
 use Rattle.twp_answers.proofs.OneAnswer.{one_land}
+use Rattle.twp_grid.specs.Lands.{Lotting}
 
 -- an index is either earlier or the last
 pub earlier_or_last : (count index : ℕ) → index < count + 1 → (index < count) ⊎ (index ≡ count)
@@ -29,18 +30,20 @@ with_right true b is = refl
 with_right false b is = is
 
 -- without tracts there are no places
-pub no_land : (township : Designation) (rows : List Fields) → IsLandOfTracts township rows 0 no_places
-no_land township rows section column row = (
+pub no_land : (lots : Lotting) (township : Designation) (rows : List Fields)
+    → IsLandOfTracts lots township rows 0 no_places
+no_land lots township rows section column row = (
   λ held. cc held,
   λ is. let below : is.index < 0 = is.within in absurd (omega arith),
 )
 
 -- one more tract
-pub land_next : (township : Designation) (rows : List Fields) (count : ℕ) (places more : ℕ → ℕ → ℕ → Bool)
-    → IsLandOfTracts township rows count places
-    → Describe township (description_in (record_at rows count)) more
-    → IsLandOfTracts township rows (count + 1) (union places more)
-land_next township rows count places more land next section column row = (
+pub land_next : (lots : Lotting) (township : Designation) (rows : List Fields) (count : ℕ)
+    (places more : ℕ → ℕ → ℕ → Bool)
+    → IsLandOfTracts lots township rows count places
+    → Describe lots township (description_in (record_at rows count)) more
+    → IsLandOfTracts lots township rows (count + 1) (union places more)
+land_next lots township rows count places more land next section column row = (
   λ held. elim (either_way (places section column row) (more section column row) held) [
     | inl there ↦
         let is = (land section column row).0 there in
@@ -57,10 +60,11 @@ land_next township rows count places more land next section column row = (
       held = is.held;
     }))
     | inr last ↦
-        let described : Describe township (description_in (record_at rows count)) is.places =
-        subst (λ i. Describe township (description_in (record_at rows i)) is.places) last is.land in
+        let described : Describe lots township (description_in (record_at rows count)) is.places =
+        subst (λ i. Describe lots township (description_in (record_at rows i)) is.places) last
+        is.land in
         let same : is.places ≡ more =
-        one_land township (description_in (record_at rows count)) is.places more described next in
+        one_land lots township (description_in (record_at rows count)) is.places more described next in
         with_right (places section column row) (more section column row)
         (ap (λ p. p section column row) (sym same) ∙ is.held)
   ],
@@ -73,11 +77,12 @@ same_test false true P is is' = is.1 (is'.0 refl)
 same_test false false P is is' = refl
 
 -- tracts have only one land
-pub one_land_of_tracts : (township : Designation) (rows : List Fields) (count : ℕ)
+pub one_land_of_tracts : (lots : Lotting) (township : Designation) (rows : List Fields) (count : ℕ)
     (places places' : ℕ → ℕ → ℕ → Bool)
-    → IsLandOfTracts township rows count places
-    → IsLandOfTracts township rows count places' → places ≡ places'
-one_land_of_tracts township rows count places places' land land' =
+    → IsLandOfTracts lots township rows count places
+    → IsLandOfTracts lots township rows count places' → places ≡ places'
+one_land_of_tracts lots township rows count places places' land land' =
     λ i section column row.
     same_test (places section column row) (places' section column row)
-    (IsInTract township rows count section column row) (land section column row) (land' section column row) i
+    (IsInTract lots township rows count section column row) (land section column row)
+    (land' section column row) i

@@ -1,103 +1,62 @@
--- A lot table that has figures for the lots of two sets of land has figures for those of both together.
-use Rattle.std.proofs.Common.{◌≡◌, ◌==◌, ℕ, ◌*◌, Bool, true, false, Some, if◌then◌else◌}
-use Rattle.std.proofs.Common.{refl, sym, subst, inl, inr}
-use Rattle.twp_grid.specs.Winding.{IsSection}
-use Rattle.twp_grid.specs.Lots.{lot, lot_at_position}
-use Rattle.twp_grid.specs.Places.{PLACE_DIGITS}
-use Rattle.twp_grid.specs.Spans.{position_block}
-use Rattle.twp_grid.specs.Lands.{HasWholeLots, count_held, no_places, union}
-use Rattle.twp_grid.specs.Lands.{STANDARD_LOTS}
+-- If figures are returned for the lots of two sets of land, they are for those of both together.
+use Rattle.std.proofs.Common.{◌≡◌, ◌==◌, ℕ, nat_lt, Bool, true, false, Some, refl, sym, ◌∙◌, inl, inr, arith}
+use Rattle.std.proofs.lemmas.Bool.{and_parts, false≢true}
+use Rattle.std.proofs.lemmas.Bool.Decides.{nat_tests}
+use Rattle.twp_grid.specs.Lands.{Lotting, HasWholeLots, no_places, union, lot_places}
+use Rattle.twp_grid.specs.Places.{IsPlace}
 use Rattle.twp_land.proofs.CombinedLots.{combined_lots_are_whole}
-use Rattle.twp_land.proofs.LotFacts.{has_lot}
-use Rattle.twp_plat.specs.LandAreas.{places_of_position}
-use Rattle.twp_plat.specs.PlatAccounts.{holds_lot}
-use Rattle.twp_plat.specs.steps.Bounds.{OF_POSITION, TO_POSITION}
-use Rattle.twp_plat.proofs.SectionSums.{held_of_lot, places_where}
-use Rattle.twp_plat.specs.LotAreas.{HasFigures}
-use Rattle.twp_plat.specs.LotTables.{ReturnedLots}
-use Rattle.twp_plat.proofs.LackingFacts.{number_within}
+use Rattle.twp_plat.proofs.CountFacts.{counted_some}
+use Rattle.twp_plat.specs.LotAreas.{HasFigures, contains_lot, count_of_lot, size_of_lot}
+use Rattle.twp_plat.proofs.ContainedLots.{decided, empty_contains, of_lot}
 use Rattle.twp_answers.proofs.TractLands.{either_way}
 
--- the first place of a position
-abbrev first_place : (ℕ → ℕ → ℕ → Bool) → ℕ → ℕ → ℕ → Bool
-first_place places section column row = places section (column * TO_POSITION) (row * TO_POSITION)
-
--- land with whole lots contains a lot exactly if it contains the lot's first place
-module _ (places : ℕ → ℕ → ℕ → Bool) (whole : HasWholeLots STANDARD_LOTS places)
-    (section number column row : ℕ)
-    (range : IsSection section) (at_position : lot_at_position section column row ≡ Some number) where
-  counted : count_held (places section) (position_block PLACE_DIGITS column row)
-      ≡ places_where (places section) column row
-  counted = held_of_lot section number column row (places section) (whole section number range) at_position
-
-  first_held : holds_lot PLACE_DIGITS places (lot section number column row) ≡ true
-      → first_place places section column row ≡ true
-  first_held held =
-      shown (first_place places section column row)
-      (subst (λ n. (n == places_of_position PLACE_DIGITS) ≡ true) counted held)
-    where
-      shown : (b : Bool) → ((if b then OF_POSITION else 0) == places_of_position PLACE_DIGITS) ≡ true
-          → b ≡ true
-      shown true is = refl
-      shown false is = cc is
-
-  lot_held : first_place places section column row ≡ true
-      → holds_lot PLACE_DIGITS places (lot section number column row) ≡ true
-  lot_held there =
-      subst (λ n. (n == places_of_position PLACE_DIGITS) ≡ true) (sym counted)
-      (full (first_place places section column row) there)
-    where
-      full : (b : Bool) → b ≡ true
-          → ((if b then OF_POSITION else 0) == places_of_position PLACE_DIGITS) ≡ true
-      full true is = refl
-      full false is = cc is
-
 -- no lot of no land is lacking
-pub none_lacking : (table : ReturnedLots) → HasFigures PLACE_DIGITS table no_places
-none_lacking table section number lacks =
-    let within =
-    number_within section number (lacks.column, lacks.row) lacks.section_is lacks.position_is in
-    let at_position =
-    has_lot section number lacks.column lacks.row lacks.section_is within.1 lacks.position_is in
-    let whole : HasWholeLots STANDARD_LOTS no_places =
-    λ section lot range. record { alike = λ column row column' row' lies lies'. refl } in
-    let first : false ≡ true =
-    first_held no_places whole section number lacks.column lacks.row lacks.section_is at_position
-    lacks.is_held in
-    cc first
+pub none_lacking : (lots : Lotting) (figure : ℕ → ℕ → ℕ) → HasFigures lots figure no_places
+none_lacking lots figure section number lacks =
+    false≢true (sym (empty_contains lots no_places section number (λ c r. refl)) ∙ lacks.is_held)
 
-pub united_figures : (table : ReturnedLots) (places more : ℕ → ℕ → ℕ → Bool)
-    → HasWholeLots STANDARD_LOTS places
-    → HasWholeLots STANDARD_LOTS more → HasFigures PLACE_DIGITS table places
-    → HasFigures PLACE_DIGITS table more → HasFigures PLACE_DIGITS table (union places more)
-united_figures table places more whole whole' has has' section number lacks =
-    let within =
-    number_within section number (lacks.column, lacks.row) lacks.section_is lacks.position_is in
-    let at_position =
-    has_lot section number lacks.column lacks.row lacks.section_is within.1 lacks.position_is in
-    let first =
-    first_held (union places more) (combined_lots_are_whole STANDARD_LOTS places more whole whole').0 section
-    number
-    lacks.column lacks.row lacks.section_is at_position lacks.is_held in
-    elim
-    (either_way (first_place places section lacks.column lacks.row)
-    (first_place more section lacks.column lacks.row) first) [
-      | inl there ↦ has section number (record {
+-- some place of a lot that is contained
+record SomePlace (lots : Lotting) (section number : ℕ) : Type 0 where
+  column : ℕ
+  row : ℕ
+  place : IsPlace lots.digits column row
+  of_it : lots.lot_of section column row ≡ Some number
+
+some_place : (lots : Lotting) (places : ℕ → ℕ → ℕ → Bool) (section number : ℕ)
+    → contains_lot lots places section number ≡ true → SomePlace lots section number
+some_place lots places section number contains =
+    let parts =
+    and_parts (nat_lt 0 (size_of_lot lots section number))
+    (count_of_lot lots places section number == size_of_lot lots section number) contains in
+    let found =
+    counted_some lots.digits (lot_places lots section number section) (grind (arith, nat_tests, parts.0)) in
+    let lies = of_lot lots section number found.column found.row found.is_held in
+    record { column = found.column; row = found.row; place = lies.0; of_it = lies.1 }
+
+pub united_figures : (lots : Lotting) (figure : ℕ → ℕ → ℕ) (places more : ℕ → ℕ → ℕ → Bool)
+    → HasWholeLots lots places → HasWholeLots lots more → HasFigures lots figure places
+    → HasFigures lots figure more → HasFigures lots figure (union places more)
+united_figures lots figure places more whole whole' has has' section number lacks =
+    let at = some_place lots (union places more) section number lacks.is_held in
+    let both = (combined_lots_are_whole lots places more whole whole').0 section number lacks.section_is in
+    let here =
+    sym (decided lots (union places more) section number at.column at.row at.place at.of_it both)
+    ∙ lacks.is_held in
+    elim (either_way (places section at.column at.row) (more section at.column at.row) here) [
+      | inl first ↦ has section number (record {
         section_is = lacks.section_is;
-        column = lacks.column;
-        row = lacks.row;
-        position_is = lacks.position_is;
         is_held =
-            lot_held places whole section number lacks.column lacks.row lacks.section_is at_position there;
+            decided lots places section number at.column at.row at.place at.of_it
+            (whole section number lacks.section_is)
+            ∙ first;
         none = lacks.none;
       })
-      | inr here ↦ has' section number (record {
+      | inr second ↦ has' section number (record {
         section_is = lacks.section_is;
-        column = lacks.column;
-        row = lacks.row;
-        position_is = lacks.position_is;
         is_held =
-            lot_held more whole' section number lacks.column lacks.row lacks.section_is at_position here;
+            decided lots more section number at.column at.row at.place at.of_it
+            (whole' section number lacks.section_is)
+            ∙ second;
         none = lacks.none;
       })
     ]

@@ -20,7 +20,7 @@ use Rattle.twp_notes.specs.NotesFaults as notes_faults
 use Rattle.twp_plat.specs.PlatFaults as plat_faults
 use Rattle.twp_read.specs.TextFaults as text_faults
 use Rattle.twp_resolve.specs.PlaceFaults as place_faults
-use Rattle.twp_grid.specs.Lands.{STANDARD_LOTS}
+use Rattle.twp_grid.specs.Lands.{Lotting, STANDARD_LOTS}
 
 -- the bytes are field notes that make this plat
 pub record ArePlatted (bytes : List ℕ) (plat : TownshipPlat) : Type 0 where
@@ -33,16 +33,17 @@ abbrev pub MakePlat : List ℕ → Type 0
 MakePlat bytes = (plat : TownshipPlat) × ArePlatted bytes plat
 
 -- the bytes are read as items that lie on the township's plat without overlapping, and this is their land
-pub record Describe (township : Designation) (bytes : List ℕ) (places : ℕ → ℕ → ℕ → Bool) : Type 0 where
+pub record Describe (lots : Lotting) (township : Designation) (bytes : List ℕ) (places : ℕ → ℕ → ℕ → Bool)
+    : Type 0 where
   pub items : List Item
   pub read : IsReadAs bytes items
-  pub land : place_faults.IsLandOfItems STANDARD_LOTS township items places
+  pub land : place_faults.IsLandOfItems lots township items places
 
 -- the notes make the plat, and the description names this land on it
 pub record IsLandOnPlat (notes description : List ℕ) (plat : TownshipPlat)
     (places : ℕ → ℕ → ℕ → Bool) : Type 0 where
   pub platted : ArePlatted notes plat
-  pub described : Describe plat.township description places
+  pub described : Describe STANDARD_LOTS plat.township description places
 
 -- the bytes are refused as notes, for their first fault
 pub record AreRefused (bytes : List ℕ) (refusal : Refusal) : Type 0 where
@@ -65,24 +66,23 @@ pub record IsNoText (bytes : List ℕ) (refusal : Refusal) : Type 0 where
   pub refusal_is : text_faults.refusal_of fault ≡ Some refusal
 
 -- the bytes are read as items that do not lie on the plat without overlapping, for their first fault
-pub record DescribeNoLand (township : Designation) (bytes : List ℕ) (refusal : Refusal)
+pub record DescribeNoLand (lots : Lotting) (township : Designation) (bytes : List ℕ) (refusal : Refusal)
     : Type 0 where
   pub items : List Item
   pub read : IsReadAs bytes items
   pub fault : PlaceFault
-  pub first : place_faults.IsFirstPlaceFault STANDARD_LOTS township items fault
+  pub first : place_faults.IsFirstPlaceFault lots township items fault
   pub refusal_is : place_faults.refusal_of fault ≡ Some refusal
 
 -- the bytes are no description of land on the plat: for the first fault of the text, or else of its items
-abbrev pub IsNoDescription : Designation → List ℕ → Refusal → Type 0
-IsNoDescription township bytes refusal =
-    IsNoText bytes refusal ⊎ DescribeNoLand township bytes refusal
+abbrev pub IsNoDescription : Lotting → Designation → List ℕ → Refusal → Type 0
+IsNoDescription lots township text refusal = IsNoText text refusal ⊎ DescribeNoLand lots township text refusal
 
 -- the notes make a plat, and the description names no land on that plat
 pub record IsNoLandOnPlat (notes description : List ℕ) (refusal : Refusal) : Type 0 where
   pub plat : TownshipPlat
   pub platted : ArePlatted notes plat
-  pub refused : IsNoDescription plat.township description refusal
+  pub refused : IsNoDescription STANDARD_LOTS plat.township description refusal
 
 -- the notes are refused, or make no plat
 abbrev pub IsNoPlat : List ℕ → Refusal → Type 0

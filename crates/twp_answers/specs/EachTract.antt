@@ -12,6 +12,7 @@ use Rattle.twp_answers.specs.TractFaults.{HasAt, IsNameRepeated, turn_of}
 use Rattle.twp_answers.specs.declared.each_tract.TractAnswer.{TractAnswer}
 use Rattle.twp_answers.specs.declared.tract_fault.TractFault.{TractFault}
 use Rattle.twp_answers.specs.declared.tract_fault.TractFault.TheVariants as fault
+use Rattle.twp_grid.specs.Lands.{STANDARD_LOTS}
 
 -- the turn of the last fault that a tract has by itself; in the next turn it overlaps another tract
 abbrev pub OWN_TURNS : ℕ
@@ -20,9 +21,10 @@ OWN_TURNS = 3
 -- the tract at the index has the fault by itself, and none of those that are checked before it
 pub record HasOwnFault (township : Designation) (rows : List Fields) (index : ℕ) (tract_fault : TractFault)
     : Type 0 where
-  pub has : HasAt township rows index tract_fault
+  pub has : HasAt STANDARD_LOTS township rows index tract_fault
   pub own : turn_of tract_fault ≤ OWN_TURNS
-  pub first : (other : TractFault) → HasAt township rows index other → turn_of tract_fault ≤ turn_of other
+  pub first : (other : TractFault) → HasAt STANDARD_LOTS township rows index other
+      → turn_of tract_fault ≤ turn_of other
 
 -- the tract at the index has a name that no earlier one has, and these are the hundredths of an acre of its
 -- land

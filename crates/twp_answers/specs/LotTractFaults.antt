@@ -1,7 +1,9 @@
 -- What can be wrong with a list of tracts by a lot table: what is wrong with it in the table's township, or
 -- that the table lacks a lot of a tract, which is reported as the refusal of the tract's description.
 use Rattle.std.specs.Prelude.{◌≡◌, ◌⊎◌, ℕ, ◌+◌, ◌<◌, List, length, IfSome}
-use Rattle.twp_plat.specs.LotTables.{ReturnedLots}
+use Rattle.twp_plat.specs.LotTables.{figure_of, lots_of}
+use Rattle.twp_plat.specs.declared.lots.returned.ReturnedLots.{ReturnedLots}
+use Rattle.twp_grid.specs.Townships.{Designation}
 use Rattle.twp_notes.specs.Records.{Fields, record_at}
 use Rattle.twp_answers.specs.Tracts.{description_in, tract_records}
 use Rattle.twp_answers.specs.TractFaults.{HasTractFault, IsFrom, record_of, turn_of, verdict_of}
@@ -10,32 +12,34 @@ use Rattle.twp_answers.specs.declared.tract_fault.TractFault.TheVariants as faul
 use Rattle.twp_answers.specs.LotLands.{LacksLotOf}
 
 -- the table lacks a lot of the tract at the index, which is reported at its record
-abbrev pub LacksLotAt : ReturnedLots → List Fields → ℕ → TractFault → Type 0
-LacksLotAt table rows index (fault.TractRefused number inner) = (number ≡ index + 2)
-    × LacksLotOf table (description_in (record_at rows index)) inner
-LacksLotAt table rows index other = ⊥
+abbrev pub LacksLotAt : Designation → ReturnedLots → List Fields → ℕ → TractFault → Type 0
+LacksLotAt township lots rows index (fault.TractRefused number inner) = (number ≡ index + 2)
+    × LacksLotOf township lots (description_in (record_at rows index)) inner
+LacksLotAt township lots rows index other = ⊥
 
 -- it lacks a lot of some tract
-pub record LacksLotInTracts (table : ReturnedLots) (rows : List Fields) (tract_fault : TractFault)
+pub record LacksLotInTracts (township : Designation) (lots : ReturnedLots) (rows : List Fields)
+    (tract_fault : TractFault)
     : Type 0 where
   pub index : ℕ
   pub within : index < length rows
-  pub lacks : LacksLotAt table rows index tract_fault
+  pub lacks : LacksLotAt township lots rows index tract_fault
 
 -- the fault is present
-abbrev pub HasFaultByLots : ReturnedLots → List ℕ → TractFault → Type 0
-HasFaultByLots table bytes tract_fault =
-    HasTractFault table.township bytes tract_fault
-    ⊎ LacksLotInTracts table (tract_records bytes) tract_fault
+abbrev pub HasFaultByLots : Designation → ReturnedLots → List ℕ → TractFault → Type 0
+HasFaultByLots township lots bytes tract_fault =
+    HasTractFault (lots_of lots) township bytes tract_fault
+    ⊎ LacksLotInTracts township lots (tract_records bytes) tract_fault
 
 -- the fault is present, and no fault that precedes it is
-pub record IsFirstFaultByLots (table : ReturnedLots) (bytes : List ℕ) (tract_fault : TractFault)
+pub record IsFirstFaultByLots (township : Designation) (lots : ReturnedLots) (bytes : List ℕ)
+    (tract_fault : TractFault)
     : Type 0 where
-  pub is : HasFaultByLots table bytes tract_fault
-  pub first : (other : TractFault) → HasFaultByLots table bytes other
+  pub is : HasFaultByLots township lots bytes tract_fault
+  pub first : (other : TractFault) → HasFaultByLots township lots bytes other
       → IsFrom (record_of tract_fault) (turn_of tract_fault) other
 
 -- the fault is the first one of the list, or is not a fault of a list
-abbrev pub AnswersFaultByLots : ReturnedLots → List ℕ → TractFault → Type 0
-AnswersFaultByLots table bytes tract_fault =
-    IfSome (verdict_of tract_fault) (λ _. IsFirstFaultByLots table bytes tract_fault)
+abbrev pub AnswersFaultByLots : Designation → ReturnedLots → List ℕ → TractFault → Type 0
+AnswersFaultByLots township lots bytes tract_fault =
+    IfSome (verdict_of tract_fault) (λ _. IsFirstFaultByLots township lots bytes tract_fault)

@@ -15,7 +15,7 @@ use Rattle.twp_answers.specs.OnLands.{IsLandOf, AreAcresOf}
 -- the acres of a description on a plat are those of its land
 abbrev pub AcresOnAreOfLand : Type 0
 AcresOnAreOfLand = (plat : TownshipPlat) (description : List ℕ) (account : Account)
-    (places : ℕ → ℕ → ℕ → Bool) (hundredths : ℕ) → IsLandOf plat.township description places
+    (places : ℕ → ℕ → ℕ → Bool) (hundredths : ℕ) → IsLandOf STANDARD_LOTS plat.township description places
     → HasAcresOn plat description account hundredths
     ↔ AreAcresOf plat account places hundredths
 
@@ -25,4 +25,4 @@ abbrev pub TextOfLandIsItsDescription : Type 0
 TextOfLandIsItsDescription = (township : Designation) (places : ℕ → ℕ → ℕ → Bool)
     (text : List ℕ) → HasTownshipNumbers township → IsTownshipLand STANDARD_LOTS places
     → places ≢ no_places → IsCanonicalText STANDARD_LOTS township places text
-    → length text ≤ TEXT_LIMIT → IsLandOf township text places
+    → length text ≤ TEXT_LIMIT → IsLandOf STANDARD_LOTS township text places

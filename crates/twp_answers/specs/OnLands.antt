@@ -4,8 +4,7 @@ use Rattle.std.specs.Prelude.{ℕ, List, Bool, Result, Ok, Err}
 use Rattle.twp_measure.specs.Areas.{Fraction, IsRounded}
 use Rattle.twp_grid.specs.Places.{PLACE_DIGITS}
 use Rattle.twp_grid.specs.Townships.{Designation}
-use Rattle.twp_grid.specs.Lands.{HasWholeLots}
-use Rattle.twp_grid.specs.Lands.{STANDARD_LOTS}
+use Rattle.twp_grid.specs.Lands.{HasWholeLots, Lotting}
 use Rattle.twp_plat.specs.Plats.{TownshipPlat}
 use Rattle.twp_plat.specs.PlatAccounts.{IsAreaBy}
 use Rattle.twp_plat.specs.declared.land_area.Account.{Account}
@@ -14,16 +13,16 @@ use Rattle.twp_answers.specs.OnPlats.{StopsOn}
 use Rattle.twp_answers.specs.declared.stop.Stop.{Stop}
 
 -- the bytes describe this land in the township; it contains each lot wholly or not at all
-pub record IsLandOf (township : Designation) (description : List ℕ)
+pub record IsLandOf (lots : Lotting) (township : Designation) (description : List ℕ)
     (places : ℕ → ℕ → ℕ → Bool) : Type 0 where
-  pub described : Describe township description places
-  pub whole : HasWholeLots STANDARD_LOTS places
+  pub described : Describe lots township description places
+  pub whole : HasWholeLots lots places
 
 -- the answer for the bytes in the township, or why there is none
-abbrev pub AnswersIn : {T : Type 0} → (T → Type 0) → Designation → List ℕ → Result T Stop
+abbrev pub AnswersIn : {T : Type 0} → (T → Type 0) → Lotting → Designation → List ℕ → Result T Stop
     → Type 0
-AnswersIn Has township description (Ok answer) = Has answer
-AnswersIn Has township description (Err stopped) = StopsOn township description stopped
+AnswersIn Has lots township description (Ok answer) = Has answer
+AnswersIn Has lots township description (Err stopped) = StopsOn lots township description stopped
 
 -- these are the hundredths of an acre of the land on the plat, by the account: its area, rounded
 -- once, half up

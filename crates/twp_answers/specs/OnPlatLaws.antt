@@ -10,6 +10,7 @@ use Rattle.twp_answers.specs.AccountAnswers.{HasAcresBy}
 use Rattle.twp_answers.specs.NormalAnswers.{IsNormalForm}
 use Rattle.twp_answers.specs.PlatAnswers.{IsPrintedPlat}
 use Rattle.twp_answers.specs.OnPlats.{HasAreaOn, HasAcresOn, HasNormalOn, IsTextOfPlat}
+use Rattle.twp_grid.specs.Lands.{STANDARD_LOTS}
 
 -- with any notes that make the plat, the acres on it are those of the notes and the description
 abbrev pub AcresOnAreOfNotes : Type 0
@@ -33,13 +34,13 @@ TextOfPlatIsOfNotes = (notes text : List ℕ) (plat : TownshipPlat) → ArePlatt
 abbrev pub RefusalOnIsOfNotes : Type 0
 RefusalOnIsOfNotes = (notes description : List ℕ) (plat : TownshipPlat) (refusal : Refusal)
     → ArePlatted notes plat
-    → IsNoDescription plat.township description refusal ↔ IsRefusal notes description refusal
+    → IsNoDescription STANDARD_LOTS plat.township description refusal ↔ IsRefusal notes description refusal
 
 -- bytes that have an area on a plat are not refused there
 abbrev pub AnsweredOrRefusedOn : Type 0
 AnsweredOrRefusedOn = (description : List ℕ) (plat : TownshipPlat) (account : Account)
     (area : Fraction) (refusal : Refusal) → HasAreaOn plat description account area
-    → ¬ IsNoDescription plat.township description refusal
+    → ¬ IsNoDescription STANDARD_LOTS plat.township description refusal
 
 -- a description has only one area on a plat by each account
 abbrev pub OneAreaOn : Type 0

@@ -14,13 +14,13 @@ use Rattle.twp_answers.specs.PlatAnswers.{plat_text}
 use Rattle.twp_answers.specs.declared.stop.Stop.{Stop}
 use Rattle.twp_answers.specs.declared.stop.Stop.TheVariants as stop
 use Rattle.twp_answers.specs.declared.stop.RunFault.TheVariants as run
-use Rattle.twp_grid.specs.Lands.{STANDARD_LOTS}
+use Rattle.twp_grid.specs.Lands.{Lotting, STANDARD_LOTS}
 
 -- the bytes describe land on the plat, and this is its area by the account
 pub record HasAreaOn (plat : TownshipPlat) (description : List ℕ) (account : Account)
     (area : Fraction) : Type 0 where
   pub places : ℕ → ℕ → ℕ → Bool
-  pub described : Describe plat.township description places
+  pub described : Describe STANDARD_LOTS plat.township description places
   pub area_is : IsAreaBy account PLACE_DIGITS plat places area
 
 -- The bytes describe land on the plat, and these are its hundredths of an acre by the account: its
@@ -34,7 +34,7 @@ pub record HasAcresOn (plat : TownshipPlat) (description : List ℕ) (account : 
 -- the bytes describe land on the plat, and this is its canonical text
 pub record HasNormalOn (plat : TownshipPlat) (description text : List ℕ) : Type 0 where
   pub places : ℕ → ℕ → ℕ → Bool
-  pub described : Describe plat.township description places
+  pub described : Describe STANDARD_LOTS plat.township description places
   pub text_is : IsCanonicalText STANDARD_LOTS plat.township places text
 
 -- this is the text of the plat
@@ -45,13 +45,13 @@ pub record IsTextOfPlat (plat : TownshipPlat) (text : List ℕ) : Type 0 where
 
 -- why there is no answer: the bytes are not a description of land on the plat of the township, for
 -- their first fault, or memory ran out
-abbrev pub StopsOn : Designation → List ℕ → Stop → Type 0
-StopsOn township description (stop.Refused refusal) =
-    IsNoDescription township description refusal
-StopsOn township description (stop.Failed fault) = fault ≡ run.Memory
+abbrev pub StopsOn : Lotting → Designation → List ℕ → Stop → Type 0
+StopsOn lots township description (stop.Refused refusal) =
+    IsNoDescription lots township description refusal
+StopsOn lots township description (stop.Failed fault) = fault ≡ run.Memory
 
 -- the answer for the bytes on the plat, or why there is none
 abbrev pub AnswersOn : {T : Type 0} → (T → Type 0) → TownshipPlat → List ℕ → Result T Stop
     → Type 0
 AnswersOn Has plat description (Ok answer) = Has answer
-AnswersOn Has plat description (Err stopped) = StopsOn plat.township description stopped
+AnswersOn Has plat description (Err stopped) = StopsOn STANDARD_LOTS plat.township description stopped

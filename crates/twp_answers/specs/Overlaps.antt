@@ -8,12 +8,13 @@ use Rattle.twp_plat.specs.Plats.{TownshipPlat}
 use Rattle.twp_answers.specs.Answers.{AreHundredthsOf}
 use Rattle.twp_answers.specs.Tracts.{IsTractRecord, Overlap}
 use Rattle.twp_answers.specs.declared.overlaps.TractOverlap.{TractOverlap}
+use Rattle.twp_grid.specs.Lands.{STANDARD_LOTS}
 
 -- both records are tracts, and their land shares a place
 pub record AreOverlapping (township : Designation) (fields other : Fields) : Type 0 where
   pub is_first : IsTractRecord fields
   pub is_second : IsTractRecord other
-  pub overlap : Overlap township fields other
+  pub overlap : Overlap STANDARD_LOTS township fields other
 
 -- the tracts of both records overlap, and these are the hundredths of an acre of the places in both
 pub record IsSharedAcres (plat : TownshipPlat) (fields other : Fields) (hundredths : ℕ) : Type 0 where

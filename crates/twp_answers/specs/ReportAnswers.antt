@@ -15,6 +15,7 @@ use Rattle.twp_answers.specs.TractFaults.{IsFirstTractFault, verdict_of}
 use Rattle.twp_answers.specs.declared.tract_fault.TractFault.{TractFault}
 use Rattle.twp_answers.specs.declared.stop.Verdict.{Verdict}
 use Rattle.twp_answers.specs.declared.stop.Verdict.TheVariants.{Accepted, Refused, TractRefused}
+use Rattle.twp_grid.specs.Lands.{STANDARD_LOTS}
 
 -- the line of a tract, such as `tract A: 39.18 acres`
 abbrev pub tract_line : List ℕ → ℕ → List ℕ
@@ -23,7 +24,7 @@ tract_line name hundredths = codes "tract " ++ name ++ codes ": " ++ acres_line 
 -- the line of a tract's record: its name, and the acres of its land
 pub record IsTractLine (plat : TownshipPlat) (fields : Fields) (line : List ℕ) : Type 0 where
   pub places : ℕ → ℕ → ℕ → Bool
-  pub land : Describe plat.township (description_in fields) places
+  pub land : Describe STANDARD_LOTS plat.township (description_in fields) places
   pub hundredths : ℕ
   pub acres : AreHundredthsOf plat places hundredths
   pub line_is : line ≡ tract_line (name_in fields) hundredths
@@ -55,7 +56,7 @@ pub record IsAccount (plat : TownshipPlat) (rows : List Fields) (text : List ℕ
   pub lines : List (List ℕ)
   pub lines_are : AreTractLines plat rows (length rows) lines
   pub places : ℕ → ℕ → ℕ → Bool
-  pub land : IsLandOfTracts plat.township rows (length rows) places
+  pub land : IsLandOfTracts STANDARD_LOTS plat.township rows (length rows) places
   pub total : ℕ
   pub total_is : AreHundredthsOf plat places total
   pub remaining : ℕ
@@ -64,7 +65,7 @@ pub record IsAccount (plat : TownshipPlat) (rows : List Fields) (text : List ℕ
 
 -- the bytes are a list of tracts on the plat, and this is its account
 pub record IsAccountOf (plat : TownshipPlat) (bytes text : List ℕ) : Type 0 where
-  pub list : IsTractList plat.township bytes
+  pub list : IsTractList STANDARD_LOTS plat.township bytes
   pub account : IsAccount plat (tract_records bytes) text
 
 -- the lines of the refusal of a list of tracts: one, or two if a tract's description is refused
@@ -78,7 +79,7 @@ refusal_lines (TractRefused at_ inner) =
 pub record IsListRefused (plat : TownshipPlat) (bytes answer : List ℕ) (verdict : Verdict)
     : Type 0 where
   pub tract_fault : TractFault
-  pub first : IsFirstTractFault plat.township bytes tract_fault
+  pub first : IsFirstTractFault STANDARD_LOTS plat.township bytes tract_fault
   pub verdict_is : verdict_of tract_fault ≡ Some verdict
   pub lines_are : answer ≡ refusal_lines verdict
 

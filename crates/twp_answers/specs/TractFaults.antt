@@ -12,6 +12,7 @@ use Rattle.twp_answers.specs.declared.stop.Verdict.{Verdict}
 use Rattle.twp_answers.specs.declared.stop.Verdict.TheVariants.{Refused, TractRefused}
 use Rattle.twp_answers.specs.declared.tract_fault.TractFault.{TractFault}
 use Rattle.twp_answers.specs.declared.tract_fault.TractFault.TheVariants as fault
+use Rattle.twp_grid.specs.Lands.{Lotting}
 
 -- the number of the fault and its place; none if memory ran out
 abbrev pub refusal_of : TractFault → Option Refusal
@@ -36,29 +37,31 @@ pub record IsNameRepeated (rows : List Fields) (index : ℕ) : Type 0 where
   pub same : name_in (record_at rows earlier) ≡ name_in (record_at rows index)
 
 -- a place of the tract is in an earlier tract
-pub record OverlapsEarlier (township : Designation) (rows : List Fields) (index : ℕ) : Type 0 where
+pub record OverlapsEarlier (lots : Lotting) (township : Designation) (rows : List Fields) (index : ℕ)
+    : Type 0 where
   pub earlier : ℕ
   pub is_earlier : earlier < index
-  pub overlap : Overlap township (record_at rows earlier) (record_at rows index)
+  pub overlap : Overlap lots township (record_at rows earlier) (record_at rows index)
 
 -- the tract at the index has the fault, which is reported at its record
-abbrev pub HasAt : Designation → List Fields → ℕ → TractFault → Type 0
-HasAt township rows index (fault.TractRow number) =
+abbrev pub HasAt : Lotting → Designation → List Fields → ℕ → TractFault → Type 0
+HasAt lots township rows index (fault.TractRow number) =
     (number ≡ index + 2) × ¬ IsTractRecord (record_at rows index)
-HasAt township rows index (fault.NameRepeated number) =
+HasAt lots township rows index (fault.NameRepeated number) =
     (number ≡ index + 2) × IsNameRepeated rows index
-HasAt township rows index (fault.TractRefused number inner) = (number ≡ index + 2)
-    × IsNoDescription township (description_in (record_at rows index)) inner
-HasAt township rows index (fault.TractsOverlap number) =
-    (number ≡ index + 2) × OverlapsEarlier township rows index
-HasAt township rows index other = ⊥
+HasAt lots township rows index (fault.TractRefused number inner) = (number ≡ index + 2)
+    × IsNoDescription lots township (description_in (record_at rows index)) inner
+HasAt lots township rows index (fault.TractsOverlap number) =
+    (number ≡ index + 2) × OverlapsEarlier lots township rows index
+HasAt lots township rows index other = ⊥
 
 -- some tract has the fault
-pub record HasAtTract (township : Designation) (rows : List Fields) (tract_fault : TractFault)
+pub record HasAtTract (lots : Lotting) (township : Designation) (rows : List Fields)
+    (tract_fault : TractFault)
     : Type 0 where
   pub index : ℕ
   pub within : index < length rows
-  pub has : HasAt township rows index tract_fault
+  pub has : HasAt lots township rows index tract_fault
 
 -- the first record is not the heading, or is missing
 abbrev pub HasNoHeading : List ℕ → TractFault → Type 0
@@ -67,11 +70,11 @@ HasNoHeading bytes (fault.TractRow number) =
 HasNoHeading bytes other = ⊥
 
 -- the fault is present
-abbrev pub HasTractFault : Designation → List ℕ → TractFault → Type 0
-HasTractFault township bytes fault.TractsTooLarge = TRACTS_LIMIT < length bytes
-HasTractFault township bytes fault.TooManyTracts = TRACTS_MOST < length (tract_records bytes)
-HasTractFault township bytes other =
-    HasNoHeading bytes other ⊎ HasAtTract township (tract_records bytes) other
+abbrev pub HasTractFault : Lotting → Designation → List ℕ → TractFault → Type 0
+HasTractFault lots township bytes fault.TractsTooLarge = TRACTS_LIMIT < length bytes
+HasTractFault lots township bytes fault.TooManyTracts = TRACTS_MOST < length (tract_records bytes)
+HasTractFault lots township bytes other =
+    HasNoHeading bytes other ⊎ HasAtTract lots township (tract_records bytes) other
 
 -- The size of the list comes first, then its records one after another.
 abbrev pub record_of : TractFault → ℕ
@@ -99,13 +102,14 @@ IsFrom number turn tract_fault = (number < record_of tract_fault)
     ⊎ ((number ≡ record_of tract_fault) × (turn ≤ turn_of tract_fault))
 
 -- the fault is present, and no fault that precedes it is
-pub record IsFirstTractFault (township : Designation) (bytes : List ℕ) (tract_fault : TractFault)
+pub record IsFirstTractFault (lots : Lotting) (township : Designation) (bytes : List ℕ)
+    (tract_fault : TractFault)
     : Type 0 where
-  pub is : HasTractFault township bytes tract_fault
-  pub first : (other : TractFault) → HasTractFault township bytes other
+  pub is : HasTractFault lots township bytes tract_fault
+  pub first : (other : TractFault) → HasTractFault lots township bytes other
       → IsFrom (record_of tract_fault) (turn_of tract_fault) other
 
 -- the fault is the first one of the list, or is not a fault of a list
-abbrev pub AnswersFault : Designation → List ℕ → TractFault → Type 0
-AnswersFault township bytes tract_fault =
-    IfSome (verdict_of tract_fault) (λ _. IsFirstTractFault township bytes tract_fault)
+abbrev pub AnswersFault : Lotting → Designation → List ℕ → TractFault → Type 0
+AnswersFault lots township bytes tract_fault =
+    IfSome (verdict_of tract_fault) (λ _. IsFirstTractFault lots township bytes tract_fault)

@@ -11,6 +11,7 @@ use Rattle.twp_plat.specs.LandAreaLaws.{township_places}
 use Rattle.twp_answers.specs.Laws.{IsOne}
 use Rattle.twp_answers.specs.Tracts.{description_in, tract_records, IsTractList, IsLandOfTracts}
 use Rattle.twp_answers.specs.ReportAnswers.{other_places, IsReportAnswer}
+use Rattle.twp_grid.specs.Lands.{STANDARD_LOTS}
 
 -- the area of a set of places and the area of all others add up to the area of the township
 abbrev pub RestAddsUp : Type 0
@@ -23,7 +24,7 @@ RestAddsUp = (plat : TownshipPlat) (places : ℕ → ℕ → ℕ → Bool) (area
 -- the area of the land of a tract's record
 pub record IsTractArea (plat : TownshipPlat) (fields : Fields) (area : Fraction) : Type 0 where
   pub places : ℕ → ℕ → ℕ → Bool
-  pub land : Describe plat.township (description_in fields) places
+  pub land : Describe STANDARD_LOTS plat.township (description_in fields) places
   pub area_is : IsLandArea PLACE_DIGITS plat places area
 
 -- the areas of the first of these tracts, up to this number
@@ -36,9 +37,9 @@ pub record AreTractAreas (plat : TownshipPlat) (rows : List Fields) (count : ℕ
 abbrev pub TractsAddUp : Type 0
 TractsAddUp = (plat : TownshipPlat) (bytes : List ℕ) (areas : ℕ → Fraction)
     (places : ℕ → ℕ → ℕ → Bool) (area : Fraction)
-    → IsTractList plat.township bytes
+    → IsTractList STANDARD_LOTS plat.township bytes
     → AreTractAreas plat (tract_records bytes) (length (tract_records bytes)) areas
-    → IsLandOfTracts plat.township (tract_records bytes) (length (tract_records bytes)) places
+    → IsLandOfTracts STANDARD_LOTS plat.township (tract_records bytes) (length (tract_records bytes)) places
     → IsLandArea PLACE_DIGITS plat places area
     → area.units ≡ total (length (tract_records bytes)) (λ index. (areas index).units)
 

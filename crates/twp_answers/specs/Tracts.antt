@@ -7,6 +7,7 @@ use Rattle.twp_grid.specs.Townships.{Designation}
 use Rattle.twp_notes.specs.Records.{Fields, field, record_at, record_numbered, records_of}
 use Rattle.twp_grid.specs.Lands.{SharePlace}
 use Rattle.twp_answers.specs.Answers.{Describe}
+use Rattle.twp_grid.specs.Lands.{Lotting}
 
 -- the most bytes of a list of tracts
 abbrev pub TRACTS_LIMIT : ℕ
@@ -51,45 +52,46 @@ pub record IsTractRecord (fields : Fields) : Type 0 where
   pub name_is : IsTractName (name_in fields)
 
 -- the record is a tract: its description names this land on the plat of the township
-pub record IsTract (township : Designation) (fields : Fields) : Type 0 where
+pub record IsTract (lots : Lotting) (township : Designation) (fields : Fields) : Type 0 where
   pub is_record : IsTractRecord fields
   pub places : ℕ → ℕ → ℕ → Bool
-  pub land : Describe township (description_in fields) places
+  pub land : Describe lots township (description_in fields) places
 
 -- the land of two tracts shares a place
-pub record Overlap (township : Designation) (fields other : Fields) : Type 0 where
+pub record Overlap (lots : Lotting) (township : Designation) (fields other : Fields) : Type 0 where
   pub places : ℕ → ℕ → ℕ → Bool
   pub more : ℕ → ℕ → ℕ → Bool
-  pub land : Describe township (description_in fields) places
-  pub other_land : Describe township (description_in other) more
+  pub land : Describe lots township (description_in fields) places
+  pub other_land : Describe lots township (description_in other) more
   pub shared : SharePlace places more
 
 -- The first of these records, up to this number, are tracts with different names, and no place is
 -- in two of them.
-pub record AreTracts (township : Designation) (rows : List Fields) (count : ℕ) : Type 0 where
-  pub each : (index : ℕ) → index < count → IsTract township (record_at rows index)
+pub record AreTracts (lots : Lotting) (township : Designation) (rows : List Fields) (count : ℕ) : Type 0 where
+  pub each : (index : ℕ) → index < count → IsTract lots township (record_at rows index)
   pub once : (earlier index : ℕ) → earlier < index → index < count
       → name_in (record_at rows earlier) ≢ name_in (record_at rows index)
   pub apart : (earlier index : ℕ) → earlier < index → index < count
-      → ¬ Overlap township (record_at rows earlier) (record_at rows index)
+      → ¬ Overlap lots township (record_at rows earlier) (record_at rows index)
 
 -- the bytes are a list of tracts on the plat of the township
-pub record IsTractList (township : Designation) (bytes : List ℕ) : Type 0 where
+pub record IsTractList (lots : Lotting) (township : Designation) (bytes : List ℕ) : Type 0 where
   pub size : length bytes ≤ TRACTS_LIMIT
   pub heading_is : record_numbered (records_of bytes) 1 ≡ tracts_heading
   pub few : length (tract_records bytes) ≤ TRACTS_MOST
-  pub tracts : AreTracts township (tract_records bytes) (length (tract_records bytes))
+  pub tracts : AreTracts lots township (tract_records bytes) (length (tract_records bytes))
 
 -- the place is in one of the first tracts, up to this number
-pub record IsInTract (township : Designation) (rows : List Fields) (count section column row : ℕ)
+pub record IsInTract (lots : Lotting) (township : Designation) (rows : List Fields)
+    (count section column row : ℕ)
     : Type 0 where
   pub index : ℕ
   pub within : index < count
   pub places : ℕ → ℕ → ℕ → Bool
-  pub land : Describe township (description_in (record_at rows index)) places
+  pub land : Describe lots township (description_in (record_at rows index)) places
   pub held : places section column row ≡ true
 
 -- the set of all places in the first tracts, up to this number
-abbrev pub IsLandOfTracts : Designation → List Fields → ℕ → (ℕ → ℕ → ℕ → Bool) → Type 0
-IsLandOfTracts township rows count places = (section column row : ℕ)
-    → (places section column row ≡ true) ↔ IsInTract township rows count section column row
+abbrev pub IsLandOfTracts : Lotting → Designation → List Fields → ℕ → (ℕ → ℕ → ℕ → Bool) → Type 0
+IsLandOfTracts lots township rows count places = (section column row : ℕ)
+    → (places section column row ≡ true) ↔ IsInTract lots township rows count section column row

@@ -2,6 +2,7 @@
 ghost use Rattle.std.specs.Prelude.{◌≡◌, ◌≤◌, [], length, OnOk, IfOk, IfErr};
 ghost use Rattle.std.specs.List.{flat_map};
 ghost use Rattle.csv.specs.Records.{fields_of};
+ghost use Rattle.twp_grid.specs.Lands.{STANDARD_LOTS};
 ghost use Rattle.twp_notes.specs.Records.{records_left, IsBetweenRecords};
 ghost use Rattle.twp_answers.specs.Tracts.{TRACTS_MOST, IsTractRecord};
 ghost use Rattle.twp_answers.specs.Tracts.{name_in, tract_records};
@@ -31,6 +32,7 @@ pub struct TractFigure {
 impl TractFigure {
     ghost use Rattle.std.specs.Prelude.{◌≡◌, ◌≤◌, length};
     ghost use Rattle.twp_answers.specs.Tracts.{NAME_MOST};
+    ghost use Rattle.twp_grid.specs.Lands.{STANDARD_LOTS};
 
     /// The tract's name: 1 to 64 characters of printable ASCII.
     pub fn name(&self) -> &str
@@ -65,7 +67,7 @@ pub fn figures_on(alloc: Global, plat: &Plat, list: &[u8]) -> Result<AccountFigu
         IsAccountOf plat.now list.now (text_of_figures figures)) }
     ensures count { IfOk result (λ figures.
         length figures.tracts.items ≡ length (tract_records list.now)) }
-    ensures fault { IfErr result (AnswersFault plat.now.township list.now) }
+    ensures fault { IfErr result (AnswersFault STANDARD_LOTS plat.now.township list.now) }
 {
     if list.len() > TRACTS_LIMIT as usize {
         return Err(TractFault::TractsTooLarge);
@@ -107,7 +109,7 @@ fn take_figures<L: Land>(
     ensures count { IfOk result (λ figures.
         length figures.items ≡ length (records_left records.old)) }
     ensures fault { IfErr result
-        (AreTractsRefused plat.now.township (records_left records.old)) }
+        (AreTractsRefused STANDARD_LOTS plat.now.township (records_left records.old)) }
 {
     let mut figures = Vec::new(alloc);
     let mut taken = 0;

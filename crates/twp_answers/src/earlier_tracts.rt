@@ -1,7 +1,7 @@
 //! The tracts of a list so far, which the next one is checked against.
 ghost use Rattle.std.specs.Prelude.{◌≡◌, ℕ, List, false, IfOk, OnOk, IfErr};
 ghost use Rattle.csv.specs.Records.{fields_of};
-ghost use Rattle.twp_grid.specs.Lands.{no_places, SharePlace};
+ghost use Rattle.twp_grid.specs.Lands.{lotting, no_places, SharePlace};
 ghost use Rattle.twp_read.specs.Doubts.{HasNoDoubtfulPlace};
 ghost use Rattle.twp_answers.specs.EarlierTracts.{earlier_of, AddsTract, IsUnread, ReadsTract};
 ghost use Rattle.twp_answers.specs.Names.{has_name};
@@ -15,7 +15,7 @@ use crate::tract_fault::TractFault;
 use csv::ByteRecord;
 use std::alloc::Global;
 use twp_grid::Township;
-use twp_land::Land;
+use twp_land::{Land, Lotting};
 use twp_read::Clarity;
 
 /// The names and the land of the tracts of a list so far. One land is reused for each tract in turn,
@@ -45,21 +45,23 @@ impl<L: Land> EarlierTracts<L> {
         }
     }
 
-    /// Reads the tract of the record with this number, and returns its name, which is added. Its land
-    /// is not added yet, so that the caller can measure it first.
-    pub fn read<'a>(
+    /// Reads the tract of the record with this number, on the plat of a township with these lots, and
+    /// returns its name, which is added. Its land is not added yet, so that the caller can measure it
+    /// first.
+    pub fn read<'a, P: Lotting>(
         &mut self,
         alloc: Global,
         township: Township,
         row: &'a ByteRecord,
         number: u32,
+        lots: &P,
     ) -> Result<&'a str, TractFault>
-        ensures read { OnOk result (ReadsTract township (fields_of row.now)
-            (earlier_of L.places self.old) (earlier_of L.places self.new)
+        ensures read { OnOk result (ReadsTract (lotting (P.layout lots.now)) township
+            (fields_of row.now) (earlier_of L.places self.old) (earlier_of L.places self.new)
             (L.places self.new.tract)) }
         ensures name { IfOk result (λ name. name.now ≡ name_in (fields_of row.now)) }
-        ensures fault { IfErr result (IsUnread township (fields_of row.now)
-            (earlier_of L.places self.old) number) }
+        ensures fault { IfErr result (IsUnread (lotting (P.layout lots.now)) township
+            (fields_of row.now) (earlier_of L.places self.old) number) }
         ensures clear { OnOk result (self.new.clarity ≡ Clarity.Clear
             → (self.old.clarity ≡ Clarity.Clear)
             × HasNoDoubtfulPlace (description_in (fields_of row.now))) }
@@ -70,7 +72,7 @@ impl<L: Land> EarlierTracts<L> {
         if !self.names.add(tract.name)? {
             return Err(TractFault::NameRepeated(number));
         }
-        match describe_into(alloc, &mut self.tract, township, tract.description) {
+        match describe_into(alloc, &mut self.tract, township, tract.description, lots) {
             Ok(clarity) => {
                 self.clarity = both(self.clarity, clarity);
                 Ok(tract.name)

@@ -1,8 +1,8 @@
 //! The account of a list of tracts by a lot table, as numbers.
 ghost use Rattle.std.specs.Prelude.{◌≡◌, ◌≤◌, length, OnOk, IfOk, IfErr};
 ghost use Rattle.csv.specs.Records.{fields_of};
-ghost use Rattle.twp_grid.specs.Places.{PLACE_DIGITS};
 ghost use Rattle.twp_plat.specs.LotAreas.{HasFigures};
+ghost use Rattle.twp_plat.specs.LotTables.{figure_of, lots_of};
 ghost use Rattle.twp_notes.specs.Records.{records_left, IsBetweenRecords};
 ghost use Rattle.twp_answers.specs.EarlierTracts.{earlier_of, AreEarlier};
 ghost use Rattle.twp_answers.specs.Tracts.{TRACTS_MOST};
@@ -18,10 +18,11 @@ use crate::tract_fault::{TRACTS_LIMIT, TRACTS_MOST, TractFault};
 use crate::tracts::FIRST_TRACT;
 use csv::ByteRecord;
 use std::alloc::Global;
+use twp_grid::Township;
 use twp_land::{Land, Lanes};
 use twp_measure::Area;
 use twp_notes::Records;
-use twp_plat::{LotTable, area_by_lots};
+use twp_plat::{ReturnedLots, area_by_lots};
 
 /// The figures of an account by a lot table. Each is an exact area, rounded once, in hundredths of an
 /// acre.
@@ -37,12 +38,13 @@ pub struct LotAccount {
 /// of a tract, the fault is `TractFault::TractRefused`, and the refusal inside it is 94, at the lot.
 pub fn account_by_lots(
     alloc: Global,
-    table: &LotTable,
+    township: Township,
+    lots: &ReturnedLots,
     list: &[u8],
 ) -> Result<LotAccount, TractFault>
     ensures account { IfOk result (λ account.
-        IsAccountByLots table.now list.now account.tracts.items account.total) }
-    ensures fault { IfErr result (AnswersFaultByLots table.now list.now) }
+        IsAccountByLots township lots.now list.now account.tracts.items account.total) }
+    ensures fault { IfErr result (AnswersFaultByLots township lots.now list.now) }
 {
     if list.len() > TRACTS_LIMIT as usize {
         return Err(TractFault::TractsTooLarge);
@@ -56,8 +58,8 @@ pub fn account_by_lots(
         return Err(TractFault::TractRow(1));
     }
     let mut earlier: EarlierTracts<Lanes> = EarlierTracts::new(alloc);
-    let tracts = take_tracts(alloc, table, records, &mut row, &mut earlier)?;
-    let Ok(area) = area_by_lots(table, &earlier.land) else {
+    let tracts = take_tracts(alloc, township, lots, records, &mut row, &mut earlier)?;
+    let Ok(area) = area_by_lots(lots, &earlier.land) else {
         unreachable!();
     };
     Ok(LotAccount {
@@ -70,21 +72,24 @@ pub fn account_by_lots(
 /// their figures.
 fn take_tracts<L: Land>(
     alloc: Global,
-    table: &LotTable,
+    township: Township,
+    lots: &ReturnedLots,
     records: &mut Records<'_>,
     row: &mut ByteRecord,
     earlier: &mut EarlierTracts<L>,
 ) -> Result<Vec<TractFigure>, TractFault>
     requires reading { IsBetweenRecords records.old }
-    requires empty { AreEarlier table.now.township (records_left records.old) 0
-        (earlier_of L.places earlier.old) }
-    ensures earlier { OnOk result (AreEarlier table.now.township (records_left records.old)
-        (length (records_left records.old)) (earlier_of L.places earlier.new)) }
-    ensures returned { OnOk result (HasFigures PLACE_DIGITS table.now (L.places earlier.new.land)) }
+    requires empty { AreEarlier (lots_of lots.now) township
+        (records_left records.old) 0 (earlier_of L.places earlier.old) }
+    ensures earlier { OnOk result (AreEarlier (lots_of lots.now) township
+        (records_left records.old) (length (records_left records.old))
+        (earlier_of L.places earlier.new)) }
+    ensures returned { OnOk result (HasFigures (lots_of lots.now) (figure_of lots.now)
+        (L.places earlier.new.land)) }
     ensures few { IfOk result (λ _. length (records_left records.old) ≤ TRACTS_MOST) }
-    ensures figures { IfOk result (λ figures. AreFiguresByLots table.now
+    ensures figures { IfOk result (λ figures. AreFiguresByLots township lots.now
         (records_left records.old) (length (records_left records.old)) figures.items) }
-    ensures fault { IfErr result (AreRefusedByLots table.now (records_left records.old)) }
+    ensures fault { IfErr result (AreRefusedByLots township lots.now (records_left records.old)) }
 {
     let mut figures = Vec::new(alloc);
     let mut taken = 0;
@@ -92,7 +97,7 @@ fn take_tracts<L: Land>(
         if taken == TRACTS_MOST {
             return Err(TractFault::TooManyTracts);
         }
-        let area = take_tract(alloc, table, row, taken + FIRST_TRACT, earlier)?;
+        let area = take_tract(alloc, township, lots, row, taken + FIRST_TRACT, earlier)?;
         figures.push(figure_of(row, area.hundredths()))?;
         taken += 1;
     }
@@ -102,18 +107,19 @@ fn take_tracts<L: Land>(
 /// Adds the tract of the record with this number, and returns its area by the table.
 fn take_tract<L: Land>(
     alloc: Global,
-    table: &LotTable,
+    township: Township,
+    lots: &ReturnedLots,
     row: &ByteRecord,
     number: u32,
     earlier: &mut EarlierTracts<L>,
 ) -> Result<Area, TractFault>
-    ensures taken { IfOk result (λ area. TakesByLots table.now (fields_of row.now)
+    ensures taken { IfOk result (λ area. TakesByLots township lots.now (fields_of row.now)
         (earlier_of L.places earlier.old) (earlier_of L.places earlier.new) area) }
-    ensures fault { IfErr result (IsRefusedByLots table.now (fields_of row.now)
+    ensures fault { IfErr result (IsRefusedByLots township lots.now (fields_of row.now)
         (earlier_of L.places earlier.old) number) }
 {
-    earlier.read(alloc, table.township(), row, number)?;
-    let area = match area_by_lots(table, &earlier.tract) {
+    earlier.read(alloc, township, row, number, &lots.plat)?;
+    let area = match area_by_lots(lots, &earlier.tract) {
         Ok(area) => area,
         Err(lot) => {
             return Err(TractFault::TractRefused {

@@ -10,8 +10,7 @@ ghost use Rattle.twp_answers.specs.ReportAnswers.{IsAccountOf};
 ghost use Rattle.twp_answers.specs.TractFaults.{AnswersFault};
 ghost use Rattle.twp_answers.specs.Answers.{acres_line};
 ghost use Rattle.twp_grid.specs.Places.{PLACE_DIGITS};
-ghost use Rattle.twp_grid.specs.Lands.{HasWholeLots};
-ghost use Rattle.twp_grid.specs.Lands.{STANDARD_LOTS};
+ghost use Rattle.twp_grid.specs.Lands.{HasWholeLots, STANDARD_LOTS, lotting};
 ghost use Rattle.twp_answers.specs.OnLands.{IsLandOf, AnswersIn, AreAcresOf};
 ghost use Rattle.twp_notes.specs.FieldNotes.{NOTES_MOST};
 ghost use Rattle.twp_answers.specs.PlatReading.{IsPlatted, ReadsUpTo};
@@ -25,7 +24,7 @@ use crate::tract_fault::{TRACTS_LIMIT, TractFault};
 use crate::tracts::account_of;
 use std::alloc::{AllocError, Global};
 use twp_grid::{Source, Township};
-use twp_land::{Land, Lanes, OneLanes, PlaceSet, StandardLots};
+use twp_land::{Land, Lanes, Lotting, OneLanes, PlaceSet, StandardLots};
 use twp_measure::{Area, write_acres};
 use twp_notes::Notes;
 use twp_plat::{Account, Plat, area_by};
@@ -76,7 +75,7 @@ pub fn normal_on(alloc: Global, plat: &Plat, description: &[u8]) -> Result<Vec<u
 pub fn read_noting(alloc: Global, description: &[u8]) -> Result<Noted, Stop>
     ensures read { IfOk result (λ noted. IsReadAs description.now noted.description) }
     ensures stopped { IfErr result (λ stop. (township : Designation)
-        → StopsOn township description.now stop) }
+        → StopsOn STANDARD_LOTS township description.now stop) }
     ensures clear { IfOk result (λ noted.
         noted.clarity ≡ Clarity.Clear → HasNoDoubtfulPlace description.now) }
 {
@@ -147,7 +146,7 @@ fn normal_in_all(alloc: Global, plat: &Plat, description: &Description) -> Resul
 /// The text of the account of a list of tracts on a plat, or the list's first fault.
 pub fn account_on(alloc: Global, plat: &Plat, list: &[u8]) -> Result<Vec<u8>, TractFault>
     ensures account { IfOk result (λ text. IsAccountOf plat.now list.now text.items) }
-    ensures fault { IfErr result (AnswersFault plat.now.township list.now) }
+    ensures fault { IfErr result (AnswersFault STANDARD_LOTS plat.now.township list.now) }
 {
     if list.len() > TRACTS_LIMIT as usize {
         return Err(TractFault::TractsTooLarge);
@@ -165,13 +164,19 @@ pub fn write_acres_line(hundredths: u64, text: &mut Vec<u8>) -> Result<(), Alloc
 }
 
 /// The land that a description names in a township, or why there is none, as for `acres_on`. It
-/// depends on the township's designation and the lots of townships alone, so there is no plat.
-pub fn land_of(alloc: Global, township: Township, description: &[u8]) -> Result<Lanes, Stop>
-    ensures { AnswersIn (λ land. IsLandOf township description.now
-        (⟦<Lanes as PlaceSet>⟧.places land)) township description.now result }
+/// depends on the township's designation and the lots of its plat alone.
+pub fn land_of<P: Lotting>(
+    alloc: Global,
+    township: Township,
+    description: &[u8],
+    lots: &P,
+) -> Result<Lanes, Stop>
+    ensures { AnswersIn (λ land. IsLandOf (lotting (P.layout lots.now)) township description.now
+        (⟦<Lanes as PlaceSet>⟧.places land))
+        (lotting (P.layout lots.now)) township description.now result }
 {
     let mut land = Lanes::empty();
-    describe_into(alloc, &mut land, township, description)?;
+    describe_into(alloc, &mut land, township, description, lots)?;
     Ok(land)
 }
 
@@ -196,21 +201,24 @@ pub fn read_plat<N: Source>(alloc: Global, notes: &mut N) -> Result<Plat, Stop>
     Ok(Plat::protract(&notes)?)
 }
 
-/// Sets `land` to that of a description, on the plat of a township, and returns whether a place in the
-/// description may be doubtful. The previous content of `land` is lost.
-pub fn describe_into<L: Land>(
+/// Sets `land` to that of a description, on the plat of a township with these lots, and returns whether a
+/// place in the description may be doubtful. The previous content of `land` is lost.
+pub fn describe_into<L: Land, P: Lotting>(
     alloc: Global,
     land: &mut L,
     township: Township,
     text: &[u8],
+    lots: &P,
 ) -> Result<Clarity, Stop>
     ensures memory { IfErr result (λ stop. IfFailed stop (λ fault. fault ≡ RunFault.Memory)) }
-    ensures land { IsLandOrRefusal (λ _. L.places land.new) township text.now result }
-    ensures whole_lots { OnOk result (HasWholeLots STANDARD_LOTS (L.places land.new)) }
+    ensures land { IsLandOrRefusal (λ _. L.places land.new) (lotting (P.layout lots.now)) township
+        text.now result }
+    ensures whole_lots { OnOk result
+        (HasWholeLots (lotting (P.layout lots.now)) (L.places land.new)) }
     ensures clear { IfOk result (λ clarity.
         clarity ≡ Clarity.Clear → HasNoDoubtfulPlace text.now) }
 {
     let noted = Description::read_noting(alloc, text)?;
-    resolve_into(land, &noted.description, township, &StandardLots)?;
+    resolve_into(land, &noted.description, township, lots)?;
     Ok(noted.clarity)
 }

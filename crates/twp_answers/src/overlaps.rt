@@ -22,7 +22,7 @@ use crate::tracts::FIRST_TRACT;
 use csv::ByteRecord;
 use std::alloc::{AllocError, Global};
 use twp_grid::Township;
-use twp_land::{Land, Lanes};
+use twp_land::{Land, Lanes, StandardLots};
 use twp_notes::Records;
 use twp_plat::{Plat, area_of};
 
@@ -96,7 +96,7 @@ fn land_of_record<L: Land>(
         return Ok(None);
     };
     let mut land = L::empty();
-    match describe_into(alloc, &mut land, township, tract.description) {
+    match describe_into(alloc, &mut land, township, tract.description, &StandardLots) {
         Ok(_) => Ok(Some(land)),
         Err(Stop::Refused(_)) => Ok(None),
         Err(Stop::Failed(_)) => Err(AllocError),

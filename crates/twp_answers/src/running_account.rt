@@ -9,6 +9,7 @@ ghost use Rattle.twp_answers.specs.Names.{has_name};
 ghost use Rattle.twp_answers.specs.Tracts.{name_in};
 ghost use Rattle.twp_answers.specs.ReportAnswers.{tract_line};
 ghost use Rattle.twp_answers.specs.steps.TractTaking.{tally_of, AreTotals, TakesTract};
+ghost use Rattle.twp_grid.specs.Lands.{STANDARD_LOTS};
 
 use crate::earlier_tracts::EarlierTracts;
 use crate::on_plat::write_acres_line;
@@ -16,7 +17,7 @@ use crate::totals::Totals;
 use crate::tract_fault::TractFault;
 use csv::ByteRecord;
 use std::alloc::{AllocError, Global};
-use twp_land::Land;
+use twp_land::{Land, StandardLots};
 use twp_plat::{Plat, area_of};
 use twp_read::Clarity;
 
@@ -56,13 +57,15 @@ impl<L: Land> RunningAccount<L> {
             (tally_of L.places self.old) (tally_of L.places self.new)) }
         ensures line { IfOk result (λ hundredths. self.new.text.items
             ≡ self.old.text.items ++ tract_line (name_in (fields_of row.now)) hundredths) }
-        ensures fault { IfErr result (IsTractRefused plat.now.township (fields_of row.now)
+        ensures fault { IfErr result (IsTractRefused STANDARD_LOTS plat.now.township (fields_of row.now)
             (earlier_of L.places self.old.tracts) number) }
         ensures clear { OnOk result (self.new.tracts.clarity ≡ Clarity.Clear
             → (self.old.tracts.clarity ≡ Clarity.Clear)
             × HasNoDoubtfulPlace (description_in (fields_of row.now))) }
     {
-        let name = self.tracts.read(alloc, plat.township(), row, number)?;
+        let name = self
+            .tracts
+            .read(alloc, plat.township(), row, number, &StandardLots)?;
         self.tracts.add(number)?;
         let area = area_of(plat, &self.tracts.tract);
         self.totals.take(&area);

@@ -6,6 +6,7 @@ ghost use Rattle.twp_answers.specs.Tracts.{TRACTS_LIMIT, TRACTS_MOST};
 ghost use Rattle.twp_answers.specs.ReportAnswers.{IsAccountOf};
 ghost use Rattle.twp_answers.specs.TractFaults.{AnswersFault};
 ghost use Rattle.twp_answers.specs.steps.TractTaking.{tally_of, IsTallyOf, AreTractsRefused};
+ghost use Rattle.twp_grid.specs.Lands.{STANDARD_LOTS};
 
 use crate::names::NamesSoFar;
 use crate::running_account::RunningAccount;
@@ -38,7 +39,7 @@ pub struct ListAccount {
 pub fn account_of(alloc: Global, plat: &Plat, bytes: &[u8]) -> Result<ListAccount, TractFault>
     requires { length bytes.now ≤ TRACTS_LIMIT }
     ensures account { IfOk result (λ account. IsAccountOf plat.now bytes.now account.text.items) }
-    ensures fault { IfErr result (AnswersFault plat.now.township bytes.now) }
+    ensures fault { IfErr result (AnswersFault STANDARD_LOTS plat.now.township bytes.now) }
     ensures clear { IfOk result (λ account.
         account.clarity ≡ Clarity.Clear → IsClearList bytes.now) }
 {
@@ -80,7 +81,7 @@ fn take_tracts<L: Land>(
         (length (records_left records.old)) (tally_of L.places account.new)) }
     ensures few { IfOk result (λ _. length (records_left records.old) ≤ TRACTS_MOST) }
     ensures fault { IfErr result
-        (AreTractsRefused plat.now.township (records_left records.old)) }
+        (AreTractsRefused STANDARD_LOTS plat.now.township (records_left records.old)) }
     ensures clear { OnOk result (account.new.tracts.clarity ≡ Clarity.Clear
         → AreClearTracts (records_left records.old) (length (records_left records.old))) }
 {

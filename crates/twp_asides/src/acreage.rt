@@ -72,7 +72,9 @@ impl<'a> Pieces<'a> {
     pub fn end_of_dashed_acreage(&self, index: usize) -> Option<usize> {
         let next = plus(index, 1);
         let is_apart = self.is_dash(index) && !self.is_joined(index) && !self.is_joined(next);
-        if !is_apart || self.number(next).is_none() {
+        // The letter for acres is left out without the dash.
+        let is_letter = self.is(plus(next, 1), b"a");
+        if !is_apart || self.number(next).is_none() || is_letter {
             return None;
         }
         let end = self.end_of_acreage(next)?;
@@ -124,7 +126,7 @@ impl<'a> Pieces<'a> {
         // A total may have no other unit, as in `240.00 gross`.
         let is_total = (self.is_figure_with_decimals(end) && self.begins_column(plus(next, 1)))
             || self.is(plus(next, 1), b")");
-        if is_net_or_gross(self.lower(next)) && is_total {
+        if self.is_kind_of_acreage(next) && is_total {
             return Some(plus(next, 1));
         }
         let is_letter = self.is(next, b"a")
@@ -141,10 +143,15 @@ impl<'a> Pieces<'a> {
         }
         next = self.after_hundredths(next);
         next = self.after_more_or_less(next);
-        if is_net_or_gross(self.lower(next)) {
+        if self.is_kind_of_acreage(next) {
             next = plus(next, 1);
         }
         Some(next)
+    }
+
+    /// Whether `net` or `gross` at an index is of the acreage before it, and doesn't name the next one with a colon.
+    fn is_kind_of_acreage(&self, index: usize) -> bool {
+        is_net_or_gross(self.lower(index)) && !self.is(plus(index, 1), b":")
     }
 
     /// Whether a number at an index is a fraction, with a point and no number before it, as in `.25 acres`.
@@ -172,14 +179,18 @@ impl<'a> Pieces<'a> {
             let word = self.lower(place);
             let is_lead = is_acreage_lead(word);
             let is_unit = is_acres(word) || is_same(word, b"acreage");
-            let is_mark = (self.is(place, b":") || self.is(place, b".") || self.is(place, b"="))
+            let is_mark = (self.is(place, b":")
+                || self.is(place, b".")
+                || self.is(place, b"=")
+                || self.after_quoted_name(place).is_some())
                 && place > index
                 && !self.is_after_point(plus(place, 1));
             if !is_lead && !is_unit && !is_mark && !is_area_word(word) {
                 break;
             }
             has_word = has_word || is_lead || is_unit;
-            lead.has_unit = lead.has_unit || is_unit;
+            let is_named = is_net_or_gross(word) && self.is(plus(place, 1), b":");
+            lead.has_unit = lead.has_unit || is_unit || is_named;
             lead.end = plus(place, 1);
         }
         if has_word {
@@ -227,11 +238,22 @@ impl<'a> Pieces<'a> {
         }
         let is_listed = self.is(end, b",") && has_decimals && self.is_after_part(index);
         let is_last = end == self.len() || (is_apart && self.begins_column(end)) || is_listed;
-        if is_last && index > 0 && (has_decimals || is_cell) {
+        let is_in_row = self.follows_quoted_cell(index)
+            && (number > SECTIONS || has_decimals)
+            && (end == self.len() || self.is(end, b","));
+        if (is_last && index > 0 && (has_decimals || is_cell)) || is_in_row {
             Some(end)
         } else {
             None
         }
+    }
+
+    /// Whether a cell in quotes and a comma are before an index, as in `"NENE",40`.
+    fn follows_quoted_cell(&self, index: usize) -> bool {
+        let Some(comma) = index.checked_sub(1) else {
+            return false;
+        };
+        self.is(comma, b",") && self.is_joined(index) && self.follows(comma, b"\"")
     }
 
     /// Where a share ends that is alone in a cell, as `0.125`.

@@ -61,10 +61,23 @@ impl<'a> Pieces<'a> {
         let second = plus(index, 2);
         let is_mark = (self.is(mark, b"/") || self.is_dash(mark)) && self.is_joined(mark);
         let last = plus(index, 4);
+        let is_cut = self.is(mark, b"/")
+            && self.number(index).is_some()
+            && self.is_cut_by_fraction(plus(index, 3));
         is_mark
             && self.is_joined(second)
-            && (self.number(second).unwrap_or(0) > SECTIONS
+            && (is_cut
+                || self.number(second).unwrap_or(0) > SECTIONS
                 || (self.number(last).is_some() && self.is_joined(last)))
+    }
+
+    /// Whether the digits at an index are the rest of a year whose first one, with the day, was taken for a
+    /// fraction, as in `6/1/21`.
+    fn is_cut_by_fraction(&self, index: usize) -> bool {
+        self.number(index).is_some()
+            && self.is_joined(index)
+            && matches!(self.kind_before(index), Some(Kind::Half | Kind::Quarter))
+            && self.is_back(index, 2, b"/")
     }
 
     /// Whether a day and a month are at an index without a year, as `4-Jan`, or `Jan-4`: spreadsheets write
@@ -166,7 +179,10 @@ impl<'a> Pieces<'a> {
     /// for a record or a tract, in a code, or in a share.
     pub fn may_be_section(&self, index: usize) -> bool {
         let next = plus(index, 1);
-        if !self.is_number_of_section(index) || self.is_after_other(index) {
+        if !self.is_number_of_section(index)
+            || self.is_after_other(index)
+            || self.is_cut_by_fraction(index)
+        {
             return false;
         }
         let is_first = self.is_joined(next)

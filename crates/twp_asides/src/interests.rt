@@ -4,8 +4,8 @@
 use crate::pieces::{Pieces, plus};
 use twp_grammar::Kind;
 use twp_words::{
-    begins_property, is_of_interest, is_of_property, is_owner, is_same, is_whose, names_property,
-    points_into,
+    begins_property, is_acres, is_of_interest, is_of_property, is_owner, is_same, is_whose,
+    names_property, points_into,
 };
 
 /// The most pieces of an interest, or of words for a property.
@@ -60,6 +60,42 @@ impl<'a> Pieces<'a> {
             }
         }
         end
+    }
+
+    /// Where words for the mineral acres that somebody means to convey at an index end, as in
+    /// `it being the intent of Grantor to convey 80 net mineral acres`: they say nothing of which land is meant.
+    pub fn end_of_intent(&self, index: usize) -> Option<usize> {
+        let intent = plus(index, 3);
+        let is_intent = self.is(index, b"it")
+            && self.is(plus(index, 1), b"being")
+            && self.is(plus(index, 2), b"the")
+            && (self.is(intent, b"intent") || self.is(intent, b"intention"));
+        if !is_intent {
+            return None;
+        }
+        let to = plus(
+            intent,
+            if self.is(plus(intent, 1), b"of") {
+                3
+            } else {
+                1
+            },
+        );
+        let figure = plus(to, 2);
+        if !self.is(to, b"to") || !self.is(plus(to, 1), b"convey") {
+            return None;
+        }
+        let net = self.end_of_decimal(figure)?;
+        let mineral = plus(net, usize::from(self.is(net, b"net")));
+        let acres = plus(mineral, 1);
+        let end = plus(acres, 1);
+        let is_last = end >= self.len() || self.begins_line(end) || self.is(end, b".");
+        let is_mineral = self.is(mineral, b"mineral") || self.is(mineral, b"royalty");
+        if is_mineral && is_acres(self.lower(acres)) && is_last {
+            Some(end)
+        } else {
+            None
+        }
     }
 
     /// Whether the `of` after a share is at an index, as in `an undivided 1/2 of`.

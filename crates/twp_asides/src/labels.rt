@@ -24,10 +24,16 @@ impl<'a> Pieces<'a> {
         let is_after_mark = self.follows(index, b".")
             || self.follows(index, b";")
             || self.follows(index, b":");
+        if self.begins_quoted_cell(index) {
+            return self.end_of_columns(index);
+        }
         if !self.begins_line(index) && !is_after_mark {
             return None;
         }
         if let Some(end) = self.end_of_request(index) {
+            return Some(end);
+        }
+        if let Some(end) = self.end_of_farm_unit(index) {
             return Some(end);
         }
         if let Some(end) = self.end_of_property(index) {
@@ -77,6 +83,19 @@ impl<'a> Pieces<'a> {
         if self.is_label_after_section(index) {
             return Some(plus(index, 2));
         }
+        if self.is_label_of_township(index) {
+            return Some(plus(index, 3));
+        }
+        if let Some(value) = self.after_quoted_name(plus(index, 1)) {
+            let is_label = is_column(self.lower(index)) && !is_acres(self.lower(index));
+            let is_land = self.begins_part(value)
+                || matches!(self.kind(value), Kind::Lot | Kind::All);
+            return if is_label && is_land {
+                Some(value)
+            } else {
+                None
+            };
+        }
         let mut end: Option<usize> = None;
         let mut next = index;
         for place in index..plus(index, 6) {
@@ -123,6 +142,16 @@ impl<'a> Pieces<'a> {
         self.is(index, b"aliquot")
             && (self.is(part, b"part") || self.is(part, b"parts"))
             && (self.is(plus(part, 1), b":") || self.is(plus(part, 1), b"\""))
+    }
+
+    /// Whether `Twp-Rng` is at an index, before a township without a word for it.
+    fn is_label_of_township(&self, index: usize) -> bool {
+        let number = plus(index, 3);
+        self.is(index, b"twp")
+            && self.is(plus(index, 1), b"-")
+            && self.is(plus(index, 2), b"rng")
+            && self.number(number).is_some()
+            && self.is_north_south(plus(number, 1))
     }
 
     /// Whether `A:` for aliquot parts is at an index, after the section of a register.
@@ -192,6 +221,42 @@ impl<'a> Pieces<'a> {
         None
     }
 
+    /// Where the name of a farm unit of a reclamation project at an index ends, before the same land in lots and
+    /// aliquot parts, as `Farm Unit "C", according to the Farm Unit Plat, or`.
+    fn end_of_farm_unit(&self, index: usize) -> Option<usize> {
+        let farm = plus(index, usize::from(self.is(index, b"the")));
+        if !self.is(farm, b"farm") || !self.is(plus(farm, 1), b"unit") {
+            return None;
+        }
+        for place in plus(farm, 2)..plus(index, PIECES_MOST) {
+            if self.is(place, b"or") {
+                let land = plus(place, 1);
+                let is_land = self.begins_part(land) || matches!(self.kind(land), Kind::Lot);
+                return if is_land { Some(land) } else { None };
+            }
+            if !self.is_of_farm_unit(place) {
+                return None;
+            }
+        }
+        None
+    }
+
+    /// Whether the piece at an index is of the name of a farm unit: its letter, in quotes, or its plat.
+    fn is_of_farm_unit(&self, index: usize) -> bool {
+        let is_letter = self.size(index) == 1 && self.begins_with_letter(index);
+        is_letter
+            || self.is(index, b"\"")
+            || self.is(index, b"\xE2\x80\x9C")
+            || self.is(index, b"\xE2\x80\x9D")
+            || self.is(index, b",")
+            || self.is(index, b"according")
+            || self.is(index, b"to")
+            || self.is(index, b"the")
+            || self.is(index, b"farm")
+            || self.is(index, b"unit")
+            || self.is(index, b"plat")
+    }
+
     /// Whether the question mark at the end of a request is at an index.
     pub fn is_question_mark(&self, index: usize) -> bool {
         self.is(index, b"?") && plus(index, 1) == self.len() && self.end_of_request(0).is_some()
@@ -259,6 +324,7 @@ impl<'a> Pieces<'a> {
             if is_column(word) {
                 count = plus(count, 1);
             } else if !(is_same(word, b",")
+                || is_same(word, b"\"")
                 || is_same(word, b"|")
                 || is_same(word, b"/")
                 || is_same(word, b"-")

@@ -41,6 +41,27 @@ impl<'a> Pieces<'a> {
             && self.bytes(digits).len() >= 3
     }
 
+    /// Whether the letter at an index is of `U. S.`, as in `reserved in U. S. Patent`.
+    pub(crate) fn is_of_united_states(&self, index: usize) -> bool {
+        self.is(index, b"s")
+            && self.is(plus(index, 1), b".")
+            && self.follows(index, b".")
+            && self.is_back(index, 2, b"u")
+    }
+
+    /// Whether `all that tract` begins at an index, or words like it, which name no land.
+    pub(crate) fn begins_all_of_property(&self, index: usize) -> bool {
+        let next = plus(index, 1);
+        let property = plus(next, 1);
+        matches!(self.kind(index), Kind::All)
+            && (self.is(next, b"that") || self.is(next, b"those"))
+            && (self.is(property, b"certain")
+                || self.is(property, b"tract")
+                || self.is(property, b"parcel")
+                || self.is(property, b"real")
+                || self.is(property, b"property"))
+    }
+
     /// Whether the word at an index is a side or a corner, or a run of corners.
     pub fn begins_step(&self, index: usize) -> bool {
         let word = self.lower(index);

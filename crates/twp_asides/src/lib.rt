@@ -21,6 +21,7 @@ mod remarks;
 mod serials;
 mod states;
 mod trailers;
+mod units;
 mod worn_figures;
 
 pub use beyond::{Beyond, beyond_of};

@@ -13,7 +13,7 @@ const SECTIONS: u16 = 36;
 
 /// Whether the piece at an index is in no remark.
 pub(crate) fn is_beyond_remark(pieces: &Pieces<'_>, index: usize) -> bool {
-    (pieces.may_be_land(index) && !pieces.is_share(index))
+    (pieces.may_be_land(index) && !pieces.is_share(index) && !pieces.begins_all_of_property(index))
         || pieces.is_day_of_month(index)
         || (is_of_calendar(pieces, index) && pieces.has_column_of_lots())
         || pieces.is_township_word(index)
@@ -81,8 +81,29 @@ fn adds_section(pieces: &Pieces<'_>, index: usize) -> bool {
         || pieces.is(index, b"all")
 }
 
-/// Whether the word at an index is of `made a part of`, `only insofar`, `Fee minerals:`, or
-/// `Proposed Reinstatement of Terminated Oil and Gas Lease`, which limit no land.
+/// Whether `Row` and a number fill a cell, as in `Row 14 | T2N-R3W | Sec 33: NENE`: it is no right of way.
+pub(crate) fn is_row_of_table(pieces: &Pieces<'_>, index: usize) -> bool {
+    let number = plus(index, 1);
+    pieces.is(index, b"row")
+        && pieces.begins_line(index)
+        && pieces.number(number).is_some()
+        && !pieces.is_joined(number)
+        && pieces.begins_column(plus(number, 1))
+}
+
+/// Whether the right of way is the type of a case, as in `Case Type 281001: ROW-ROADS`.
+pub(crate) fn is_type_of_case(pieces: &Pieces<'_>, index: usize) -> bool {
+    let dash = plus(index, 1);
+    pieces.is(index, b"row")
+        && pieces.is(dash, b"-")
+        && pieces.is_joined(dash)
+        && pieces.follows(index, b":")
+        && (pieces.is_back(index, 3, b"type") || pieces.is_back(index, 4, b"type"))
+}
+
+/// Whether the word at an index is of `made a part of`, `only insofar`, `Fee minerals:`,
+/// `Proposed Reinstatement of Terminated Oil and Gas Lease`, `Row 14`, or `Case Type 281001: ROW-ROADS`, which limit
+/// no land.
 fn is_of_instrument(pieces: &Pieces<'_>, index: usize) -> bool {
     let is_part = pieces.is(index, b"part")
         && pieces.follows(index, b"a")
@@ -99,5 +120,15 @@ fn is_of_instrument(pieces: &Pieces<'_>, index: usize) -> bool {
         && (pieces.follows(index, b"remise")
             || (pieces.follows(index, b",") && pieces.is_back(index, 2, b"remise")));
     let is_base = pieces.is(index, b"base") && pieces.is(next, b"property");
-    is_part || is_only || is_estate || is_proposed || is_terminated || is_base || is_release
+    let is_row = is_row_of_table(pieces, index)
+        || is_type_of_case(pieces, index)
+        || matches!(index.checked_sub(2), Some(row) if is_type_of_case(pieces, row));
+    is_part
+        || is_only
+        || is_estate
+        || is_proposed
+        || is_terminated
+        || is_base
+        || is_release
+        || is_row
 }

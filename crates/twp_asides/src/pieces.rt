@@ -202,8 +202,65 @@ impl<'a> Pieces<'a> {
             && (self.begins_line(index)
                 || self.follows(index, b",")
                 || self.is(next, b",")
+                || self.is_brace_of_record(next)
                 || next >= self.len()
                 || self.begins_line(next))
+    }
+
+    /// The index of a number after a bar, a name, and an equals sign at an index, as in `Lot|SECDIVNO=3`.
+    pub fn after_bar_and_name(&self, index: usize, name: &[u8]) -> Option<usize> {
+        let mark = plus(index, 2);
+        let value = plus(index, 3);
+        let is_named = self.is(index, b"|") && self.is(plus(index, 1), name) && self.is(mark, b"=");
+        if is_named && self.number(value).is_some() {
+            Some(value)
+        } else {
+            None
+        }
+    }
+
+    /// The index of the value after the quote at an index, if that ends a name in a record, as in `"sec":14`, or
+    /// `"legal":"NENE"`.
+    pub fn after_quoted_name(&self, index: usize) -> Option<usize> {
+        let colon = plus(index, 1);
+        let value = plus(index, 2);
+        if !self.is(index, b"\"") || !self.is(colon, b":") || !self.is_record() {
+            return None;
+        }
+        Some(plus(value, usize::from(self.is(value, b"\""))))
+    }
+
+    /// Whether the text is a record in braces, as in `{"sec":14,"legal":"NENE"}`.
+    pub fn is_record(&self) -> bool {
+        self.is(0, b"{") && matches!(self.len().checked_sub(1), Some(last) if self.is(last, b"}"))
+    }
+
+    /// Whether a brace around the record that the text is is at an index.
+    pub fn is_brace_of_record(&self, index: usize) -> bool {
+        self.is_record() && (index == 0 || plus(index, 1) == self.len())
+    }
+
+    /// Whether the piece at an index is the first of a cell in quotes, or of a value in a record.
+    pub fn begins_quoted_cell(&self, index: usize) -> bool {
+        self.follows(index, b"\"")
+            && (self.begins_cell(index) || (self.is_back(index, 2, b":") && self.is_record()))
+    }
+
+    /// Whether the quote after a cell, a comma, and the quote before the next cell begin at an index.
+    pub fn is_between_quoted_cells(&self, index: usize) -> bool {
+        self.is(index, b"\"")
+            && self.is(plus(index, 1), b",")
+            && self.is(plus(index, 2), b"\"")
+            && self.is_joined(plus(index, 2))
+    }
+
+    /// The index of the next cell, if a quoted cell ends at an index and another one follows.
+    pub fn after_quoted_cell(&self, index: usize) -> usize {
+        if self.is_between_quoted_cells(index) {
+            plus(index, 3)
+        } else {
+            index
+        }
     }
 
     /// Whether a line feed or a tab is between the piece at an index and the one before it.

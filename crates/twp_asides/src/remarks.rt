@@ -1,7 +1,7 @@
 //! Remarks beside land: a cell, a line, a sentence, or parentheses that name no land.
 ghost use Rattle.std.specs.Prelude.{◌<◌};
 
-use crate::limits::{is_beyond_remark, limits_land_at};
+use crate::limits::{is_beyond_remark, is_row_of_table, is_type_of_case, limits_land_at};
 use crate::marks::{
     begins_tract, is_homesite_of_acreage, is_initial, is_known_at, is_of_well, is_title_of_other,
 };
@@ -10,7 +10,7 @@ use crate::trailers::end_of_depths;
 use twp_grammar::Kind;
 use twp_words::{
     adds_land, begins_reference, begins_terms, is_acres, is_boundary, is_instrument, is_more,
-    is_of_covering, is_of_time, is_of_water, names_parcel, points_into,
+    is_of_covering, is_of_time, is_of_water, is_state, names_parcel, points_into,
 };
 
 /// The most pieces of a remark.
@@ -49,6 +49,8 @@ pub fn end_of_remark(pieces: &Pieces<'_>, index: usize, position: Position) -> O
     let mut has_word = false;
     let mut is_sure = position == Position::BeforeLand
         || begins_tract(pieces, index)
+        || is_row_of_table(pieces, index)
+        || begins_address(pieces, index)
         || is_name_of_value(pieces, index)
         || is_homesite_of_acreage(pieces, index);
     let mut next = index;
@@ -84,7 +86,8 @@ fn may_end_remark(pieces: &Pieces<'_>, index: usize, place: usize, position: Pos
 {
     let last = place - 1;
     match position {
-        Position::BeforeLand if place >= pieces.len() || is_title_of_other(pieces, last) => false,
+        Position::BeforeLand if place >= pieces.len() => false,
+        Position::BeforeLand if is_title_of_other(pieces, last) => is_type_of_case(pieces, index),
         _ => place <= plus(index, 1) || !points_into(pieces.lower(last)),
     }
 }
@@ -188,7 +191,10 @@ fn begins_oil_and_gas(pieces: &Pieces<'_>, index: usize) -> bool {
 /// Whether the name of a value is at an index, as in `CAT=1`.
 fn is_name_of_value(pieces: &Pieces<'_>, index: usize) -> bool {
     let mark = plus(index, 1);
-    pieces.is(mark, b"=") && pieces.is_joined(mark) && pieces.is_joined(plus(mark, 1))
+    let is_value = pieces.is(mark, b"=")
+        && pieces.is_joined(mark)
+        && pieces.is_joined(plus(mark, 1));
+    is_value || pieces.after_quoted_name(mark).is_some()
 }
 
 /// Whether a colon, with white space after it, or a comma is before an index.
@@ -209,7 +215,9 @@ fn is_after_sentence(pieces: &Pieces<'_>, index: usize) -> bool {
     let is_after_acreage = is_acres(pieces.lower(before))
         && pieces.is_back(index, 3, b".")
         && matches!(pieces.lower_back(index, 2), Some([_, _, ..]));
-    is_after_stop || is_after_acreage
+    // The row of a register may have its offices there.
+    let is_of_register = pieces.is(before, b";") && pieces.begins_register(0);
+    is_after_stop || is_after_acreage || is_of_register
 }
 
 /// Whether a remark ends before a piece, or with it, if it is a colon.
@@ -224,6 +232,7 @@ fn ends_remark(pieces: &Pieces<'_>, index: usize, position: Position) -> bool {
                 || matches!(pieces.lower_back(index, 1), Some(word) if is_of_covering(word))
                 || matches!(pieces.kind(index), Kind::Semicolon)
                 || pieces.begins_register(index)
+                || begins_code_of_state(pieces, index)
         }
         Position::AfterLand => matches!(pieces.kind(index), Kind::Semicolon),
     };
@@ -232,10 +241,28 @@ fn ends_remark(pieces: &Pieces<'_>, index: usize, position: Position) -> bool {
     is_mark || is_colon || pieces.begins_column(index)
 }
 
+/// Whether the address of land is at an index, as in `Commonly known as: 1290 Robinson Rd`.
+fn begins_address(pieces: &Pieces<'_>, index: usize) -> bool {
+    pieces.is(index, b"commonly")
+        && pieces.is(plus(index, 1), b"known")
+        && pieces.is(plus(index, 2), b"as")
+        && pieces.is(plus(index, 3), b":")
+}
+
+/// Whether the letters of a state are at an index, and a township of a register after them, as in
+/// `ID080020N0030W`.
+fn begins_code_of_state(pieces: &Pieces<'_>, index: usize) -> bool {
+    let next = plus(index, 1);
+    is_state(pieces.lower(index)) && pieces.is_joined(next) && pieces.begins_register(next)
+}
+
 /// Whether a colon at an index may end the label of other land: no word of two letters or more, no price, and
 /// no figure that is that of no section, follows.
 fn may_end_label(pieces: &Pieces<'_>, index: usize) -> bool {
-    let next = plus(index, 1);
+    let next = match index.checked_sub(1) {
+        Some(before) => pieces.after_quoted_name(before).unwrap_or(plus(index, 1)),
+        None => plus(index, 1),
+    };
     let is_word = matches!(pieces.kind(next), Kind::Other)
         && matches!(pieces.lower(next), [b'a'..=b'z', _, ..]);
     matches!(pieces.kind(index), Kind::Colon)

@@ -8,7 +8,7 @@ impl<'a> Pieces<'a> {
     /// Where the serial number first on its line ends, whose letters may be those of a state: after a hyphen,
     /// or in a cell of its own. No township of a register follows the letters.
     pub fn end_of_first_serial(&self, index: usize) -> Option<usize> {
-        if !self.begins_line(index) {
+        if !self.begins_line(index) && !self.begins_quoted_cell(index) {
             return None;
         }
         let next = plus(index, 1);
@@ -54,6 +54,7 @@ impl<'a> Pieces<'a> {
             return None;
         }
         let mut has_long = false;
+        let mut has_year = false;
         let mut end = index;
         for place in plus(index, 1)..plus(index, 8) {
             let is_number = matches!(self.kind(place), Kind::Number(_) | Kind::BadNumber);
@@ -67,7 +68,10 @@ impl<'a> Pieces<'a> {
                 break;
             }
             let least: usize = if self.is_joined(place) { 4 } else { 5 };
-            has_long = is_number && (self.bytes(place).len() >= least || has_long);
+            // The last number may be shorter than one before it, as in `ID-0045-001`.
+            has_long = is_number
+                && (self.size(place) >= least || has_long || (has_year && self.size(place) == 3));
+            has_year = has_year || (is_number && self.size(place) >= least);
             end = plus(place, 1);
         }
         if has_long && !limits_land(self.lower(index)) && !self.begins_other_code(index) {

@@ -113,13 +113,21 @@ fn is_beyond_trailer(pieces: &Pieces<'_>, trailer: Trailer, index: usize) -> boo
         }
         Trailer::Depths => limits_land(word) || is_site(word) || is_beyond_depths(word),
         Trailer::Rights => {
-            is_conveyance(word)
+            (is_conveyance(word) && !is_reserved_in_patent(pieces, index))
                 || (is_same(word, b"boundary") && pieces.is(plus(index, 1), b"line"))
         }
         Trailer::Granted => is_land_by_name(word),
         _ => false,
     };
     is_limit || is_part || is_beyond || is_of_town(word) || alters_land(word)
+}
+
+/// Whether the patent at an index is one in which rights are reserved, as in `reserved in U. S. Patent`.
+fn is_reserved_in_patent(pieces: &Pieces<'_>, index: usize) -> bool {
+    let has_words = |count: usize| {
+        pieces.is_back(index, count, b"in") && pieces.is_back(index, plus(count, 1), b"reserved")
+    };
+    pieces.is(index, b"patent") && (has_words(1) || has_words(2) || has_words(5) || has_words(6))
 }
 
 /// What is said at an index.
@@ -273,6 +281,7 @@ fn may_be_land_beside_rights(pieces: &Pieces<'_>, index: usize) -> bool {
             ) || pieces.begins_step(next)
         }
         Kind::All => false,
+        Kind::NorthSouth(_) if pieces.is_of_united_states(index) => false,
         Kind::Other if pieces.is(index, b"land") || pieces.is(index, b"lands") => {
             if pieces.follows(index, b"any")
                 || pieces.follows(index, b"other")

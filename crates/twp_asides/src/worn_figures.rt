@@ -18,7 +18,7 @@ impl<'a> Pieces<'a> {
 
     /// Where the number at an index ends of whose digits scanning made letters, before the unit of acreage, as in
     /// `l57.2O acres`.
-    pub(crate) fn end_of_worn_figure(&self, index: usize) -> Option<usize> {
+    pub fn end_of_worn_figure(&self, index: usize) -> Option<usize> {
         // Most numbers have white space after them.
         if !self.is_joined(plus(index, 1)) {
             return None;

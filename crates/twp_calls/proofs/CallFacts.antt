@@ -26,11 +26,13 @@ use Rattle.twp_answers.specs.declared.tract_fault.TractFault.TheVariants as faul
 use Rattle.twp_calls.specs.GivenPlats.{IsGivenPlat}
 use Rattle.twp_calls.specs.declared.plat.TownshipPlat.{TownshipPlat as GivenPlat}
 use Rattle.twp_calls.specs.declared.answer.TownshipAnswer.{TownshipAnswer}
+use Rattle.twp_grid.specs.Lands.{Lotting, STANDARD_LOTS}
 
 -- a description that is refused, or for which memory ran out
-pub stopped_on : (Accepted : TownshipAnswer → Type 0) (township : Designation) (description : List ℕ)
-    (stopping : Stop) → StopsOn township description stopping
-    → Answers Accepted (IsRefusedFor (IsNoDescription township description)) (stopped stopping)
+pub stopped_on : {lots : Lotting} (Accepted : TownshipAnswer → Type 0) (township : Designation)
+    (description : List ℕ)
+    (stopping : Stop) → StopsOn lots township description stopping
+    → Answers Accepted (IsRefusedFor (IsNoDescription lots township description)) (stopped stopping)
 stopped_on Accepted township description (stop.Refused refusal) first =
     refused_for (record { refusal = refusal; first = first; answer_is = refl })
 stopped_on Accepted township description (stop.Failed cause) is = no_memory refl
@@ -46,7 +48,7 @@ stopped_notes Accepted notes (stop.Failed cause) is = no_memory refl
 -- a list that is refused, or for which memory ran out
 stopped_by : (Accepted : TownshipAnswer → Type 0) (plat : TownshipPlat) (list : List ℕ)
     (is : TractFault) (found : Option Verdict) → verdict_of is ≡ found
-    → IfSome found (λ verdict. IsFirstTractFault plat.township list is)
+    → IfSome found (λ verdict. IsFirstTractFault STANDARD_LOTS plat.township list is)
     → Answers Accepted (IsRefusedList plat list) (answer_of_verdict found)
 stopped_by Accepted plat list is (Some verdict) same first =
     refused_for (record {
@@ -59,7 +61,7 @@ stopped_by Accepted plat list is (Some verdict) same first =
 stopped_by Accepted plat list is None same first = no_memory refl
 
 pub stopped_list : (Accepted : TownshipAnswer → Type 0) (plat : TownshipPlat) (list : List ℕ)
-    (is : TractFault) → AnswersFault plat.township list is
+    (is : TractFault) → AnswersFault STANDARD_LOTS plat.township list is
     → Answers Accepted (IsRefusedList plat list) (answer_of_fault is)
 stopped_list Accepted plat list is first =
     stopped_by Accepted plat list is (verdict_of is) refl first
@@ -68,11 +70,12 @@ stopped_list Accepted plat list is first =
 pub stops_on : (given : GivenPlat) (plat : TownshipPlat) → IsGivenPlat given plat
     → (Accepted : TownshipPlat → TownshipAnswer → Type 0) (description : List ℕ) (stopping : Stop)
     (answer : TownshipAnswer) → answer ≡ stopped stopping
-    → StopsOn plat.township description stopping
+    → StopsOn STANDARD_LOTS plat.township description stopping
     → OfDescription given description Accepted answer
 stops_on given plat is Accepted description stopping answer same stops =
     on_plat plat is
-    (subst (Answers (Accepted plat) (IsRefusedFor (IsNoDescription plat.township description))) (sym same)
+    (subst (Answers (Accepted plat) (IsRefusedFor (IsNoDescription STANDARD_LOTS plat.township description)))
+    (sym same)
     (stopped_on (Accepted plat) plat.township description stopping stops))
 
 -- the same by an account
@@ -80,11 +83,12 @@ pub stops_by : (given : GivenPlat) (plat : TownshipPlat) → IsGivenPlat given p
     → (code : ℕ) (account : Account) → account_of code ≡ Some account
     → (Accepted : TownshipPlat → Account → TownshipAnswer → Type 0) (description : List ℕ)
     (stopping : Stop) (answer : TownshipAnswer) → answer ≡ stopped stopping
-    → StopsOn plat.township description stopping
+    → StopsOn STANDARD_LOTS plat.township description stopping
     → OfDescriptionBy given description code Accepted answer
 stops_by given plat is code account account_is Accepted description stopping answer same stops =
     on_plat plat is (by_account account account_is
-    (subst (Answers (Accepted plat account) (IsRefusedFor (IsNoDescription plat.township description)))
+    (subst
+    (Answers (Accepted plat account) (IsRefusedFor (IsNoDescription STANDARD_LOTS plat.township description)))
     (sym same) (stopped_on (Accepted plat account) plat.township description stopping stops)))
 
 -- a text that was put beside the verdict that it is there
@@ -99,11 +103,12 @@ text_put IsSuch explained text made old new answer explained_is text_is such is_
     }
 
 -- the refusal of a description that stopped for it
-pub refused_on : (township : Designation) (description : List ℕ) (stopping : Stop) (refusal : Refusal)
-    → stopping ≡ stop.Refused refusal → StopsOn township description stopping
-    → IsNoDescription township description refusal
-refused_on township description stopping refusal same stops =
-    subst (StopsOn township description) same stops
+pub refused_on : {lots : Lotting} (township : Designation) (description : List ℕ) (stopping : Stop)
+    (refusal : Refusal)
+    → stopping ≡ stop.Refused refusal → StopsOn lots township description stopping
+    → IsNoDescription lots township description refusal
+refused_on {lots = lots} township description stopping refusal same stops =
+    subst (StopsOn lots township description) same stops
 
 -- the refusal of notes that stopped for it
 pub refused_in : (notes : List ℕ) (stopping : Stop) (refusal : Refusal) → stopping ≡ stop.Refused refusal
@@ -131,7 +136,7 @@ refused_by fault.Memory refusal same = cc same
 -- a list that is refused, and its explanation
 pub explained_list : (plat : TownshipPlat) (list old new : List ℕ) (explained answer : TownshipAnswer)
     (is : TractFault) (refusal : Refusal) → refusal_of is ≡ Some refusal
-    → AnswersFault plat.township list is → explained ≡ answer_of_fault is
+    → AnswersFault STANDARD_LOTS plat.township list is → explained ≡ answer_of_fault is
     → IsExplained (IsOfFirstFault plat list) explained old new answer
     → Answers (IsOfAccount plat list old new) (IsExplainedFault plat list old new) answer
 explained_list plat list old new explained answer is refusal same first explained_is put =
@@ -139,7 +144,8 @@ explained_list plat list old new explained answer is refusal same first explaine
     refused_for (record {
       fault = is;
       first =
-          subst (λ found. IfSome found (λ verdict. IsFirstTractFault plat.township list is)) known.1 first;
+          subst (λ found. IfSome found (λ verdict. IsFirstTractFault STANDARD_LOTS plat.township list is))
+          known.1 first;
       verdict = known.0;
       verdict_is = known.1;
       explained =

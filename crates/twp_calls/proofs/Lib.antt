@@ -6,6 +6,7 @@ pub mod LotExplanationFacts
 pub mod FigureFacts
 pub mod LandCallFacts
 pub mod LotCallFacts
+pub mod LotLandFacts
 pub mod LotReportFacts
 pub mod ManyFacts
 pub mod NoteFacts

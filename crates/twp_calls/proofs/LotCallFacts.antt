@@ -1,9 +1,10 @@
 -- What the calls by a lot table answer, by what their stages came to; over plain values.
 use Rattle.std.proofs.Common.{◌≡◌, ℕ, Bool, List, Option, Some, None, IfSome, refl, sym, subst}
-use Rattle.twp_grid.specs.Places.{PLACE_DIGITS}
 use Rattle.twp_grid.specs.declared.refusal.Refusal.{Refusal}
 use Rattle.twp_plat.specs.LotAreas.{IsFirstLacking}
-use Rattle.twp_plat.specs.LotTables.{ReturnedLots}
+use Rattle.twp_plat.specs.LotTables.{figure_of, lots_of}
+use Rattle.twp_grid.specs.Townships.{Designation}
+use Rattle.twp_plat.specs.declared.lots.returned.ReturnedLots.{ReturnedLots}
 use Rattle.twp_plat.specs.LotsFaults.{IsFirstFault, lacking_refusal, refusal_of}
 use Rattle.twp_plat.specs.declared.lots.fault.LotsFault.{LotsFault}
 use Rattle.twp_answers.specs.declared.stop.Stop.{Stop}
@@ -36,28 +37,30 @@ refused_lots Accepted bytes fault answer same first =
     (no_lots Accepted bytes fault (refusal_of fault) refl first)
 
 -- a description that has no area by the table, or for which memory ran out
-stopped_by_lots : (Accepted : TownshipAnswer → Type 0) (table : ReturnedLots) (description : List ℕ)
-    (stopping : Stop) → StopsByLots table description stopping
-    → Answers Accepted (IsRefusedFor (HasNoLotAreaOf table description)) (stopped stopping)
-stopped_by_lots Accepted table description (stop.Refused refusal) first =
+stopped_by_lots : (Accepted : TownshipAnswer → Type 0) (township : Designation) (lots : ReturnedLots)
+    (description : List ℕ)
+    (stopping : Stop) → StopsByLots township lots description stopping
+    → Answers Accepted (IsRefusedFor (HasNoLotAreaOf township lots description)) (stopped stopping)
+stopped_by_lots Accepted township lots description (stop.Refused refusal) first =
     refused_for (record { refusal = refusal; first = first; answer_is = refl })
-stopped_by_lots Accepted table description (stop.Failed fault) is = no_memory refl
+stopped_by_lots Accepted township lots description (stop.Failed fault) is = no_memory refl
 
-pub stops_by_lots : (Accepted : TownshipAnswer → Type 0) (table : ReturnedLots) (description : List ℕ)
+pub stops_by_lots : (Accepted : TownshipAnswer → Type 0) (township : Designation) (lots : ReturnedLots)
+    (description : List ℕ)
     (stopping : Stop) (answer : TownshipAnswer) → answer ≡ stopped stopping
-    → StopsByLots table description stopping
-    → Answers Accepted (IsRefusedFor (HasNoLotAreaOf table description)) answer
-stops_by_lots Accepted table description stopping answer same stops =
-    subst (Answers Accepted (IsRefusedFor (HasNoLotAreaOf table description))) (sym same)
-    (stopped_by_lots Accepted table description stopping stops)
+    → StopsByLots township lots description stopping
+    → Answers Accepted (IsRefusedFor (HasNoLotAreaOf township lots description)) answer
+stops_by_lots Accepted township lots description stopping answer same stops =
+    subst (Answers Accepted (IsRefusedFor (HasNoLotAreaOf township lots description))) (sym same)
+    (stopped_by_lots Accepted township lots description stopping stops)
 
 -- land with a lot that the table lacks
-pub lacks_lot : (table : ReturnedLots) (places : ℕ → ℕ → ℕ → Bool) (section number : ℕ)
+pub lacks_lot : (lots : ReturnedLots) (places : ℕ → ℕ → ℕ → Bool) (section number : ℕ)
     (refusal : Refusal) (answer : TownshipAnswer)
-    → IsFirstLacking PLACE_DIGITS table places section number
+    → IsFirstLacking (lots_of lots) (figure_of lots) places section number
     → refusal ≡ lacking_refusal section number → answer ≡ refused refusal
-    → IsRefusedFor (IsLackingLot table places) answer
-lacks_lot table places section number refusal answer first is answer_is = record {
+    → IsRefusedFor (IsLackingLot lots places) answer
+lacks_lot lots places section number refusal answer first is answer_is = record {
   refusal = refusal;
   first = record { section = section; number = number; first = first; refusal_is = is };
   answer_is = answer_is;

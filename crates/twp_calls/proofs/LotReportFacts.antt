@@ -2,7 +2,8 @@
 use Rattle.std.proofs.Common.{◌≡◌, ℕ, ◌<◌, ◌≤◌, List, [], ◌∷◌, length, get_or, Option, Some, None, IfSome}
 use Rattle.std.proofs.Common.{refl, sym, ◌∙◌, subst, inl, inr, arith}
 use Rattle.std.specs.List.{SameFrom}
-use Rattle.twp_plat.specs.LotTables.{ReturnedLots}
+use Rattle.twp_grid.specs.Townships.{Designation}
+use Rattle.twp_plat.specs.declared.lots.returned.ReturnedLots.{ReturnedLots}
 use Rattle.twp_notes.specs.Records.{Fields, record_at}
 use Rattle.twp_answers.specs.TractFaults.{verdict_of}
 use Rattle.twp_answers.specs.declared.account_figures.TractFigure.{TractFigure}
@@ -21,37 +22,42 @@ use Rattle.twp_calls.specs.declared.account_call.TownshipTract.{TownshipTract}
 use Rattle.twp_calls.specs.declared.answer.TownshipAnswer.{TownshipAnswer}
 
 -- a tract by the table as plain data
-tract_is : (table : ReturnedLots) (fields : Fields) (figure : TractFigure) (plain : TownshipTract)
-    → IsFigureByLots table fields figure → IsPlainTract figure plain → IsTractByLots table fields plain
-tract_is table fields figure plain is same = record {
+tract_is : (township : Designation) (lots : ReturnedLots) (fields : Fields) (figure : TractFigure)
+    (plain : TownshipTract)
+    → IsFigureByLots township lots fields figure → IsPlainTract figure plain
+    → IsTractByLots township lots fields plain
+tract_is township lots fields figure plain is same = record {
   name_is = same.name_is ∙ is.name_is;
   ended = same.ended;
-  acres = subst (AreTractAcres table fields) (sym same.hundredths_is) is.acres;
+  acres = subst (AreTractAcres township lots fields) (sym same.hundredths_is) is.acres;
 }
 
-each_is : (table : ReturnedLots) (rows : List Fields) (figures : List TractFigure)
+each_is : (township : Designation) (lots : ReturnedLots) (rows : List Fields) (figures : List TractFigure)
     (tracts : List TownshipTract)
-    (count : ℕ) → AreFiguresByLots table rows count figures → ArePlainTractsTo count figures tracts
+    (count : ℕ) → AreFiguresByLots township lots rows count figures → ArePlainTractsTo count figures tracts
     → (index : ℕ) (default : TownshipTract) → index < count
-    → IsTractByLots table (record_at rows index) (get_or tracts index default)
-each_is table rows [] tracts count are plain index default below = absurd (omega (arith, are.count_is))
-each_is table rows (one ∷ more) tracts count are plain index default below =
-    tract_is table (record_at rows index) _ _ (are.each index one below) (plain index one default below)
+    → IsTractByLots township lots (record_at rows index) (get_or tracts index default)
+each_is township lots rows [] tracts count are plain index default below =
+    absurd (omega (arith, are.count_is))
+each_is township lots rows (one ∷ more) tracts count are plain index default below =
+    tract_is township lots (record_at rows index) _ _ (are.each index one below)
+    (plain index one default below)
 
 -- all were put there
-pub all_put_by : (table : ReturnedLots) (list : List ℕ) (figures : List TractFigure) (total : ℕ)
+pub all_put_by : (township : Designation) (lots : ReturnedLots) (list : List ℕ) (figures : List TractFigure)
+    (total : ℕ)
     (old new : List TownshipTract) (answer : TownshipAnswer) → length figures ≤ length old
     → length new ≡ length old → ArePlainTractsTo (length figures) figures new
     → SameFrom old new (length figures) → answer ≡ with_text (accepted_acres total) (length figures)
-    → IsAccountByLots table list figures total → HasAccountByLots table list old new answer
-all_put_by table list figures total old new answer room long plain kept is account =
+    → IsAccountByLots township lots list figures total → HasAccountByLots township lots list old new answer
+all_put_by township lots list figures total old new answer room long plain kept is account =
     let number : length figures ≡ tract_count list = account.figures_are.count_is in
     inl (record {
       list_is = account.list;
       room = subst (λ n. n ≤ length old) number room;
       length_is = long;
       each =
-          each_is table _ figures new (tract_count list) account.figures_are
+          each_is township lots _ figures new (tract_count list) account.figures_are
           (subst (λ n. ArePlainTractsTo n figures new) number plain);
       kept = subst (SameFrom old new) number kept;
       total = total;
@@ -60,11 +66,12 @@ all_put_by table list figures total old new answer room long plain kept is accou
     })
 
 -- there is less room than there are tracts
-pub too_many_by : (table : ReturnedLots) (list : List ℕ) (figures : List TractFigure) (total : ℕ)
+pub too_many_by : (township : Designation) (lots : ReturnedLots) (list : List ℕ) (figures : List TractFigure)
+    (total : ℕ)
     (old : List TownshipTract) (answer : TownshipAnswer) → length old < length figures
     → answer ≡ without_room (accepted_acres total) (length figures)
-    → IsAccountByLots table list figures total → HasAccountByLots table list old old answer
-too_many_by table list figures total old answer short is account =
+    → IsAccountByLots township lots list figures total → HasAccountByLots township lots list old old answer
+too_many_by township lots list figures total old answer short is account =
     let number : length figures ≡ tract_count list = account.figures_are.count_is in
     inr (record {
       figures = figures;
@@ -75,11 +82,12 @@ too_many_by table list figures total old answer short is account =
     })
 
 -- a list that is refused, or for which memory ran out
-stopped_by : (Accepted : TownshipAnswer → Type 0) (table : ReturnedLots) (list : List ℕ)
+stopped_by : (Accepted : TownshipAnswer → Type 0) (township : Designation) (lots : ReturnedLots)
+    (list : List ℕ)
     (is : TractFault) (found : Option Verdict) → verdict_of is ≡ found
-    → IfSome found (λ verdict. IsFirstFaultByLots table list is)
-    → Answers Accepted (IsListRefusedByLots table list) (answer_of_verdict found)
-stopped_by Accepted table list is (Some verdict) same first =
+    → IfSome found (λ verdict. IsFirstFaultByLots township lots list is)
+    → Answers Accepted (IsListRefusedByLots township lots list) (answer_of_verdict found)
+stopped_by Accepted township lots list is (Some verdict) same first =
     refused_for (record {
       fault = is;
       first = first;
@@ -87,11 +95,13 @@ stopped_by Accepted table list is (Some verdict) same first =
       verdict_is = same;
       answer_is = refl;
     })
-stopped_by Accepted table list is None same first = no_memory refl
+stopped_by Accepted township lots list is None same first = no_memory refl
 
-pub stopped_list_by : (Accepted : TownshipAnswer → Type 0) (table : ReturnedLots) (list : List ℕ)
+pub stopped_list_by : (Accepted : TownshipAnswer → Type 0) (township : Designation) (lots : ReturnedLots)
+    (list : List ℕ)
     (is : TractFault) (answer : TownshipAnswer) → answer ≡ answer_of_fault is
-    → AnswersFaultByLots table list is → Answers Accepted (IsListRefusedByLots table list) answer
-stopped_list_by Accepted table list is answer same first =
-    subst (Answers Accepted (IsListRefusedByLots table list)) (sym same)
-    (stopped_by Accepted table list is (verdict_of is) refl first)
+    → AnswersFaultByLots township lots list is
+    → Answers Accepted (IsListRefusedByLots township lots list) answer
+stopped_list_by Accepted township lots list is answer same first =
+    subst (Answers Accepted (IsListRefusedByLots township lots list)) (sym same)
+    (stopped_by Accepted township lots list is (verdict_of is) refl first)

@@ -17,6 +17,7 @@ use Rattle.twp_calls.specs.ManyAnswers.{inside, no_room}
 use Rattle.twp_calls.specs.declared.answer.TownshipAnswer.{TownshipAnswer}
 use Rattle.twp_calls.specs.declared.plat.TownshipPlat.{TownshipPlat as GivenPlat}
 use Rattle.twp_calls.proofs.CallFacts.{stops_by}
+use Rattle.twp_grid.specs.Lands.{STANDARD_LOTS}
 
 -- one more description is answered
 pub answers_next : (given : GivenPlat) (bytes offsets : List ℕ) (code count : ℕ)
@@ -57,7 +58,7 @@ accepted_between given plat bytes description start end code account hundredths 
 pub stopped_between : (given : GivenPlat) (plat : TownshipPlat) (bytes description : List ℕ)
     (start end code : ℕ) (account : Account) (stopping : Stop) (answer : TownshipAnswer)
     → IsGivenPlat given plat → account_of code ≡ Some account → IsRange bytes start end
-    → description ≡ slice_range bytes start end → StopsOn plat.township description stopping
+    → description ≡ slice_range bytes start end → StopsOn STANDARD_LOTS plat.township description stopping
     → answer ≡ stopped stopping → IsAnswerBetween given bytes start end code answer
 stopped_between given plat bytes description start end code account stopping answer is account_is range same
     stops answer_is =
@@ -65,7 +66,7 @@ stopped_between given plat bytes description start end code account stopping ans
     (stops_by given plat is code account account_is
     (λ plat account. AnswersAcres plat (slice_range bytes start end) account) (slice_range bytes start end)
     stopping
-    answer answer_is (subst (λ d. StopsOn plat.township d stopping) same stops))
+    answer answer_is (subst (λ d. StopsOn STANDARD_LOTS plat.township d stopping) same stops))
 
 -- a part that was found is the range
 pub range_of : {R : Type 0} (now : R → List ℕ) (bytes : List ℕ) (start end : ℕ) (found : Option R) (part : R)

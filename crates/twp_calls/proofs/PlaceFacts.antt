@@ -30,6 +30,7 @@ use Rattle.twp_calls.specs.Explanations.{IsExplainedDescription}
 use Rattle.twp_calls.specs.Explanations.{line_at, column_at, too_large, at_its_place, at_the_end}
 use Rattle.twp_calls.specs.declared.answer.TownshipAnswer.{TownshipAnswer}
 use Rattle.twp_calls.proofs.CallFacts.{refused_on}
+use Rattle.twp_grid.specs.Lands.{Lotting}
 
 -- ---- what isn't too large is within the limit
 
@@ -59,7 +60,8 @@ text_within text (fault.Syntax at_ expected) r same first =
     inr (not_first (length text) 2 _ (omega arith) first)
 text_within text fault.Memory r same first = cc same
 
-is_within : (township : Designation) (text : List ℕ) (r : Refusal) → IsNoDescription township text r
+is_within : {lots : Lotting} (township : Designation) (text : List ℕ) (r : Refusal)
+    → IsNoDescription lots township text r
     → (r.number ≡ TOO_LARGE) ⊎ (length text ≤ TEXT_LIMIT)
 is_within township text r (inl is) =
     text_within text is.fault r is.refusal_is (λ above. is.first.first fault.TooLarge above)
@@ -117,22 +119,25 @@ of_answer r explanation text old new answer (put room new_is answer_is) is = rw 
 of_answer r explanation text old new answer (not_put room answer_is) is = rw answer_is is
 
 -- a description that is refused, and its explanation
-pub refused_where : (township : Designation) (text old new : List ℕ) (file : Given) (stopping : Stop)
+pub refused_where : {lots : Lotting} (township : Designation) (text old new : List ℕ) (file : Given)
+    (stopping : Stop)
     (r : Refusal) (explanation : Explanation) (explained answer : TownshipAnswer)
-    → stopping ≡ stop.Refused r → StopsOn township text stopping
+    → stopping ≡ stop.Refused r → StopsOn lots township text stopping
     → file.bytes.now ≡ text → file.first_line ≡ 1
-    → IsNoDescription township file.bytes.now explanation.refusal → IsExplainedWhereRefused file explanation
+    → IsNoDescription lots township file.bytes.now explanation.refusal
+    → IsExplainedWhereRefused file explanation
     → explained ≡ refused r → PutsExplanation explained explanation old new answer
-    → IsExplainedDescription township text old new answer
-refused_where township text old new file stopping r explanation explained answer stops_is stops same first
+    → IsExplainedDescription lots township text old new answer
+refused_where {lots = lots} township text old new file stopping r explanation explained answer stops_is stops
+    same first
     such
     place
     explained_is is_told =
     let refused_text = refused_on township text stopping r stops_is stops in
-    let such_text : IsNoDescription township text explanation.refusal =
-    subst (λ bytes. IsNoDescription township bytes explanation.refusal) same such in
+    let such_text : IsNoDescription lots township text explanation.refusal =
+    subst (λ bytes. IsNoDescription lots township bytes explanation.refusal) same such in
     let alike : explanation.refusal ≡ r =
-    one_description_refusal township text explanation.refusal r such_text refused_text in
+    one_description_refusal lots township text explanation.refusal r such_text refused_text in
     let explained_refused : PutsExplanation (refused r) explanation old new answer =
     subst (λ explained. PutsExplanation explained explanation old new answer) explained_is is_told in
     record {

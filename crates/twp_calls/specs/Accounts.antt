@@ -11,6 +11,7 @@ use Rattle.twp_calls.specs.declared.account_call.TownshipTotals.{TownshipTotals}
 use Rattle.twp_calls.specs.declared.account_call.TownshipTract.{TownshipTract}
 use Rattle.twp_calls.specs.declared.answer.TownshipAnswer.{TownshipAnswer}
 use Rattle.twp_calls.specs.declared.plat.TownshipPlat.{TownshipPlat as GivenPlat}
+use Rattle.twp_grid.specs.Lands.{STANDARD_LOTS}
 
 -- the line of a tract in the text of an account
 abbrev pub line_of : TownshipTract → List ℕ
@@ -41,7 +42,7 @@ pub record AreFiguresPut (plat : TownshipPlat) (list : List ℕ) (old new : List
 -- the list has an account, but there is less room than it has tracts
 pub record HasNoRoom (plat : TownshipPlat) (list : List ℕ) (old : List TownshipTract)
     (answer : TownshipAnswer) : Type 0 where
-  pub list_is : IsTractList plat.township list
+  pub list_is : IsTractList STANDARD_LOTS plat.township list
   pub short : length old < tract_count list
   pub answer_is : answer ≡ with_text (bare NO_ROOM) (tract_count list)
 

@@ -49,6 +49,9 @@ NO_OPERATION = 11
 abbrev pub OTHER_TOWNSHIP : ℕ
 OTHER_TOWNSHIP = 12
 
+abbrev pub OTHER_PLAT : ℕ
+OTHER_PLAT = 13
+
 -- the verdict is one of a refusal
 abbrev pub IsRefused : ℕ → Type 0
 IsRefused verdict = (verdict ≡ REFUSED) ⊎ (verdict ≡ TRACT_REFUSED)

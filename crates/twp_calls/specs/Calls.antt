@@ -18,6 +18,7 @@ use Rattle.twp_calls.specs.GivenPlats.{IsGivenPlat, IsNoGivenPlat, given_of}
 use Rattle.twp_calls.specs.declared.answer.TownshipAnswer.{TownshipAnswer}
 use Rattle.twp_calls.specs.declared.plat.TownshipPlat.{TownshipPlat as GivenPlat}
 use Rattle.twp_calls.specs.declared.fraction.TownshipFraction.{TownshipFraction}
+use Rattle.twp_grid.specs.Lands.{STANDARD_LOTS}
 
 -- The given parts are those of a plat, on which the call answers, or of none.
 pub data OnPlat (given : GivenPlat) (Answers : TownshipPlat → TownshipAnswer → Type 0)
@@ -86,13 +87,13 @@ pub record AnswersAcres (plat : TownshipPlat) (description : List ℕ) (account 
 abbrev pub OfDescription : GivenPlat → List ℕ → (TownshipPlat → TownshipAnswer → Type 0)
     → TownshipAnswer → Type 0
 OfDescription given description Accepted = OnPlat given (λ plat.
-    Answers (Accepted plat) (IsRefusedFor (IsNoDescription plat.township description)))
+    Answers (Accepted plat) (IsRefusedFor (IsNoDescription STANDARD_LOTS plat.township description)))
 
 -- the same by an account
 abbrev pub OfDescriptionBy : GivenPlat → List ℕ → ℕ
     → (TownshipPlat → Account → TownshipAnswer → Type 0) → TownshipAnswer → Type 0
 OfDescriptionBy given description code Accepted = OnPlat given (λ plat. ByAccount code (λ account.
-    Answers (Accepted plat account) (IsRefusedFor (IsNoDescription plat.township description))))
+    Answers (Accepted plat account) (IsRefusedFor (IsNoDescription STANDARD_LOTS plat.township description))))
 
 abbrev pub IsAcresCall : GivenPlat → List ℕ → ℕ → TownshipAnswer → Type 0
 IsAcresCall given description code = OfDescriptionBy given description code (λ plat account.
@@ -129,7 +130,7 @@ IsPrintCall given old new = OnPlat given (λ plat.
 pub record IsRefusedList (plat : TownshipPlat) (list : List ℕ) (answer : TownshipAnswer)
     : Type 0 where
   pub fault : TractFault
-  pub first : IsFirstTractFault plat.township list fault
+  pub first : IsFirstTractFault STANDARD_LOTS plat.township list fault
   pub verdict : Verdict
   pub verdict_is : verdict_of fault ≡ Some verdict
   pub answer_is : answer ≡ verdict_answer verdict

@@ -25,6 +25,7 @@ use Rattle.twp_calls.specs.Answers.{ACCEPTED, IsRefused, bare, refused, verdict_
 use Rattle.twp_calls.specs.Calls.{Answers, IsPut, OnPlat}
 use Rattle.twp_calls.specs.declared.answer.TownshipAnswer.{TownshipAnswer}
 use Rattle.twp_calls.specs.declared.plat.TownshipPlat.{TownshipPlat as GivenPlat}
+use Rattle.twp_grid.specs.Lands.{Lotting, STANDARD_LOTS}
 
 -- an answer with a line and a column
 abbrev pub located_at : TownshipAnswer → ℕ → ℕ → TownshipAnswer
@@ -91,7 +92,7 @@ pub record IsExplainedRefusal (HasFirst : Refusal → Type 0) (old new : List �
 -- the refusal is that of the first fault of the list
 pub record IsOfFirstFault (plat : TownshipPlat) (list : List ℕ) (refusal : Refusal) : Type 0 where
   pub fault : TractFault
-  pub first : IsFirstTractFault plat.township list fault
+  pub first : IsFirstTractFault STANDARD_LOTS plat.township list fault
   pub refusal_is : refusal_of fault ≡ Some refusal
 
 -- `township_explain_notes`: of notes that make a plat nothing is explained
@@ -126,16 +127,17 @@ pub data IsWhereRefused (text : List ℕ) (refusal : Refusal) (line column : ℕ
   at_the_end : AllPass is_white (drop refusal.at text) → IsLineAndColumn text (end_of text) line column
       → IsWhereRefused text refusal line column
 
--- the refusal of the description is explained, with the line and the column of its place
-pub record IsExplainedDescription (township : Designation) (description old new : List ℕ)
-    (answer : TownshipAnswer) : Type 0 where
-  pub explained : IsExplainedRefusal (IsNoDescription township description) old new answer
+-- the refusal of the description on the plat with these lots is explained, with the line and the column of
+-- its place
+pub record IsExplainedDescription (lots : Lotting) (township : Designation)
+    (description old new : List ℕ) (answer : TownshipAnswer) : Type 0 where
+  pub explained : IsExplainedRefusal (IsNoDescription lots township description) old new answer
   pub place : IsWhereRefused description explained.refusal answer.line answer.column
 
 abbrev pub ExplainsDescription : GivenPlat → List ℕ → List ℕ → List ℕ → TownshipAnswer → Type 0
 ExplainsDescription given description old new = OnPlat given (λ plat.
     Answers (IsOfArea plat description old new)
-    (IsExplainedDescription plat.township description old new))
+    (IsExplainedDescription STANDARD_LOTS plat.township description old new))
 
 -- `township_explain_list`: of a list that has an account on the plat, there may be a note
 pub record IsOfAccount (plat : TownshipPlat) (list old new : List ℕ) (answer : TownshipAnswer)
@@ -147,7 +149,7 @@ pub record IsOfAccount (plat : TownshipPlat) (list old new : List ℕ) (answer :
 pub record IsExplainedFault (plat : TownshipPlat) (list old new : List ℕ) (answer : TownshipAnswer)
     : Type 0 where
   pub fault : TractFault
-  pub first : IsFirstTractFault plat.township list fault
+  pub first : IsFirstTractFault STANDARD_LOTS plat.township list fault
   pub verdict : Verdict
   pub verdict_is : verdict_of fault ≡ Some verdict
   pub explained : IsExplained (IsOfFirstFault plat list) (verdict_answer verdict) old new answer

@@ -3,7 +3,7 @@ use Rattle.std.specs.Prelude.{◌≡◌, ◌≢◌, ◌==◌, ℕ, List, Bool, O
 use Rattle.twp_measure.specs.Areas.{Fraction}
 use Rattle.twp_grid.specs.Places.{PLACE_DIGITS}
 use Rattle.twp_grid.specs.Townships.{Designation}
-use Rattle.twp_grid.specs.Lands.{union, intersection, difference}
+use Rattle.twp_grid.specs.Lands.{STANDARD_LOTS, union, intersection, difference}
 use Rattle.twp_land.specs.Comparisons.{Compares}
 use Rattle.twp_land.specs.declared.comparing.Comparison.{Comparison}
 use Rattle.twp_land.specs.declared.comparing.Comparison.TheVariants.{Same, Contains, IsContained}
@@ -14,11 +14,13 @@ use Rattle.twp_plat.specs.declared.land_area.Account.{Account}
 use Rattle.twp_spell.specs.CanonicalText.{IsCanonicalText}
 use Rattle.twp_answers.specs.Answers.{IsNoDescription}
 use Rattle.twp_answers.specs.OnLands.{IsLandOf, AreAcresOf}
-use Rattle.twp_calls.specs.Answers.{ACCEPTED, NO_LAND, NO_TOWNSHIP, NO_OPERATION, OTHER_TOWNSHIP}
+use Rattle.twp_calls.specs.Answers.{ACCEPTED, NO_LAND, NO_TOWNSHIP, NO_OPERATION, OTHER_PLAT}
+use Rattle.twp_calls.specs.Answers.{OTHER_TOWNSHIP}
 use Rattle.twp_calls.specs.Answers.{bare, accepted_acres}
 use Rattle.twp_calls.specs.Calls.{Answers, ByAccount, IsFractionOf, IsRefusedFor, IsTextPut, OnPlat}
 use Rattle.twp_calls.specs.GivenLands.{IsGivenLand, IsNoGivenLand}
 use Rattle.twp_calls.specs.GivenTownships.{IsGivenTownship, IsNoGivenTownship}
+use Rattle.twp_calls.specs.WhichPlats.{REGULAR, plat_of_land}
 use Rattle.twp_calls.specs.declared.answer.TownshipAnswer.{TownshipAnswer}
 use Rattle.twp_calls.specs.declared.fraction.TownshipFraction.{TownshipFraction}
 use Rattle.twp_calls.specs.declared.combining.Operation.{Operation}
@@ -26,7 +28,7 @@ use Rattle.twp_calls.specs.declared.combining.Operation.TheVariants as operation
 use Rattle.twp_calls.specs.declared.designation.TownshipDesignation.{TownshipDesignation}
 use Rattle.twp_calls.specs.declared.land.TownshipLand.{TownshipLand as GivenLand}
 use Rattle.twp_calls.specs.declared.plat.TownshipPlat.{TownshipPlat as GivenPlat}
-use Rattle.twp_grid.specs.Lands.{STANDARD_LOTS}
+use Rattle.twp_calls.specs.declared.which_plat.WhichPlat.{WhichPlat}
 
 -- The given parts are those of a township, for which the call answers, or of none.
 pub data InTownship (given : TownshipDesignation) (Answers : Designation → TownshipAnswer → Type 0)
@@ -50,26 +52,38 @@ pub data InOneTownship (township other : Designation) (Answers : TownshipAnswer 
   in_two : township ≢ other → answer ≡ bare OTHER_TOWNSHIP
       → InOneTownship township other Answers answer
 
+-- The two are of one plat, and this holds of the answer; or they are of different plats.
+pub data OfOnePlat (Same : Type 0) (Answers : TownshipAnswer → Type 0) (answer : TownshipAnswer)
+    : Type 0 where
+  of_one : Same → Answers answer → OfOnePlat Same Answers answer
+  of_two : ¬ Same → answer ≡ bare OTHER_PLAT → OfOnePlat Same Answers answer
+
 -- `township_land_read`: the land that the description names in the township
 pub record IsLandRead (township : Designation) (description : List ℕ) (new : GivenLand)
     (answer : TownshipAnswer) : Type 0 where
   pub places : ℕ → ℕ → ℕ → Bool
-  pub named : IsLandOf township description places
+  pub named : IsLandOf STANDARD_LOTS township description places
   pub given : IsGivenLand new township places
+  pub plat_is : plat_of_land new ≡ REGULAR
   pub answer_is : answer ≡ bare ACCEPTED
 
 abbrev pub IsLandReadCall : TownshipDesignation → List ℕ → GivenLand → TownshipAnswer → Type 0
 IsLandReadCall given description new = InTownship given (λ township.
     Answers (IsLandRead township description new)
-    (IsRefusedFor (IsNoDescription township description)))
+    (IsRefusedFor (IsNoDescription STANDARD_LOTS township description)))
 
--- what a call answers for land on a plat, by an account
+-- the plat of the land has the standard lots
+abbrev pub HasStandardLots : GivenLand → Type 0
+HasStandardLots land = land.own_lots ≡ 0
+
+-- what a call answers for land on a plat of field notes, which has the standard lots, by an account
 abbrev pub OnPlatAndLand : GivenPlat → GivenLand → ℕ
     → (TownshipPlat → Account → (ℕ → ℕ → ℕ → Bool) → TownshipAnswer → Type 0)
     → TownshipAnswer → Type 0
 OnPlatAndLand given land code Accepted =
     OnPlat given (λ plat. OnLand land (λ township places. ByAccount code (λ account.
-    InOneTownship plat.township township (Accepted plat account places))))
+    InOneTownship plat.township township
+    (OfOnePlat (HasStandardLots land) (Accepted plat account places)))))
 
 -- `township_land_acres`: the hundredths of an acre of the land
 pub record HasLandAcres (plat : TownshipPlat) (account : Account) (places : ℕ → ℕ → ℕ → Bool)
@@ -92,9 +106,15 @@ pub record HasLandArea (new : TownshipFraction) (plat : TownshipPlat) (account :
 abbrev pub IsLandAreaCall : GivenPlat → GivenLand → ℕ → TownshipFraction → TownshipAnswer → Type 0
 IsLandAreaCall given land code new = OnPlatAndLand given land code (HasLandArea new)
 
+-- what a call answers for land on any plat with the standard lots
+abbrev pub OnRegularLand : GivenLand → (Designation → (ℕ → ℕ → ℕ → Bool) → TownshipAnswer → Type 0)
+    → TownshipAnswer → Type 0
+OnRegularLand land Accepted = OnLand land (λ township places.
+    OfOnePlat (HasStandardLots land) (Accepted township places))
+
 -- `township_land_text`: the canonical text of the land, which nothing refuses
 abbrev pub IsLandTextCall : GivenLand → List ℕ → List ℕ → TownshipAnswer → Type 0
-IsLandTextCall land old new = OnLand land (λ township places.
+IsLandTextCall land old new = OnRegularLand land (λ township places.
     Answers (IsTextPut (IsCanonicalText STANDARD_LOTS township places) old new) (λ answer. ⊥))
 
 -- the operation that a number stands for
@@ -119,16 +139,23 @@ pub data ByOperation (code : ℕ) (Answers : Operation → TownshipAnswer → Ty
   by_no_operation : operation_of code ≡ None → answer ≡ bare NO_OPERATION
       → ByOperation code Answers answer
 
--- `township_land_combine`: the land that the operation makes of the two
-pub record IsCombined (by : Operation) (township : Designation)
+-- what a call answers for two sets of land, which are on one plat of a township
+abbrev pub OnOnePlat : GivenLand → GivenLand → Designation → Designation
+    → (TownshipAnswer → Type 0) → TownshipAnswer → Type 0
+OnOnePlat first second township other Accepted = InOneTownship township other
+    (OfOnePlat (plat_of_land first ≡ plat_of_land second) Accepted)
+
+-- `township_land_combine`: the land on this plat that the operation makes of the two
+pub record IsCombined (by : Operation) (township : Designation) (plat : WhichPlat)
     (places more : ℕ → ℕ → ℕ → Bool) (new : GivenLand) (answer : TownshipAnswer) : Type 0 where
   pub given : IsGivenLand new township (combined by places more)
+  pub plat_is : plat_of_land new ≡ plat
   pub answer_is : answer ≡ bare ACCEPTED
 
 abbrev pub IsCombineCall : GivenLand → GivenLand → ℕ → GivenLand → TownshipAnswer → Type 0
 IsCombineCall first second code new = OnLand first (λ township places.
-    OnLand second (λ other more. ByOperation code (λ by.
-    InOneTownship township other (IsCombined by township places more new))))
+    OnLand second (λ other more. ByOperation code (λ by. OnOnePlat first second township other
+    (IsCombined by township (plat_of_land first) places more new))))
 
 -- the number of a comparison
 abbrev pub code_of_comparison : Comparison → ℕ
@@ -147,5 +174,5 @@ pub record HasComparison (places more : ℕ → ℕ → ℕ → Bool) (new : ℕ
   pub answer_is : answer ≡ bare ACCEPTED
 
 abbrev pub IsCompareCall : GivenLand → GivenLand → ℕ → TownshipAnswer → Type 0
-IsCompareCall first second new = OnLand first (λ township places.
-    OnLand second (λ other more. InOneTownship township other (HasComparison places more new)))
+IsCompareCall first second new = OnLand first (λ township places. OnLand second (λ other more.
+    OnOnePlat first second township other (HasComparison places more new)))

@@ -13,7 +13,7 @@ use Rattle.twp_grid.specs.Listing.{AreListed}
 use Rattle.twp_spell.specs.PartBlocks.{AreWrittenBlocks}
 use Rattle.twp_calls.specs.Answers.{ACCEPTED, NO_ROOM, bare, with_text}
 use Rattle.twp_calls.specs.Calls.{Answers}
-use Rattle.twp_calls.specs.LandCalls.{OnLand}
+use Rattle.twp_calls.specs.LandCalls.{OnRegularLand}
 use Rattle.twp_calls.specs.declared.answer.TownshipAnswer.{TownshipAnswer}
 use Rattle.twp_calls.specs.declared.land.TownshipLand.{TownshipLand as GivenLand}
 use Rattle.twp_calls.specs.declared.land_parts.TownshipPart.{TownshipPart}
@@ -76,5 +76,5 @@ pub record ArePartsPut (places : ℕ → ℕ → ℕ → Bool) (old new : List T
 
 -- `township_land_parts`, which nothing refuses
 abbrev pub IsLandPartsCall : GivenLand → List TownshipPart → List TownshipPart → TownshipAnswer → Type 0
-IsLandPartsCall land old new = OnLand land (λ township places.
+IsLandPartsCall land old new = OnRegularLand land (λ township places.
     Answers (ArePartsPut places old new) (λ answer. ⊥))

@@ -5,6 +5,7 @@ pub mod GivenTownships
 pub mod GivenPlats
 pub mod GivenLands
 pub mod GivenLots
+pub mod WhichPlats
 pub mod Calls
 pub mod EachCalls
 pub mod OverlapCalls
@@ -14,8 +15,10 @@ pub mod DesignationTexts
 pub mod DesignationCalls
 pub mod LandParts
 pub mod LotCalls
+pub mod LotLandCalls
 pub mod LotExplanations
 pub mod LotReports
+pub mod LotsPlainCalls
 pub mod ManyAnswers
 pub mod Suggestions
 pub mod UnreadCalls

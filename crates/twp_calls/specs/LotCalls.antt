@@ -1,29 +1,29 @@
 -- What each call by a lot table answers, for all that it can be given.
-use Rattle.std.specs.Prelude.{◌≡◌, ◌⊎◌, ℕ, List, Bool}
+use Rattle.std.specs.Prelude.{◌≡◌, ℕ, List}
 use Rattle.twp_measure.specs.Areas.{Fraction, IsRounded}
-use Rattle.twp_plat.specs.LotRecords.{AreLots}
-use Rattle.twp_plat.specs.LotTables.{ReturnedLots}
-use Rattle.twp_answers.specs.LotLands.{HasLotArea, HasLotAreaOf, HasNoLotAreaOf, IsLackingLot}
+use Rattle.twp_plat.specs.LotTexts.{AreLots}
+use Rattle.twp_grid.specs.Townships.{Designation}
+use Rattle.twp_plat.specs.declared.lots.table.LotTable.{LotTable}
+use Rattle.twp_answers.specs.LotLands.{HasLotAreaOf, HasNoLotAreaOf}
 use Rattle.twp_explain.specs.LotRefusals.{AreNoLots}
 use Rattle.twp_calls.specs.Answers.{ACCEPTED, NO_LOTS, bare, accepted_acres}
 use Rattle.twp_calls.specs.Calls.{Answers, IsFractionOf, IsRefusedFor}
-use Rattle.twp_calls.specs.GivenLots.{IsGivenLots, IsNoGivenLots, given_lots}
-use Rattle.twp_calls.specs.LandCalls.{InOneTownship, OnLand}
+use Rattle.twp_calls.specs.GivenLots.{given_lots}
+use Rattle.twp_calls.specs.GivenTownships.{IsGivenTownship, IsNoGivenTownship}
 use Rattle.twp_calls.specs.declared.answer.TownshipAnswer.{TownshipAnswer}
 use Rattle.twp_calls.specs.declared.fraction.TownshipFraction.{TownshipFraction}
-use Rattle.twp_calls.specs.declared.land.TownshipLand.{TownshipLand as GivenLand}
 use Rattle.twp_calls.specs.declared.lots.TownshipLots.{TownshipLots as GivenLots}
 
--- The given parts are those of a lot table, by which the call answers, or of none.
-pub data ByLots (given : GivenLots) (Answers : ReturnedLots → TownshipAnswer → Type 0)
+-- The given township is one, in which the call answers by the given lots, or it is none.
+pub data ByLots (given : GivenLots) (Answers : Designation → TownshipAnswer → Type 0)
     (answer : TownshipAnswer) : Type 0 where
-  by_lots : (table : ReturnedLots) → IsGivenLots given table → Answers table answer
+  by_lots : (township : Designation) → IsGivenTownship given.township township → Answers township answer
       → ByLots given Answers answer
-  by_no_lots : IsNoGivenLots given → answer ≡ bare NO_LOTS → ByLots given Answers answer
+  by_no_lots : IsNoGivenTownship given.township → answer ≡ bare NO_LOTS → ByLots given Answers answer
 
 -- `township_lots_read`: the parts of the lot table in the bytes
 pub record AreLotsRead (bytes : List ℕ) (new : GivenLots) (answer : TownshipAnswer) : Type 0 where
-  pub table : ReturnedLots
+  pub table : LotTable
   pub lots : AreLots bytes table
   pub parts : new ≡ given_lots table
   pub answer_is : answer ≡ bare ACCEPTED
@@ -49,30 +49,12 @@ pub record IsAreaAnswered (IsSuch : Fraction → Type 0) (new : TownshipFraction
 
 -- `township_lots_acres`: the hundredths of an acre of the land described
 abbrev pub IsLotsAcresCall : GivenLots → List ℕ → TownshipAnswer → Type 0
-IsLotsAcresCall given description = ByLots given (λ table.
-    Answers (AreAcresAnswered (HasLotAreaOf table description))
-    (IsRefusedFor (HasNoLotAreaOf table description)))
+IsLotsAcresCall given description = ByLots given (λ township.
+    Answers (AreAcresAnswered (HasLotAreaOf township given.lots description))
+    (IsRefusedFor (HasNoLotAreaOf township given.lots description)))
 
 -- `township_lots_area`: the parts of its exact area
 abbrev pub IsLotsAreaCall : GivenLots → List ℕ → TownshipFraction → TownshipAnswer → Type 0
-IsLotsAreaCall given description new = ByLots given (λ table.
-    Answers (IsAreaAnswered (HasLotAreaOf table description) new)
-    (IsRefusedFor (HasNoLotAreaOf table description)))
-
--- what a call by a lot table answers for land in the table's township: this holds of the answer; or
--- the table lacks a lot of the land
-abbrev pub OfLandByLots : GivenLots → GivenLand
-    → (ReturnedLots → (ℕ → ℕ → ℕ → Bool) → TownshipAnswer → Type 0) → TownshipAnswer → Type 0
-OfLandByLots given land Accepted = ByLots given (λ table. OnLand land (λ township places.
-    InOneTownship table.township township (λ answer.
-    Accepted table places answer ⊎ IsRefusedFor (IsLackingLot table places) answer)))
-
--- `township_lots_land_acres`: the hundredths of an acre of the land
-abbrev pub IsLotsLandAcresCall : GivenLots → GivenLand → TownshipAnswer → Type 0
-IsLotsLandAcresCall given land = OfLandByLots given land (λ table places.
-    AreAcresAnswered (HasLotArea table places))
-
--- `township_lots_land_area`: the parts of its exact area
-abbrev pub IsLotsLandAreaCall : GivenLots → GivenLand → TownshipFraction → TownshipAnswer → Type 0
-IsLotsLandAreaCall given land new = OfLandByLots given land (λ table places.
-    IsAreaAnswered (HasLotArea table places) new)
+IsLotsAreaCall given description new = ByLots given (λ township.
+    Answers (IsAreaAnswered (HasLotAreaOf township given.lots description) new)
+    (IsRefusedFor (HasNoLotAreaOf township given.lots description)))

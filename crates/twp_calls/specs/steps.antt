@@ -7,3 +7,4 @@ pub mod Plain
 pub mod Suggesting
 pub mod DesignationSteps
 pub mod SplitSteps
+pub mod LandSteps

@@ -1,16 +1,19 @@
 //! The calls that combine and compare two sets of land.
-ghost use Rattle.std.specs.Prelude.{◌≡◌, ◌≢◌};
+ghost use Rattle.std.specs.Prelude.{◌≡◌, ◌≢◌, MatchOption};
+ghost use Rattle.twp_land.specs.Comparisons.{Compares};
 ghost use Rattle.twp_land.specs.Storage.{land_of_rows};
 ghost use Rattle.twp_calls.specs.Answers.{ACCEPTED};
 ghost use Rattle.twp_calls.specs.LandCalls.{IsCombineCall, IsCompareCall, combined, operation_of};
 ghost use Rattle.twp_calls.specs.LandCalls.{code_of_comparison};
+ghost use Rattle.twp_calls.specs.steps.LandSteps.{AreLotsValid};
 
 use crate::answer::TownshipAnswer;
 use crate::designation::is_same_township;
 use crate::land::TownshipLand;
-use crate::verdict::{ACCEPTED, NO_LAND, NO_OPERATION, OTHER_TOWNSHIP};
+use crate::verdict::{ACCEPTED, NO_LAND, NO_OPERATION, OTHER_PLAT, OTHER_TOWNSHIP};
 use twp_land::{
-    Comparison, LandRows, compare_rows, write_difference, write_intersection, write_union,
+    Comparison, LandRows, Lanes, compare, compare_rows, write_difference, write_intersection,
+    write_union,
 };
 
 /// How two sets of land are combined.
@@ -72,7 +75,12 @@ pub fn township_land_combine(
     if !is_same_township(township, other) {
         return TownshipAnswer::bare(OTHER_TOWNSHIP);
     }
+    if !first.plat().is_same(second.plat()) {
+        return TownshipAnswer::bare(OTHER_PLAT);
+    }
     operation.write(&first.rows, &second.rows, &mut land.rows);
+    land.date = first.date;
+    land.own_lots = first.own_lots;
     land.township = first.township;
     TownshipAnswer::bare(ACCEPTED)
 }
@@ -92,14 +100,32 @@ pub fn township_land_compare(
     let Some(other) = second.township.township() else {
         return TownshipAnswer::bare(NO_LAND);
     };
-    let Some(compared) = compare_rows(&first.rows, &second.rows) else {
+    let Some(compared) = compared_places(first, second) else {
         return TownshipAnswer::bare(NO_LAND);
     };
     if !is_same_township(township, other) {
         return TownshipAnswer::bare(OTHER_TOWNSHIP);
     }
+    if !first.plat().is_same(second.plat()) {
+        return TownshipAnswer::bare(OTHER_PLAT);
+    }
     *comparison = code_of_comparison(compared);
     TownshipAnswer::bare(ACCEPTED)
+}
+
+/// How the places of one set compare to those of another. `None` if the lots of either are not valid.
+fn compared_places(first: &TownshipLand, second: &TownshipLand) -> Option<Comparison>
+    ensures { MatchOption result (¬ (AreLotsValid first.now × AreLotsValid second.now))
+        (λ comparison. AreLotsValid first.now × AreLotsValid second.now
+        × Compares comparison (land_of_rows first.now.rows) (land_of_rows second.now.rows)) }
+{
+    if first.own_lots == 0 && second.own_lots == 0 {
+        return compare_rows(&first.rows, &second.rows);
+    }
+    if !first.are_lots_valid() || !second.are_lots_valid() {
+        return None;
+    }
+    Some(compare(&Lanes::of_rows(&first.rows), &Lanes::of_rows(&second.rows)))
 }
 
 /// The number of a comparison.

@@ -23,6 +23,7 @@ use twp_excerpt::Spot;
 use twp_explain::{
     Note, explain_description, explain_notes, explain_tracts, note_description, note_tracts,
 };
+use twp_land::StandardLots;
 use twp_phrases::Phrases;
 use twp_plat::Account;
 use twp_suggest::OnlyReading;
@@ -90,7 +91,13 @@ pub fn township_explain_description_parts(
         Err(Stop::Failed(_)) => return TownshipAnswer::bare(NO_MEMORY),
         Err(Stop::Refused(refusal)) => TownshipAnswer::of_refusal(refusal),
     };
-    match explain_description::<OnlyReading<Phrases>>(alloc, plat.township(), &file) {
+    let explained = explain_description::<OnlyReading<Phrases>, StandardLots>(
+        alloc,
+        plat.township(),
+        &file,
+        &StandardLots,
+    );
+    match explained {
         Ok(Some(explained)) => put_explained(alloc, refused, &explained, text, explanation),
         Ok(None) => TownshipAnswer::bare(NO_MEMORY),
         Err(_) => TownshipAnswer::bare(NO_MEMORY),
@@ -198,7 +205,7 @@ fn put_parts(is_put: bool, parts: TownshipExplanation, explanation: &mut Townshi
 }
 
 /// Puts a note beside the verdict that accepts, and its parts, if there is one.
-fn put_noted(
+pub(crate) fn put_noted(
     noted: Result<Option<Note>, AllocError>,
     text: &mut [u8],
     explanation: &mut TownshipExplanation,

@@ -14,7 +14,8 @@ use crate::verdict::{ACCEPTED, NO_LOTS, NO_MEMORY};
 use std::alloc::Global;
 use twp_explain::{explain_lacking, explain_lots};
 use twp_grid::Section;
-use twp_plat::LotTable;
+use twp_land::Lotting;
+use twp_plat::ReturnedLots;
 
 /// Explains why bytes are no lot table.
 #[tactic(auto, using(crate::proofs::ExplanationPartFacts::shown_text))]
@@ -90,13 +91,19 @@ pub fn township_explain_lacking_parts(
     ensures shows { IsRefused result.verdict
         → IsShownInParts [] name.now text.old text.new explanation.new result }
 {
-    let Some(table) = lots.table() else {
+    let Some(_township) = lots.township.township() else {
         return TownshipAnswer::bare(NO_LOTS);
     };
-    let Some(lot) = lacking_at(&table, at) else {
+    let Some(lot) = lacking_at(&lots.lots, at) else {
         return TownshipAnswer::bare(ACCEPTED);
     };
-    match explain_lacking(alloc, &table, &given(name, b""), lot.section, lot.number) {
+    match explain_lacking(
+        alloc,
+        &lots.lots,
+        &given(name, b""),
+        lot.section,
+        lot.number,
+    ) {
         Ok(explained) => {
             let refused = TownshipAnswer::of_refusal(explained.refusal);
             put_explained(alloc, refused, &explained, text, explanation)
@@ -113,16 +120,19 @@ struct LotOfSection {
 }
 
 /// The lot at a place, if a table lacks it: 100 times its section's number, and its own number.
-fn lacking_at(table: &LotTable, at: u32) -> Option<LotOfSection>
-    ensures { MatchOption result (IsNoLackingAt table.now at)
-        (λ lot. IsLackingAt table.now at lot.section lot.number) }
+fn lacking_at(lots: &ReturnedLots, at: u32) -> Option<LotOfSection>
+    ensures { MatchOption result (IsNoLackingAt lots.now at)
+        (λ lot. IsLackingAt lots.now at lot.section lot.number) }
 {
     if at / 100 > 36 {
         return None;
     }
     let section = Section::new((at / 100) as u8)?;
     let number = (at % 100) as u8;
-    if table.figure(section, number).is_some() {
+    if !lots.plat.has_lot(section, u16::from(number)) {
+        return None;
+    }
+    if lots.figure(section, number).is_some() {
         return None;
     }
     Some(LotOfSection { section, number })

@@ -1,4 +1,4 @@
-//! The calls that answer for land, which is plain data that the caller keeps.
+//! The calls that answer for land, which is plain data that the caller keeps. The lots are the standard ones.
 ghost use Rattle.std.specs.Prelude.{◌≡◌, ◌≢◌};
 ghost use Rattle.twp_calls.specs.Answers.{ACCEPTED};
 ghost use Rattle.twp_calls.specs.LandCalls.{IsLandReadCall, IsLandAcresCall, IsLandAreaCall};
@@ -12,8 +12,9 @@ use crate::land::TownshipLand;
 use crate::plat::TownshipPlat;
 use crate::text::put;
 use crate::verdict::{
-    ACCEPTED, NO_ACCOUNT, NO_LAND, NO_MEMORY, NO_PLAT, NO_TOWNSHIP, OTHER_TOWNSHIP,
+    ACCEPTED, NO_ACCOUNT, NO_LAND, NO_MEMORY, NO_PLAT, NO_TOWNSHIP, OTHER_PLAT, OTHER_TOWNSHIP,
 };
+use crate::which_plat::REGULAR;
 use std::alloc::Global;
 use twp_answers::{acres_of, land_of};
 use twp_land::StandardLots;
@@ -33,9 +34,9 @@ pub fn township_land_read(
     let Some(township) = township.township() else {
         return TownshipAnswer::bare(NO_TOWNSHIP);
     };
-    match land_of(alloc, township, description) {
+    match land_of(alloc, township, description, &StandardLots) {
         Ok(places) => {
-            *land = TownshipLand::of(township, &places);
+            *land = TownshipLand::of(township, REGULAR, &places);
             TownshipAnswer::bare(ACCEPTED)
         }
         Err(stop) => TownshipAnswer::of_stop(stop),
@@ -49,6 +50,7 @@ pub fn township_land_acres(plat: &TownshipPlat, land: &TownshipLand, account: u3
     let Some(plat) = plat.plat() else {
         return TownshipAnswer::bare(NO_PLAT);
     };
+    let own_lots = land.own_lots;
     let Some(land) = land.land() else {
         return TownshipAnswer::bare(NO_LAND);
     };
@@ -57,6 +59,9 @@ pub fn township_land_acres(plat: &TownshipPlat, land: &TownshipLand, account: u3
     };
     if !is_same_township(plat.township(), land.township) {
         return TownshipAnswer::bare(OTHER_TOWNSHIP);
+    }
+    if own_lots != 0 {
+        return TownshipAnswer::bare(OTHER_PLAT);
     }
     TownshipAnswer::of_acres(acres_of(&plat, &land.places, account))
 }
@@ -74,6 +79,7 @@ pub fn township_land_area(
     let Some(plat) = plat.plat() else {
         return TownshipAnswer::bare(NO_PLAT);
     };
+    let own_lots = land.own_lots;
     let Some(land) = land.land() else {
         return TownshipAnswer::bare(NO_LAND);
     };
@@ -83,18 +89,25 @@ pub fn township_land_area(
     if !is_same_township(plat.township(), land.township) {
         return TownshipAnswer::bare(OTHER_TOWNSHIP);
     }
+    if own_lots != 0 {
+        return TownshipAnswer::bare(OTHER_PLAT);
+    }
     *area = TownshipFraction::of(&area_by(account, &plat, &land.places));
     TownshipAnswer::bare(ACCEPTED)
 }
 
-/// The canonical text of land.
+/// The canonical text of land on a plat with the standard lots.
 pub fn township_land_text(alloc: Global, land: &TownshipLand, text: &mut [u8]) -> TownshipAnswer
     ensures answer { IsLandTextCall land.now text.old text.new result }
     ensures kept { result.verdict ≢ ACCEPTED → text.new ≡ text.old }
 {
+    let own_lots = land.own_lots;
     let Some(land) = land.land() else {
         return TownshipAnswer::bare(NO_LAND);
     };
+    if own_lots != 0 {
+        return TownshipAnswer::bare(OTHER_PLAT);
+    }
     match spell(alloc, &land.places, land.township, &StandardLots) {
         Ok(spelled) => put(TownshipAnswer::bare(ACCEPTED), &spelled, text),
         Err(_) => TownshipAnswer::bare(NO_MEMORY),

@@ -10,7 +10,7 @@ ghost use Rattle.twp_calls.specs.steps.PartSteps.{AddsSection, AddsLots, AddsBlo
 use crate::answer::TownshipAnswer;
 use crate::land::TownshipLand;
 use crate::many::counted;
-use crate::verdict::{ACCEPTED, NO_LAND, NO_MEMORY, NO_ROOM};
+use crate::verdict::{ACCEPTED, NO_LAND, NO_MEMORY, NO_ROOM, OTHER_PLAT};
 use std::alloc::{AllocError, Global};
 use twp_grid::{Block, SECTIONS, Section};
 use twp_land::{Land, StandardLots};
@@ -59,9 +59,13 @@ pub fn township_land_parts(
     ensures answer { IsLandPartsCall land.now parts.old parts.new result }
     ensures kept { result.verdict ≢ ACCEPTED → parts.new ≡ parts.old }
 {
+    let own_lots = land.own_lots;
     let Some(land) = land.land() else {
         return TownshipAnswer::bare(NO_LAND);
     };
+    if own_lots != 0 {
+        return TownshipAnswer::bare(OTHER_PLAT);
+    }
     match parts_of(alloc, &land.places) {
         Ok(found) => put_parts(&found, parts),
         Err(_) => TownshipAnswer::bare(NO_MEMORY),

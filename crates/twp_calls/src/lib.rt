@@ -18,6 +18,7 @@ mod designation_stage;
 mod designation_text;
 mod each_call;
 mod explaining;
+mod explaining_by_lots;
 mod explaining_lots;
 mod explaining_texts;
 mod explanation;
@@ -30,7 +31,9 @@ mod land_end;
 mod land_parts;
 pub mod laws;
 mod lot_answers;
+mod lot_lands;
 mod lots;
+mod lots_plain;
 mod lots_report_call;
 mod many;
 mod name;
@@ -46,6 +49,7 @@ mod text;
 mod unread;
 mod verdict;
 mod version;
+mod which_plat;
 mod writing;
 
 pub use account_call::{TownshipTotals, TownshipTract, township_account};
@@ -61,6 +65,9 @@ pub use each_call::{TownshipTractAnswer, township_report_each};
 pub use explaining::{
     township_explain_description_parts, township_explain_list_parts, township_explain_notes_parts,
     township_version,
+};
+pub use explaining_by_lots::{
+    township_lots_explain_description, township_lots_explain_description_parts,
 };
 pub use explaining_lots::{
     township_explain_lacking, township_explain_lacking_parts, township_explain_lots,
@@ -78,11 +85,13 @@ pub use land_answers::{
     township_land_acres, township_land_area, township_land_read, township_land_text,
 };
 pub use land_parts::{TownshipPart, township_land_parts};
-pub use lot_answers::{
-    township_lots_acres, township_lots_area, township_lots_land_acres, township_lots_land_area,
-    township_lots_read,
+pub use lot_answers::{township_lots_acres, township_lots_area, township_lots_read};
+pub use lot_lands::{
+    township_lots_land_acres, township_lots_land_area, township_lots_land_read,
+    township_lots_land_text,
 };
 pub use lots::TownshipLots;
+pub use lots_plain::township_lots_plain;
 pub use lots_report_call::township_lots_report;
 pub use many::township_acres_many;
 pub use overlaps_call::{TownshipOverlap, township_overlaps};

@@ -1,21 +1,18 @@
-//! The calls that answer by a lot table, which is plain data.
+//! The calls that read a lot table, which is plain data, and answer for a description by it.
 ghost use Rattle.std.specs.Prelude.{◌≡◌, ◌≢◌};
 ghost use Rattle.twp_calls.specs.Answers.{ACCEPTED};
 ghost use Rattle.twp_calls.specs.LotCalls.{IsLotsReadCall, IsLotsAcresCall, IsLotsAreaCall};
-ghost use Rattle.twp_calls.specs.LotCalls.{IsLotsLandAcresCall, IsLotsLandAreaCall};
 ghost use Rattle.twp_calls.specs.steps.LotSteps.{AnswersByLots};
 
 use crate::answer::TownshipAnswer;
-use crate::designation::is_same_township;
 use crate::fraction::TownshipFraction;
-use crate::land::TownshipLand;
 use crate::lots::TownshipLots;
-use crate::verdict::{ACCEPTED, NO_LAND, NO_LOTS, OTHER_TOWNSHIP};
+use crate::verdict::{ACCEPTED, NO_LOTS};
 use std::alloc::Global;
 use twp_answers::{Stop, land_of};
-use twp_grid::Bytes;
+use twp_grid::{Bytes, Township};
 use twp_measure::Area;
-use twp_plat::{LotTable, area_by_lots};
+use twp_plat::{LotTable, ReturnedLots, area_by_lots};
 
 /// Reads a lot table.
 pub fn township_lots_read(alloc: Global, table: &[u8], lots: &mut TownshipLots) -> TownshipAnswer
@@ -24,7 +21,7 @@ pub fn township_lots_read(alloc: Global, table: &[u8], lots: &mut TownshipLots) 
 {
     match LotTable::read(alloc, &mut Bytes::new(table)) {
         Ok(read) => {
-            *lots = TownshipLots::of(&read);
+            *lots = TownshipLots::of(read);
             TownshipAnswer::bare(ACCEPTED)
         }
         Err(fault) => TownshipAnswer::of_lots_fault(fault),
@@ -35,10 +32,10 @@ pub fn township_lots_read(alloc: Global, table: &[u8], lots: &mut TownshipLots) 
 pub fn township_lots_acres(alloc: Global, lots: &TownshipLots, description: &[u8]) -> TownshipAnswer
     ensures { IsLotsAcresCall lots.now description.now result }
 {
-    let Some(table) = lots.table() else {
+    let Some(township) = lots.township.township() else {
         return TownshipAnswer::bare(NO_LOTS);
     };
-    match area_described(alloc, &table, description) {
+    match area_described(alloc, township, &lots.lots, description) {
         Ok(area) => TownshipAnswer::of_acres(area.hundredths()),
         Err(stop) => TownshipAnswer::of_stop(stop),
     }
@@ -54,10 +51,10 @@ pub fn township_lots_area(
     ensures answer { IsLotsAreaCall lots.now description.now area.new result }
     ensures kept { result.verdict ≢ ACCEPTED → area.new ≡ area.old }
 {
-    let Some(table) = lots.table() else {
+    let Some(township) = lots.township.township() else {
         return TownshipAnswer::bare(NO_LOTS);
     };
-    match area_described(alloc, &table, description) {
+    match area_described(alloc, township, &lots.lots, description) {
         Ok(exact) => {
             *area = TownshipFraction::of(&exact);
             TownshipAnswer::bare(ACCEPTED)
@@ -66,58 +63,17 @@ pub fn township_lots_area(
     }
 }
 
-/// The acres of land by a lot table.
-pub fn township_lots_land_acres(lots: &TownshipLots, land: &TownshipLand) -> TownshipAnswer
-    ensures { IsLotsLandAcresCall lots.now land.now result }
-{
-    let Some(table) = lots.table() else {
-        return TownshipAnswer::bare(NO_LOTS);
-    };
-    let Some(land) = land.land() else {
-        return TownshipAnswer::bare(NO_LAND);
-    };
-    if !is_same_township(table.township(), land.township) {
-        return TownshipAnswer::bare(OTHER_TOWNSHIP);
-    }
-    match area_by_lots(&table, &land.places) {
-        Ok(area) => TownshipAnswer::of_acres(area.hundredths()),
-        Err(lot) => TownshipAnswer::of_refusal(lot.refusal()),
-    }
-}
-
-/// The exact area, of which `township_lots_land_acres` has the hundredths.
-pub fn township_lots_land_area(
-    lots: &TownshipLots,
-    land: &TownshipLand,
-    area: &mut TownshipFraction,
-) -> TownshipAnswer
-    ensures answer { IsLotsLandAreaCall lots.now land.now area.new result }
-    ensures kept { result.verdict ≢ ACCEPTED → area.new ≡ area.old }
-{
-    let Some(table) = lots.table() else {
-        return TownshipAnswer::bare(NO_LOTS);
-    };
-    let Some(land) = land.land() else {
-        return TownshipAnswer::bare(NO_LAND);
-    };
-    if !is_same_township(table.township(), land.township) {
-        return TownshipAnswer::bare(OTHER_TOWNSHIP);
-    }
-    match area_by_lots(&table, &land.places) {
-        Ok(exact) => {
-            *area = TownshipFraction::of(&exact);
-            TownshipAnswer::bare(ACCEPTED)
-        }
-        Err(lot) => TownshipAnswer::of_refusal(lot.refusal()),
-    }
-}
-
 /// The area of the land described by a lot table, or why there is none.
-fn area_described(alloc: Global, table: &LotTable, description: &[u8]) -> Result<Area, Stop>
-    ensures { AnswersByLots table.now description.now result }
+fn area_described(
+    alloc: Global,
+    township: Township,
+    lots: &ReturnedLots,
+    description: &[u8],
+) -> Result<Area, Stop>
+    ensures { AnswersByLots township lots.now description.now result }
 {
-    let land = land_of(alloc, table.township(), description)?;
-    match area_by_lots(table, &land) {
+    let land = land_of(alloc, township, description, &lots.plat)?;
+    match area_by_lots(lots, &land) {
         Ok(area) => Ok(area),
         Err(lot) => Err(Stop::Refused(lot.refusal())),
     }

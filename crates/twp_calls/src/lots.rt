@@ -1,36 +1,45 @@
 //! Lot tables as plain data.
-ghost use Rattle.std.specs.Prelude.{◌≡◌, MatchOption};
-ghost use Rattle.twp_calls.specs.GivenLots.{IsGivenLots, IsNoGivenLots, given_lots};
+ghost use Rattle.std.specs.Prelude.{◌≡◌};
+ghost use Rattle.twp_calls.specs.GivenLots.{given_lots};
+ghost use Rattle.twp_calls.specs.WhichPlats.{plat_of_lots};
 
 use crate::designation::TownshipDesignation;
-use twp_plat::{LOTS, LotTable};
+use crate::which_plat::WhichPlat;
+use twp_plat::{LotTable, ReturnedLots};
 
-/// The parts of a lot table, whether they are valid or not.
+/// The parts of a lot table. Any are valid if the township's are.
 #[repr(C)]
-#[derive(Clone, Copy)]
+#[derive(Clone, Drop)]
 pub struct TownshipLots {
-    /// The acreage that is returned for each lot, by section and in each section by number, in
-    /// hundredths of an acre: 1 to 99,999, or 0 if the lot is lacking.
-    pub figures: [u32; LOTS],
+    /// The lots, and the acreage that is returned for each.
+    pub lots: ReturnedLots,
+    /// The date of approval as a number: 10,000 times the year, 100 times the month, and the day. 0
+    /// if it isn't known.
+    pub date: u32,
     /// The township that the table is for.
     pub township: TownshipDesignation,
 }
 
 impl TownshipLots {
     /// The parts of a lot table.
-    pub(crate) fn of(table: &LotTable) -> TownshipLots
-        ensures { result ≡ given_lots table.now }
+    pub(crate) fn of(table: LotTable) -> TownshipLots
+        ensures { result ≡ given_lots table }
     {
         TownshipLots {
-            figures: *table.figures(),
-            township: TownshipDesignation::of(table.township()),
+            township: TownshipDesignation::of(table.township),
+            date: table.date,
+            lots: table.lots,
         }
     }
 
-    /// The lot table with these parts, if there is one.
-    pub(crate) fn table(&self) -> Option<LotTable>
-        ensures { MatchOption result (IsNoGivenLots self.now) (IsGivenLots self.now) }
+    /// The plat that the table is of.
+    pub(crate) fn plat(&self) -> WhichPlat
+        ensures { result ≡ plat_of_lots self.now }
     {
-        LotTable::new(self.township.township()?, &self.figures)
+        let own_lots = if self.lots.plat.mapped == 0 { 0 } else { 1 };
+        WhichPlat {
+            date: self.date,
+            own_lots,
+        }
     }
 }

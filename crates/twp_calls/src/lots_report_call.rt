@@ -1,6 +1,7 @@
 //! The account of a list of tracts by a lot table, as numbers.
 ghost use Rattle.std.specs.Prelude.{◌≡◌, ◌≢◌, List, ℕ};
-ghost use Rattle.twp_plat.specs.LotTables.{ReturnedLots};
+ghost use Rattle.twp_grid.specs.Townships.{Designation};
+ghost use Rattle.twp_plat.specs.declared.lots.returned.ReturnedLots.{ReturnedLots};
 ghost use Rattle.twp_answers.specs.LotAccounts.{IsAccountByLots};
 ghost use Rattle.twp_calls.specs.Answers.{ACCEPTED, answer};
 ghost use Rattle.twp_calls.specs.LotReports.{HasAccountByLots, IsLotsReportCall};
@@ -23,10 +24,10 @@ pub fn township_lots_report(
     ensures answer { IsLotsReportCall lots.now list.now tracts.old tracts.new result }
     ensures kept { result.verdict ≢ ACCEPTED → tracts.new ≡ tracts.old }
 {
-    let Some(table) = lots.table() else {
+    let Some(township) = lots.township.township() else {
         return TownshipAnswer::bare(NO_LOTS);
     };
-    match account_by_lots(alloc, &table, list) {
+    match account_by_lots(alloc, township, &lots.lots, list) {
         Ok(account) => put_account(account.tracts.as_slice(), account.total, tracts),
         Err(fault) => TownshipAnswer::of_fault(fault),
     }
@@ -35,9 +36,9 @@ pub fn township_lots_report(
 /// Puts the tracts of an account with this total at the front of the room for them; or nothing if
 /// there is too little.
 fn put_account(figures: &[TractFigure], total: u64, tracts: &mut [TownshipTract]) -> TownshipAnswer
-    ensures has { (table : ReturnedLots) (list : List ℕ)
-        → IsAccountByLots table list figures.now total
-        → HasAccountByLots table list tracts.old tracts.new result }
+    ensures has { (township : Designation) (lots : ReturnedLots) (list : List ℕ)
+        → IsAccountByLots township lots list figures.now total
+        → HasAccountByLots township lots list tracts.old tracts.new result }
     ensures kept { result.verdict ≢ ACCEPTED → tracts.new ≡ tracts.old }
 {
     let count = figures.len();

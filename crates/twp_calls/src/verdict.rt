@@ -26,6 +26,8 @@ pub const NO_TOWNSHIP: u32 = 10;
 pub const NO_OPERATION: u32 = 11;
 /// The two arguments are in different townships.
 pub const OTHER_TOWNSHIP: u32 = 12;
+/// The two arguments are of different plats of one township.
+pub const OTHER_PLAT: u32 = 13;
 
 /// The refusal of a tract whose own description is refused.
 pub const TRACT_NUMBER: u32 = 83;

@@ -17,7 +17,7 @@ use Rattle.twp_grammar.specs.ItemPlaces.{cuts_of, is_lot_from}
 use Rattle.twp_resolve.specs.steps.ResolvingSteps.{lots_from}
 use Rattle.twp_spell.specs.CanonicalText.{IsLotHeld, IsCanonicalText}
 use Rattle.twp_diagnose.specs.declared.finding.PartOfLots.{PartOfLots}
-use Rattle.twp_diagnose.specs.PartOfLots.{land_off_lots, IsPartOfLots}
+use Rattle.twp_diagnose.specs.PartOfLots.{left_of_section, IsPartOfLots}
 
 -- what is added to no land, in its section
 pub added_here : (s : ℕ) (block : Rectangle)
@@ -26,7 +26,7 @@ added_here s block = fun_ext (λ c. fun_ext (λ r. rw (eq-eqb s s refl) refl))
 
 -- what is left of a set without the lots of a section, and what the plat doesn't have there
 in_no_lot : (h p l : Bool) → (h ≡ true → p ≡ true)
-    → ((h && not (p && (true && false))) && (p && (true && l))) ≡ (true && (l && (h && true)))
+    → ((h && not (p && (true && false))) && (p && (true && l))) ≡ (true && ((h && true) && l))
 in_no_lot true true true place = refl
 in_no_lot true true false place = refl
 in_no_lot true false l place = cc (place refl)
@@ -34,7 +34,7 @@ in_no_lot false p true place = refl
 in_no_lot false p false place = refl
 
 in_lot : (h l : Bool) → ((h && not (true && (true && true))) && (true && (true && l)))
-    ≡ (true && (l && (h && false)))
+    ≡ (true && ((h && false) && l))
 in_lot true true = refl
 in_lot true false = refl
 in_lot false true = refl
@@ -45,7 +45,7 @@ left_here : (layout : Layout) (s c r : ℕ) (held : Bool) → AreLots (lotting l
     → (lot : Option ℕ) → layout.lot_of s c r ≡ lot
     → ((held && not (lots_from (lotting layout) s 1 LOT_NUMBER_MOST s c r))
     && section_places (lotting layout) s s c r)
-    ≡ land_off_lots (lotting layout) s (λ column row. held) s c r
+    ≡ left_of_section (lotting layout) s (λ column row. held) s c r
 left_here layout s c r held fine place None at =
     rw (eq-eqb s s refl, at) (in_no_lot held (is_place PLACE_DIGITS c r) (layout.has_land s c r) place)
 left_here layout s c r held fine place (Some n) at =
@@ -65,7 +65,7 @@ pub off_lots_kept : (layout : Layout) (s : ℕ) (old taken kept : ℕ → ℕ �
     → ((o c r : ℕ) → old o c r ≡ true → IsPlace PLACE_DIGITS c r)
     → taken ≡ difference old (lots_from (lotting layout) s 1 LOT_NUMBER_MOST)
     → kept ≡ intersection taken (section_places (lotting layout) s)
-    → kept ≡ land_off_lots (lotting layout) s (old s)
+    → kept ≡ left_of_section (lotting layout) s (old s)
 off_lots_kept layout s old taken kept fine places less common =
     common ∙ ap (λ p. intersection p (section_places (lotting layout) s)) less
     ∙ fun_ext (λ o. fun_ext (λ c. fun_ext (λ r. at_place o c r (cases_Bool (s == o)))))
@@ -73,12 +73,12 @@ off_lots_kept layout s old taken kept fine places less common =
     at_place : (o c r : ℕ) → ((s == o) ≡ true) ⊎ ((s == o) ≡ false)
         → ((old o c r && not (lots_from (lotting layout) s 1 LOT_NUMBER_MOST o c r))
         && section_places (lotting layout) s o c r)
-        ≡ land_off_lots (lotting layout) s (old s) o c r
+        ≡ left_of_section (lotting layout) s (old s) o c r
     at_place o c r (inl here) =
         subst (λ there.
         ((old there c r && not (lots_from (lotting layout) s 1 LOT_NUMBER_MOST there c r))
         && section_places (lotting layout) s there c r)
-        ≡ land_off_lots (lotting layout) s (old s) there c r) (eqb-true s o here)
+        ≡ left_of_section (lotting layout) s (old s) there c r) (eqb-true s o here)
         (left_here layout s c r (old s c r) fine
         (λ held. test_of_place PLACE_DIGITS c r (places s c r held)) (layout.lot_of s c r) refl)
     at_place o c r (inr not) =
@@ -91,7 +91,7 @@ pub part_found : (layout : Layout) (township : Designation) (section : ℕ) (ste
     (part : PartOfLots) (block : Rectangle) (empty with left : ℕ → ℕ → ℕ → Bool)
     → AreWithin PLACE_DIGITS (cuts_of steps) → block ≡ reached PLACE_DIGITS (cuts_of steps)
     → empty ≡ no_places → with ≡ union empty (block_places section block)
-    → left ≡ land_off_lots (lotting layout) section (with section)
+    → left ≡ left_of_section (lotting layout) section (with section)
     → part.section ≡ section
     → AreListed (IsLotHeld (lotting layout) section (with section)) ◌<◌ part.lots.items
     → (IsTrue part.are_whole ↔ ((lot : ℕ) → IsWholeOrNot (lotting layout) section lot (with section)))
@@ -118,5 +118,5 @@ part_found layout township section steps part block empty with left within is no
           whole;
       rest_is = subst
           (λ (p : ℕ → ℕ → ℕ → Bool). IsCanonicalText (lotting layout) township p part.rest.items)
-          (off ∙ ap (λ (held : ℕ → ℕ → Bool). land_off_lots (lotting layout) section held) here) rest;
+          (off ∙ ap (λ (held : ℕ → ℕ → Bool). left_of_section (lotting layout) section held) here) rest;
     }

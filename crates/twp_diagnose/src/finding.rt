@@ -8,7 +8,7 @@ ghost use Rattle.twp_grid.specs.Places.{PLACE_DIGITS};
 ghost use Rattle.twp_grid.specs.Cuts.{AreWithin};
 ghost use Rattle.twp_grid.specs.Lands.{lotting};
 ghost use Rattle.twp_grammar.specs.ItemPlaces.{cuts_of};
-ghost use Rattle.twp_diagnose.specs.PartOfLots.{IsPartOfLots, land_off_lots};
+ghost use Rattle.twp_diagnose.specs.PartOfLots.{IsPartOfLots, left_of_section};
 
 use crate::explanation::{Explanation, OtherPlace};
 use crate::location::{Given, Located, Location, message_at};
@@ -159,7 +159,7 @@ pub fn part_of_lots<P: Lotting>(
 #[inline(never)]
 fn keep_off_lots<L: Land, P: Lotting>(land: &mut L, section: Section, lots: &P)
     ensures { L.places land.new
-        ≡ land_off_lots (lotting (P.layout lots.now)) section (L.places land.old section) }
+        ≡ left_of_section (lotting (P.layout lots.now)) section (L.places land.old section) }
 {
     let mut places = L::empty();
     fill_with_lots(&mut places, section, lots);

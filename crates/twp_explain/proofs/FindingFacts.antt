@@ -31,7 +31,7 @@ use Rattle.twp_diagnose.specs.declared.location.Origin.{Origin}
 use Rattle.twp_diagnose.specs.declared.explanation.Explanation.{Explanation}
 use Rattle.twp_diagnose.specs.declared.finding.SearchStop.{SearchStop}
 use Rattle.twp_diagnose.specs.declared.finding.SearchStop.TheVariants as stop
-use Rattle.twp_grid.specs.Lands.{STANDARD_LOTS}
+use Rattle.twp_grid.specs.Lands.{Lotting, STANDARD_LOTS}
 
 -- what holds where there is a refusal, of one that there is
 pub held : (answered : Option Refusal) (refusal : Refusal) (Held : Type 0)
@@ -63,28 +63,30 @@ lines_refused (stop.Found finding) bytes notes fault are first is =
 lines_refused stop.Memory bytes notes fault are first is = tt
 
 -- a text that isn't read is no description
-pub text_refused : (stopped : SearchStop) (township : Designation) (bytes : List ℕ) (fault : TextFault)
+pub text_refused : (lots : Lotting) (stopped : SearchStop) (township : Designation) (bytes : List ℕ)
+    (fault : TextFault)
     → IfSome (text_faults.refusal_of fault) (λ _. text_faults.IsFirstTextFault bytes fault)
     → IfFound stopped (λ found. text_faults.refusal_of fault ≡ Some found)
-    → IfFound stopped (IsNoDescription township bytes)
-text_refused (stop.Found finding) township bytes fault first is =
+    → IfFound stopped (IsNoDescription lots township bytes)
+text_refused lots (stop.Found finding) township bytes fault first is =
     inl (record {
       fault = fault;
       first = held (text_faults.refusal_of fault) finding.refusal
           (text_faults.IsFirstTextFault bytes fault) is first;
       refusal_is = is;
     })
-text_refused stop.Memory township bytes fault first is = tt
+text_refused lots stop.Memory township bytes fault first is = tt
 
 -- items that don't lie on the plat are no description of land on it
-pub items_refused : (stopped : SearchStop) (township : Designation) (bytes : List ℕ) (items : List Item)
+pub items_refused : (lots : Lotting) (stopped : SearchStop) (township : Designation) (bytes : List ℕ)
+    (items : List Item)
     (fault : PlaceFault)
-    → IsReadAs bytes items → place_faults.IsFirstPlaceFault STANDARD_LOTS township items fault
+    → IsReadAs bytes items → place_faults.IsFirstPlaceFault lots township items fault
     → IfFound stopped (λ found. place_faults.refusal_of fault ≡ Some found)
-    → IfFound stopped (IsNoDescription township bytes)
-items_refused (stop.Found finding) township bytes items fault read first is =
+    → IfFound stopped (IsNoDescription lots township bytes)
+items_refused lots (stop.Found finding) township bytes items fault read first is =
     inr (record { items = items; read = read; fault = fault; first = first; refusal_is = is })
-items_refused stop.Memory township bytes items fault read first is = tt
+items_refused lots stop.Memory township bytes items fault read first is = tt
 
 -- of notes that make a plat no refusal is the verdict
 pub platted_is_none : (bytes : List ℕ) (plat : TownshipPlat) (verdict : Verdict) → ArePlatted bytes plat
@@ -128,7 +130,7 @@ of_land notes description stop.Memory none = tt
 
 -- and so is a description that is of no land on their plat
 pub of_description : (notes description : List ℕ) (plat : TownshipPlat) (stopped : SearchStop)
-    → ArePlatted notes plat → IfFound stopped (IsNoDescription plat.township description)
+    → ArePlatted notes plat → IfFound stopped (IsNoDescription STANDARD_LOTS plat.township description)
     → IfFound stopped (IsRefusal notes description)
 of_description notes description plat (stop.Found finding) are none =
     inr (record { plat = plat; platted = are; refused = none })
@@ -136,25 +138,28 @@ of_description notes description plat stop.Memory are none = tt
 
 -- of land on their plat no refusal is the verdict
 pub land_is_none : (notes description : List ℕ) (plat : TownshipPlat) (verdict : Verdict)
-    → ArePlatted notes plat → DescribeLand plat.township description
+    → ArePlatted notes plat → DescribeLand STANDARD_LOTS plat.township description
     → IsOfNone (IsRefusal notes description) verdict
 land_is_none notes description plat verdict are land refusal (inl none) said =
     not_platted notes refusal plat none are
 land_is_none notes description plat verdict are land refusal (inr is) said =
     let same : is.plat ≡ plat = one_plat notes is.plat plat is.platted are in
-    not_described plat.township description refusal land.0
-    (subst (λ (p : TownshipPlat). IsNoDescription p.township description refusal) same is.refused) land.1
+    not_described STANDARD_LOTS plat.township description refusal land.0
+    (subst (λ (p : TownshipPlat). IsNoDescription STANDARD_LOTS p.township description refusal) same
+    is.refused)
+    land.1
 
 -- a text that isn't read is shown up to the sign at fault
-pub text_shows : (stopped : SearchStop) (origin : Origin) (township : Designation) (bytes : List ℕ)
+pub text_shows : (lots : Lotting) (stopped : SearchStop) (origin : Origin) (township : Designation)
+    (bytes : List ℕ)
     (fault : TextFault)
     → IfSome (text_faults.refusal_of fault) (λ _. text_faults.IsFirstTextFault bytes fault)
     → IfFound stopped (λ found. text_faults.refusal_of fault ≡ Some found) → IfShown origin bytes stopped
     → (fault ≢ text.TooLarge → IfFinds stopped (λ finding.
     EndsWithSign origin bytes finding.refusal.at finding.place))
     → IfFinds stopped (λ finding. finding.other ≡ None)
-    → IfFinds stopped (ShowsFound origin township bytes)
-text_shows (stop.Found finding) origin township bytes fault first is begins ends none =
+    → IfFinds stopped (ShowsFound lots origin township bytes)
+text_shows lots (stop.Found finding) origin township bytes fault first is begins ends none =
     record {
       begins = begins;
       ends = inl (record {
@@ -166,17 +171,18 @@ text_shows (stop.Found finding) origin township bytes fault first is begins ends
         no_other = none;
       });
     }
-text_shows stop.Memory origin township bytes fault first is begins ends none = tt
+text_shows lots stop.Memory origin township bytes fault first is begins ends none = tt
 
 -- items that name no land on the plat are shown up to the end of what is at fault
-pub items_show : (stopped : SearchStop) (origin : Origin) (township : Designation) (bytes : List ℕ)
+pub items_show : (lots : Lotting) (stopped : SearchStop) (origin : Origin) (township : Designation)
+    (bytes : List ℕ)
     (items : List Item) (fault : PlaceFault)
-    → IsReadAs bytes items → place_faults.IsFirstPlaceFault STANDARD_LOTS township items fault
+    → IsReadAs bytes items → place_faults.IsFirstPlaceFault lots township items fault
     → IfFound stopped (λ found. place_faults.refusal_of fault ≡ Some found) → IfShown origin bytes stopped
     → IfFinds stopped (λ finding. EndsWithFault origin bytes items fault finding.place)
-    → IfFinds stopped (λ finding. IsOtherPlace STANDARD_LOTS origin bytes township items fault finding.other)
-    → IfFinds stopped (ShowsFound origin township bytes)
-items_show (stop.Found finding) origin township bytes items fault read first is begins ends other =
+    → IfFinds stopped (λ finding. IsOtherPlace lots origin bytes township items fault finding.other)
+    → IfFinds stopped (ShowsFound lots origin township bytes)
+items_show lots (stop.Found finding) origin township bytes items fault read first is begins ends other =
     record {
       begins = begins;
       ends = inr (record {
@@ -189,4 +195,4 @@ items_show (stop.Found finding) origin township bytes items fault read first is 
         other_is = other;
       });
     }
-items_show stop.Memory origin township bytes items fault read first is begins ends other = tt
+items_show lots stop.Memory origin township bytes items fault read first is begins ends other = tt

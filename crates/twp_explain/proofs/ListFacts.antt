@@ -13,10 +13,11 @@ use Rattle.twp_explain.specs.Refusals.{first_refusal, IsListRefusal}
 use Rattle.twp_diagnose.specs.Findings.{IfFound, IsOf}
 use Rattle.twp_diagnose.specs.declared.finding.SearchStop.{SearchStop}
 use Rattle.twp_diagnose.specs.declared.finding.SearchStop.TheVariants as stop
+use Rattle.twp_grid.specs.Lands.{STANDARD_LOTS}
 
 -- a fault of a list is its first one
 pub is_first : (township : Designation) (bytes : List ℕ) (is : TractFault) → is ≢ fault.Memory
-    → AnswersFault township bytes is → IsFirstTractFault township bytes is
+    → AnswersFault STANDARD_LOTS township bytes is → IsFirstTractFault STANDARD_LOTS township bytes is
 is_first township bytes fault.TractsTooLarge some first = first
 is_first township bytes (fault.TractRow number) some first = first
 is_first township bytes (fault.NameRepeated number) some first = first
@@ -60,7 +61,7 @@ told_of_notes stop.Memory notes tracts verdict refusal none is judged = absurd i
 -- a list's first fault is what is explained of
 pub told_of_list : (notes tracts : List ℕ) (plat : TownshipPlat) (is : TractFault) (verdict : Verdict)
     (refusal : Refusal)
-    → ArePlatted notes plat → IsFirstTractFault plat.township tracts is
+    → ArePlatted notes plat → IsFirstTractFault STANDARD_LOTS plat.township tracts is
     → verdict_of is ≡ Some verdict → refusal_of is ≡ Some refusal
     → IsListRefusal notes tracts verdict refusal
 told_of_list notes tracts plat is verdict refusal platted first judged refused =

@@ -12,17 +12,18 @@ use Rattle.twp_answers.proofs.TractLands.{earlier_or_last}
 use Rattle.twp_diagnose.specs.RecordFields.{number_listed, IsListedAt}
 use Rattle.twp_diagnose.specs.declared.listed.Listed.{Listed}
 use Rattle.twp_explain.specs.steps.Sharing.{IsFirstOverlapping, IsFirstSharingRecord}
+use Rattle.twp_grid.specs.Lands.{STANDARD_LOTS}
 
 -- two tracts whose lands have no place in common don't overlap
 pub no_overlap : (township : Designation) (fields next : Fields) (places more : ℕ → ℕ → ℕ → Bool)
-    → Describe township (description_in fields) places
-    → Describe township (description_in next) more
-    → (SharePlace places more → ⊥) → Overlap township fields next → ⊥
+    → Describe STANDARD_LOTS township (description_in fields) places
+    → Describe STANDARD_LOTS township (description_in next) more
+    → (SharePlace places more → ⊥) → Overlap STANDARD_LOTS township fields next → ⊥
 no_overlap township fields next places more is is' apart overlap =
     let same : overlap.places ≡ places =
-    one_land township (description_in fields) overlap.places places overlap.land is in
+    one_land STANDARD_LOTS township (description_in fields) overlap.places places overlap.land is in
     let same' : overlap.more ≡ more =
-    one_land township (description_in next) overlap.more more overlap.other_land is' in
+    one_land STANDARD_LOTS township (description_in next) overlap.more more overlap.other_land is' in
     apart (record {
       section = overlap.shared.section;
       column = overlap.shared.column;
@@ -37,15 +38,17 @@ no_overlap township fields next places more is is' apart overlap =
 
 -- one more tract that doesn't overlap the one at the index
 pub none_more : (township : Designation) (rows : List Fields) (index count : ℕ)
-    → ((tract : ℕ) → tract < count → Overlap township (record_at rows tract) (record_at rows index) → ⊥)
-    → (Overlap township (record_at rows count) (record_at rows index) → ⊥)
+    → ((tract : ℕ) → tract < count
+    → Overlap STANDARD_LOTS township (record_at rows tract) (record_at rows index) → ⊥)
+    → (Overlap STANDARD_LOTS township (record_at rows count) (record_at rows index) → ⊥)
     → (tract : ℕ) → tract < count + 1
-    → Overlap township (record_at rows tract) (record_at rows index) → ⊥
+    → Overlap STANDARD_LOTS township (record_at rows tract) (record_at rows index) → ⊥
 none_more township rows index count before next tract below overlap =
     elim (earlier_or_last count tract below) [
       | inl earlier ↦ before tract earlier overlap
       | inr last ↦
-          next (subst (λ t. Overlap township (record_at rows t) (record_at rows index)) last overlap)
+          next
+          (subst (λ t. Overlap STANDARD_LOTS township (record_at rows t) (record_at rows index)) last overlap)
     ]
 
 -- the record of the first tract that shares land

@@ -5,6 +5,7 @@ use Rattle.std.specs.Prelude.{IfOk, IfSome, MatchOption}
 use Rattle.twp_excerpt.specs.Spots.{end_of}
 use Rattle.twp_excerpt.specs.declared.spot.Spot.{Spot}
 use Rattle.twp_grid.specs.declared.refusal.Refusal.{Refusal}
+use Rattle.twp_grid.specs.Lands.{Lotting}
 use Rattle.twp_grid.specs.Townships.{Designation}
 use Rattle.twp_diagnose.specs.Findings.{IfFinds, IfFound, IsOf}
 use Rattle.twp_diagnose.specs.Origins.{IsWholeFile, place_of}
@@ -67,45 +68,49 @@ explained_refused origin file refusal place spot whole of_file (at_the_end white
     located_at origin file refusal place spot (end_of file.bytes.now) whole of_file begins
     (λ s here. inr (white, here)) is
 
-pub explained_where : (origin : Origin) (file : Given) (township : Designation) (stopped : SearchStop)
+pub explained_where : (lots : Lotting) (origin : Origin) (file : Given) (township : Designation)
+    (stopped : SearchStop)
     (explanation : Explanation) → IsWholeFile origin → origin.file ≡ file
-    → IfFinds stopped (ShowsFound origin township file.bytes.now) → IsOf stopped explanation.refusal
+    → IfFinds stopped (ShowsFound lots origin township file.bytes.now) → IsOf stopped explanation.refusal
     → IsSpotOfStop file stopped explanation → IsExplainedWhereRefused file explanation
-explained_where origin file township (stop.Found finding) explanation whole of_file shown of spot =
+explained_where lots origin file township (stop.Found finding) explanation whole of_file shown of spot =
     explained_refused origin file explanation.refusal finding.place explanation.spot whole of_file
     (subst (λ (r : Refusal). ShowsRefused origin file.bytes.now r finding.place) spot.0 shown.begins) spot.1
-explained_where origin file township stop.Memory explanation whole of_file shown of spot = absurd of
+explained_where lots origin file township stop.Memory explanation whole of_file shown of spot = absurd of
 
 -- what is explained of what was found is explained where the description is refused
-pub tells_where : {Error : Type 0} (result : Result (Option Explanation) Error) (origin : Origin)
+pub tells_where : {Error : Type 0} (lots : Lotting) (result : Result (Option Explanation) Error)
+    (origin : Origin)
     (file : Given) (township : Designation) (stopped : SearchStop) → IsWholeFile origin → origin.file ≡ file
-    → IfFinds stopped (ShowsFound origin township file.bytes.now)
+    → IfFinds stopped (ShowsFound lots origin township file.bytes.now)
     → IfOk result (λ explained. IfSome explained (λ explanation. IsOf stopped explanation.refusal))
     → IfOk result (λ explained. IfSome explained (IsSpotOfStop file stopped))
     → IfOk result (λ explained. IfSome explained (IsExplainedWhereRefused file))
-tells_where (Ok (Some explanation)) origin file township stopped whole of_file shown of spot =
-    explained_where origin file township stopped explanation whole of_file shown of spot
-tells_where (Ok None) origin file township stopped whole of_file shown of spot = tt
-tells_where (Err error) origin file township stopped whole of_file shown of spot = tt
+tells_where lots (Ok (Some explanation)) origin file township stopped whole of_file shown of spot =
+    explained_where lots origin file township stopped explanation whole of_file shown of spot
+tells_where lots (Ok None) origin file township stopped whole of_file shown of spot = tt
+tells_where lots (Err error) origin file township stopped whole of_file shown of spot = tt
 
 -- so a description is explained by its own first fault
-pub shown_land : (origin : Origin) (file : Given) (township : Designation) (stopped : SearchStop)
+pub shown_land : (lots : Lotting) (origin : Origin) (file : Given) (township : Designation)
+    (stopped : SearchStop)
     (explanation : Explanation) → IsWholeFile origin → origin.file ≡ file
-    → IfFinds stopped (ShowsFound origin township file.bytes.now) → IsMessageOf stopped explanation
-    → ShowsLandIn township file explanation
-shown_land origin file township (stop.Found finding) explanation whole of_file shown of = record {
-  origin = origin;
-  file_is = of_file;
-  whole = whole;
-  shows =
-      subst (λ (other : Option OtherPlace).
-      ShowsLand origin township file.bytes.now explanation.refusal explanation.place other) of.2
-      (subst (λ (place : Location).
-      ShowsLand origin township file.bytes.now explanation.refusal place finding.other) of.1
-      (subst (λ (r : Refusal).
-      ShowsLand origin township file.bytes.now r finding.place finding.other) of.0 shown));
-}
-shown_land origin file township stop.Memory explanation whole of_file shown of = absurd of
+    → IfFinds stopped (ShowsFound lots origin township file.bytes.now) → IsMessageOf stopped explanation
+    → ShowsLandIn lots township file explanation
+shown_land lots origin file township (stop.Found finding) explanation whole of_file shown of =
+    record {
+      origin = origin;
+      file_is = of_file;
+      whole = whole;
+      shows =
+          subst (λ (other : Option OtherPlace).
+          ShowsLand lots origin township file.bytes.now explanation.refusal explanation.place other) of.2
+          (subst (λ (place : Location).
+          ShowsLand lots origin township file.bytes.now explanation.refusal place finding.other) of.1
+          (subst (λ (r : Refusal).
+          ShowsLand lots origin township file.bytes.now r finding.place finding.other) of.0 shown));
+    }
+shown_land lots origin file township stop.Memory explanation whole of_file shown of = absurd of
 
 -- what was found is of the refusal that is explained
 pub found_is : (Is : Refusal → Type 0) (stopped : SearchStop) (refusal : Refusal) → IfFound stopped Is

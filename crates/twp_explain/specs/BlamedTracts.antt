@@ -2,6 +2,7 @@
 use Rattle.std.specs.Prelude.{◌≡◌, ◌≢◌, ℕ, zero, suc, ◌≤◌, ◌<◌, min, List, length, codes}
 use Rattle.std.specs.Prelude.{Option, None}
 use Rattle.twp_notes.specs.Records.{Fields, field, record_numbered, records_of}
+use Rattle.twp_grid.specs.Lands.{STANDARD_LOTS}
 use Rattle.twp_grid.specs.Townships.{Designation}
 use Rattle.twp_answers.specs.Tracts.{description_in, name_in}
 use Rattle.twp_answers.specs.declared.tract_fault.TractFault.{TractFault}
@@ -76,7 +77,7 @@ pub record IsDescriptionOf (listed : Listed) (origin : Origin) : Type 0 where
 pub record IsRefusedTract (township : Designation) (listed : Listed) (finding : Finding) : Type 0 where
   pub origin : Origin
   pub origin_is : IsDescriptionOf listed origin
-  pub shows : ShowsFound origin township (description_listed listed) finding
+  pub shows : ShowsFound STANDARD_LOTS origin township (description_listed listed) finding
 
 -- that is shown in the list
 pub record ShowsRefusedTract (township : Designation) (listed : Listed) (location : Location)
@@ -90,7 +91,8 @@ pub record ShowsRefusedTract (township : Designation) (listed : Listed) (locatio
 pub data ShowsTract (township : Designation) (listed : Listed) (location : Location)
     (other : Option OtherPlace) : Type 0 where
   refused : ShowsRefusedTract township listed location other → ShowsTract township listed location other
-  described : DescribeLand township (description_listed listed) → location ≡ Line (start_listed listed)
+  described : DescribeLand STANDARD_LOTS township (description_listed listed)
+      → location ≡ Line (start_listed listed)
       → other ≡ None → ShowsTract township listed location other
 
 -- where a fault of a record is shown in it: a bad heading or tract at the field to blame, a repeated name at

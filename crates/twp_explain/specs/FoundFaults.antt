@@ -23,7 +23,7 @@ use Rattle.twp_diagnose.specs.declared.location.Origin.{Origin}
 use Rattle.twp_sentences.specs.OtherPlaces.{IsOtherPlace}
 use Rattle.twp_sentences.specs.ShownPlaces.{ShowsRefused}
 use Rattle.twp_sentences.specs.Underlined.{EndsWithFault, EndsWithSign}
-use Rattle.twp_grid.specs.Lands.{STANDARD_LOTS}
+use Rattle.twp_grid.specs.Lands.{Lotting}
 
 -- of a text that isn't read, the sign at fault is underlined, and there is no other place
 pub record IsOfText (origin : Origin) (text : List ℕ) (refusal : Refusal) (place : Location)
@@ -34,29 +34,30 @@ pub record IsOfText (origin : Origin) (text : List ℕ) (refusal : Refusal) (pla
   pub ends : fault ≢ TooLarge → EndsWithSign origin text refusal.at place
   pub no_other : other ≡ None
 
--- of items that name no land on the plat, what is at fault is underlined, and the other place is where the
--- land of an overlap was named before
-pub record IsOfItems (origin : Origin) (township : Designation) (text : List ℕ) (refusal : Refusal)
-    (place : Location) (other : Option OtherPlace) : Type 0 where
+-- of items that name no land on the plat with these lots, what is at fault is underlined, and the other place
+-- is where the land of an overlap was named before
+pub record IsOfItems (lots : Lotting) (origin : Origin) (township : Designation) (text : List ℕ)
+    (refusal : Refusal) (place : Location) (other : Option OtherPlace) : Type 0 where
   pub items : List Item
   pub read : IsReadAs text items
   pub fault : PlaceFault
-  pub first : place_faults.IsFirstPlaceFault STANDARD_LOTS township items fault
+  pub first : place_faults.IsFirstPlaceFault lots township items fault
   pub refusal_is : place_faults.refusal_of fault ≡ Some refusal
   pub ends : EndsWithFault origin text items fault place
-  pub other_is : IsOtherPlace STANDARD_LOTS origin text township items fault other
+  pub other_is : IsOtherPlace lots origin text township items fault other
 
 -- of a refused description, its first fault is shown: from the refusal's place on, up to the end of what is
 -- at fault
-pub record ShowsLand (origin : Origin) (township : Designation) (text : List ℕ) (refusal : Refusal)
-    (place : Location) (other : Option OtherPlace) : Type 0 where
+pub record ShowsLand (lots : Lotting) (origin : Origin) (township : Designation) (text : List ℕ)
+    (refusal : Refusal) (place : Location) (other : Option OtherPlace) : Type 0 where
   pub begins : ShowsRefused origin text refusal place
-  pub ends : IsOfText origin text refusal place other ⊎ IsOfItems origin township text refusal place other
+  pub ends : IsOfText origin text refusal place other
+      ⊎ IsOfItems lots origin township text refusal place other
 
 -- it is what was found
-abbrev pub ShowsFound : Origin → Designation → List ℕ → Finding → Type 0
-ShowsFound origin township text finding =
-    ShowsLand origin township text finding.refusal finding.place finding.other
+abbrev pub ShowsFound : Lotting → Origin → Designation → List ℕ → Finding → Type 0
+ShowsFound lots origin township text finding =
+    ShowsLand lots origin township text finding.refusal finding.place finding.other
 
 -- the explanation is the message about what was found
 abbrev pub IsMessageOf : SearchStop → Explanation → Type 0
@@ -66,8 +67,10 @@ IsMessageOf (Found finding) explanation =
 IsMessageOf Memory explanation = ⊥
 
 -- the explanation of a refused description shows its first fault in its file
-pub record ShowsLandIn (township : Designation) (file : Given) (explanation : Explanation) : Type 0 where
+pub record ShowsLandIn (lots : Lotting) (township : Designation) (file : Given) (explanation : Explanation)
+    : Type 0 where
   pub origin : Origin
   pub file_is : origin.file ≡ file
   pub whole : IsWholeFile origin
-  pub shows : ShowsLand origin township file.bytes.now explanation.refusal explanation.place explanation.other
+  pub shows :
+      ShowsLand lots origin township file.bytes.now explanation.refusal explanation.place explanation.other

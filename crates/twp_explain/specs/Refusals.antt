@@ -11,6 +11,7 @@ use Rattle.twp_answers.specs.declared.stop.Verdict.{Verdict}
 use Rattle.twp_answers.specs.declared.stop.Verdict.TheVariants.{Accepted, Refused, TractRefused}
 use Rattle.twp_diagnose.specs.declared.finding.SearchStop.{SearchStop}
 use Rattle.twp_diagnose.specs.declared.finding.SearchStop.TheVariants.{Found, Memory}
+use Rattle.twp_grid.specs.Lands.{Lotting, STANDARD_LOTS}
 
 -- the verdict is not one of these refusals
 abbrev pub IsOfNone : (Refusal → Type 0) → Verdict → Type 0
@@ -21,10 +22,9 @@ abbrev pub IsNotOf : SearchStop → Verdict → Type 0
 IsNotOf (Found finding) verdict = verdict ≢ Refused finding.refusal
 IsNotOf Memory verdict = ⊥
 
--- the bytes are a description of land on the plat of the township
-abbrev pub DescribeLand : Designation → List ℕ → Type 0
-DescribeLand township bytes =
-    (places : ℕ → ℕ → ℕ → Bool) × Describe township bytes places
+-- the bytes are a description of land on the plat of the township with these lots
+abbrev pub DescribeLand : Lotting → Designation → List ℕ → Type 0
+DescribeLand lots township bytes = (places : ℕ → ℕ → ℕ → Bool) × Describe lots township bytes places
 
 -- the list has an account on the plat
 abbrev pub HasAccount : TownshipPlat → List ℕ → Type 0
@@ -42,7 +42,7 @@ pub record IsRefusalOfList (notes tracts : List ℕ) (verdict : Verdict) (refusa
   pub plat : TownshipPlat
   pub platted : ArePlatted notes plat
   pub fault : TractFault
-  pub first : IsFirstTractFault plat.township tracts fault
+  pub first : IsFirstTractFault STANDARD_LOTS plat.township tracts fault
   pub verdict_is : verdict_of fault ≡ Some verdict
   pub refusal_is : refusal_of fault ≡ Some refusal
 

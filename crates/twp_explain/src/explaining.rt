@@ -9,12 +9,13 @@ ghost use Rattle.twp_diagnose.specs.ShownMessages.{ShowsIn};
 ghost use Rattle.twp_explain.specs.FoundFaults.{ShowsFound};
 ghost use Rattle.twp_explain.specs.ShownFaults.{ShowsFault};
 ghost use Rattle.twp_answers.specs.declared.stop.Verdict.TheVariants.{Refused};
+ghost use Rattle.twp_grid.specs.Lands.{lotting};
 
 use std::alloc::{AllocError, Global};
 use twp_answers::Verdict;
 use twp_diagnose::{Explanation, Given, Origin, SearchStop, Suggests};
 use twp_grid::{Bytes, Township};
-use twp_land::{Lanes, StandardLots};
+use twp_land::{Lanes, Lotting, StandardLots};
 use twp_notes::Notes;
 use twp_plat::Plat;
 use twp_read::Description;
@@ -65,7 +66,13 @@ pub fn explain_land<S: Suggests>(
         Err(stop) => return explain(alloc, notes, stop, verdict),
     };
     let origin = Origin::of_file(*description);
-    match describe::<S>(alloc, &origin, description.bytes, plat.township()) {
+    match describe::<S, StandardLots>(
+        alloc,
+        &origin,
+        description.bytes,
+        plat.township(),
+        &StandardLots,
+    ) {
         Ok(()) => Ok(None),
         Err(stop) => explain(alloc, description, stop, verdict),
     }
@@ -112,24 +119,30 @@ pub(crate) fn plat_of(alloc: Global, file: &Given<'_>) -> Result<Plat, SearchSto
     }
 }
 
-/// Goes through a text that describes land of a township, or gives what is wrong with it.
+/// Goes through a text that describes land on the plat of a township with these lots, or gives what is
+/// wrong with it.
 #[tactic(auto, using(crate::proofs::FindingFacts::text_refused, crate::proofs::FindingFacts::items_refused))]
 #[inline(never)]
-pub(crate) fn describe<S: Suggests>(
+pub(crate) fn describe<S: Suggests, P: Lotting>(
     alloc: Global,
     origin: &Origin<'_>,
     bytes: &[u8],
     township: Township,
+    lots: &P,
 ) -> Result<(), SearchStop>
-    ensures land { IfOk result (λ _. DescribeLand township bytes.now) }
-    ensures found { IfErr result (λ stop. IfFound stop (IsNoDescription township bytes.now)) }
-    ensures shown { IfErr result (λ stop. IfFinds stop (ShowsFound origin.now township bytes.now)) }
+    ensures land { IfOk result (λ _. DescribeLand (lotting (P.layout lots.now)) township bytes.now) }
+    ensures found { IfErr result (λ stop. IfFound stop
+        (IsNoDescription (lotting (P.layout lots.now)) township bytes.now)) }
+    ensures shown { IfErr result (λ stop. IfFinds stop
+        (ShowsFound (lotting (P.layout lots.now)) origin.now township bytes.now)) }
 {
     let description = match Description::read(alloc, bytes) {
         Ok(description) => description,
-        Err(fault) => return Err(stop_of_text::<S>(alloc, origin, bytes, township, fault)),
+        Err(fault) => {
+            return Err(stop_of_text::<S, P>(alloc, origin, bytes, township, lots, fault));
+        }
     };
-    match resolve::<Lanes, StandardLots>(&description, township, &StandardLots) {
+    match resolve::<Lanes, P>(&description, township, lots) {
         Ok(_) => Ok(()),
         Err(fault) => Err(stop_of_places(
             alloc,
@@ -137,7 +150,7 @@ pub(crate) fn describe<S: Suggests>(
             bytes,
             &description,
             township,
-            &StandardLots,
+            lots,
             fault,
         )),
     }

@@ -16,6 +16,8 @@ mod tracts;
 
 pub use explaining::{explain_land, explain_plat};
 pub use list::explain_list;
-pub use note::{Note, note_description, note_land, note_list, note_tracts, without_mark};
+pub use note::{
+    Note, note_description, note_land, note_list, note_tracts, note_without_acres, without_mark,
+};
 pub use on_lots::{explain_lacking, explain_lots};
 pub use on_plat::{ExplainedFault, explain_description, explain_notes, explain_tracts};

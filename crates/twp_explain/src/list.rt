@@ -4,6 +4,7 @@ ghost use Rattle.twp_answers.specs.TractFaults.{IsFirstTractFault, refusal_of, v
 ghost use Rattle.twp_diagnose.specs.ShownMessages.{ShowsIn};
 ghost use Rattle.twp_explain.specs.ShownFaults.{ShowsFault};
 ghost use Rattle.twp_explain.specs.Refusals.{IsListRefusal, HasAccount, first_refusal};
+ghost use Rattle.twp_grid.specs.Lands.{STANDARD_LOTS};
 
 use crate::explaining::{explain, plat_of};
 use crate::tracts;
@@ -77,7 +78,7 @@ pub(crate) fn fault_of(
     bytes: &[u8],
 ) -> Result<Option<TractFault>, AllocError>
     ensures first { IfOk result (λ found. IfSome found
-        (IsFirstTractFault plat.now.township bytes.now)) }
+        (IsFirstTractFault STANDARD_LOTS plat.now.township bytes.now)) }
     ensures none { IfOk result (λ found. found ≡ None → HasAccount plat.now bytes.now) }
 {
     if bytes.len() > TRACTS_LIMIT as usize {

@@ -87,6 +87,22 @@ pub fn note_description(
     note_on(alloc, Some(plat), description, account, doubts)
 }
 
+/// The same without acres, for a description that was accepted on the plat of a lot table.
+pub fn note_without_acres(
+    alloc: Global,
+    description: &Given<'_>,
+) -> Result<Option<Note>, AllocError>
+    ensures note { IfOk result (IsNoteOf description.now.bytes.now) }
+    ensures spot { IfOk result (λ explained. IfSome explained (λ note.
+        IsSpotAt description.now note.at note.spot)) }
+    ensures shows { IfOk result (λ explained. IfSome explained (ShowsNoteIn description.now)) }
+{
+    let Some(doubts) = doubts_in(alloc, description.bytes)? else {
+        return Ok(None);
+    };
+    note_on(alloc, None, description, Account::Exact, doubts)
+}
+
 /// What is noted of the first doubtful place of a description that is a file, on a plat if there is one.
 fn note_on(
     alloc: Global,

@@ -9,7 +9,7 @@ use crate::on_plat::explain_stop;
 use std::alloc::{AllocError, Global};
 use twp_diagnose::{Explanation, Given, SearchStop};
 use twp_grid::{Bytes, Section};
-use twp_plat::LotTable;
+use twp_plat::{LotTable, ReturnedLots};
 use twp_sentences::{find_lacking, stop_of_lots};
 
 /// The explanation of bytes that are no lot table.
@@ -29,7 +29,7 @@ pub fn explain_lots(alloc: Global, table: &Given<'_>) -> Result<Option<Explanati
 /// file that describes the land.
 pub fn explain_lacking(
     alloc: Global,
-    table: &LotTable,
+    lots: &ReturnedLots,
     file: &Given<'_>,
     section: Section,
     lot: u8,
@@ -37,7 +37,7 @@ pub fn explain_lacking(
     ensures refusal { IfOk result (λ explanation. explanation.refusal ≡ lacking_refusal section lot) }
     ensures shows { IfOk result (ShowsIn file.now) }
 {
-    find_lacking(alloc, table, section, lot)?.explain(alloc, file)
+    find_lacking(alloc, lots, section, lot)?.explain(alloc, file)
 }
 
 /// Reads a lot table, or gives what is wrong with it.

@@ -8,6 +8,7 @@ ghost use Rattle.twp_diagnose.specs.ShownMessages.{ShowsIn};
 ghost use Rattle.twp_explain.specs.ExplainedPlaces.{IsSpotOfStop, IsExplainedWhereRefused};
 ghost use Rattle.twp_diagnose.specs.Findings.{IsOf};
 ghost use Rattle.twp_explain.specs.FoundFaults.{IsMessageOf, ShowsLandIn};
+ghost use Rattle.twp_grid.specs.Lands.{STANDARD_LOTS, lotting};
 
 use crate::explaining::{describe, plat_of};
 use crate::list::{explain_fault, fault_of};
@@ -15,6 +16,7 @@ use std::alloc::{AllocError, Global};
 use twp_answers::TractFault;
 use twp_diagnose::{Explanation, Given, Origin, SearchStop, Suggests};
 use twp_grid::Township;
+use twp_land::Lotting;
 use twp_plat::Plat;
 
 /// The explanation of field notes that make no plat.
@@ -30,22 +32,25 @@ pub fn explain_notes(alloc: Global, notes: &Given<'_>) -> Result<Option<Explanat
     }
 }
 
-/// The explanation of the bytes of a description that describe no land on the plat of a township.
-pub fn explain_description<S: Suggests>(
+/// The explanation of the bytes of a description that describe no land on the plat of a township with these
+/// lots.
+pub fn explain_description<S: Suggests, P: Lotting>(
     alloc: Global,
     township: Township,
     description: &Given<'_>,
+    lots: &P,
 ) -> Result<Option<Explanation>, AllocError>
     ensures refusal { IfOk result (λ explained. IfSome explained (λ explanation.
-        IsNoDescription township description.now.bytes.now explanation.refusal)) }
+        IsNoDescription (lotting (P.layout lots.now)) township description.now.bytes.now explanation.refusal)) }
     ensures spot { IfOk result (λ explained. IfSome explained (IsExplainedWhereRefused description.now)) }
     ensures none { IfOk result (λ explained. explained ≡ None
-        → DescribeLand township description.now.bytes.now) }
+        → DescribeLand (lotting (P.layout lots.now)) township description.now.bytes.now) }
     ensures shows { IfOk result (λ explained. IfSome explained (ShowsIn description.now)) }
-    ensures place { IfOk result (λ explained. IfSome explained (ShowsLandIn township description.now)) }
+    ensures place { IfOk result (λ explained. IfSome explained
+        (ShowsLandIn (lotting (P.layout lots.now)) township description.now)) }
 {
     let origin = Origin::of_file(*description);
-    match describe::<S>(alloc, &origin, description.bytes, township) {
+    match describe::<S, P>(alloc, &origin, description.bytes, township, lots) {
         Ok(()) => Ok(None),
         Err(stop) => Ok(Some(explain_stop(alloc, description, stop)?)),
     }
@@ -67,7 +72,7 @@ pub fn explain_tracts<S: Suggests>(
     tracts: &Given<'_>,
 ) -> Result<Option<ExplainedFault>, AllocError>
     ensures first { IfOk result (λ explained. IfSome explained (λ it.
-        IsFirstTractFault plat.now.township tracts.now.bytes.now it.fault)) }
+        IsFirstTractFault STANDARD_LOTS plat.now.township tracts.now.bytes.now it.fault)) }
     ensures refusal { IfOk result (λ explained. IfSome explained (λ it.
         refusal_of it.fault ≡ Some it.explanation.refusal)) }
     ensures none { IfOk result (λ explained. explained ≡ None → HasAccount plat.now tracts.now.bytes.now) }

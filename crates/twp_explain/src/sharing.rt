@@ -6,6 +6,7 @@ ghost use Rattle.twp_answers.specs.Answers.{Describe};
 ghost use Rattle.twp_answers.specs.Tracts.{tract_records, description_in};
 ghost use Rattle.twp_diagnose.specs.RecordFields.{number_listed};
 ghost use Rattle.twp_explain.specs.steps.Sharing.{IsFirstOverlapping, IsFirstSharingRecord};
+ghost use Rattle.twp_grid.specs.Lands.{STANDARD_LOTS};
 
 use csv::ByteRecord;
 use std::alloc::{AllocError, Global};
@@ -68,7 +69,7 @@ fn tract_into<L: Land>(
     index: u32,
     land: &mut L,
 ) -> Result<bool, AllocError>
-    ensures { IfOk result (λ found. IsTrue found → Describe township
+    ensures { IfOk result (λ found. IsTrue found → Describe STANDARD_LOTS township
         (description_in (record_at (tract_records bytes.now) index)) (L.places land.new)) }
 {
     let Some(row) = tract_at(alloc, bytes, index)? else {
@@ -88,7 +89,7 @@ fn first_before<L: Land>(
     land: &L,
     common: &mut L,
 ) -> Result<Option<u32>, AllocError>
-    requires { Describe township (description_in (record_at (tract_records bytes.now) index))
+    requires { Describe STANDARD_LOTS township (description_in (record_at (tract_records bytes.now) index))
         (L.places land.now) }
     ensures { IfOk result (λ found. IfSome found (λ earlier. IsFirstOverlapping township
         (tract_records bytes.now) index earlier (L.places common.new))) }
@@ -112,7 +113,7 @@ fn first_left<L: Land>(
     common: &mut L,
 ) -> Result<Option<u32>, AllocError>
     requires reading { IsBetweenRecords records.old }
-    requires land { Describe township
+    requires land { Describe STANDARD_LOTS township
         (description_in (record_at (records_left records.old) index)) (L.places land.now) }
     ensures { IfOk result (λ found. IfSome found (λ earlier. IsFirstOverlapping township
         (records_left records.old) index earlier (L.places common.new))) }
@@ -141,7 +142,7 @@ fn land_into<L: Land>(
     land: &mut L,
 ) -> Result<bool, AllocError>
     ensures { IfOk result (λ found. IsTrue found
-        → Describe township (description_in (fields_of row.now)) (L.places land.new)) }
+        → Describe STANDARD_LOTS township (description_in (fields_of row.now)) (L.places land.new)) }
 {
     if row.len() < 2 {
         return Ok(false);

@@ -13,6 +13,7 @@ ghost use Rattle.twp_explain.specs.BlamedTracts.{place_in_list};
 ghost use Rattle.twp_explain.specs.OtherTracts.{IsFieldOf, IsNamedBefore, IsOtherInRecord};
 ghost use Rattle.twp_explain.specs.OtherTracts.{IsOtherTract, IsSharedBefore};
 ghost use Rattle.twp_explain.specs.Refusals.{DescribeLand};
+ghost use Rattle.twp_grid.specs.Lands.{STANDARD_LOTS};
 
 use crate::explaining::describe;
 use crate::rows;
@@ -239,11 +240,11 @@ fn describe_tract<S: Suggests>(
     listed: &Listed<'_>,
     township: Township,
 ) -> Result<(), SearchStop>
-    ensures land { IfOk result (λ _. DescribeLand township (description_listed listed.now)) }
+    ensures land { IfOk result (λ _. DescribeLand STANDARD_LOTS township (description_listed listed.now)) }
     ensures shown { IfErr result (λ stop. IfFinds stop (IsRefusedTract township listed.now)) }
 {
     let origin = Origin::of_field(listed.file, listed.span(1).start);
-    describe::<S>(alloc, &origin, listed.field(1), township)
+    describe::<S, StandardLots>(alloc, &origin, listed.field(1), township, &StandardLots)
 }
 
 /// Tells of a tract that shares land with an earlier one.

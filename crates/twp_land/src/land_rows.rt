@@ -1,17 +1,14 @@
 ghost use Rattle.std.specs.Prelude.{◌≡◌, MatchOption};
 ghost use Rattle.twp_grid.specs.Places.{PLACE_DIGITS};
 ghost use Rattle.twp_land.specs.Storage.{land_of_rows};
-ghost use Rattle.twp_grid.specs.Lands.{HasWholeLots, lotting};
-ghost use Rattle.twp_grid.specs.Lands.{STANDARD_LOTS};
+ghost use Rattle.twp_grid.specs.Lands.{HasWholeLots, STANDARD_LOTS};
 
 use crate::land::Land;
 use crate::lanes::{LaneRows, Lanes};
 use crate::lots::lots_whole;
-use crate::lotting::Lotting;
 use crate::place_set::PlaceSet;
 use crate::plot::Plot;
 use crate::sections::Sections;
-use crate::whole_lots::has_whole_lots_on;
 use twp_grid::{PLACES_ACROSS, SECTIONS, Section};
 
 /// A set of places as plain data: for each section, by number, its rows from the south, and in each
@@ -31,6 +28,22 @@ impl Sections<LaneRows> {
         rows
     }
 
+    /// The set of these places, whether or not it contains each lot wholly.
+    pub fn of_rows(rows: &LandRows) -> Lanes
+        ensures { ⟦<Lanes as PlaceSet>⟧.places result ≡ land_of_rows rows.now }
+    {
+        let mut land = Lanes::empty();
+        for number in 1..SECTIONS + 1 {
+            let section = Section::new(number).unwrap();
+            let plot = LaneRows::of_lanes(&rows[usize::from(number - 1)]);
+            if plot.same_plot(&LaneRows::empty()) {
+                continue;
+            }
+            land.put(section, plot);
+        }
+        land
+    }
+
     /// The set of these places. `None` if it would contain part of a lot.
     pub fn from_rows(rows: &LandRows) -> Option<Lanes>
         ensures { MatchOption result (¬ HasWholeLots STANDARD_LOTS (land_of_rows rows.now)) (λ land.
@@ -40,36 +53,6 @@ impl Sections<LaneRows> {
         if !lots_whole(rows) {
             return None;
         }
-        Some(stored(rows))
+        Some(Lanes::of_rows(rows))
     }
-
-    /// The set of these places, on a plat with these lots. `None` if it would contain part of a lot.
-    pub fn from_rows_on<P: Lotting>(rows: &LandRows, lots: &P) -> Option<Lanes>
-        ensures { MatchOption result
-            (¬ HasWholeLots (lotting (P.layout lots.now)) (land_of_rows rows.now))
-            (λ land. HasWholeLots (lotting (P.layout lots.now)) (land_of_rows rows.now)
-            × (⟦<Lanes as PlaceSet>⟧.places land ≡ land_of_rows rows.now)) }
-    {
-        let land = stored(rows);
-        if !has_whole_lots_on(&land, lots) {
-            return None;
-        }
-        Some(land)
-    }
-}
-
-/// The set of these places, whether or not it contains each lot wholly.
-fn stored(rows: &LandRows) -> Lanes
-    ensures { ⟦<Lanes as PlaceSet>⟧.places result ≡ land_of_rows rows.now }
-{
-    let mut land = Lanes::empty();
-    for number in 1..SECTIONS + 1 {
-        let section = Section::new(number).unwrap();
-        let plot = LaneRows::of_lanes(&rows[usize::from(number - 1)]);
-        if plot.same_plot(&LaneRows::empty()) {
-            continue;
-        }
-        land.put(section, plot);
-    }
-    land
 }

@@ -108,11 +108,19 @@ impl<'a> Finder<'a> {
                 return Some(found);
             }
         }
+        if let Some(end) = pieces.end_of_unit(index, self.names_land) {
+            return Some((LeftOut::Label, end));
+        }
         if let Some(end) = pieces.end_of_acreage(index) {
             let is_after_dash = pieces.is_after_dash(index);
             let is_other = self.is_added(index) || (may_be_minus && is_after_dash);
+            // Without its digits, a letter for acres ends no figure that a rule knows.
+            let is_worn = pieces.end_of_worn_figure(index).is_some()
+                && matches!(end.checked_sub(1), Some(last) if pieces.is(last, b"a"));
             return if is_figure && is_other {
                 None
+            } else if is_worn {
+                Some((LeftOut::Label, end))
             } else {
                 Some((LeftOut::Acreage, end))
             };
@@ -133,13 +141,21 @@ impl<'a> Finder<'a> {
             }
         }
         if self.names_land {
+            let unsaid = pieces
+                .end_of_intent(index)
+                .or(pieces.end_of_gross_acreage(index));
+            if let Some(end) = unsaid {
+                return Some((LeftOut::Label, end));
+            }
             if self.draft.last_names() != Some(Names::Sections) {
                 if let Some(end) = pieces.end_of_share_in_cell(index) {
                     return Some((LeftOut::Label, end));
                 }
             }
             if let Some(end) = pieces.end_of_last_figure(index) {
-                return Some((LeftOut::Acreage, end));
+                if !self.may_be_wrong_section(index, end) {
+                    return Some((LeftOut::Acreage, end));
+                }
             }
             if let Some(end) = end_of_trailer(&self.draft.pieces, index) {
                 return Some((LeftOut::Label, end));
@@ -150,6 +166,19 @@ impl<'a> Finder<'a> {
         }
         let end = pieces.end_of_label(index)?;
         Some((LeftOut::Label, end))
+    }
+
+    /// Whether a whole number after a township that isn't that of a section before it, with more of its row after
+    /// it, may be that of a section with a slip.
+    fn may_be_wrong_section(&self, index: usize, end: usize) -> bool {
+        let pieces = &self.draft.pieces;
+        let is_after_heading = match self.draft.phrases.as_slice() {
+            [.., before, last] => {
+                last.phrase.names == Names::Heading && before.phrase.names != Names::Sections
+            }
+            _ => false,
+        };
+        is_after_heading && end == plus(index, 1) && end < pieces.len() && !pieces.begins_line(end)
     }
 
     /// Whether a word or a mark before an index adds what follows, which may then be of other land.

@@ -83,6 +83,30 @@ impl<'a> Finder<'a> {
             && (is_before_colon || pieces.bytes(digits).len() >= 2))
             || (is_list && is_before_colon)
             || pieces.is_section_before_land(index)
+            || self.is_section_after_land(index)
+    }
+
+    /// Whether the letter and the number at an index are a section that ends an item, after land, as in
+    /// `SESW S31, L4 S31`: no half has such a number, with or without its slash.
+    fn is_section_after_land(&self, index: usize) -> bool {
+        let pieces = &self.draft.pieces;
+        let digits = plus(index, 1);
+        let end = plus(digits, 1);
+        let is_after_land = match self.draft.phrases.last() {
+            Some(placed) => {
+                placed.phrase.end == index
+                    && matches!(
+                        placed.phrase.names,
+                        Names::Part | Names::Lots | Names::Nothing(LeftOut::Repeated)
+                    )
+            }
+            None => false,
+        };
+        let is_last = end >= pieces.len() || pieces.is(end, b",") || pieces.is(end, b";");
+        is_after_land
+            && is_last
+            && pieces.has_digits(digits, 2)
+            && !(pieces.is(digits, b"12") || pieces.is(digits, b"14"))
     }
 
     /// Whether the letter and the number at an index, before a township that ends at another, may be a half of a
@@ -182,7 +206,7 @@ impl<'a> Finder<'a> {
         if self.draft.pieces.is(next, b"/") && self.draft.pieces.is_joined(next) {
             return self.begins_row(index) && self.end_of_heading(plus(next, 1)).is_some();
         }
-        if self.is_after_label_of_division(index) {
+        if self.is_after_label_of_division(index) || self.is_cell_of_section(index) {
             return true;
         }
         if self.draft.pieces.is_dash(next) && self.end_of_heading(plus(next, 1)).is_some() {
@@ -218,6 +242,23 @@ impl<'a> Finder<'a> {
     /// Whether the piece at an index begins a row.
     fn begins_row(&self, index: usize) -> bool {
         self.draft.pieces.begins_line(index) || self.draft.pieces.follows(index, b";")
+    }
+
+    /// Whether the number at an index is alone in a cell, after land that is in the cell after a township, as in the
+    /// rows of the Mineral and Land Records System: the row has no other section.
+    fn is_cell_of_section(&self, index: usize) -> bool {
+        let pieces = &self.draft.pieces;
+        let is_cell = pieces.has_before(index, b'\t') && pieces.has_before(plus(index, 1), b'\t');
+        let is_after_land = match self.draft.phrases.as_slice() {
+            [.., heading, land] => {
+                heading.phrase.names == Names::Heading
+                    && matches!(land.phrase.names, Names::Part | Names::Lots)
+                    && land.phrase.end == index
+                    && pieces.has_before(land.phrase.first, b'\t')
+            }
+            _ => false,
+        };
+        is_cell && is_after_land
     }
 
     /// Whether the name of the column for a section, in the layers of the Public Land Survey System, is
@@ -282,12 +323,8 @@ impl<'a> Finder<'a> {
         if is_after_heading && !is_after_comma {
             return Some(true);
         }
-        if is_after_heading && pieces.is(next, b",") {
-            let cell = plus(next, 1);
-            let land = self.after_government(plus(cell, usize::from(pieces.is(cell, b"\""))));
-            if pieces.begins_land(land) {
-                return Some(true);
-            }
+        if is_after_heading && pieces.is(next, b",") && self.is_land_of_cell(plus(next, 1)) {
+            return Some(true);
         }
         if pieces.begins_line(index)
             && pieces.bytes(index).len() >= 2
@@ -306,6 +343,20 @@ impl<'a> Finder<'a> {
             return Some(false);
         }
         None
+    }
+
+    /// Whether land is in the cell at an index, also after a quote or the words for government lots, or in the next
+    /// one, after the name of the column for aliquot parts.
+    pub(crate) fn is_land_of_cell(&self, index: usize) -> bool {
+        let pieces = &self.draft.pieces;
+        let first = plus(index, usize::from(pieces.is(index, b"\"")));
+        let cell = match pieces.end_of_column_label(first) {
+            Some(end) if pieces.is(end, b",") => plus(end, 1),
+            _ => first,
+        };
+        let land = self.after_government(plus(cell, usize::from(pieces.is(cell, b"\""))));
+        let is_lot = pieces.is(land, b"l") && pieces.number(plus(land, 1)).is_some();
+        pieces.begins_land(land) || is_lot
     }
 
     /// Whether an item ends before an index, or `and` is there.

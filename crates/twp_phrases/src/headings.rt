@@ -165,6 +165,11 @@ impl<'a> Finder<'a> {
             return index;
         }
         let next = plus(index, 1);
+        if let Some(value) = self.draft.pieces.after_quoted_name(next) {
+            self.draft.replace(index, letter, Rule::Heading);
+            self.draft.leave_out_each(next, value, Rule::Mark);
+            return value;
+        }
         let is_letter = self.draft.pieces.bytes(index).len() == 1;
         if !is_letter {
             self.draft.replace(index, letter, Rule::Heading);
@@ -295,8 +300,14 @@ impl<'a> Finder<'a> {
 
     /// Passes over a comma between a township and its range, and leaves out another mark and `of`.
     fn before_range(&mut self, index: usize, has_word: bool) -> usize {
-        let pieces = &self.draft.pieces;
         let mut next = index;
+        if self.draft.pieces.is_between_quoted_cells(next) {
+            self.draft.leave_out(next, plus(next, 1), Rule::Mark);
+            self.draft
+                .leave_out(plus(next, 2), plus(next, 3), Rule::Mark);
+            return plus(next, 3);
+        }
+        let pieces = &self.draft.pieces;
         if matches!(pieces.kind(next), Kind::Comma) {
             next = plus(next, 1);
         }

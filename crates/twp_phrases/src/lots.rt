@@ -51,6 +51,20 @@ impl<'a> Finder<'a> {
             self.draft.replace(word, written, Rule::LotWord);
         }
         let mut next = plus(word, 1);
+        if let Some(value) = self.draft.pieces.after_bar_and_name(next, b"secdivno") {
+            self.leave_out_name(next);
+            return Some(value);
+        }
+        if let Some(value) = self.draft.pieces.after_quoted_name(next) {
+            self.draft.leave_out_each(next, value, Rule::Mark);
+            return Some(value);
+        }
+        if self.is_before_tract(next) {
+            self.draft.leave_out(next, plus(next, 1), Rule::Mark);
+            self.draft
+                .leave_out(plus(next, 1), plus(next, 2), Rule::LotWord);
+            return Some(plus(next, 2));
+        }
         for place in next..plus(next, 3) {
             if place == next && self.is_before_number(place) {
                 self.draft.replace(place, b"", Rule::LotWord);
@@ -58,6 +72,17 @@ impl<'a> Finder<'a> {
             }
         }
         Some(next)
+    }
+
+    /// Whether the rest of the name of a column for lots and tracts is at an index, as in `Lot/Trct 6`: a tract of a
+    /// resurvey has a larger number than a lot.
+    fn is_before_tract(&self, index: usize) -> bool {
+        let pieces = &self.draft.pieces;
+        let tract = plus(index, 1);
+        pieces.is(index, b"/")
+            && pieces.is(tract, b"trct")
+            && pieces.is_joined(tract)
+            && pieces.has_digits(plus(tract, 1), 1)
     }
 
     /// What is written for a word for lots that no description has.

@@ -116,6 +116,7 @@ impl<'a> Finder<'a> {
             || pieces.is(index, b"\xE2\x80\x9C")
             || pieces.is(index, b"\xE2\x80\x9D")
             || pieces.is(index, b"\xE2\x80\xA2")
+            || pieces.is_brace_of_record(index)
             || (pieces.is(index, b")") && self.has_open)
     }
 
@@ -261,7 +262,7 @@ impl<'a> Finder<'a> {
         let is_unsure = self.draft.is_unsure;
         let end = self.heading(index)?;
         let pieces = &self.draft.pieces;
-        if pieces.is_joined(end) && pieces.number(end).is_some() {
+        if pieces.is_joined(end) && pieces.number(end).is_some() && !self.ends_code(end) {
             self.draft.drop_phrase();
             self.draft.is_unsure = is_unsure;
             return None;

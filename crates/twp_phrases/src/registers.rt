@@ -17,7 +17,21 @@ impl<'a> Finder<'a> {
         if let Some(end) = self.letter_of_register(index) {
             return Some(end);
         }
+        if self.draft.last_names() == Some(Names::Heading) && self.ends_code(index) {
+            let from = self.draft.extent();
+            let names = Names::Nothing(LeftOut::Label);
+            return Some(self.draft.add(names, index, plus(index, 1), from));
+        }
         self.section_of_register(index)
+    }
+
+    /// Whether the 0 that ends the code of a township is at an index, as in `ID080020N0030W0`: it is no duplicate.
+    pub(crate) fn ends_code(&self, index: usize) -> bool {
+        let pieces = &self.draft.pieces;
+        pieces.is(index, b"0")
+            && pieces.is_joined(index)
+            && !pieces.is_joined(plus(index, 1))
+            && matches!(index.checked_sub(2), Some(range) if pieces.has_digits(range, 4))
     }
 
     /// The code of the meridian, before a township and range.
@@ -49,7 +63,7 @@ impl<'a> Finder<'a> {
     pub(crate) fn letter_of_register(&mut self, index: usize) -> Option<usize> {
         let pieces = &self.draft.pieces;
         let next = plus(index, 1);
-        let is_before_part = match pieces.kind(next) {
+        let is_before_part = match pieces.kind(pieces.after_quoted_cell(next)) {
             Kind::NorthSouth(_) | Kind::EastWest(_) | Kind::Corner(_) | Kind::Other => true,
             _ => false,
         };

@@ -153,6 +153,14 @@ impl<'a> Finder<'a> {
             self.draft.leave_out(next, plus(next, 1), Rule::Word);
             return plus(next, 1);
         }
+        if let Some(value) = self.draft.pieces.after_bar_and_name(next, b"frstdivno") {
+            self.leave_out_name(next);
+            return value;
+        }
+        if let Some(value) = self.draft.pieces.after_quoted_name(next) {
+            self.draft.leave_out_each(next, value, Rule::Mark);
+            return value;
+        }
         if matches!(self.draft.pieces.kind(next), Kind::Colon) || self.draft.pieces.is(next, b"=") {
             self.draft.leave_out(next, plus(next, 1), Rule::Mark);
             return plus(next, 1);
@@ -181,6 +189,15 @@ impl<'a> Finder<'a> {
             return plus(next, 1);
         }
         next
+    }
+
+    /// Leaves out a name and an equals sign at an index, between a word and its number, and writes a space for the bar
+    /// before them.
+    pub(crate) fn leave_out_name(&mut self, index: usize) {
+        let (name, mark) = (plus(index, 1), plus(index, 2));
+        self.draft.replace(index, b" ", Rule::Heading);
+        self.draft.leave_out(name, mark, Rule::Label);
+        self.draft.leave_out(mark, plus(mark, 1), Rule::Mark);
     }
 
     /// The number of a section at an index.

@@ -24,9 +24,19 @@ impl<'a> Finder<'a> {
             Kind::BadByte => pieces.is(before, b"&") || pieces.is_dash(before),
             _ => {
                 (!pieces.is_joined(index) && pieces.begins_column(index))
-                    || self.is_after_label(index)
+                    || (self.is_after_label(index) && !self.is_before_cell_of_land(index))
             }
         }
+    }
+
+    /// Whether a comma between two cells is at an index, the second of which has land, as in `Aliquot,"NENE"`.
+    fn is_before_cell_of_land(&self, index: usize) -> bool {
+        let pieces = &self.draft.pieces;
+        let next = plus(index, 1);
+        pieces.is(index, b",")
+            && pieces.is_joined(index)
+            && pieces.is_joined(next)
+            && self.is_land_of_cell(next)
     }
 
     /// Whether the name of the column for aliquot parts is before an index.

@@ -26,3 +26,6 @@ pub mod PlatLaws
 pub mod FinerAreas
 pub mod CombinedAreas
 pub mod LackingFacts
+pub mod CountFacts
+pub mod ContainedLots
+pub mod StandardUnits

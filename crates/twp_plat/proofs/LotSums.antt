@@ -51,14 +51,15 @@ by_fours p f =
         (λ up _. total_blocks 4 p (λ along. f along (row * p + up)))
         ∙ total-swap p 4 (λ up column. total p (λ along. f (column * p + along) (row * p + up)))
 
-by_position : (g : ℕ) → POSITIONS_ACROSS ≤ places_across g → (f : ℕ → ℕ → ℕ) → total_over (whole_block g) f
+pub by_position : (g : ℕ) → POSITIONS_ACROSS ≤ places_across g → (f : ℕ → ℕ → ℕ)
+    → total_over (whole_block g) f
     ≡ over_positions (λ column row. total_over (position_block g column row) f)
 by_position g fits f =
     ap (λ n. total n (λ up. total n (λ along. f (0 + along) (0 + up)))) (position_has_places g fits).1
     ∙ by_fours (places_to_position g) f
 
 -- how many of a position's places the set contains
-abbrev held_of : ℕ → (ℕ → ℕ → Bool) → ℕ → ℕ → ℕ
+abbrev pub held_of : ℕ → (ℕ → ℕ → Bool) → ℕ → ℕ → ℕ
 held_of g held column row = count_held held (position_block g column row)
 
 -- the sum over a position's places is its units times the number of its places in the set

@@ -12,8 +12,15 @@ pub mod PlatAccounts
 pub mod LandAreaLaws
 pub mod PlatAccountLaws
 pub mod LotTables
+pub mod LotDates
 pub mod LotAreas
 pub mod LotRecords
-pub mod LotsFaults
+pub mod PlainTables
+pub mod PlainTableLaws
 pub mod LotAreaLaws
+pub mod LandTexts
+pub mod LandRecords
+pub mod LandFaults
+pub mod LotTexts
+pub mod LotsFaults
 pub mod steps

@@ -1,3 +1,4 @@
+pub mod Appending
 pub mod LineFaults
 pub mod SideLimits
 pub mod Accounts
@@ -6,3 +7,9 @@ pub mod SectionUnits
 pub mod LackingSteps
 pub mod PassedLotFaults
 pub mod LotEntries
+pub mod LandWalk
+pub mod LandPaints
+pub mod LandEntries
+pub mod Unfilled
+pub mod LotReading
+pub mod CellCuts

@@ -12,6 +12,7 @@ ghost use Rattle.twp_plat.specs.PlatAccountLaws.{PlatDifferenceAndIntersectionAd
 ghost use Rattle.twp_plat.specs.PlatAccountLaws.{PlatAreaIsNear};
 
 pub mod lots;
+pub mod plain_tables;
 
 /// The same notes always make the same plat, or have the same first fault, and never both.
 #[tactic(auto, using(crate::proofs::OneAnswer::one_answer))]

@@ -17,6 +17,9 @@ mod writing;
 
 pub use fault::{HalfMile, PlatFault};
 pub use land_area::{Account, area_by, area_of, plat_area_of};
-pub use lots::{LOTS, LotTable, LotsFault, area_by_lots};
+pub use lots::{
+    BOUNDS, FIGURE_MOST, LOT_MOST, LOTS, LackingLot, LotTable, LotsFault, RETURNED_MOST,
+    ReturnedLots, area_by_lots, plain_table,
+};
 pub use plat::{CLOSING_LEAST, CLOSING_MOST, HALF_LEAST, HALF_MOST, Plat, QUARTER_MILE};
 pub use writing::notes_text;

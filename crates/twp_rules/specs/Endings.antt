@@ -106,7 +106,7 @@ number_fronts = words (codes "lease rp pin apn")
 
 -- what an interest begins with,
 abbrev pub interest_fronts : List (List ℕ)
-interest_fronts = texts (codes "an und|und|one-half|one half")
+interest_fronts = texts (codes "an und|und|one-half|one half|all the right|all right")
 
 -- or a property
 abbrev pub property_fronts : List (List ℕ)

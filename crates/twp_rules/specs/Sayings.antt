@@ -7,7 +7,8 @@ use Rattle.twp_rules.specs.Edges.{begins_with_one, byte_before, ends_with_one, i
 use Rattle.twp_rules.specs.Endings.{depths, estates, interest_fronts, number_fronts, property_fronts}
 use Rattle.twp_rules.specs.Endings.{records, reservations, rights, terms, less_ends}
 use Rattle.twp_rules.specs.Naming.{begins_word, names_no_land, word_of}
-use Rattle.twp_rules.specs.Words.{acreage_limits, bound_words, column_words, depth_limits, depth_words}
+use Rattle.twp_rules.specs.Words.{acreage_limits, bound_words, claim_words, column_words, depth_limits}
+use Rattle.twp_rules.specs.Words.{depth_words}
 use Rattle.twp_rules.specs.Words.{lease_limits, measure_words, mineral_words, more_taking_words}
 use Rattle.twp_rules.specs.Words.{portion_words, record_limits, reserving_words, share_words, side_names}
 use Rattle.twp_rules.specs.Words.{side_words, taking_words}
@@ -31,7 +32,7 @@ may_contain Record word = is_one_of word record_limits
 may_contain Reservation word = is_one_of word share_words || is_one_of word reserving_words
 may_contain Term word = is_one_of word depth_limits
 may_contain Depth word = is_one_of word depth_limits
-may_contain Interest word = is_one_of word share_words
+may_contain Interest word = is_one_of word share_words || is_one_of word claim_words
 may_contain Property word = is_one_of word lease_limits
 may_contain Code word = is_one_of word side_names
 may_contain Acreage word = is_one_of word acreage_limits

@@ -170,7 +170,7 @@ worn_section_words =
 abbrev pub lot_words : List Entry
 lot_words = pairs (texts (codes "l=lot |lt=lot |lts=lots "))
     ++ all_left_out (words (codes "government govt gov t u s the numbered no nos"))
-    ++ pairs (codes "gl=lot " ∷ [])
+    ++ pairs (codes "gl=lot " ∷ []) ++ all_left_out (codes "trct" ∷ [])
 
 -- and what scanning leaves of them
 abbrev pub worn_lot_words : List Entry

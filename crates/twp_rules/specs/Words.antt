@@ -34,11 +34,12 @@ abbrev pub numbered_words : List (List ℕ)
 numbered_words = words (codes "tract tr parcel no nos number bk book vol pg page p misc inst instrument doc")
     ++ words (codes "case exhibit item comment allotment owner unit property prop psc lease lse est probate")
     ++ words (codes "permit entry cat idi meridian mer jan january feb february mar march apr april may jun")
-    ++ words (codes "june jul july aug august sep sept september oct october nov november dec december")
+    ++ words (codes "june jul july aug august sep sept september oct october nov november dec december row")
+    ++ codes "pasture" ∷ []
 
 -- words for what a number before them counts, and for a meridian
 abbrev pub units : List (List ℕ)
-units = words (codes "acres acre ac acs a net gross yr yrs year years shares feet foot ft pm p mer")
+units = words (codes "acres acre ac acs a net gross yr yrs year years shares feet foot ft pm p mer bm nmpm")
 
 -- marks after the digits of a code, a share, or a measure
 abbrev pub code_marks : List (List ℕ)
@@ -100,6 +101,10 @@ reserving_words = codes "excepting" ∷ []
 abbrev pub depth_limits : List (List ℕ)
 depth_limits = words (codes "below above between within feet foot ft")
 
+-- what somebody may have in land besides an interest
+abbrev pub claim_words : List (List ℕ)
+claim_words = words (codes "claim claims")
+
 -- what is left of a lease
 abbrev pub lease_limits : List (List ℕ)
 lease_limits = codes "remaining" ∷ []
@@ -156,10 +161,10 @@ first_words = words (codes "n s e w north south east west northeast northwest so
 abbrev pub cell_marks : List (List ℕ)
 cell_marks = codes "|" ∷ (9 ∷ []) ∷ []
 
--- the words for a section, with slips, and that of a register
+-- the words for a section, with slips, that of a register, and the names of its column in maps of the survey
 abbrev pub section_names : List (List ℕ)
 section_names = words (codes "sec secs sect sects section sections scc sce seo ec ection sn secton sectlon")
-    ++ words (codes "sectoin seciton sectiou seclion seotion sectior")
+    ++ words (codes "sectoin seciton sectiou seclion seotion sectior frstdivno frstdivlab")
 
 -- the words between the numbers of a list of sections, or before them
 abbrev pub list_words : List (List ℕ)

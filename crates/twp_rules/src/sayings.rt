@@ -164,7 +164,7 @@ fn may_contain(kind: Saying, word: &[u8]) -> bool
         Saying::Record => is_in_record_limits(word),
         Saying::Reservation => is_in_share_words(word) || is_in_reserving_words(word),
         Saying::Term | Saying::Depth => is_in_depth_limits(word),
-        Saying::Interest => is_in_share_words(word),
+        Saying::Interest => is_in_share_words(word) || is_in_claim_words(word),
         Saying::Property => is_in_lease_limits(word),
         Saying::Code => is_in_side_names(word),
         Saying::Acreage => is_in_acreage_limits(word),

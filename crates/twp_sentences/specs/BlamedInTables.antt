@@ -1,10 +1,11 @@
 -- Which fields of a refused record of a lot table are to blame, and where that is shown.
 use Rattle.std.specs.Prelude.{◌≡◌, ◌≢◌, ⊤, ℕ, zero, suc, ◌-◌, ◌<◌, ◌≤◌, ◌==◌, if◌then◌else◌, List, length}
 use Rattle.std.specs.Prelude.{codes}
-use Rattle.twp_notes.specs.Records.{Fields, field, records_of}
+use Rattle.twp_notes.specs.Records.{Fields, field, records_of, record_numbered}
 use Rattle.twp_notes.specs.FieldNotes.{FIELDS, IsSectionNumber, IsTownshipRecord}
 use Rattle.twp_notes.specs.NotesFaults.{HasNone}
 use Rattle.twp_plat.specs.LotRecords.{LOT_FIELDS, lots_heading}
+use Rattle.twp_plat.specs.LandRecords.{LAND_FIELDS}
 use Rattle.twp_plat.specs.declared.lots.fault.LotsFault.{LotsFault}
 use Rattle.twp_plat.specs.declared.lots.fault.LotsFault.TheVariants as fault
 use Rattle.twp_diagnose.specs.RecordFields.{fields_in, fields_span, IsRecordAt}
@@ -25,16 +26,26 @@ pub record BeginsAsHeading (fields : Fields) : Type 0 where
   pub lot : field fields 1 ≡ codes "lot"
   pub acres : field fields 2 ≡ codes "acres"
 
+-- how many fields the heading has whose first three these fields have: `land` may be the fourth
+pub data AreColumns (fields : Fields) (columns : ℕ) : Type 0 where
+  of_standard_lots : field fields LOT_FIELDS ≢ codes "land" → columns ≡ LOT_FIELDS → AreColumns fields columns
+  with_land : field fields LOT_FIELDS ≡ codes "land" → columns ≡ LAND_FIELDS → AreColumns fields columns
+
 -- Of a record that is not the heading: a field that differs from the heading's, or all fields after those of
 -- the heading.
 pub data AreUnlikeHeading (fields : Fields) (range : FieldRange) : Type 0 where
   a_field : IsOneField (λ place. field fields place ≢ field lots_heading place) range
       → AreUnlikeHeading fields range
-  more_fields : BeginsAsHeading fields → AreSurplus LOT_FIELDS fields range → AreUnlikeHeading fields range
+  more_fields : (columns : ℕ) → BeginsAsHeading fields → AreColumns fields columns
+      → AreSurplus columns fields range → AreUnlikeHeading fields range
 
--- how many fields the record of a number has: the township's, or that of a lot
-abbrev pub columns_of : ℕ → ℕ
-columns_of number = if number == 2 then FIELDS else LOT_FIELDS
+-- the most fields of the township's record
+abbrev pub TOWNSHIP_FIELDS : ℕ
+TOWNSHIP_FIELDS = 6
+
+-- the most fields of the record of a number: the township's, or that of a lot, which has so many
+abbrev pub columns_of : ℕ → ℕ → ℕ
+columns_of number lot_fields = if number == 2 then TOWNSHIP_FIELDS else lot_fields
 
 -- Of a record with too many fields, those after the first so many; of one with too few, its end.
 pub data AreMiscounted (columns : ℕ) (fields : Fields) (range : FieldRange) : Type 0 where
@@ -50,18 +61,27 @@ IsNotOfLot fields (suc (suc more)) = ⊥
 
 -- of a record with this fault, the fields to blame: one that fails; those that are too many, or the end; the
 -- section and the lot that an earlier record is for; or all
-abbrev pub AreBlamedInTable : LotsFault → Fields → FieldRange → Type 0
-AreBlamedInTable fault.TooLarge fields range = AreAllFields fields range
-AreBlamedInTable fault.Empty fields range = AreAllFields fields range
-AreBlamedInTable fault.Heading fields range = fields ≢ lots_heading → AreUnlikeHeading fields range
-AreBlamedInTable (fault.Columns number) fields range = AreMiscounted (columns_of number) fields range
-AreBlamedInTable fault.Township fields range = length fields ≡ FIELDS → HasNone (IsTownshipRecord fields)
+abbrev pub AreBlamedInTable : LotsFault → ℕ → Fields → FieldRange → Type 0
+AreBlamedInTable fault.TooLarge lot_fields fields range = AreAllFields fields range
+AreBlamedInTable fault.Empty lot_fields fields range = AreAllFields fields range
+AreBlamedInTable fault.Heading lot_fields fields range = fields ≢ lots_heading → AreUnlikeHeading fields range
+AreBlamedInTable (fault.Columns number) lot_fields fields range =
+    AreMiscounted (columns_of number lot_fields) fields range
+AreBlamedInTable fault.Township lot_fields fields range =
+    length fields ≡ FIELDS → HasNone (IsTownshipRecord fields)
     → IsOneField (IsNotOfTownship fields) range
-AreBlamedInTable (fault.NoLot number) fields range = IsOneField (IsNotOfLot fields) range
-AreBlamedInTable (fault.Acres number) fields range = IsOneField (λ place. place ≡ 2) range
-AreBlamedInTable (fault.Repeated number) fields range = (range.first ≡ 0) × (range.last ≡ 1)
-AreBlamedInTable fault.Read fields range = AreAllFields fields range
-AreBlamedInTable fault.Memory fields range = AreAllFields fields range
+AreBlamedInTable (fault.NoLot number) lot_fields fields range = IsOneField (IsNotOfLot fields) range
+AreBlamedInTable (fault.Acres number) lot_fields fields range = IsOneField (λ place. place ≡ 2) range
+AreBlamedInTable (fault.Repeated number) lot_fields fields range = (range.first ≡ 0) × (range.last ≡ 1)
+AreBlamedInTable fault.Date lot_fields fields range = IsOneField (λ place. place ≡ 5) range
+AreBlamedInTable (fault.Land number) lot_fields fields range = IsOneField (λ place. place ≡ 3) range
+AreBlamedInTable (fault.TooFine number) lot_fields fields range = IsOneField (λ place. place ≡ 3) range
+AreBlamedInTable (fault.Shared number) lot_fields fields range = IsOneField (λ place. place ≡ 3) range
+AreBlamedInTable (fault.TooMany number) lot_fields fields range = (range.first ≡ 0) × (range.last ≡ 1)
+AreBlamedInTable (fault.Unfilled number) lot_fields fields range = IsOneField (λ place. place ≡ 3) range
+AreBlamedInTable (fault.Divided number) lot_fields fields range = AreAllFields fields range
+AreBlamedInTable fault.Read lot_fields fields range = AreAllFields fields range
+AreBlamedInTable fault.Memory lot_fields fields range = AreAllFields fields range
 
 -- the fault is one of a record: not of the table as a whole, and not of the reader
 abbrev pub IsOfTableRecord : LotsFault → Type 0
@@ -73,6 +93,13 @@ IsOfTableRecord fault.Township = ⊤
 IsOfTableRecord (fault.NoLot number) = ⊤
 IsOfTableRecord (fault.Acres number) = ⊤
 IsOfTableRecord (fault.Repeated number) = ⊤
+IsOfTableRecord fault.Date = ⊤
+IsOfTableRecord (fault.Land number) = ⊤
+IsOfTableRecord (fault.TooFine number) = ⊤
+IsOfTableRecord (fault.Shared number) = ⊤
+IsOfTableRecord (fault.TooMany number) = ⊤
+IsOfTableRecord (fault.Unfilled number) = ⊤
+IsOfTableRecord (fault.Divided number) = ⊤
 IsOfTableRecord fault.Read = ⊥
 IsOfTableRecord fault.Memory = ⊥
 
@@ -87,5 +114,5 @@ pub data ShowsBlamedInTable (table : List ℕ) (is : LotsFault) (number : ℕ) (
   as_a_whole : (IsOfTableRecord is → length (records_of table) < number) → place ≡ Whole
       → ShowsBlamedInTable table is number place
   in_its_record : (found : Record) (range : FieldRange) → IsTableRecordOf table is number found
-      → AreBlamedInTable is (fields_in found) range
+      → AreBlamedInTable is (length (record_numbered (records_of table) 1)) (fields_in found) range
       → place ≡ Field (fields_span found range.first range.last) → ShowsBlamedInTable table is number place

@@ -10,6 +10,7 @@ use Rattle.twp_suggest.specs.Closed.IsGiven.{by_land, by_text}
 use Rattle.twp_suggest.specs.Ways.{text_by}
 use Rattle.twp_suggest.specs.declared.way.Way.{Way}
 use Rattle.twp_suggest.specs.declared.reading.Reading.{Reading}
+use Rattle.twp_grid.specs.Lands.{STANDARD_LOTS}
 
 -- one of some readings
 pub any_here : (P : Reading → Type 0) (readings : List Reading) (index : ℕ) (reading default : Reading)
@@ -20,19 +21,20 @@ any_here P readings index reading default within is such =
 
 -- the only land of a text is that of one of some readings
 pub land_of_one : (readings : List Reading) (text : List ℕ) (township : Designation)
-    (places : ℕ → ℕ → ℕ → Bool) → IsOnlyLandOfText text places → Any (NamesSame township places) readings
+    (places : ℕ → ℕ → ℕ → Bool) → IsOnlyLandOfText STANDARD_LOTS text places
+    → Any (NamesSame township places) readings
     → IsLandOf readings text township
 land_of_one readings text township places only given others is =
     subst (λ (named : ℕ → ℕ → ℕ → Bool). Any (NamesSame township named) readings)
     (sym (only township others is)) given
 
 pub is_same : (township : Designation) (places more : ℕ → ℕ → ℕ → Bool) (reading : Reading)
-    → IsLandOfText township reading.text.items more → SamePlaces places more
+    → IsLandOfText STANDARD_LOTS township reading.text.items more → SamePlaces places more
     → NamesSame township places reading
 is_same township places more reading named same = record { more = more; named = named; same = same }
 
 pub is_land_given : (readings : List Reading) (own : Reading) (text : List ℕ) (township : Designation)
-    (places : ℕ → ℕ → ℕ → Bool) → IsLandOfText township own.text.items places
+    (places : ℕ → ℕ → ℕ → Bool) → IsLandOfText STANDARD_LOTS township own.text.items places
     → IsLandOf readings text township → IsLandGiven readings own text
 is_land_given readings own text township places of_own given =
     record { township = township; places = places; of_own = of_own; given = given }

@@ -5,11 +5,13 @@ use Rattle.twp_grid.specs.Lands.{SamePlaces}
 use Rattle.twp_suggest.specs.Descriptions.{IsOnlyLandOfText}
 use Rattle.twp_suggest.specs.Readings.{AreOther}
 use Rattle.twp_suggest.specs.declared.reading.Reading.{Reading}
+use Rattle.twp_grid.specs.Lands.{STANDARD_LOTS}
 
 -- two readings with other texts, whose only places are not the same
 pub other_land : (one other : Reading) (places more : ℕ → ℕ → ℕ → Bool) (are_texts are_places : Bool)
     → (IsTrue are_texts ↔ (one.text.items ≡ other.text.items)) → are_texts ≡ false
-    → IsOnlyLandOfText one.text.items places → IsOnlyLandOfText other.text.items more
+    → IsOnlyLandOfText STANDARD_LOTS one.text.items places
+    → IsOnlyLandOfText STANDARD_LOTS other.text.items more
     → (IsTrue are_places ↔ SamePlaces places more) → not are_places ≡ true → AreOther one other
 other_land one other places more true are_places texts differ only only' lands apart = cc differ
 other_land one other places more false true texts differ only only' lands apart = cc apart

@@ -10,23 +10,25 @@ use Rattle.twp_suggest.specs.declared.reading.Reading.{Reading}
 use Rattle.twp_suggest.specs.declared.way.Way.{Way}
 use Rattle.twp_suggest.specs.Sharing.{IsShared, has_place}
 use Rattle.twp_suggest.specs.Ways.{AreTurned, text_by}
+use Rattle.twp_grid.specs.Lands.{STANDARD_LOTS}
 
 -- a reading names these places in a township
 pub record NamesSame (township : Designation) (places : ℕ → ℕ → ℕ → Bool) (reading : Reading) : Type 0 where
   pub more : ℕ → ℕ → ℕ → Bool
-  pub named : IsLandOfText township reading.text.items more
+  pub named : IsLandOfText STANDARD_LOTS township reading.text.items more
   pub same : SamePlaces places more
 
 -- a text names no land in a township, or that of one of some readings
 abbrev pub IsLandOf : List Reading → List ℕ → Designation → Type 0
-IsLandOf readings text township = (others : ℕ → ℕ → ℕ → Bool) → IsLandOfText township text others
+IsLandOf readings text township =
+    (others : ℕ → ℕ → ℕ → Bool) → IsLandOfText STANDARD_LOTS township text others
     → Any (NamesSame township others) readings
 
 -- the same in the township of a reading
 pub record IsLandGiven (readings : List Reading) (own : Reading) (text : List ℕ) : Type 0 where
   pub township : Designation
   pub places : ℕ → ℕ → ℕ → Bool
-  pub of_own : IsLandOfText township own.text.items places
+  pub of_own : IsLandOfText STANDARD_LOTS township own.text.items places
   pub given : IsLandOf readings text township
 
 -- a text is the text of one of some readings, or names no land that none of them names

@@ -1,10 +1,9 @@
 -- What a text describes: whether the reader accepts it, the land that it names, and the description that a
 -- changed text leads to.
-use Rattle.std.specs.Prelude.{◌≡◌, ◌==◌, ℕ, Bool, List, [], ◌∷◌, Option, Some, None}
+use Rattle.std.specs.Prelude.{◌≡◌, ◌==◌, ℕ, Bool, true, List, [], ◌∷◌, Option, Some, None}
 use Rattle.std.specs.Prelude.{if◌then◌else◌}
 use Rattle.twp_grid.specs.Townships.{Designation, designation, line_feed}
-use Rattle.twp_grid.specs.Lands.{ContainsAll, HasWholeLots, SamePlaces, difference}
-use Rattle.twp_grid.specs.Lands.{STANDARD_LOTS}
+use Rattle.twp_grid.specs.Lands.{Lotting, ContainsAll, HasWholeLots, SamePlaces, difference}
 use Rattle.twp_grammar.specs.declared.item.Item.{Item}
 use Rattle.twp_grammar.specs.declared.item.Item.TheVariants.{Heading}
 use Rattle.twp_grammar.specs.ItemPlaces.{land_of, parts_of}
@@ -28,19 +27,20 @@ pub record IsClear (text : List ℕ) : Type 0 where
   pub clear : HasNoDoubtfulPlace text
 
 -- the text is read as items on the plat of a township, and these are their places
-pub record IsLandOfText (township : Designation) (text : List ℕ) (places : ℕ → ℕ → ℕ → Bool) : Type 0 where
+pub record IsLandOfText (lots : Lotting) (township : Designation) (text : List ℕ) (places : ℕ → ℕ → ℕ → Bool)
+    : Type 0 where
   pub items : List Item
   pub read : IsReadAs text items
-  pub land : IsLandOfItems STANDARD_LOTS township items places
+  pub land : IsLandOfItems lots township items places
 
 -- a text names no other places, in any township
-abbrev pub IsOnlyLandOfText : List ℕ → (ℕ → ℕ → ℕ → Bool) → Type 0
-IsOnlyLandOfText text places = (township : Designation) (others : ℕ → ℕ → ℕ → Bool)
-    → IsLandOfText township text others → others ≡ places
+abbrev pub IsOnlyLandOfText : Lotting → List ℕ → (ℕ → ℕ → ℕ → Bool) → Type 0
+IsOnlyLandOfText lots text places = (township : Designation) (others : ℕ → ℕ → ℕ → Bool)
+    → IsLandOfText lots township text others → others ≡ places
 
 -- a text names no land in a township
-abbrev pub NamesNoLand : Designation → List ℕ → Type 0
-NamesNoLand township text = (places : ℕ → ℕ → ℕ → Bool) → ¬ IsLandOfText township text places
+abbrev pub NamesNoLand : Lotting → Designation → List ℕ → Type 0
+NamesNoLand lots township text = (places : ℕ → ℕ → ℕ → Bool) → ¬ IsLandOfText lots township text places
 
 -- a text without its first line
 abbrev pub without_first_line : List ℕ → List ℕ
@@ -55,7 +55,7 @@ as_written items text = without_first_line text
 
 -- THE REMAINDER: the canonical text of the land of a text without the land that it excepts, which lies in it,
 -- and isn't all of it
-pub record IsRemainder (made text : List ℕ) : Type 0 where
+pub record IsRemainder (lots : Lotting) (made text : List ℕ) : Type 0 where
   pub whole : List ℕ
   pub excepted : List ℕ
   pub at : ℕ
@@ -63,12 +63,12 @@ pub record IsRemainder (made text : List ℕ) : Type 0 where
   pub township : Designation
   pub places : ℕ → ℕ → ℕ → Bool
   pub less : ℕ → ℕ → ℕ → Bool
-  pub of_whole : IsLandOfText township whole places
-  pub of_excepted : IsLandOfText township excepted less
+  pub of_whole : IsLandOfText lots township whole places
+  pub of_excepted : IsLandOfText lots township excepted less
   pub inside : ContainsAll places less
   pub some_left : ¬ SamePlaces places less
   pub full : List ℕ
-  pub spelled : IsCanonicalText STANDARD_LOTS township (difference places less) full
+  pub spelled : IsCanonicalText lots township (difference places less) full
   pub text_is : text ≡ as_written of_whole.items full
 
 -- what is excepted is read as items, and its text begins at an offset of the changed text
@@ -84,12 +84,15 @@ abbrev pub AreItemsOf : List ℕ → List Item → Option Excepted → Type 0
 AreItemsOf made items None = IsReadAs made items
 AreItemsOf made items (Some part) = AreExcepted made items part
 
--- the text is read as items, which name these places; an aliquot part may include lots
-pub record AreNamed (text : List ℕ) (places : ℕ → ℕ → ℕ → Bool) : Type 0 where
+-- the text is read as items, which name these places; an aliquot part may include lots, but the plat has land
+-- at each place
+pub record AreNamed (lots : Lotting) (text : List ℕ) (places : ℕ → ℕ → ℕ → Bool) : Type 0 where
   pub items : List Item
   pub read : IsReadAs text items
-  pub places_are : places ≡ land_of STANDARD_LOTS (parts_of items)
-  pub whole : HasWholeLots STANDARD_LOTS places
+  pub places_are : places ≡ land_of lots (parts_of items)
+  pub whole : HasWholeLots lots places
+  pub on_land : (section column row : ℕ) → places section column row ≡ true
+      → lots.has_land section column row ≡ true
 
 -- a township that items begin with is this one
 abbrev pub NamesTownship : List Item → Designation → Type 0
@@ -98,17 +101,17 @@ NamesTownship (Heading number north_south range east_west at ∷ items) township
 NamesTownship items township = Unit {0}
 
 -- LOTS NAMED: the canonical text of the land of a text in which an aliquot part may include whole lots
-pub record AreLotsNamed (made text : List ℕ) : Type 0 where
+pub record AreLotsNamed (lots : Lotting) (made text : List ℕ) : Type 0 where
   pub township : Designation
   pub places : ℕ → ℕ → ℕ → Bool
-  pub named : AreNamed made places
+  pub named : AreNamed lots made places
   pub of_township : NamesTownship named.items township
   pub full : List ℕ
-  pub spelled : IsCanonicalText STANDARD_LOTS township places full
+  pub spelled : IsCanonicalText lots township places full
   pub text_is : text ≡ as_written named.items full
 
 -- how the description comes of the changed text
-abbrev pub IsDescribed : Manner → List ℕ → List ℕ → Type 0
-IsDescribed Changed made text = text ≡ made
-IsDescribed LotsNamed made text = AreLotsNamed made text
-IsDescribed Remainder made text = IsRemainder made text
+abbrev pub IsDescribed : Lotting → Manner → List ℕ → List ℕ → Type 0
+IsDescribed lots Changed made text = text ≡ made
+IsDescribed lots LotsNamed made text = AreLotsNamed lots made text
+IsDescribed lots Remainder made text = IsRemainder lots made text

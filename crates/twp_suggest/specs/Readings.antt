@@ -14,6 +14,7 @@ use Rattle.twp_rules.specs.Moves.{MayBeMade}
 use Rattle.twp_suggest.specs.Closed.{AreClosed}
 use Rattle.twp_suggest.specs.Repeats.{AreRepeated}
 use Rattle.twp_suggest.specs.declared.reading.Reading.{Reading}
+use Rattle.twp_grid.specs.Lands.{STANDARD_LOTS}
 
 -- the land that is excepted, if any is, lies with its sections
 abbrev pub LiesExcepted : List ℕ → List Change → Option Excepted → Type 0
@@ -35,7 +36,8 @@ pub record IsReading (text : List ℕ) (reading : Reading) : Type 0 where
   pub made : MayBeMade text (map seen reading.changes.items)
   pub copies : copy_whole text (map seen reading.changes.items) ≡ true
   pub repeated : AreRepeated text [] 0 (map seen reading.changes.items)
-  pub described : IsDescribed reading.manner (changed_from 0 text (map seen reading.changes.items))
+  pub described : IsDescribed STANDARD_LOTS reading.manner
+      (changed_from 0 text (map seen reading.changes.items))
       reading.text.items
   pub accepted : IsAccepted reading.text.items
   pub lies : (reading.changes.items ≡ [] → ¬ IsClear text)
@@ -48,7 +50,8 @@ READINGS_MOST = 8
 -- two texts never name the same places, in any township
 abbrev pub NameOtherLand : List ℕ → List ℕ → Type 0
 NameOtherLand one other = (township : Designation) (places more : ℕ → ℕ → ℕ → Bool)
-    → IsLandOfText township one places → IsLandOfText township other more → ¬ SamePlaces places more
+    → IsLandOfText STANDARD_LOTS township one places → IsLandOfText STANDARD_LOTS township other more
+    → ¬ SamePlaces places more
 
 -- other texts, of other land
 pub record AreOther (one other : Reading) : Type 0 where

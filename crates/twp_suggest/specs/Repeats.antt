@@ -14,6 +14,7 @@ use Rattle.twp_rules.specs.Edges.{begins_with, byte_before, ends_with}
 use Rattle.twp_rules.specs.Moves.{MayBeMade}
 use Rattle.twp_rules.specs.Naming.{digits_of, is_side}
 use Rattle.twp_rules.specs.Sayings.{is_remark}
+use Rattle.twp_grid.specs.Lands.{STANDARD_LOTS}
 
 -- a word begins nowhere in a text
 abbrev pub is_without : List ℕ → List ℕ → Bool
@@ -70,14 +71,14 @@ pub record IsLastLand (text : List ℕ) (section : ℕ) (places : ℕ → ℕ �
   pub end : ℕ
   pub last : is_last_land text section at end ≡ true
   pub found : ℕ → ℕ → ℕ → Bool
-  pub named : AreNamed (of_section (section_name text section) (slice_range text at end)) found
+  pub named : AreNamed STANDARD_LOTS (of_section (section_name text section) (slice_range text at end)) found
   pub same : SamePlaces found places
 
 -- parts name the same places as the last land before them, in the same section
 pub record NameLastLand (before parts : List ℕ) : Type 0 where
   pub section : ℕ
   pub places : ℕ → ℕ → ℕ → Bool
-  pub named : AreNamed (of_section (section_name before section) parts) places
+  pub named : AreNamed STANDARD_LOTS (of_section (section_name before section) parts) places
   pub last : IsLastLand before section places
 
 -- a remark, which names no land and limits none, nor anything that is all of a section

@@ -6,6 +6,7 @@ mod after_sections;
 mod arranging;
 mod before_sections;
 mod beside;
+mod cells;
 mod corners;
 mod distances;
 mod exceptions;

@@ -18,7 +18,7 @@ use crate::way::{Way, text_by};
 use std::alloc::{AllocError, Global};
 use twp_grammar::Token;
 use twp_grid::Township;
-use twp_land::{Land, Lanes, PlaceSet};
+use twp_land::{Land, Lanes, PlaceSet, StandardLots};
 use twp_rules::{Change, Rule, changed};
 
 /// Whether each other way to read a place of a text is given by some readings of it, if it names land.
@@ -282,7 +282,7 @@ fn has_land_given(
     ensures { IfOk result (λ it. it ≡ true → IsLandGiven readings.now own.now text.now) }
 {
     let mut land = Lanes::empty();
-    let Some(township) = find_own_land(alloc, own.text.as_slice(), &mut land)? else {
+    let Some(township) = find_own_land(alloc, own.text.as_slice(), &mut land, &StandardLots)? else {
         return Ok(false);
     };
     let is_given = is_land_given(alloc, text, readings, township)?;
@@ -302,7 +302,7 @@ fn is_land_given(
     ensures { IfOk result (λ it. it ≡ true → IsLandOf readings.now text.now township) }
 {
     let mut land = Lanes::empty();
-    let has_land = find_land(alloc, text, township, &mut land)?;
+    let has_land = find_land(alloc, text, township, &mut land, &StandardLots)?;
     if !has_land {
         return Ok(true);
     }
@@ -343,7 +343,13 @@ fn names_land(
         NamesSame township (⟦<Lanes as PlaceSet>⟧.places land.now) reading.now) }
 {
     let mut more = Lanes::empty();
-    let has_more = find_land(alloc, reading.text.as_slice(), township, &mut more)?;
+    let has_more = find_land(
+        alloc,
+        reading.text.as_slice(),
+        township,
+        &mut more,
+        &StandardLots,
+    )?;
     if !has_more {
         return Ok(false);
     }

@@ -5,7 +5,7 @@ use crate::writer::ChangeWriter;
 use std::alloc::{AllocError, Global};
 use twp_asides::plus;
 use twp_draft::{IndexRange, Names, Phrase, Placed, Role};
-use twp_land::{Land, Lanes};
+use twp_land::{Land, Lanes, StandardLots};
 
 /// The land before a place, which moves from one place to the next.
 #[derive(Clone, Copy)]
@@ -160,12 +160,12 @@ fn section_text(alloc: Global, number: u16) -> Result<Vec<u8>, AllocError> {
 #[inline(never)]
 fn includes_lots(alloc: Global, text: &[u8]) -> Result<bool, AllocError> {
     let mut land = Lanes::empty();
-    if !find_named_land(alloc, text, &mut land)? {
+    if !find_named_land(alloc, text, &mut land, &StandardLots)? {
         return Ok(false);
     }
     let Some(township) = first_township(&[]) else {
         return Ok(false);
     };
-    let is_on_plat = find_land(alloc, text, township, &mut land)?;
+    let is_on_plat = find_land(alloc, text, township, &mut land, &StandardLots)?;
     Ok(!is_on_plat)
 }

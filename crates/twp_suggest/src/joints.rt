@@ -62,9 +62,10 @@ impl<'p, 'a> ChangeWriter<'p, 'a> {
             && part.ends_with(b"4")
             && part.get(..2).unwrap_or(b"").contains(&side);
         let is_twice = part.ends_with(b"2") && draft.have_same_steps(one, other);
+        let are_spaced = (self.is_spaced(one) && self.is_spaced(other)) || self.are_steps_apart();
         is_quarter_of_half
             || self.is_odd_part(gap, one, other)
-            || (is_twice && !(self.is_spaced(one) && self.is_spaced(other)))
+            || (is_twice && !are_spaced)
             || self.may_be_again(gap, one, other)
     }
 
@@ -116,6 +117,22 @@ impl<'p, 'a> ChangeWriter<'p, 'a> {
         let pieces = &self.plan.draft.pieces;
         let fraction = plus(half.first, 1);
         matches!(pieces.kind(fraction), Kind::Half) && !pieces.is_joined(fraction)
+    }
+
+    /// Whether white space is between all steps of the text, as in `S/2 S/2, SW/4 NE/4`: each was found as a
+    /// part by itself, so that white space separates no parts.
+    fn are_steps_apart(&self) -> bool {
+        let draft = &self.plan.draft;
+        for step in &draft.steps {
+            if let Some(b'a'..=b'z' | b'A'..=b'Z' | b'/' | b'\\' | b'-') = draft
+                .pieces
+                .text
+                .get(step.end)
+            {
+                return false;
+            }
+        }
+        true
     }
 
     /// Notes a joint, whose changes were added. A text with too many isn't sure.

@@ -6,7 +6,7 @@ ghost use Rattle.twp_suggest.specs.Repeats.{is_without, name_end, of_section, se
 use crate::bytes::{after, between, front};
 use crate::meaning::find_named_land;
 use std::alloc::{AllocError, Global};
-use twp_land::{Land, Lanes, PlaceSet};
+use twp_land::{Land, Lanes, PlaceSet, StandardLots};
 use twp_rules::{begins_with, digits_of, ends_with};
 
 /// The most places from the right at which the last land is looked for: a list of all lots of a section has no more.
@@ -35,7 +35,7 @@ pub(crate) fn names_last_land(
     }
     let again = of_section(alloc, section_name(before, section), parts)?;
     let mut land = Lanes::empty();
-    let is_named = find_named_land(alloc, again.as_slice(), &mut land)?;
+    let is_named = find_named_land(alloc, again.as_slice(), &mut land, &StandardLots)?;
     if !is_named {
         return Ok(false);
     }
@@ -124,7 +124,7 @@ fn is_land_at(
     }
     let parts = of_section(alloc, section_name(text, section), between(text, at, end))?;
     let mut found = Lanes::empty();
-    let is_named = find_named_land(alloc, parts.as_slice(), &mut found)?;
+    let is_named = find_named_land(alloc, parts.as_slice(), &mut found, &StandardLots)?;
     if !is_named {
         return Ok(false);
     }

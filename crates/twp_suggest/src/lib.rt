@@ -17,6 +17,7 @@ mod meaning;
 mod moved;
 mod only_reading;
 mod outline;
+mod part_tokens;
 mod phrases;
 mod plain;
 mod reading;

@@ -2,6 +2,7 @@
 //! why lots and aliquot parts can't describe the land.
 ghost use Rattle.std.specs.Prelude.{[], ◌∷◌, IfOk, IfSome};
 ghost use Rattle.twp_diagnose.specs.Suggestions.{IsOfTownship, NamesLandOf};
+ghost use Rattle.twp_grid.specs.Lands.{Lotting, lotting};
 ghost use Rattle.twp_grid.specs.Townships.{Designation};
 ghost use Rattle.twp_suggest.specs.Told.{IsToldIn};
 ghost use Rattle.twp_suggest.specs.Readings.{AreReadings};
@@ -17,7 +18,7 @@ use twp_asides::beyond_of;
 use twp_diagnose::{Suggested, Suggestion, Suggests};
 use twp_draft::FindsPhrases;
 use twp_grid::Township;
-use twp_land::{Land, Lanes};
+use twp_land::{Land, Lanes, Lotting};
 
 /// The most bytes of a text whose readings are looked for.
 const SHORT: usize = 4_000;
@@ -28,8 +29,13 @@ pub struct OnlyReading<F: FindsPhrases> {
 }
 
 impl<F: FindsPhrases> Suggests for OnlyReading<F> {
-    fn suggest(alloc: Global, text: &[u8], township: Township) -> Result<Suggestion, AllocError>
-        ensures on_plat { IfOk result (IsOfTownship township) }
+    fn suggest<P: Lotting>(
+        alloc: Global,
+        text: &[u8],
+        township: Township,
+        lots: &P,
+    ) -> Result<Suggestion, AllocError>
+        ensures on_plat { IfOk result (IsOfTownship (lotting (P.layout lots.now)) township) }
         ensures told { IfOk result (IsToldIn text.now) }
     {
         if text.len() > SHORT {
@@ -38,7 +44,7 @@ impl<F: FindsPhrases> Suggests for OnlyReading<F> {
         let readings = readings_of::<F>(alloc, text)?;
         match readings.as_slice() {
             [] => reason(alloc, text),
-            [reading] => only(alloc, text, reading, township),
+            [reading] => only(alloc, text, reading, township, lots),
             _ => Ok(Suggestion::Several),
         }
     }
@@ -46,7 +52,8 @@ impl<F: FindsPhrases> Suggests for OnlyReading<F> {
 
 /// Why lots and aliquot parts can't describe the land of a text that has no reading.
 fn reason(alloc: Global, text: &[u8]) -> Result<Suggestion, AllocError>
-    ensures on_plat { IfOk result (λ it. (township : Designation) → IsOfTownship township it) }
+    ensures on_plat { IfOk result (λ it. (lots : Lotting) (township : Designation)
+        → IsOfTownship lots township it) }
     ensures told { IfOk result (IsToldIn text.now) }
 {
     match beyond_of(alloc, text)? {
@@ -56,18 +63,19 @@ fn reason(alloc: Global, text: &[u8]) -> Result<Suggestion, AllocError>
 }
 
 /// The only reading of a text; nothing if it doesn't name land on the plat of the township.
-fn only(
+fn only<P: Lotting>(
     alloc: Global,
     text: &[u8],
     reading: &Reading<'_>,
     township: Township,
+    lots: &P,
 ) -> Result<Suggestion, AllocError>
     requires { AreReadings text.now (reading.now ∷ []) }
-    ensures on_plat { IfOk result (IsOfTownship township) }
+    ensures on_plat { IfOk result (IsOfTownship (lotting (P.layout lots.now)) township) }
     ensures told { IfOk result (IsToldIn text.now) }
 {
     let shown = on_one_line(alloc, reading.text.as_slice().trim_ascii())?;
-    let Some(shown) = if_on_plat(alloc, shown, township)? else {
+    let Some(shown) = if_on_plat(alloc, shown, township, lots)? else {
         return Ok(Suggestion::Nothing);
     };
     let mut assumptions = String::new(alloc);
@@ -80,15 +88,17 @@ fn only(
 
 /// A text, if it names land on the plat of a township. Not inlined, since its set of land takes room.
 #[inline(never)]
-fn if_on_plat(
+fn if_on_plat<P: Lotting>(
     alloc: Global,
     text: Vec<u8>,
     township: Township,
+    lots: &P,
 ) -> Result<Option<Vec<u8>>, AllocError>
-    ensures { IfOk result (λ it. IfSome it (λ text. NamesLandOf township text.items)) }
+    ensures { IfOk result (λ it. IfSome it (λ text.
+        NamesLandOf (lotting (P.layout lots.now)) township text.items)) }
 {
     let mut land = Lanes::empty();
-    if find_land(alloc, text.as_slice(), township, &mut land)? {
+    if find_land(alloc, text.as_slice(), township, &mut land, lots)? {
         return Ok(Some(text));
     }
     Ok(None)

@@ -7,7 +7,8 @@ ghost use Rattle.twp_suggest.specs.steps.Plain.{are_plain_bytes, is_d, nothing_p
 ghost use Rattle.twp_suggest.specs.steps.Plain.{is_gap, passed_with};
 
 use crate::bytes::{byte_at, is_white};
-use crate::sharing::{is_and, is_comma_by, is_f, is_fraction, is_of};
+use crate::part_tokens::{is_and, is_fraction, is_of};
+use crate::sharing::{is_comma_by, is_f};
 use crate::turned::ends_fraction;
 use twp_grammar::{Token, Tokens};
 use twp_read::begins_step;

@@ -6,6 +6,7 @@ ghost use Rattle.twp_rules.specs.Copying.{copy_whole};
 ghost use Rattle.twp_suggest.specs.Descriptions.{IsClear, IsDescribed};
 ghost use Rattle.twp_suggest.specs.Readings.{AreReadings, IsReading, AreOther};
 ghost use Rattle.twp_suggest.specs.Readings.{AreSomeReadings, LiesExcepted, MayBeAdded};
+ghost use Rattle.twp_grid.specs.Lands.{STANDARD_LOTS};
 
 use crate::candidates::{made_by, outline_of};
 use crate::closed::are_closed;
@@ -14,7 +15,7 @@ use crate::outline::Outline;
 use crate::repeated::are_repeated;
 use std::alloc::{AllocError, Global};
 use twp_draft::{Again, FindsPhrases};
-use twp_land::{Land, Lanes};
+use twp_land::{Land, Lanes, StandardLots};
 use twp_rules::{Change, are_changes, changed, copy_whole, lie_with_sections};
 
 /// A reading of a text: the changes, from left to right, and the description that comes of them.
@@ -136,7 +137,7 @@ fn reading_with<'a>(
         return Ok(None);
     }
     let made = changed(alloc, text, changes.as_slice())?;
-    let Some(wording) = described(alloc, made, has_except)? else {
+    let Some(wording) = described(alloc, made, has_except, &StandardLots)? else {
         return Ok(None);
     };
     if !are_copied_whole(alloc, text, changes.as_slice(), &wording)? {
@@ -166,7 +167,7 @@ fn unfit_or_refused<'a>(
     let Some(made) = made_by(alloc, text, changes)? else {
         return Err(Unread::Refused);
     };
-    match described(alloc, made, has_except)? {
+    match described(alloc, made, has_except, &StandardLots)? {
         Some(_) => Err(Unread::Refused),
         None => Ok(None),
     }
@@ -181,7 +182,7 @@ fn are_copied_whole(
     wording: &Wording,
 ) -> Result<bool, AllocError>
     requires allowed { AreChangesFrom 0 text.now (map seen changes.now) }
-    requires described { IsDescribed wording.now.manner
+    requires described { IsDescribed STANDARD_LOTS wording.now.manner
         (changed_from 0 text.now (map seen changes.now)) wording.now.text.items }
     ensures { IfOk result (λ it. it ≡ true → copy_whole text.now (map seen changes.now) ≡ true) }
 {
@@ -249,11 +250,17 @@ fn are_other(alloc: Global, one: &Reading<'_>, other: &Reading<'_>) -> Result<bo
         return Ok(false);
     }
     let mut land = Lanes::empty();
-    let Some(township) = find_own_land(alloc, one.text.as_slice(), &mut land)? else {
+    let Some(township) = find_own_land(alloc, one.text.as_slice(), &mut land, &StandardLots)? else {
         return Ok(false);
     };
     let mut more = Lanes::empty();
-    let has_more = find_land(alloc, other.text.as_slice(), township, &mut more)?;
+    let has_more = find_land(
+        alloc,
+        other.text.as_slice(),
+        township,
+        &mut more,
+        &StandardLots,
+    )?;
     if !has_more {
         return Ok(false);
     }

@@ -2,16 +2,17 @@
 //! space between them.
 ghost use Rattle.std.specs.Prelude.{◌≡◌, ◌+◌, ◌-◌, IfOk, IfSome, map};
 ghost use Rattle.twp_grammar.specs.Tokens.{seen as token};
-ghost use Rattle.twp_read.specs.Doubts.{after_part, is_and, is_of, is_of_part, is_of_step};
 ghost use Rattle.twp_rules.specs.Changes.{seen};
-ghost use Rattle.twp_suggest.specs.Sharing.{HasJoinedTokens, after_of, apart_after, are_as_written, as_and};
-ghost use Rattle.twp_suggest.specs.Sharing.{begins_part, is_f, is_fraction, may_be_between, may_end_step};
-ghost use Rattle.twp_suggest.specs.Sharing.{first_at, has_place, head_after, head_of, is_comma, is_comma_by};
-ghost use Rattle.twp_suggest.specs.Sharing.{is_for_and, is_listed, is_nothing, is_part_of, is_sought, is_the, is_within};
-ghost use Rattle.twp_suggest.specs.Sharing.{last_part, leads_part, of_count, part_after_and, tail_after, tail_of};
-ghost use Rattle.twp_suggest.specs.Sharing.{without_the};
+ghost use Rattle.twp_suggest.specs.Sharing.{HasJoinedTokens, apart_after, are_as_written, as_and, is_f};
+ghost use Rattle.twp_suggest.specs.Sharing.{may_be_between, may_end_step, has_place, head_after, head_of};
+ghost use Rattle.twp_suggest.specs.Sharing.{is_comma_by, is_for_and, is_sought, is_within, tail_after};
+ghost use Rattle.twp_suggest.specs.Sharing.{tail_of};
 
 use crate::bytes::{byte_at, is_white};
+use crate::part_tokens::{
+    after_of, after_part, begins_part, first_at, is_comma, is_fraction, last_part, leads_part,
+    of_count, part_after_and,
+};
 use crate::turned::way_if;
 use crate::way::Way;
 use std::alloc::{AllocError, Global};
@@ -171,13 +172,6 @@ pub(crate) fn apart_after(
     Some(way_if(end < next.at && !is_copied, Way::Apart(end)))
 }
 
-/// Whether a token is a fraction.
-pub(crate) fn is_fraction(kind: Kind) -> bool
-    ensures { result ≡ is_fraction kind }
-{
-    matches!(kind, Kind::Half | Kind::Quarter)
-}
-
 /// The other way to read a part that may be of the land of a later one, if it follows a token.
 pub(crate) fn tail_after(
     changes: &[Change<'_>],
@@ -299,184 +293,4 @@ fn is_sought(sought: SoughtChanges, rule: Rule) -> bool
         | (SoughtChanges::Phrases, Rule::Label) => true,
         _ => false,
     }
-}
-
-/// How many `of` a part has, at most three.
-fn of_count(part: &[Token<'_>]) -> usize
-    ensures { result ≡ of_count (map token part.now) }
-{
-    if is_nothing(after_of(0, part)) {
-        return 0;
-    }
-    if is_nothing(after_of(1, part)) {
-        return 1;
-    }
-    if is_nothing(after_of(2, part)) { 2 } else { 3 }
-}
-
-/// The tokens after the `of` of a part that so many others are before, or nothing.
-fn after_of<'a, 'b>(count: usize, part: &'b [Token<'a>]) -> &'b [Token<'a>]
-    ensures { map token result.now ≡ after_of count (map token part.now) }
-{
-    let mut left = part;
-    let mut others = count;
-    while let [first, more @ ..] = left {
-        if is_of(first.kind) {
-            if others == 0 {
-                return without_the(more);
-            }
-            others -= 1;
-        } else if !is_of_part(first.kind) {
-            return &[];
-        }
-        left = more;
-    }
-    left
-}
-
-/// Whether a token is `of`.
-pub(crate) fn is_of(kind: Kind) -> bool
-    ensures { result ≡ is_of kind }
-{
-    matches!(kind, Kind::Of)
-}
-
-/// Whether a token is `and`.
-pub(crate) fn is_and(kind: Kind) -> bool
-    ensures { result ≡ is_and kind }
-{
-    matches!(kind, Kind::And)
-}
-
-/// Whether a token is `the`.
-fn is_the(kind: Kind) -> bool
-    ensures { result ≡ is_the kind }
-{
-    matches!(kind, Kind::The)
-}
-
-/// Tokens without `the` before them.
-fn without_the<'a, 'b>(tokens: &'b [Token<'a>]) -> &'b [Token<'a>]
-    ensures { map token result.now ≡ without_the (map token tokens.now) }
-{
-    let [first, more @ ..] = tokens else {
-        return tokens;
-    };
-    if is_the(first.kind) { more } else { tokens }
-}
-
-/// The part with more than so many `of` that is after `and` at the end of a list of parts.
-fn last_part<'a, 'b>(count: usize, tokens: &'b [Token<'a>]) -> &'b [Token<'a>]
-    ensures { map token result.now ≡ last_part count (map token tokens.now) }
-{
-    let mut left = tokens;
-    while let [first, more @ ..] = left {
-        if is_and(first.kind) && is_part_of(count, more) {
-            return more;
-        }
-        if !is_listed(first.kind) {
-            return &[];
-        }
-        left = more;
-    }
-    left
-}
-
-/// Whether a part with more than so many `of` is first.
-fn is_part_of(count: usize, part: &[Token<'_>]) -> bool
-    ensures { result ≡ is_part_of count (map token part.now) }
-{
-    begins_part(part) && !is_nothing(after_of(count, part))
-}
-
-/// The part after `and`, or nothing.
-fn part_after_and<'a, 'b>(tokens: &'b [Token<'a>]) -> &'b [Token<'a>]
-    ensures { map token result.now ≡ part_after_and (map token tokens.now) }
-{
-    let [first, more @ ..] = tokens else {
-        return tokens;
-    };
-    if is_and(first.kind) && begins_part(more) {
-        return more;
-    }
-    &[]
-}
-
-/// The tokens after the part that they begin with.
-fn after_part<'a, 'b>(tokens: &'b [Token<'a>]) -> &'b [Token<'a>]
-    ensures { map token result.now ≡ after_part (map token tokens.now) }
-{
-    let mut left = tokens;
-    while let [first, rest @ ..] = left {
-        if !is_of_part(first.kind) {
-            break;
-        }
-        left = rest;
-    }
-    left
-}
-
-/// Whether there are no tokens.
-fn is_nothing(tokens: &[Token<'_>]) -> bool
-    ensures { result ≡ is_nothing (map token tokens.now) }
-{
-    matches!(tokens, [])
-}
-
-/// Whether tokens begin with a part.
-fn begins_part(tokens: &[Token<'_>]) -> bool
-    ensures { result ≡ begins_part (map token tokens.now) }
-{
-    let [first, ..] = tokens else {
-        return false;
-    };
-    begins_step(first.kind)
-}
-
-/// The place of the first token, or of the end.
-fn first_at(end: usize, tokens: &[Token<'_>]) -> usize
-    ensures { result ≡ first_at end (map token tokens.now) }
-{
-    let [first, ..] = tokens else {
-        return end;
-    };
-    first.at
-}
-
-/// Whether a token is a comma.
-fn is_comma(kind: Kind) -> bool
-    ensures { result ≡ is_comma kind }
-{
-    matches!(kind, Kind::Comma)
-}
-
-/// Whether a token may be before a part.
-fn leads_part(kind: Kind) -> bool
-    ensures { result ≡ leads_part kind }
-{
-    matches!(
-        kind,
-        Kind::Comma | Kind::Colon | Kind::And | Kind::Number(_)
-    )
-}
-
-/// Whether a token is of a list of parts without `of`.
-fn is_listed(kind: Kind) -> bool
-    ensures { result ≡ is_listed kind }
-{
-    is_of_step(kind) || is_and(kind) || is_comma(kind)
-}
-
-/// Whether a token is letters or a fraction of a step, `of`, or `the`.
-fn is_of_part(kind: Kind) -> bool
-    ensures { result ≡ is_of_part kind }
-{
-    is_of_step(kind) || matches!(kind, Kind::Of | Kind::The)
-}
-
-/// Whether a token is letters or a fraction of a step.
-fn is_of_step(kind: Kind) -> bool
-    ensures { result ≡ is_of_step kind }
-{
-    begins_step(kind) || matches!(kind, Kind::Half | Kind::Quarter)
 }

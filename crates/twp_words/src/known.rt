@@ -21,9 +21,9 @@ pub fn is_known(word: &[u8]) -> bool {
         2 => is_among(word, 0xd8290_02851152, "ag do fo hd lp pd ps ri wi yr"),
         3 => is_among(
             word,
-            0x71d723a_023573f6,
-            "ada aum blm dle dry exp fee grz hbp inc int irr llc ltd mer min nri pat pls \
-             rel res thx usa yrs",
+            0x73d723a_023573f6,
+            "ada aol aum blm dle dry exp fee grz hbp hbu inc int irr llc ltd mer min nri \
+             pat pls pvt rel res thx usa yrs",
         ),
         4 => is_among(
             word,
@@ -49,8 +49,8 @@ pub fn is_known(word: &[u8]) -> bool {
         ),
         8 => is_among(
             word,
-            0x140032_00082012,
-            "assessed assignor district duchesne minidoka shoshone",
+            0x140032_00282012,
+            "assessed assignor district duchesne minidoka shoshone unfenced",
         ),
         9 => is_among(word, 0x104000_00000420, "endowment jefferson"),
         10 => is_among(

@@ -7,11 +7,11 @@ use crate::same::is_among;
 pub fn is_of_label(word: &[u8]) -> bool {
     match word.len() {
         2 => is_among(word, 0x8000_00004000, "no"),
-        3 => is_among(word, 0x100000_00000008, "cat"),
+        3 => is_among(word, 0x900000_00040008, "cat row"),
         4 => is_among(word, 0x102020_00200248, "case file item unit"),
         5 => is_among(word, 0x180020_0010100a, "areas class lease tract"),
         6 => is_among(word, 0x41000_00094000, "number parcel serial"),
-        7 => is_among(word, 0x100000_00000020, "exhibit"),
+        7 => is_among(word, 0x100020_00010020, "exhibit pasture"),
         8 => is_among(word, 0x2080000_00010008, "category premises"),
         _ => false,
     }
@@ -101,7 +101,11 @@ pub fn is_field(word: &[u8]) -> bool {
         4 => is_among(word, 0x28_00100010, "desc type"),
         5 => is_among(word, 0x1000_00001000, "legal"),
         8 => is_among(word, 0x8000_00080000, "secdivno"),
-        9 => is_among(word, 0x8004_00180040, "frstdivno secdivlab twnshplab"),
+        9 => is_among(
+            word,
+            0x18004_00180040,
+            "frstdivno secdivlab secdivtyp twnshplab",
+        ),
         10 => is_among(word, 0x4_00000040, "frstdivlab"),
         11 => is_among(word, 0x4000_00000010, "description"),
         _ => false,

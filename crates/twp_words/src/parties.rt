@@ -18,7 +18,7 @@ pub fn is_owner(word: &[u8]) -> bool {
     match word.len() {
         6 => is_among(word, 0x40000_00081000, "lessor seller"),
         7 => is_among(word, 0xc0000_00001080, "grantor lessors"),
-        8 => is_among(word, 0x80000_00000080, "grantors"),
+        8 => is_among(word, 0x180010_00000090, "deceased decedent grantors"),
         _ => false,
     }
 }

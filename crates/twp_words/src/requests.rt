@@ -12,6 +12,7 @@ pub fn begins_request(word: &[u8]) -> bool {
         4 => is_among(word, 0x2001010_00904000, "need they will"),
         5 => is_among(word, 0x80010_00801008, "could lands would"),
         6 => is_among(word, 0x20_00010000, "please"),
+        7 => is_among(word, 0x80_00001000, "looking"),
         _ => false,
     }
 }
@@ -19,8 +20,8 @@ pub fn begins_request(word: &[u8]) -> bool {
 /// The words that may follow: who asks, what is to be done, and with what.
 pub fn is_of_request(word: &[u8]) -> bool {
     match word.len() {
-        1 => is_among(word, 0x200_00000200, "i"),
-        2 => is_among(word, 0x194020_00a0a200, "is it me on up us we"),
+        1 => is_among(word, 0x4000200_04000200, ": i"),
+        2 => is_among(word, 0x2194020_00a0a206, "at by is it me on up us we"),
         3 => is_among(
             word,
             0x3c4020_021501ca,
@@ -33,12 +34,21 @@ pub fn is_of_request(word: &[u8]) -> bool {
         ),
         5 => is_among(
             word,
-            0x80830_00101008,
-            "check could lands lease these title",
+            0x2081830_00181008,
+            "check could lands lease still these title today",
         ),
-        6 => is_among(word, 0x80030_000d0000, "please record status"),
-        7 => is_among(word, 0x80000_00040000, "records"),
-        9 => is_among(word, 0x10000_00008000, "ownership"),
+        6 => is_among(
+            word,
+            0x2080030_000d2040,
+            "friday monday please record status",
+        ),
+        7 => is_among(word, 0x2081000_00142000, "mineral records tuesday"),
+        8 => is_among(
+            word,
+            0x2980000_00142000,
+            "minerals runsheet thursday tomorrow",
+        ),
+        9 => is_among(word, 0x2090000_00848000, "ownership runsheets wednesday"),
         _ => false,
     }
 }

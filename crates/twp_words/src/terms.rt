@@ -178,7 +178,7 @@ pub fn is_of_right(word: &[u8]) -> bool {
 /// The words of an interest in land.
 pub fn is_of_interest(word: &[u8]) -> bool {
     match word.len() {
-        1 => is_among(word, 0xf3a0_0000f3a0, "% ' ( ) , - . /"),
+        1 => is_among(word, 0x400f3a0_0400f3a0, "% ' ( ) , - . / :"),
         2 => is_among(word, 0x204c160_0010a206, "an be in my of or th to"),
         3 => is_among(
             word,
@@ -188,15 +188,19 @@ pub fn is_of_interest(word: &[u8]) -> bool {
         ),
         4 => is_among(
             word,
-            0x143070_0010114a,
-            "acre coal four from half land that",
+            0x143070_001c114a,
+            "acre coal four from half land real said that",
         ),
         5 => is_among(
             word,
-            0x1c0130_003490c2,
-            "acres fifth gross lands other right their third three title under",
+            0x1c2130_003490ca,
+            "acres claim fifth gross lands other right their third three title under",
         ),
-        6 => is_among(word, 0x80100_00140060, "eighth fourth rights thirds"),
+        6 => is_among(
+            word,
+            0xc0120_00140078,
+            "claims debtor eighth estate fourth rights thirds",
+        ),
         7 => is_among(
             word,
             0x20c10a0_008e2060,
@@ -204,13 +208,13 @@ pub fn is_of_interest(word: &[u8]) -> bool {
         ),
         8 => is_among(
             word,
-            0x180058_0001a200,
-            "interest metallic minerals one-half produced",
+            0x2180058_0001a600,
+            "interest judgment metallic minerals one-half produced property",
         ),
         9 => is_among(
             word,
-            0x190_00280050,
-            "described following sixteenth undivided",
+            0x1001d0_00290050,
+            "defendant described following plaintiff sixteenth undivided",
         ),
         10 => is_among(word, 0x80020_00090000, "producible sixteenths"),
         12 => is_among(word, 0x80000_00000100, "hydrocarbons"),

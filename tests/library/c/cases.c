@@ -10,8 +10,9 @@
  * case, after its bytes. tests/library/c/case_records.py writes this form, and so does tests/program/damaged.sh, with
  * the program's answers as the expected ones.
  *
- * In addition to the answer, it compares the rounded exact area of all land that has acres, and the verdict of
- * each refusal that is explained. The last line is `N passed, M failed`.
+ * In addition to the answer, it compares the rounded exact area of all land that has acres, the verdict of each refusal
+ * that is explained, and the land of each description by a lot table with the standard lots, which is the land without
+ * one. The last line is `N passed, M failed`.
  */
 #include <stdlib.h>
 #include <string.h>
@@ -163,6 +164,31 @@ static bool is_area_of(const township_plat *plat, const test_case *given, uint64
     return answer.verdict == TOWNSHIP_ACCEPTED && area.over >= 1 && hundredths_of(area) == hundredths;
 }
 
+/* Whether a lot table with the standard lots, in the township of the plat, reads a description as it is read without a
+   table, and writes the same text for its land. Both texts are written over earlier ones. */
+static bool is_same_by_standard_lots(const township_plat *plat, const test_case *given) {
+    static const township_lots no_figures;
+    township_lots lots = no_figures;
+    township_land land, land_by_lots;
+    township_answer answer, by_lots;
+
+    lots.township = (township_designation){plat->number, plat->north_south, plat->range, plat->east_west};
+    memset(&land, 0, sizeof land);
+    memset(&land_by_lots, 0, sizeof land_by_lots);
+    answer = township_land_read(&lots.township, given->input, given->input_length, &land);
+    by_lots = township_lots_land_read(&lots, given->input, given->input_length, &land_by_lots);
+    if (!same_answer(answer, by_lots) || memcmp(&land, &land_by_lots, sizeof land) != 0) {
+        return false;
+    }
+    if (answer.verdict != TOWNSHIP_ACCEPTED) {
+        return true;
+    }
+    answer = township_land_text(&land, text, sizeof text);
+    by_lots = township_lots_land_text(&lots, &land, explanation, sizeof explanation);
+    return answer.verdict == TOWNSHIP_ACCEPTED && same_answer(answer, by_lots) &&
+           memcmp(text, explanation, answer.length) == 0;
+}
+
 static void show(const test_case *given, size_t length) {
     static int shown;
 
@@ -191,6 +217,9 @@ static void try_case(const test_case *given) {
     CHECK(is_explained(explain(&plat, given, is_read), answer, is_kind(given, "plat")));
     if (answer.verdict == TOWNSHIP_ACCEPTED && is_of_acres(given)) {
         CHECK(is_area_of(&plat, given, answer.hundredths));
+    }
+    if (is_read && (is_of_acres(given) || is_kind(given, "normal"))) {
+        CHECK(is_same_by_standard_lots(&plat, given));
     }
 }
 

@@ -6,6 +6,7 @@
 
 #include "check.h"
 #include "given.h"
+#include "land.h"
 
 _Static_assert(sizeof(township_explanation) == 112, "an explanation has 4 numbers of 4 bytes and 12 of 8");
 _Static_assert(offsetof(township_explanation, start) == 16, "the numbers of 4 bytes are first");
@@ -142,8 +143,33 @@ static township_answer lacking_parts(const township_plat *plat, bytes input, uin
     return township_explain_lacking_parts(&lots, LACKING, NAME, text, size, parts);
 }
 
+/* The township with a lake, whose table lacks the acreage of lot 2. */
+static township_lots lake(void) {
+    township_lots lots = table_of(LAKE);
+
+    /* The first record is for lot 1 of section 5, and the next one for lot 1 of section 14. */
+    lots.figures[2] = 0;
+    return lots;
+}
+
+static township_answer by_lots_alone(const township_plat *plat, bytes input, uint8_t *text, size_t size) {
+    township_lots lots = lake();
+
+    (void)plat;
+    return township_lots_explain_description(&lots, input.at, input.length, NAME, text, size);
+}
+
+static township_answer by_lots_parts(const township_plat *plat, bytes input, uint8_t *text, size_t size,
+                                     township_explanation *parts) {
+    township_lots lots = lake();
+
+    (void)plat;
+    return township_lots_explain_description_parts(&lots, input.at, input.length, NAME, text, size, parts);
+}
+
 static const kind TABLE = {table_alone, table_parts};
 static const kind LACKED = {lacking_alone, lacking_parts};
+static const kind BY_LOTS = {by_lots_alone, by_lots_parts};
 
 /* The same answer and text as without the parts; and neither a text nor parts if the room is a byte too small. */
 static void explains(kind it, const township_plat *plat, const char *given, said wanted) {
@@ -204,6 +230,89 @@ static void explains_no_lots(void) {
     free(r);
 }
 
+/* The explanation of a description by the table has this answer, with the place of its fault. */
+static void answers_by_lots(const char *text, township_answer wanted, uint32_t line, uint32_t column) {
+    bytes input = bytes_of(text);
+    room *r = room_new();
+    township_answer answer = by_lots_alone(NULL, input, room_text(r), MOST_TEXT);
+
+    CHECK_ANSWER(answer, explained(wanted, line, column, answer.length));
+    CHECK(answer.length > 0);
+    drop(input);
+    free(r);
+}
+
+/* On the plat of a lot table, lots are those of the table, and a note has no acreage. */
+static void explains_by_lots(void) {
+    answers_by_lots("sec. 14, lot 5.", refused(64, 13), 1, 14);
+    explains(BY_LOTS, NULL, "sec. 14, lot 5.",
+             (said){"5", NULL, 0, "section 14 has lots 1 to 4", "  1 | sec. 14, lot 5.\n    |              ^\n", "",
+                    ""});
+    explains(BY_LOTS, NULL, "sec. 5, lots 1 and 2.",
+             (said){"2", NULL, 0, "section 5 has only lot 1",
+                    "  1 | sec. 5, lots 1 and 2.\n    |                    ^\n", "", ""});
+    explains(BY_LOTS, NULL, "sec. 6, lot 1.",
+             (said){"1", NULL, 0, "section 6 has no lots", "  1 | sec. 6, lot 1.\n    |             ^\n", "", ""});
+    answers_by_lots("sec. 14, NE1/4.", refused(66, 9), 1, 10);
+    explains(BY_LOTS, NULL, "sec. 14, NE1/4.",
+             (said){"NE1/4", NULL, 0, "this part includes lots; name the lots instead",
+                    "  1 | sec. 14, NE1/4.\n    |          ^^^^^\n",
+                    "  write sec. 14, lots 1, 2 and 3, S1/2NE1/4\n", ""});
+    /* The lake is left out of the rest. */
+    explains(BY_LOTS, NULL, "sec. 14, NW1/4.",
+             (said){"NW1/4", NULL, 0, "this part includes a lot; name the lot instead",
+                    "  1 | sec. 14, NW1/4.\n    |          ^^^^^\n", "  write sec. 14, lot 4, SW1/4NW1/4\n", ""});
+    explains(BY_LOTS, NULL, "sec. 14, W1/2NW1/4NE1/4.",
+             (said){"W1/2NW1/4NE1/4", NULL, 0, "this part cuts lots; lots can only be named whole",
+                    "  1 | sec. 14, W1/2NW1/4NE1/4.\n    |          ^^^^^^^^^^^^^^\n",
+                    "  it includes land of lots 2 and 3 of section 14\n", ""});
+    answers_by_lots("sec. 14, NW1/4NW1/4.", refused(TOWNSHIP_REFUSAL_LAND_NO_LAND, 9), 1, 10);
+    explains(BY_LOTS, NULL, "sec. 14, NW1/4NW1/4.",
+             (said){"NW1/4NW1/4", NULL, 0, "the plat has no land in this part",
+                    "  1 | sec. 14, NW1/4NW1/4.\n    |          ^^^^^^^^^^\n", "", ""});
+    explains(BY_LOTS, NULL, "sec. 14, W1/2NW1/4.",
+             (said){"W1/2NW1/4", NULL, 0, "the plat has no land in some of this part; name the rest instead",
+                    "  1 | sec. 14, W1/2NW1/4.\n    |          ^^^^^^^^^\n", "  write sec. 14, SW1/4NW1/4\n", ""});
+    /* The table is the whole reason: no byte of the description is shown. */
+    answers_by_lots("sec. 14, lots 1 to 3.", refused(TOWNSHIP_REFUSAL_LOTS_LACKING, 1402), 0, 0);
+    explains(BY_LOTS, NULL, "sec. 14, lots 1 to 3.",
+             (said){NULL, NULL, 0, "the lot table has no record for lot 2 of section 14", "",
+                    "  of section 14, it has these lots: 1, 3, 4\n", ""});
+    answers_by_lots("sec. 14, lot 1 and 3.", bare(TOWNSHIP_ACCEPTED), 1, 10);
+    explains(BY_LOTS, NULL, "sec. 14, lot 1 and 3.",
+             (said){"lot 1 and 3", NULL, 0,
+                    "lot 1 and 3 is read as lots 1 and 3; if lot 1 and sec. 3 were meant, write\n"
+                    "  sec. 14, lot 1; sec. 3",
+                    "  1 | sec. 14, lot 1 and 3.\n    |          ^^^^^^^^^^^\n", "", ""});
+    /* The only reading of the first text is accepted on this plat; that of the second would be refused there (66). */
+    explains(BY_LOTS, NULL, "sec. 14, SE/4.",
+             (said){"/", NULL, 0, "`/` is allowed only in 1/2 and 1/4",
+                    "  1 | sec. 14, SE/4.\n    |            ^\n",
+                    "  write SE1/4\n  perhaps: sec. 14, SE1/4.\n", "sec. 14, SE1/4."});
+    explains(BY_LOTS, NULL, "sec. 14, NE/4.",
+             (said){"/", NULL, 0, "`/` is allowed only in 1/2 and 1/4",
+                    "  1 | sec. 14, NE/4.\n    |            ^\n", "  write NE1/4\n", ""});
+}
+
+/* Of accepted land without a doubtful place, nothing is explained; nor by a table of no township. */
+static void explains_nothing_by_lots(void) {
+    township_explanation parts = other_parts();
+    township_lots lots = lake();
+    bytes land = bytes_of("sec. 14, lots 1 and 3.");
+    room *r = room_new();
+
+    CHECK_ANSWER(township_lots_explain_description_parts(&lots, land.at, land.length, NAME, room_text(r), MOST_TEXT,
+                                                         &parts),
+                 bare(TOWNSHIP_ACCEPTED));
+    lots.township.range = 0;
+    CHECK_ANSWER(township_lots_explain_description_parts(&lots, land.at, land.length, NAME, room_text(r), MOST_TEXT,
+                                                         &parts),
+                 bare(TOWNSHIP_NO_LOTS));
+    CHECK(is_kept(&parts) && room_holds(r, "", 0));
+    drop(land);
+    free(r);
+}
+
 void gives_parts(const township_plat *plat) {
     township_plat none = *plat;
 
@@ -253,6 +362,8 @@ void gives_parts(const township_plat *plat) {
     explains(LACKED, plat, "section,lot,acres\nT,2,N,3,W\n6,4,40.45\n",
              (said){NULL, NULL, 0, "the lot table has no record for lot 3 of section 5", "",
                     "  it has no record for any lot of section 5\n", ""});
+    explains_by_lots();
+    explains_nothing_by_lots();
     explains(NOTES, plat, "",
              (said){NULL, NULL, 0,
                     "the field notes are empty: they begin with `line,between,and,quarter,corner`", "", "", ""});

@@ -284,6 +284,10 @@ static township_answer call_lots_read(void) {
     return township_lots_read(BYTES(TABLE), &lots);
 }
 
+static township_answer call_lots_plain(void) {
+    return township_lots_plain(BYTES("section;lot;acres;\nT;2;N;3;W\n5;1;40.5;\n"), room_text(texts), MOST_TEXT);
+}
+
 static township_lots table;
 
 static township_answer call_explain_lots(void) {
@@ -302,6 +306,47 @@ static township_answer call_explain_lots_parts(void) {
 
 static township_answer call_explain_lacking_parts(void) {
     return township_explain_lacking_parts(&table, 503, BYTES("land.txt"), room_text(texts), MOST_TEXT, &explanation);
+}
+
+/* The township with a lake of docs/LOTS-FORMAT.md, and land on its plat. */
+#define LAKE                                                                                                       \
+    "section,lot,acres,land\nT,2,N,3,W,1912-03-04\n14,1,38.50,NE1/4NE1/4\n14,2,12.25,N1/2NW1/4NE1/4\n"             \
+    "14,3,19.80,S1/2NW1/4NE1/4\n14,4,71.10,E1/2NW1/4\n14,,,NW1/4NW1/4\n"
+
+static township_lots lake;
+static township_land by_the_lake;
+
+static township_answer call_lots_read_lake(void) {
+    return township_lots_read(BYTES(LAKE), &lots);
+}
+
+static township_answer call_lots_land_read(void) {
+    return township_lots_land_read(&lake, BYTES("sec. 14, lots 1 to 3, S1/2NE1/4."), &land);
+}
+
+static township_answer call_lots_land_text(void) {
+    return township_lots_land_text(&lake, &by_the_lake, room_text(texts), MOST_TEXT);
+}
+
+/* A lot that the plat doesn't have; a text whose reading is read again; a lot that a table lacks; and a note. */
+static township_answer call_lots_explain_no_lot(void) {
+    return township_lots_explain_description(&lake, BYTES("sec. 14, lot 5."), BYTES("land.txt"), room_text(texts),
+                                             MOST_TEXT);
+}
+
+static township_answer call_lots_explain_description_parts(void) {
+    return township_lots_explain_description_parts(&lake, BYTES("sec. 14, SE/4."), BYTES("land.txt"),
+                                                   room_text(texts), MOST_TEXT, &explanation);
+}
+
+static township_answer call_lots_explain_lacking(void) {
+    return township_lots_explain_description(&table, BYTES("sec. 5, lot 3."), BYTES("land.txt"), room_text(texts),
+                                             MOST_TEXT);
+}
+
+static township_answer call_lots_note_description(void) {
+    return township_lots_explain_description(&lake, BYTES("sec. 14, lot 1 and 2."), BYTES("land.txt"),
+                                             room_text(texts), MOST_TEXT);
 }
 
 static township_answer call_lots_acres(void) {
@@ -387,6 +432,8 @@ static const struct {
     {"township_land_combine", call_land_combine},
     {"township_land_compare", call_land_compare},
     {"township_lots_read", call_lots_read},
+    {"township_lots_read, a table with land", call_lots_read_lake},
+    {"township_lots_plain", call_lots_plain},
     {"township_explain_lots", call_explain_lots},
     {"township_explain_lacking", call_explain_lacking},
     {"township_explain_lots_parts", call_explain_lots_parts},
@@ -395,6 +442,12 @@ static const struct {
     {"township_lots_area", call_lots_area},
     {"township_lots_land_acres", call_lots_land_acres},
     {"township_lots_land_area", call_lots_land_area},
+    {"township_lots_land_read", call_lots_land_read},
+    {"township_lots_land_text", call_lots_land_text},
+    {"township_lots_explain_description", call_lots_explain_no_lot},
+    {"township_lots_explain_description, a lot that the table lacks", call_lots_explain_lacking},
+    {"township_lots_explain_description, accepted with a note", call_lots_note_description},
+    {"township_lots_explain_description_parts", call_lots_explain_description_parts},
     {"township_lots_report", call_lots_report},
     {"township_lots_report, refused", call_lots_report_refused},
     {"township_suggest", call_suggest},
@@ -558,6 +611,8 @@ int main(int count, char **words) {
     CHECK_ANSWER(township_land_read(&here, BYTES("sec. 5, lots 1 and 2; sec. 14."), &first), bare(TOWNSHIP_ACCEPTED));
     CHECK_ANSWER(township_land_read(&here, BYTES("sec. 14, NE1/4."), &second), bare(TOWNSHIP_ACCEPTED));
     CHECK_ANSWER(township_lots_read(BYTES(TABLE), &table), bare(TOWNSHIP_ACCEPTED));
+    CHECK_ANSWER(township_lots_read(BYTES(LAKE), &lake), bare(TOWNSHIP_ACCEPTED));
+    CHECK_ANSWER(township_lots_land_read(&lake, BYTES("sec. 14."), &by_the_lake), bare(TOWNSHIP_ACCEPTED));
     for (size_t i = 0; i < sizeof calls / sizeof *calls; i++) {
         refuse_in_turn(calls[i].name, calls[i].call);
     }

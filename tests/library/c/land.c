@@ -10,9 +10,10 @@
 #define COUNT(array) (sizeof(array) / sizeof *(array))
 
 _Static_assert(sizeof(township_designation) == 4, "a designation has 4 bytes");
-_Static_assert(sizeof(township_land) == 4612, "land has 36 * 32 rows of 4 bytes, and a designation");
+_Static_assert(sizeof(township_land) == 4620, "land has 36 * 32 rows and 2 numbers of 4 bytes, and a designation");
 _Static_assert(sizeof(township_part) == 6, "a part has 6 bytes");
-_Static_assert(offsetof(township_land, township) == 4608, "the township follows the rows");
+_Static_assert(offsetof(township_land, date) == 4608, "the date of the plat follows the rows");
+_Static_assert(offsetof(township_land, township) == 4616, "the township is last");
 
 /* T. 2 N., R. 3 W., which is the township of the plat. */
 static const township_designation HERE = {2, TOWNSHIP_NORTH, 3, TOWNSHIP_WEST};
@@ -63,6 +64,18 @@ static township_land part_of_a_lot(void) {
     return land;
 }
 
+/* The same places on the plat of a lot table, with these lots. */
+static township_land with_lots(township_land land, uint32_t own_lots) {
+    land.own_lots = own_lots;
+    return land;
+}
+
+/* The same places on a plat that was approved on a date. */
+static township_land of_date(township_land land, uint32_t date) {
+    land.date = date;
+    return land;
+}
+
 static bool same_land(const township_land *a, const township_land *b) {
     return memcmp(a, b, sizeof *a) == 0;
 }
@@ -89,6 +102,7 @@ static void reads_land(void) {
     wanted.rows[14 - 1][31] = 1;
     wanted.rows[36 - 1][0] = 0x80000000;
     CHECK(same_land(&read, &wanted));
+    CHECK(read.date == 0 && read.own_lots == 0);
     /* Lot 1 of section 5 is its northeasternmost quarter of a quarter: 8 columns and 8 rows. */
     read = land_of("T. 2 N., R. 3 W., sec. 5, lot 1.");
     wanted = empty_land();
@@ -114,9 +128,11 @@ static void measures_land(const township_plat *plat) {
     township_land lots = land_of("sec. 7, lots 1 to 4.");
     township_land lot = land_of("sec. 7, lot 1.");
     township_land none = empty_land();
+    township_land dated = of_date(lots, 19120304);
     township_fraction area = {1, 2, 3};
 
     CHECK_ANSWER(township_land_acres(plat, &lots, TOWNSHIP_EXACT), acres(15640));
+    CHECK_ANSWER(township_land_acres(plat, &dated, TOWNSHIP_EXACT), acres(15640));
     CHECK_ANSWER(township_land_acres(plat, &lots, TOWNSHIP_BY_PLAT), acres(15642));
     CHECK_ANSWER(township_land_acres(plat, &none, TOWNSHIP_EXACT), acres(0));
     /* Lot 1 is 39.175 acres, which the plat shows as 39.18. */
@@ -126,13 +142,17 @@ static void measures_land(const township_plat *plat) {
     CHECK(whole_units_of(area).rest == 0 && whole_units_of(area).units == 391800000);
 }
 
-/* Of several faults, the first one is answered: of the plat, the land, the account, and the township. */
+/* Of several faults, the first one is answered: of the plat, the land, the account, the township, and whether the land
+   has the standard lots. */
 static void refuses_to_measure(const township_plat *plat) {
     township_plat no_plat = *plat;
     township_land land = land_of("sec. 14.");
     township_land part = part_of_a_lot();
     township_land other = elsewhere(land);
     township_land nowhere = land;
+    township_land on_table = with_lots(part, 1);
+    township_land far = with_lots(other, 1);
+    township_land neither = with_lots(land, 2);
     township_fraction area = {1, 2, 3};
     const struct {
         const township_plat *plat;
@@ -143,8 +163,11 @@ static void refuses_to_measure(const township_plat *plat) {
         {&no_plat, &part, 2, TOWNSHIP_NO_PLAT},
         {plat, &part, 2, TOWNSHIP_NO_LAND},
         {plat, &nowhere, TOWNSHIP_EXACT, TOWNSHIP_NO_LAND},
-        {plat, &other, 2, TOWNSHIP_NO_ACCOUNT},
+        {plat, &neither, TOWNSHIP_EXACT, TOWNSHIP_NO_LAND},
+        {plat, &far, 2, TOWNSHIP_NO_ACCOUNT},
         {plat, &other, TOWNSHIP_EXACT, TOWNSHIP_OTHER_TOWNSHIP},
+        {plat, &far, TOWNSHIP_EXACT, TOWNSHIP_OTHER_TOWNSHIP},
+        {plat, &on_table, TOWNSHIP_EXACT, TOWNSHIP_OTHER_PLAT},
     };
 
     no_plat.number = 0;
@@ -175,11 +198,17 @@ static void writes_texts(void) {
     township_land land = land_of("sec. 14, SE1/4, NE1/4, NW1/4; sec. 5, lots 1 and 2.");
     township_land none = empty_land();
     township_land part = part_of_a_lot();
+    township_land dated = of_date(land, 19120304);
+    township_land on_table = with_lots(part, 1);
+    township_land neither = with_lots(land, 2);
     room *r = room_new();
 
     writes_text(&land, "T. 2 N., R. 3 W.,\nsec. 5, lots 1, 2;\nsec. 14, N1/2, SE1/4.\n");
+    writes_text(&dated, "T. 2 N., R. 3 W.,\nsec. 5, lots 1, 2;\nsec. 14, N1/2, SE1/4.\n");
     writes_text(&none, "");
     CHECK_ANSWER(township_land_text(&part, room_text(r), MOST_TEXT), bare(TOWNSHIP_NO_LAND));
+    CHECK_ANSWER(township_land_text(&neither, room_text(r), MOST_TEXT), bare(TOWNSHIP_NO_LAND));
+    CHECK_ANSWER(township_land_text(&on_table, room_text(r), MOST_TEXT), bare(TOWNSHIP_OTHER_PLAT));
     CHECK(room_holds(r, "", 0));
     free(r);
 }
@@ -195,6 +224,8 @@ static void writes_parts(void) {
         land_of("sec. 14, NE1/4, NW1/4, SE1/4, SW1/4SW1/4SW1/4SW1/4SW1/4; sec. 8; sec. 5, lots 1 and 2.");
     township_land none = empty_land();
     township_land part = part_of_a_lot();
+    township_land on_table = with_lots(part, 1);
+    township_land neither = with_lots(land, 2);
     township_part parts[COUNT(wanted) + 1];
     township_part kept[COUNT(wanted) + 1];
 
@@ -202,6 +233,8 @@ static void writes_parts(void) {
     memset(kept, 0xA5, sizeof kept);
     CHECK_ANSWER(township_land_parts(&land, parts, COUNT(wanted) - 1), with_length(TOWNSHIP_NO_ROOM, COUNT(wanted)));
     CHECK_ANSWER(township_land_parts(&part, parts, COUNT(parts)), bare(TOWNSHIP_NO_LAND));
+    CHECK_ANSWER(township_land_parts(&neither, parts, COUNT(parts)), bare(TOWNSHIP_NO_LAND));
+    CHECK_ANSWER(township_land_parts(&on_table, parts, COUNT(parts)), bare(TOWNSHIP_OTHER_PLAT));
     CHECK_ANSWER(township_land_parts(&none, parts, COUNT(parts)), with_length(TOWNSHIP_ACCEPTED, 0));
     CHECK(memcmp(parts, kept, sizeof parts) == 0);
     CHECK_ANSWER(township_land_parts(&land, parts, COUNT(parts)), with_length(TOWNSHIP_ACCEPTED, COUNT(wanted)));
@@ -231,20 +264,32 @@ static void combines_land(void) {
     combines("sec. 20.", TOWNSHIP_DIFFERENCE, "secs. 19 to 21.", "");
 }
 
+/* Of several faults, the first one is answered: of the two lands, the operation, the township, and the plat. */
 static void refuses_to_combine(void) {
     township_land land = land_of("sec. 14.");
     township_land part = part_of_a_lot();
-    township_land other = elsewhere(land);
+    township_land other = with_lots(elsewhere(land), 1);
+    township_land neither = with_lots(other, 2);
+    township_land on_table = with_lots(part, 1);
+    township_land dated = of_date(land, 19120304);
     township_land made = other_land();
     uint32_t comparison = 99;
 
     keeps_land(township_land_combine(&part, &other, 3, &made), bare(TOWNSHIP_NO_LAND), &made);
     keeps_land(township_land_combine(&land, &part, 3, &made), bare(TOWNSHIP_NO_LAND), &made);
+    keeps_land(township_land_combine(&neither, &land, 3, &made), bare(TOWNSHIP_NO_LAND), &made);
+    keeps_land(township_land_combine(&land, &neither, 3, &made), bare(TOWNSHIP_NO_LAND), &made);
     keeps_land(township_land_combine(&land, &other, 3, &made), bare(TOWNSHIP_NO_OPERATION), &made);
     keeps_land(township_land_combine(&land, &other, TOWNSHIP_UNION, &made), bare(TOWNSHIP_OTHER_TOWNSHIP), &made);
+    keeps_land(township_land_combine(&land, &on_table, TOWNSHIP_UNION, &made), bare(TOWNSHIP_OTHER_PLAT), &made);
+    keeps_land(township_land_combine(&dated, &land, TOWNSHIP_UNION, &made), bare(TOWNSHIP_OTHER_PLAT), &made);
     CHECK_ANSWER(township_land_compare(&part, &other, &comparison), bare(TOWNSHIP_NO_LAND));
     CHECK_ANSWER(township_land_compare(&other, &part, &comparison), bare(TOWNSHIP_NO_LAND));
+    CHECK_ANSWER(township_land_compare(&neither, &land, &comparison), bare(TOWNSHIP_NO_LAND));
+    CHECK_ANSWER(township_land_compare(&land, &neither, &comparison), bare(TOWNSHIP_NO_LAND));
     CHECK_ANSWER(township_land_compare(&land, &other, &comparison), bare(TOWNSHIP_OTHER_TOWNSHIP));
+    CHECK_ANSWER(township_land_compare(&on_table, &land, &comparison), bare(TOWNSHIP_OTHER_PLAT));
+    CHECK_ANSWER(township_land_compare(&land, &dated, &comparison), bare(TOWNSHIP_OTHER_PLAT));
     CHECK(comparison == 99);
 }
 

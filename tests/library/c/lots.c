@@ -8,7 +8,7 @@
 
 #define COUNT(array) (sizeof(array) / sizeof *(array))
 
-_Static_assert(sizeof(township_lots) == 192, "a lot table has 47 figures and a designation");
+_Static_assert(sizeof(township_lots) == 13972, "a lot table has no byte between its fields");
 
 #define HEADING "section,lot,acres\n"
 #define TABLE HEADING "T,2,N,3,W\n5,1,40.45\n5,2,40.55\n6,7,36.86\n"
@@ -17,8 +17,7 @@ static township_answer read_lots(bytes table, township_lots *lots) {
     return township_lots_read(table.at, table.length, lots);
 }
 
-/* The lot table of a text that is one. */
-static township_lots lots_of(const char *text) {
+township_lots table_of(const char *text) {
     bytes table = bytes_of(text);
     township_lots lots;
 
@@ -27,19 +26,35 @@ static township_lots lots_of(const char *text) {
     return lots;
 }
 
+/* The lots of a regular township: four in each of sections 1 to 5, 7, 18, 19, 30, and 31, and seven in section 6. */
+static township_lots regular_lots(void) {
+    static const char counts[TOWNSHIP_SECTIONS + 1] = "444447400000000004400000000004400000";
+    township_lots lots;
+    uint16_t index = 0;
+
+    memset(&lots, 0, sizeof lots);
+    for (size_t section = 0; section < TOWNSHIP_SECTIONS; section++) {
+        lots.first[section] = index;
+        for (uint8_t lot = 1; lot <= counts[section] - '0'; lot++) {
+            lots.numbers[index++] = lot;
+        }
+    }
+    lots.first[TOWNSHIP_SECTIONS] = index;
+    lots.township = (township_designation){2, TOWNSHIP_NORTH, 3, TOWNSHIP_WEST};
+    return lots;
+}
+
 /* Sections 1 to 4 have four lots each, so lot 1 of section 5 is the 17th; lot 7 of section 6 is the 27th. */
 static void reads_lots(void) {
-    township_lots lots = lots_of(TABLE);
-    township_lots wanted;
+    township_lots lots = table_of(TABLE);
+    township_lots wanted = regular_lots();
 
-    memset(&wanted, 0, sizeof wanted);
-    wanted.township = (township_designation){2, TOWNSHIP_NORTH, 3, TOWNSHIP_WEST};
     wanted.figures[16] = 4045;
     wanted.figures[17] = 4055;
     wanted.figures[26] = 3686;
     CHECK(memcmp(&lots, &wanted, sizeof lots) == 0);
     /* The last lot of all is lot 4 of section 31. */
-    lots = lots_of(HEADING "T,99,S,1,E\n31,4,999.99\n");
+    lots = table_of(HEADING "T,99,S,1,E\n31,4,999.99\n");
     CHECK(lots.figures[46] == 99999 && lots.township.number == 99 && lots.township.east_west == TOWNSHIP_EAST);
 }
 
@@ -63,6 +78,59 @@ static void refuses_tables(void) {
     refuses_table(bytes_of(HEADING "T,2,N,3,W\n14,1,40.00\n"), TOWNSHIP_REFUSAL_LOTS_NO_LOT, 3);
     refuses_table(bytes_of(HEADING "T,2,N,3,W\n5,1,40.4\n"), TOWNSHIP_REFUSAL_LOTS_ACRES, 3);
     refuses_table(bytes_of(TABLE "5,1,40.45\n"), TOWNSHIP_REFUSAL_LOTS_REPEATED, 6);
+}
+
+/* The plain table of a text is this one, whose own plain table is the same. If there is less room, nothing is
+   written. */
+static void makes_plain(const char *text, const char *wanted) {
+    bytes table = bytes_of(text), plain = bytes_of(wanted);
+    uint8_t made[256], kept[256];
+    township_answer answer;
+
+    memset(made, 0xA5, sizeof made);
+    memset(kept, 0xA5, sizeof kept);
+    if (plain.length > 0) {
+        answer = township_lots_plain(table.at, table.length, made, plain.length - 1);
+        CHECK(answer.verdict == TOWNSHIP_NO_ROOM && answer.length == plain.length);
+        CHECK(memcmp(made, kept, sizeof made) == 0);
+    }
+    answer = township_lots_plain(table.at, table.length, made, sizeof made);
+    CHECK(answer.verdict == TOWNSHIP_ACCEPTED && answer.length == plain.length);
+    CHECK(memcmp(made, plain.at, plain.length) == 0);
+    CHECK(memcmp(made + plain.length, kept, sizeof made - plain.length) == 0);
+    answer = township_lots_plain(plain.at, plain.length, made, sizeof made);
+    CHECK(answer.length == plain.length && memcmp(made, plain.at, plain.length) == 0);
+    drop(table);
+    drop(plain);
+}
+
+static void makes_plain_tables(void) {
+    township_lots lots;
+    bytes plain;
+
+    /* Empty cells at the end of a row, an empty row, and fewer decimals. */
+    makes_plain(HEADING "T,2,N,3,W\n5,1,40.45\n", HEADING "T,2,N,3,W\n5,1,40.45\n");
+    makes_plain("section,lot,acres,,\nT,2,N,3,W\n,,,,\n5,1,40.5,,\n5,2,40,,",
+                HEADING "T,2,N,3,W\n\n5,1,40.50\n5,2,40.00");
+    /* Semicolons and tabs, line ends of Windows, and a byte order mark. */
+    makes_plain("section;lot;acres;;\r\nT;2;N;3;W\r\n5;1;40,5;;\r\n",
+                "section,lot,acres\r\nT,2,N,3,W\r\n5,1,\"40,5\"\r\n");
+    makes_plain("section\tlot\tacres\n5\t1\t40.5\t\n", HEADING "5,1,40.50\n");
+    makes_plain("\xEF\xBB\xBF\"section\",\"lot\",\"acres\"\n", "\xEF\xBB\xBF" HEADING);
+    /* Quotation marks that are needed stay; lines within a quoted cell, and those whose marks don't pair, too. */
+    makes_plain("a,b,5,\"x, \"\"y\"\"\",\n", "a,b,5.00,\"x, \"\"y\"\"\"\n");
+    makes_plain("a,b\n5,1,40,\"x\n5,1,40,\ny\",\n5,2,40,\n", "a,b\n5,1,40,\"x\n5,1,40,\ny\",\n5,2,40.00\n");
+    makes_plain("a;b\n\"5\",1,40.5\n5;1;40\"\n", "a,b\n5,1,40.50\n5;1;40\"\n");
+    /* Other numbers stay as they are, and so does an empty cell between others. */
+    makes_plain("5,1,40.450,\n5,1,40.,\n5,1,.5,\n5,1, 40,\n5,,40,\n5,1,,x\n",
+                "5,1,40.450\n5,1,40.\n5,1,.5\n5,1, 40\n5,,40.00\n5,1,,x\n");
+    makes_plain("", "");
+    makes_plain("\"a;b\",,\n", "\"a;b\"\n");
+    /* The plain table is the one that is read: the strict reader refuses the other. */
+    refuses_table(bytes_of("section,lot,acres,,\nT,2,N,3,W\n"), TOWNSHIP_REFUSAL_LOTS_HEADING, 1);
+    plain = bytes_of(HEADING "T,2,N,3,W\n");
+    CHECK_ANSWER(read_lots(plain, &lots), bare(TOWNSHIP_ACCEPTED));
+    drop(plain);
 }
 
 static township_answer acres_by(const township_lots *lots, const char *text) {
@@ -111,7 +179,7 @@ static void refuses_land(const township_lots *lots, const township_land *land, t
 }
 
 static void measures_land(void) {
-    township_lots lots = lots_of(TABLE);
+    township_lots lots = table_of(TABLE);
     township_land lot = land_of("sec. 5, lot 1.");
     township_fraction area;
 
@@ -126,7 +194,7 @@ static void measures_land(void) {
 
 /* The refusal of a lot that the table lacks is at 100 times its section, plus its number. */
 static void refuses_lacking(void) {
-    township_lots lots = lots_of(TABLE);
+    township_lots lots = table_of(TABLE);
     const struct {
         const char *text;
         uint32_t at;
@@ -148,22 +216,77 @@ static void refuses_lacking(void) {
 }
 
 static void refuses_lots(void) {
-    township_lots lots = lots_of(TABLE);
+    township_lots lots = table_of(TABLE);
     township_lots much = lots;
     township_lots nowhere = lots;
     township_land land = land_of("sec. 14.");
     township_land part = land;
     township_land other = land;
 
+    /* More than 999.99 acres are none. */
     much.figures[46] = 100000;
+    refuses_text(&much, "sec. 31, lot 4.", refused(TOWNSHIP_REFUSAL_LOTS_LACKING, 3104));
+    measures(&much, "sec. 14.", 64000);
     nowhere.township.number = 0;
     part.rows[1 - 1][31] = 1;
     other.township.range = 4;
-    refuses_text(&much, "", bare(TOWNSHIP_NO_LOTS));
+    refuses_text(&nowhere, "", bare(TOWNSHIP_NO_LOTS));
     refuses_text(&nowhere, "sec. 14.", bare(TOWNSHIP_NO_LOTS));
-    refuses_land(&much, &part, bare(TOWNSHIP_NO_LOTS));
+    refuses_land(&nowhere, &part, bare(TOWNSHIP_NO_LOTS));
     refuses_land(&lots, &part, bare(TOWNSHIP_NO_LAND));
     refuses_land(&lots, &other, bare(TOWNSHIP_OTHER_TOWNSHIP));
+}
+
+/* Section 14 of a plat: lot 1 is its NE1/4NE1/4, and its NW1/4NW1/4 isn't there. Its N1/2NW1/4NE1/4 is lot 2, and the
+   rest of that quarter-quarter lot 5. The plat has no other lots. */
+static township_lots lots_of_lake(void) {
+    static const uint32_t figures[] = {3850, 1225, 1980};
+    static const uint8_t numbers[] = {1, 2, 5};
+    township_lots lots;
+
+    memset(&lots, 0, sizeof lots);
+    memcpy(lots.figures, figures, sizeof figures);
+    memcpy(lots.numbers, numbers, sizeof numbers);
+    for (size_t section = 14; section <= TOWNSHIP_SECTIONS; section++) {
+        lots.first[section] = COUNT(numbers);
+    }
+    /* The northern row of quarter-quarters is the last one, and is counted from the east. */
+    lots.positions[(14 - 1) * 16 + 12] = 1;
+    lots.positions[(14 - 1) * 16 + 13] = 101;
+    lots.positions[(14 - 1) * 16 + 15] = 100;
+    /* Four rows of eight places in the south, and four in the north. */
+    memset(lots.divided, 5, 32);
+    memset(lots.divided + 32, 2, 32);
+    lots.mapped = 1;
+    lots.date = 19120304;
+    lots.township = (township_designation){2, TOWNSHIP_NORTH, 3, TOWNSHIP_WEST};
+    return lots;
+}
+
+static void measures_by_any_plat(void) {
+    township_lots lots = lots_of_lake();
+    township_fraction area;
+    township_land part = land_of("sec. 14, N1/2NW1/4NE1/4NE1/4.");
+    township_land half = part;
+
+    half.date = lots.date;
+    half.own_lots = 1;
+    CHECK_ANSWER(acres_by(&lots, "sec. 14, lot 1."), acres(3850));
+    CHECK_ANSWER(acres_by(&lots, "sec. 14, lots 2 and 5."), acres(1225 + 1980));
+    /* 16 quarter-quarters, of which one isn't there, and two are lots. */
+    CHECK_ANSWER(acres_by(&lots, "sec. 14."), acres(13 * 4000 + 3850 + 1225 + 1980));
+    CHECK_ANSWER(acres_by(&lots, "sec. 5, NE1/4."), acres(16000));
+    CHECK_ANSWER(area_by(&lots, "sec. 14, lot 2.", &area), bare(TOWNSHIP_ACCEPTED));
+    CHECK(hundredths_of(area) == 1225);
+    /* A lot that there isn't, and a part with a lot. */
+    refuses_text(&lots, "sec. 14, lot 3.", refused(64, 13));
+    refuses_text(&lots, "sec. 5, lot 1.", refused(64, 12));
+    refuses_text(&lots, "sec. 14, NE1/4.", refused(66, 9));
+    lots.figures[1] = 0;
+    refuses_text(&lots, "sec. 14, lots 2 and 5.", refused(TOWNSHIP_REFUSAL_LOTS_LACKING, 1402));
+    /* Land with part of lot 1 is none on this plat; land that was read without a table is on another. */
+    refuses_land(&lots, &half, bare(TOWNSHIP_NO_LAND));
+    refuses_land(&lots, &part, bare(TOWNSHIP_OTHER_PLAT));
 }
 
 /* Room for tracts, with one more after it. */
@@ -205,7 +328,7 @@ static township_answer totaled(uint32_t verdict, uint64_t hundredths, size_t cou
 #define LIST "name,description\n"
 
 static void reports_tracts(void) {
-    township_lots lots = lots_of(TABLE);
+    township_lots lots = table_of(TABLE);
     tracts_by_lots none = blank_tracts();
     tracts_by_lots found = none;
     /* 40.45 acres; 40.55 and 80 acres. */
@@ -231,8 +354,8 @@ static void reports_tracts(void) {
 
 /* The first fault of a list is that of township_account, but a lot that the table lacks is one of its tract. */
 static void refuses_lists(void) {
-    township_lots lots = lots_of(TABLE);
-    township_lots much = lots;
+    township_lots lots = table_of(TABLE);
+    township_lots nowhere = lots;
     tracts_by_lots none = blank_tracts();
     const struct {
         const char *list;
@@ -256,16 +379,18 @@ static void refuses_lists(void) {
         CHECK_ANSWER(report_by(&lots, rows[i].list, &found, 3), rows[i].wanted);
         CHECK(memcmp(&found, &none, sizeof found) == 0);
     }
-    much.figures[46] = 100000;
-    CHECK_ANSWER(report_by(&much, LIST, &none, 3), bare(TOWNSHIP_NO_LOTS));
+    nowhere.township.range = 0;
+    CHECK_ANSWER(report_by(&nowhere, LIST, &none, 3), bare(TOWNSHIP_NO_LOTS));
 }
 
 void answers_lots(void) {
     reads_lots();
     refuses_tables();
+    makes_plain_tables();
     measures_land();
     refuses_lacking();
     refuses_lots();
+    measures_by_any_plat();
     reports_tracts();
     refuses_lists();
 }

@@ -7,7 +7,7 @@
 #include "check.h"
 
 #define THREADS 4
-#define CALLS 46
+#define CALLS 52
 
 /* The stack that the library requires, and room for the thread's own calls. */
 #define STACK ((256 + 64) * 1024)
@@ -30,9 +30,11 @@ typedef struct round_answers {
     uint32_t comparison;
     township_designation township;
     township_lots lots;
+    township_lots lake;
+    township_land by_the_lake;
     township_fraction areas[3];
     township_part parts[16];
-    township_explanation explanations[5];
+    township_explanation explanations[6];
     township_reading readings[2];
     township_change changes[2];
     township_suggestion suggestion;
@@ -71,6 +73,7 @@ static void call_on_land(const township_plat *plat, round_answers *to) {
     answer[21] = township_land_combine(&to->land, &other, TOWNSHIP_UNION, &to->combined);
     answer[22] = township_land_compare(&to->combined, &to->land, &to->comparison);
     answer[23] = township_lots_read(BYTES("section,lot,acres\nT,2,N,3,W\n6,1,40.45\n"), &to->lots);
+    answer[46] = township_lots_plain(BYTES("section;lot;acres;\n6;1;40.5;\n"), to->texts[46], sizeof to->texts[46]);
     to->lots.township = township;
     to->lots.figures[20] = 4000 + plat->number;
     answer[24] = township_lots_acres(&to->lots, BYTES("sec. 6, lot 1; sec. 14."));
@@ -80,6 +83,25 @@ static void call_on_land(const township_plat *plat, round_answers *to) {
     answer[28] = township_land_parts(&to->combined, to->parts, sizeof to->parts / sizeof *to->parts);
     answer[35] = township_lots_report(&to->lots, BYTES("name,description\nA,\"sec. 6, lot 1.\"\nB,sec. 14.\n"),
                                       to->tracts_by_lots, 2);
+}
+
+/* Calls the functions on the plat of a table with its own lots, for the township of the plat, whose number decides the
+   acreage of lot 2. */
+static void call_on_own_lots(const township_plat *plat, round_answers *to) {
+    township_answer *answer = to->answers;
+    township_lots *lake = &to->lake;
+
+    answer[47] = township_lots_read(BYTES("section,lot,acres,land\nT,2,N,3,W,1912-03-04\n14,1,38.50,NE1/4NE1/4\n"
+                                          "14,2,12.25,NW1/4NE1/4\n14,,,NW1/4NW1/4\n"),
+                                    lake);
+    lake->township = (township_designation){plat->number, plat->north_south, plat->range, plat->east_west};
+    lake->figures[1] = 1200 + plat->number;
+    answer[48] = township_lots_land_read(lake, BYTES("sec. 14, lots 1 and 2, S1/2."), &to->by_the_lake);
+    answer[49] = township_lots_land_text(lake, &to->by_the_lake, to->texts[49], sizeof to->texts[49]);
+    answer[50] = township_lots_explain_description(lake, BYTES("sec. 14, lot 1 and 2."), BYTES("land.txt"),
+                                                   to->texts[50], sizeof to->texts[50]);
+    answer[51] = township_lots_explain_description_parts(lake, BYTES("sec. 14, NE1/4."), BYTES("land.txt"),
+                                                         to->texts[51], sizeof to->texts[51], &to->explanations[5]);
 }
 
 /* Calls each function on the name of a township. */
@@ -145,11 +167,12 @@ static void call_all(bytes notes, const township_plat *plat, round_answers *to) 
     answer[29] = township_report_each(plat, BYTES("name,description\nA,sec. 6.\nA,sec. 7.\n"), to->each, 2);
     answer[30] = township_overlaps(plat, BYTES("name,description\nA,sec. 6.\nA,sec. 6.\n"), to->overlaps, 2);
     call_on_land(plat, to);
+    call_on_own_lots(plat, to);
     call_on_township(plat, to);
     call_explaining(plat, to);
     answer[34] = township_suggest(BYTES("sec. 14: NE1/4NE1/4 SW1/4SW1/4"), to->readings, 2, to->changes, 2,
                                   to->texts[34], sizeof to->texts[34], &to->suggestion);
-    answer[37] = township_unread(BYTES("blip Sec. 14 blop"), to->unread, 2);
+    answer[39] = township_unread(BYTES("blip Sec. 14 blop"), to->unread, 2);
     answer[45] = township_set_aside(BYTES("blip Sec. 14 blop"), BYTES("blipblop"), phrases, 3, to->aside, 2);
     answer[40] = township_split(BYTES("T2N R3W sec. 5; T3N R3W sec. 31."), to->split, 2);
 }
@@ -160,6 +183,8 @@ static bool same_land(const round_answers *a, const round_answers *b) {
            memcmp(&a->combined, &b->combined, sizeof a->combined) == 0 &&
            memcmp(&a->township, &b->township, sizeof a->township) == 0 &&
            memcmp(&a->lots, &b->lots, sizeof a->lots) == 0 && memcmp(a->areas, b->areas, sizeof a->areas) == 0 &&
+           memcmp(&a->lake, &b->lake, sizeof a->lake) == 0 &&
+           memcmp(&a->by_the_lake, &b->by_the_lake, sizeof a->by_the_lake) == 0 &&
            memcmp(a->tracts_by_lots, b->tracts_by_lots, sizeof a->tracts_by_lots) == 0 &&
            memcmp(a->parts, b->parts, sizeof a->parts) == 0;
 }
@@ -199,7 +224,7 @@ static bool same_round(const round_answers *a, const round_answers *b) {
 
 /* Whether a call of a round explains a refusal. */
 static bool is_explained(int call) {
-    return (call >= 7 && call <= 9) || (call >= 31 && call <= 33) || (call >= 41 && call <= 44);
+    return (call >= 7 && call <= 9) || (call >= 31 && call <= 33) || (call >= 41 && call <= 44) || call == 51;
 }
 
 static void *run(void *given) {
@@ -236,7 +261,7 @@ static round_answers *answers_alone(bytes notes, const township_plat *plat) {
 
         CHECK(is_explained(call) ? wanted->texts[call][0] != 0 : verdict == TOWNSHIP_ACCEPTED);
     }
-    CHECK(wanted->texts[11][0] != 0 && wanted->texts[12][0] != 0);
+    CHECK(wanted->texts[11][0] != 0 && wanted->texts[12][0] != 0 && wanted->texts[50][0] != 0);
     CHECK(wanted->answers[7].verdict == TOWNSHIP_REFUSED && wanted->answers[8].verdict == TOWNSHIP_REFUSED &&
           wanted->answers[9].verdict == TOWNSHIP_TRACT_REFUSED);
     return wanted;

@@ -675,6 +675,7 @@ int main(int count, char **words) {
     answers_designations();
     answers_split();
     answers_lots();
+    answers_lot_lands();
     answers_readings(&plat);
     call_from_threads(notes, rounds);
     drop(notes);

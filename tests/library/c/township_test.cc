@@ -11,8 +11,8 @@ static_assert(sizeof(township_answer) == 48, "an answer has 48 bytes");
 static_assert(sizeof(township_full_answer) == 400, "a full answer has 3 answers of 48 bytes, and a text of 256");
 static_assert(sizeof(township_fraction) == 24, "a fraction has 24 bytes");
 static_assert(sizeof(township_plat_figures) == 2312, "the figures have 7 * 36 + 36 + 1 numbers");
-static_assert(sizeof(township_land) == 4612, "land has 36 * 32 rows of 4 bytes, and a designation");
-static_assert(sizeof(township_lots) == 192, "a lot table has 47 figures and a designation");
+static_assert(sizeof(township_land) == 4620, "land has 36 * 32 rows and 2 numbers of 4 bytes, and a designation");
+static_assert(sizeof(township_lots) == 13972, "a lot table has no byte between its fields");
 static_assert(sizeof(township_part) == 6, "a part has 6 bytes");
 static_assert(sizeof(township_tract_answer) == 120, "the answer to a tract has 120 bytes");
 static_assert(sizeof(township_overlap) == 16, "an overlap has 16 bytes");
@@ -68,6 +68,18 @@ static std::uint64_t returned(const std::string &table, const std::string &descr
     return answer.hundredths;
 }
 
+// The acres of land on the plat of a lot table, if the land has the table's date.
+static std::uint64_t returned_for_land(const std::string &table, const std::string &description) {
+    township_lots lots{};
+    township_land land{};
+    const bool holds =
+        township_lots_read(bytes(table), table.size(), &lots).verdict == TOWNSHIP_ACCEPTED &&
+        township_lots_land_read(&lots, bytes(description), description.size(), &land).verdict == TOWNSHIP_ACCEPTED &&
+        land.date == lots.date && land.own_lots == 1;
+
+    return holds ? township_lots_land_acres(&lots, &land).hundredths : 0;
+}
+
 // The name and the figure of the one tract of a list.
 static std::string tract(const std::string &notes, const std::string &list) {
     township_plat plat{};
@@ -114,6 +126,8 @@ int main(int count, char **words) {
     const std::string notes((std::istreambuf_iterator<char>(file)), std::istreambuf_iterator<char>());
     const bool holds = hundredths(notes, "sec. 5, lot 1.") == 4045 && figure(notes) == 4045 && has_corner() &&
                        returned("section,lot,acres\nT,2,N,3,W\n5,1,40.45\n", "sec. 5, lot 1.") == 4045 &&
+                       returned_for_land("section,lot,acres,land\nT,2,N,3,W,1912-03-04\n14,9,12.25,SW1/4SE1/4\n",
+                                         "sec. 14, lot 9.") == 1225 &&
                        tract(notes, "name,description\nA,\"sec. 5, lot 1.\"\n") == "A: 4045" &&
                        shared(notes, "name,description\nA,sec. 14\nB,\"sec. 14, NE1/4\"\n") == 16000 &&
                        first_reading("sec. 14, NE1/4 SW1/4") == "sec. 14, NE1/4, SW1/4";

@@ -25,6 +25,7 @@ from ._ignored import Phrases
 from ._land import Land
 from ._lands import Lands
 from ._lots import Lots
+from ._lots_places import PlatLot
 from ._many import Answers
 from ._note import Note
 from ._part_readings import PartReadings, suggest_parts
@@ -63,6 +64,7 @@ __all__ = [
     "PartReadings",
     "Phrases",
     "Plat",
+    "PlatLot",
     "Plats",
     "PlatsReport",
     "Reading",
@@ -86,8 +88,8 @@ __all__ = [
 
 for _public in (
     *(Answers, Change, Difference, Land, Lands, LocatedTract, Lots, LotsOverlap, LotsReport, MissingPlat, Note, Notes),
-    *(OtherPlace, Overlap, Part, PartReadings, Phrases, Plat, Plats, PlatsReport, Reading, Readings, Refusal, Refused),
-    *(Report, Section, Township, TownshipText, Tract, TractAnswer, Unread),
+    *(OtherPlace, Overlap, Part, PartReadings, Phrases, Plat, PlatLot, Plats, PlatsReport, Reading, Readings, Refusal),
+    *(Refused, Report, Section, Township, TownshipText, Tract, TractAnswer, Unread),
 ):
     # Tracebacks and pickles name each class as users import it.
     _public.__module__ = __name__

@@ -11,7 +11,7 @@ from ._batch import Options, Status, Stopped, run_batch
 from ._batch.decoding import ENCODINGS
 from ._batch.options import STANDARD
 from ._batch.workbook import is_workbook
-from ._draw import add_draw
+from ._draw import draw_command
 from ._gis_command import parts_command
 from ._lots_command import add_lots
 from ._measuring import Command, acres_command, compare_command
@@ -31,7 +31,8 @@ Gives the acreage of each description in a list.
 The list is a CSV file, a workbook (.xlsx), or a Parquet file (.parquet). Its column `description` contains the
 descriptions. All are in the township of the field notes NOTES, or of the lot table LOTS; or, with --plats,
 the column `township` says in which township each is, as in T. 2 N., R. 3 W. The folder contains field notes
-and lot tables; if a township has both, the lot table controls. With --headings, too, there is no such column:
+and lot tables; if a township has both, the lot table controls, and of lot tables with different dates the newest
+one, or the one whose date is in the column that --date names. With --headings, too, there is no such column:
 each description begins with its township, and can go on with land in others. The same columns are written,
 and these:
 
@@ -44,7 +45,7 @@ and these:
 
 With --plats, this one is added, too:
 
-  plat       the file by which the acreage is computed, or `missing` if the township has none
+  plat       the file by which the acreage is computed, or `missing` if the township has none (of the date)
 
 With --headings, this one is added, too:
 
@@ -128,6 +129,7 @@ def _options_in(batch: argparse.ArgumentParser, asked: argparse.Namespace) -> Op
         column=asked.column,
         township=asked.township or "township",
         meridian=asked.meridian,
+        date=asked.date,
         sheet=asked.sheet,
         prefix=asked.prefix,
         encoding=asked.encoding,
@@ -145,6 +147,8 @@ def _check_inputs(batch: argparse.ArgumentParser, asked: argparse.Namespace) -> 
         batch.error("name a lot table with --lots, or a folder with --plats")
     if asked.headings and asked.plats is None:
         batch.error("--headings needs a folder, which --plats names")
+    if asked.date is not None and asked.plats is None:
+        batch.error("--date needs a folder, which --plats names")
     if asked.headings and asked.township is not None:
         batch.error("with --headings there is no column of the township")
     if asked.lots is not None and asked.account is not None:
@@ -166,10 +170,11 @@ def _parsers() -> Tuple[argparse.ArgumentParser, Dict[str, Command]]:
     parser = argparse.ArgumentParser(prog="python -m township", description="Acreage of land in a township.")
     parser.add_argument("--version", action="version", version=_version())
     commands = parser.add_subparsers(metavar="COMMAND", required=True)
-    add_draw(commands)
+    draw = draw_command(commands)
     add_lots(commands)
     add_serve(commands)
     return parser, {
+        "draw": draw,
         "acres": acres_command(commands),
         "compare": compare_command(commands),
         "parts": parts_command(commands),
@@ -240,6 +245,12 @@ def _add_inputs(batch: argparse.ArgumentParser) -> None:
         "--meridian",
         metavar="NAME",
         help="with --plats, the column of the principal meridian (default: meridian, if there is one)",
+    )
+    batch.add_argument(
+        "--date",
+        metavar="NAME",
+        help="with --plats, the column of the date of the plat, as in 1912-03-04 (default: the newest lot table of "
+        "each township)",
     )
     batch.add_argument(
         "--sheet",

@@ -80,8 +80,11 @@ class Describing:
         1 16 NE1/4 SE1/4 is read as one part of 40.00 acres, the NE1/4 of the SE1/4; if two parts were meant, \
 write a comma after NE1/4 (320.00 acres)
         """
-        given = encoded(description)
-        asked = (byref(self._plat_struct()), given, len(given), DESCRIPTION, len(DESCRIPTION))
+        return self._notes_by(self._plat_struct(), encoded(description), DESCRIPTION)
+
+    def _notes_by(self, plat: _library.Plat, given: bytes, source: bytes) -> List[Note]:
+        """Return the notes on a description on this plat. They call it by this name."""
+        asked = (byref(plat), given, len(given), source, len(source))
         # Nearly all accepted descriptions have no note, which the answer says without a text.
         answer = without_text(_library.explain_description, *asked)
         if answer.verdict == _library.ACCEPTED:

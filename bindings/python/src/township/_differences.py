@@ -7,7 +7,7 @@ from typing import List, NamedTuple
 
 from . import _library
 from ._figures import acres_of_hundredths
-from ._lot_list import lots_of_township
+from ._lot_list import lots_in
 from ._lots import Lots
 from ._refused import failure_of
 from ._township import township_of
@@ -31,12 +31,15 @@ def differences_of(plat: _library.Plat, lots: Lots) -> List[Difference]:
     """Return the lots whose acreage differs, in order."""
     if township_of(plat) != lots.township:
         raise failure_of(_library.OTHER_TOWNSHIP, township_of(plat), lots.township)
+    if lots.has_land:
+        # Field notes make a plat with the standard lots.
+        raise failure_of(_library.OTHER_PLAT, lots.township)
     figures = _library.PlatFigures()
     answer = _library.figures(byref(plat), byref(figures))
     if answer.verdict != _library.ACCEPTED:
         raise failure_of(answer.verdict)
     differences = []
-    for (section, lot), returned in zip(lots_of_township(), lots._parts.figures):
+    for (section, lot), returned in lots_in(lots._parts):
         computed = figures.lots[section - 1][lot - 1]
         # 0 is the figure of a lot that the table lacks.
         if returned not in (0, computed):

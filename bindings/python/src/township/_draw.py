@@ -2,38 +2,38 @@
 from __future__ import annotations
 
 import argparse
-import sys
-from typing import Any
+from typing import Any, List
 
+from . import _library
 from ._batch import Status, Stopped
-from ._batch.files import plat_in
-from ._batch.options import STANDARD
-from ._batch.stopped import reading, writing
+from ._batch.files import Basis, lots_in, plat_in
+from ._measuring import Command, _bytes_in, _write
 from ._refused import Refused
 
-_USAGE = "python -m township draw [--section N] NOTES [DESCRIPTION] > plat.svg"
+_USAGE = """python -m township draw [--section N] NOTES [DESCRIPTION] > plat.svg
+       python -m township draw [--section N] --lots LOTS [DESCRIPTION] > plat.svg"""
 
 _DRAW = """\
 Draws the plat of a township, or one of its sections, as SVG on standard output. If there is a description,
 its land is shaded, and its acreage is shown by each account. The drawing fits on letter and on A4 paper.
+
+With --lots, the lots of a lot table are drawn where it says that they lie, with their acreage, and land that
+the plat does not have is gray. Acreage is then by the table.
 """
 
 _STATUS = """\
 exit status:
   0    the plat is drawn
-  1    the field notes or the description are refused; standard error says why
+  1    the field notes, the lot table, or the description is refused; standard error says why
   2    the command line is not valid
   3    a file cannot be read, the drawing cannot be written, or memory ran out; standard error says why
 """
 
-#: The largest description that is read: one byte more than the library accepts.
-_DESCRIPTION_MOST = 65_537
-
 _SECTIONS = 36
 
 
-def add_draw(commands: Any) -> None:
-    """Add the command to those of the command line."""
+def draw_command(commands: Any) -> Command:
+    """Return the command `draw`."""
     draw = commands.add_parser(
         "draw",
         help="draw a plat, or a section of it, as SVG",
@@ -42,40 +42,32 @@ def add_draw(commands: Any) -> None:
         epilog=_STATUS,
         formatter_class=argparse.RawDescriptionHelpFormatter,
     )
-    draw.add_argument("notes", metavar="NOTES", help="the field notes (CSV)")
     draw.add_argument(
-        "description",
-        metavar="DESCRIPTION",
-        nargs="?",
-        help="a file with a description, or - for standard input",
+        "files",
+        metavar="NOTES DESCRIPTION",
+        nargs="*",
+        help="the field notes (CSV), and a file with a description, or - for standard input",
     )
+    draw.add_argument("--lots", metavar="LOTS", help="draw the lots of a lot table (CSV) instead of field notes")
     draw.add_argument(
         "--section", metavar="N", type=_section, help="draw this section alone, down to the smallest parts"
     )
-    draw.set_defaults(run=run_draw)
+    return Command(draw, _run_draw)
 
 
-def run_draw(asked: argparse.Namespace) -> Status:
+def _run_draw(parser: argparse.ArgumentParser, asked: argparse.Namespace) -> Status:
     """Draw what the command line asks for. Raise `Stopped` if there is no drawing."""
-    plat = plat_in(asked.notes)
-    land = None if asked.description is None else _description_in(asked.description)
+    files: List[str] = asked.files if asked.lots is None else [asked.lots, *asked.files]
+    if not 1 <= len(files) <= 2:
+        parser.error("name the field notes, and at most one description" if asked.lots is None else "name one description")
+    by: Basis = plat_in(files[0]) if asked.lots is None else lots_in(files[0])
+    land = _bytes_in(files[1], _library.DESCRIPTION_MOST) if len(files) > 1 else None
     try:
-        drawing = plat.svg(land=land, section=asked.section)
+        drawing = by.svg(land=land, section=asked.section)
     except Refused as refused:
         raise Stopped(refused.explanation.rstrip("\n"), Status.REFUSED) from refused
-    with writing():
-        sys.stdout.buffer.write(drawing.encode("utf-8"))
-        sys.stdout.buffer.flush()
+    _write(drawing)
     return Status.ACCEPTED
-
-
-def _description_in(name: str) -> bytes:
-    """Return the description in a file, or on standard input."""
-    with reading("standard input" if name == STANDARD else name):
-        if name == STANDARD:
-            return sys.stdin.buffer.read(_DESCRIPTION_MOST)
-        with open(name, "rb") as file:
-            return file.read(_DESCRIPTION_MOST)
 
 
 def _section(word: str) -> int:

@@ -6,7 +6,7 @@ from typing import Dict, Iterator, List, NamedTuple, Optional, Sequence, Set
 
 from . import _library
 from ._land import Land
-from ._lot_list import lots_of_township
+from ._lot_map import aliquot_parts
 from ._lots import Lots
 from ._parts import Part
 
@@ -53,10 +53,10 @@ class _Square(NamedTuple):
             and self.row * _SIDE < block.row + block.rows
         )
 
-    def count(self, rows: Sequence[int]) -> int:
-        """Return how many of its places are in the rows of a section."""
+    def within(self, rows: Sequence[int]) -> List[int]:
+        """Return its places that are in the rows of a section, as such rows."""
         mask = ((1 << _SIDE) - 1) << self.column * _SIDE
-        return sum(bin(row & mask).count("1") for row in rows[self.row * _SIDE : (self.row + 1) * _SIDE])
+        return [row & mask if index // _SIDE == self.row else 0 for index, row in enumerate(rows)]
 
 
 _SQUARES = [_Square(2 * east + column, 2 * south + row) for east, south in _TURN for column, row in _TURN]
@@ -70,6 +70,12 @@ def rows_of(lots: Lots, land: Land) -> Iterator[GisRow]:
     ...     print(*row)
     5 NENE 1 1 
     5 SENE None 0.5 S1/2SE1/4NE1/4
+    >>> lots = township.Lots.read("section,lot,acres,land\\nT,2,N,3,W\\n14,4,71.10,E1/2NW1/4\\n14,,,N1/2NW1/4NW1/4\\n")
+    >>> for row in rows_of(lots, lots.land("sec. 14, lot 4, S1/2NW1/4NW1/4.")):
+    ...     print(*row)
+    14 NENW 4 1 
+    14 SENW 4 1 
+    14 NWNW None 0.5 S1/2NW1/4NW1/4
     """
     for section, places in land.rows.items():
         in_lots: Set[_Square] = set()
@@ -80,28 +86,18 @@ def rows_of(lots: Lots, land: Land) -> Iterator[GisRow]:
                 yield from (GisRow(section, "".join(each.quarters), number, Decimal(1), "") for each in squares)
         # A quarter-quarter that a lot lies in is made up of lots, and of land that is not there.
         for square in _SQUARES:
-            count = 0 if square in in_lots else square.count(places)
-            if count:
-                yield _other_land(lots, land, section, square, count)
+            rows = square.within(places)
+            if square not in in_lots and any(rows):
+                yield _other_land(section, square, rows)
 
 
-def _other_land(lots: Lots, land: Land, section: int, square: _Square, count: int) -> GisRow:
-    """Return the row of so many places in a quarter-quarter without lots."""
-    share = Decimal(count) / (_SIDE * _SIDE)
-    part = ""
-    if share != 1:
-        begin = f"sec. {section}, "
-        whole = lots.land(begin + "".join(f"{quarter}1/4" for quarter in square.quarters))
-        line = (land & whole).text.splitlines()[1]
-        part = line[len(begin) :].rstrip(".")
-    return GisRow(section, "".join(square.quarters), None, share, part)
+def _other_land(section: int, square: _Square, rows: Sequence[int]) -> GisRow:
+    """Return the row of these places in a quarter-quarter without lots."""
+    share = Decimal(sum(bin(row).count("1") for row in rows)) / (_SIDE * _SIDE)
+    return GisRow(section, "".join(square.quarters), None, share, "" if share == 1 else aliquot_parts(rows))
 
 
 def _lots_of_section(lots: Lots, section: int) -> Dict[int, List[Part]]:
-    """Return the lots of a section by their numbers, with the blocks that each lies in.
-
-    This is the only place that knows which lots there are, and where. They are the standard lots, the only ones that
-    the library reads so far; for others, `lots.section(section)` is to be called here.
-    """
-    numbers = [number for each, number in lots_of_township() if each == section]
+    """Return the lots of a section by their numbers, with the blocks that each lies in."""
+    numbers = [number for each, number in lots.figures if each == section]
     return {number: lots.land(f"sec. {section}, lot {number}.").parts for number in numbers}

@@ -1,6 +1,7 @@
 """Land as a value: a set of places in a township."""
 from __future__ import annotations
 
+import datetime
 from ctypes import byref, c_uint32
 from decimal import Decimal
 from fractions import Fraction
@@ -8,10 +9,24 @@ from functools import reduce
 from operator import or_
 from textwrap import shorten
 from types import MappingProxyType
-from typing import TYPE_CHECKING, Any, Dict, Iterable, Iterator, List, Mapping, Sequence, Tuple, Union, overload
+from typing import (
+    TYPE_CHECKING,
+    Any,
+    Dict,
+    Iterable,
+    Iterator,
+    List,
+    Mapping,
+    Optional,
+    Sequence,
+    Tuple,
+    Union,
+    overload,
+)
 
 from . import _library
 from ._account import Account
+from ._date import date_of
 from ._parts import Part, parts_of
 from ._refused import DESCRIPTION, exception_of, failure_of
 from ._spelling import Named, township_named
@@ -34,9 +49,9 @@ _NO_ROWS_OF_SIX = 6 * _NO_ROWS
 class Land:
     """The land that a description names, as a value: a set of places in a township.
 
-    To make land, call `Land.of` with a township and a description, or `Plat.land` with a description. It does
-    not depend on field notes; only its acreage does. Land is immutable, can be pickled, and can be used from
-    several threads at once. Two lands are equal if they are the same places in the same township.
+    To make land, call `Land.of` with a township and a description, or `Plat.land` or `Lots.land` with a description.
+    It does not depend on field notes; only its acreage does. Land is immutable, can be pickled, and can be used from
+    several threads at once. Two lands are equal if they are the same places on the same plat of the same township.
 
     Land can be combined and compared like a Python set, exactly:
 
@@ -55,22 +70,28 @@ class Land:
     and neither is less than the other. `in` takes land or a description: `a in b` is true if `b` contains all
     of `a`.
 
+    Land of a lot table is on the plat of that table: with its date, and with its lots if the table says where they lie.
+    Land on two different plats of a township can't be combined or compared, since their lots may be different land:
+    this raises `ValueError`, too.
+
     Iteration goes by section: it yields the land in each section that has any, and `len` is their number.
     `sections` is a mapping to them from section numbers. Land is true unless it is empty.
     """
 
-    __slots__ = ("_parts", "__weakref__")
+    __slots__ = ("_parts", "_lots", "__weakref__")
 
     _parts: _library.Land
+    _lots: Optional[Lots]
 
     def __new__(cls, *_: object, **__: object) -> Land:
-        raise TypeError("make land with Land.of, Land.of_rows, or Plat.land")
+        raise TypeError("make land with Land.of, Land.of_rows, Plat.land, or Lots.land")
 
     @classmethod
-    def _of_struct(cls, parts: _library.Land) -> Land:
-        """Make land of a valid struct, which the land then owns."""
+    def _of_struct(cls, parts: _library.Land, lots: Optional[Lots] = None) -> Land:
+        """Make land of a valid struct, which the land then owns. The lot table is the one that knows its lots."""
         land = object.__new__(cls)
         land._parts = parts
+        land._lots = lots
         return land
 
     @classmethod
@@ -164,19 +185,43 @@ class Land:
 
         The text of empty land is empty.
         """
-        answer, text = text_by(_library.land_text, byref(self._parts))
+        lots = self._lots
+        if lots is None:
+            answer, text = text_by(_library.land_text, byref(self._parts))
+        else:
+            answer, text = text_by(_library.lots_land_text, byref(lots._parts), byref(self._parts))
         if answer.verdict != _library.ACCEPTED:
             raise failure_of(answer.verdict)
         return text
 
     @property
     def parts(self) -> List[Part]:
-        """The parts that the canonical text names, in its order.
+        """The parts that the canonical text names, in its order. A lot that lies in several aliquot parts has a part
+        for each.
 
         >>> plat.land("sec. 6, lot 7.").parts
         [Part(section=6, lot=7, column=24, row=0, columns=8, rows=8)]
         """
-        return parts_of(self._parts)
+        lots = self._lots
+        if lots is None:
+            return parts_of(self._parts)
+        rows = self.rows
+        return [part for number in self._numbers() for part in lots._parts_in(number, rows[number])]
+
+    @property
+    def date(self) -> Optional[datetime.date]:
+        """The date of the plat that the land is on: that of the lot table by which it was read. `None` without one."""
+        return date_of(self._parts.date)
+
+    @property
+    def lots(self) -> Optional[Lots]:
+        """The lot table that says where the lots of the land lie. `None` if they are the standard lots.
+
+        >>> lots = township.Lots.read("section,lot,acres,land\\nT,2,N,3,W\\n14,1,38.50,NE1/4NE1/4\\n")
+        >>> lots.land("sec. 14, lot 1.").lots == lots, plat.land("sec. 14.").lots
+        (True, None)
+        """
+        return self._lots
 
     @property
     def sections(self) -> Mapping[int, Land]:
@@ -265,9 +310,10 @@ class Land:
 
     def _within(self, number: int) -> Land:
         """Return the land in one section."""
-        parts = _library.Land(township=self._parts.township)
-        parts.rows[number - 1] = self._parts.rows[number - 1]
-        return Land._of_struct(parts)
+        mine = self._parts
+        parts = _library.Land(township=mine.township, date=mine.date, own_lots=mine.own_lots)
+        parts.rows[number - 1] = mine.rows[number - 1]
+        return Land._of_struct(parts, self._lots)
 
     def _combined_with(self, other: object, operation: int) -> Land:
         if not isinstance(other, Land):
@@ -276,7 +322,8 @@ class Land:
         answer = _library.land_combine(byref(self._parts), byref(other._parts), operation, byref(parts))
         if answer.verdict != _library.ACCEPTED:
             raise failure_of(answer.verdict, self.township, other.township)
-        return Land._of_struct(parts)
+        self._check_lots(other)
+        return Land._of_struct(parts, self._lots)
 
     def _compared_to(self, other: Land) -> int:
         """Return the library's comparison. Lands in different townships are disjoint."""
@@ -285,8 +332,23 @@ class Land:
         if answer.verdict == _library.OTHER_TOWNSHIP:
             return _library.DISJOINT
         if answer.verdict != _library.ACCEPTED:
-            raise failure_of(answer.verdict)
+            raise failure_of(answer.verdict, self.township)
+        self._check_lots(other)
         return comparison.value
+
+    def _check_lots(self, other: Land) -> None:
+        """Raise `ValueError` if the lots of two lands, whose plats have the same date, lie at different places."""
+        mine, others = self._lots, other._lots
+        if mine is not None and others is not None and mine is not others and not mine._has_lots_of(others):
+            raise failure_of(_library.OTHER_PLAT, self.township)
+
+    def _described(self, description: Text) -> Land:
+        """Return the land that a description names on the plat of this land."""
+        if self._lots is not None:
+            return self._lots.land(description)
+        land = Land.of(self.township, description)
+        land._parts.date = self._parts.date
+        return land
 
     def __or__(self, other: Land) -> Land:
         return self._combined_with(other, _library.UNION)
@@ -329,7 +391,7 @@ class Land:
         return hash(bytes(self._parts))
 
     def __contains__(self, other: Union[Land, Text]) -> bool:
-        return (other if isinstance(other, Land) else Land.of(self.township, other)) <= self
+        return (other if isinstance(other, Land) else self._described(other)) <= self
 
     def __bool__(self) -> bool:
         return bytes(self._parts.rows) != _NO_ROWS * _library.SECTIONS
@@ -342,8 +404,27 @@ class Land:
 
     def __reduce__(self) -> Tuple[Any, ...]:
         rows: Dict[int, Tuple[int, ...]] = dict(self.rows)
-        return Land.of_rows, (tuple(self.township), rows)
+        if not self._parts.date and self._lots is None:
+            return Land.of_rows, (tuple(self.township), rows)
+        return _restored, (tuple(self.township), rows, self._parts.date, self._lots)
 
     def __repr__(self) -> str:
         shown = shorten(self.text, _SHOWN_MOST, placeholder=" ..") or f"none in {self.township}"
         return f"<township.Land: {shown}>"
+
+
+def _restored(
+    township: Tuple[int, str, int, str], rows: Mapping[int, Sequence[int]], date: int, lots: Optional[Lots]
+) -> Land:
+    """Return land on the plat of a lot table. Raise `ValueError` if the rows contain part of one of its lots."""
+    if lots is None:
+        land = Land.of_rows(township, rows)
+        land._parts.date = date
+        return land
+    parts = _library.Land(township=lots._parts.township, date=date, own_lots=1)
+    for section, given in rows.items():
+        parts.rows[section - 1][:] = given
+    land = Land._of_struct(parts, lots)
+    # Only a call that takes the table checks that the land has whole lots.
+    _ = land.text
+    return land

@@ -5,7 +5,7 @@ from decimal import Decimal
 from fractions import Fraction
 from textwrap import shorten
 from types import MappingProxyType
-from typing import TYPE_CHECKING, Any, Dict, Iterable, Iterator, List, Mapping, Tuple, Union
+from typing import TYPE_CHECKING, Any, Callable, Dict, Iterable, Iterator, List, Mapping, Optional, Tuple, Union
 
 from . import _library
 from ._account import Account
@@ -16,6 +16,7 @@ from ._text import Text, encoded
 from ._township import Township, nominal_plat_of
 
 if TYPE_CHECKING:
+    from ._lots import Lots
     from ._plats import Plats
 
 #: The most characters of a description in the representation of land.
@@ -63,17 +64,22 @@ class Lands:
         """Make the land that a text names.
 
         Raise `Refused` if the text can't be split into the parts of its townships (38 or 39), if a part does not begin
-        with a heading (31 to 36), or if it is refused (41 to 67); the place is then in this part, and `source` is its
-        township. If a part names land of an earlier part, the number is 67, and the place is that of the part in the
-        text.
+        with a heading (31 to 36), or if it is refused (41 to 44, 61 to 68); the place is then in this part, and `source`
+        is its township. If a part names land of an earlier part, the number is 67, and the place is that of the part in
+        the text.
 
         >>> township.Lands.of("T2N R3W sec. 14; T3N R3W sec. 37")
         Traceback (most recent call last):
             ...
         township.Refused: T. 3 N., R. 3 W.:1:14: there is no section 37: sections are 1 to 36
         """
+        return cls._read(text, _no_table)
+
+    @classmethod
+    def _read(cls, text: Text, table_of: TableOf) -> Lands:
+        """Make the land that a text names, with the lots of the lot tables of its townships."""
         try:
-            return cls(land for _, land in parts_and_lands(encoded(text)))
+            return cls(land for _, land in parts_and_lands(encoded(text), table_of))
         except PartRefused as refused:
             raise refused.refused from None
 
@@ -223,7 +229,15 @@ class PartRefused(Exception):
         return self.refused.at if self.refused.number in _TOO_LARGE else self.start + self.refused.at
 
 
-def parts_and_lands(given: bytes) -> List[Tuple[TownshipText, Land]]:
+#: Returns the lot table by which the land in a township is read, or `None` if it has the standard lots.
+TableOf = Callable[[Township], Optional["Lots"]]
+
+
+def _no_table(_: Township) -> Optional[Lots]:
+    return None
+
+
+def parts_and_lands(given: bytes, table_of: TableOf = _no_table) -> List[Tuple[TownshipText, Land]]:
     """Return the parts of a text, each with its land. Raise `PartRefused` if there are none, or one is refused."""
     found: List[Tuple[TownshipText, Land]] = []
     lands: Dict[Township, Land] = {}
@@ -233,7 +247,7 @@ def parts_and_lands(given: bytes) -> List[Tuple[TownshipText, Land]]:
         raise PartRefused(refused) from None
     for part in parts:
         try:
-            land = _land_of(part)
+            land = _land_of(part, table_of)
         except Refused as refused:
             raise PartRefused(refused, part.start) from None
         before = lands.get(land.township)
@@ -244,13 +258,16 @@ def parts_and_lands(given: bytes) -> List[Tuple[TownshipText, Land]]:
     return found
 
 
-def _land_of(part: TownshipText) -> Land:
+def _land_of(part: TownshipText, table_of: TableOf) -> Land:
     """Return the land of a part of a text, which explanations call by its township."""
     try:
         named = part.township
     except Refused as refused:
         raise hinted(refused, f"in the part that begins at byte {part.start} of the text") from None
-    return Land._read(named, nominal_plat_of(named), encoded(part.text), str(named).encode())
+    source, table = str(named).encode(), table_of(named)
+    if table is not None:
+        return table._land_of(encoded(part.text), source)
+    return Land._read(named, nominal_plat_of(named), encoded(part.text), source)
 
 
 def _named_before(given: bytes, part: TownshipText, land: Land) -> Refused:

@@ -2,7 +2,7 @@
 from __future__ import annotations
 
 import ctypes
-from ctypes import POINTER, c_char, c_char_p, c_size_t, c_uint8, c_uint32, c_uint64
+from ctypes import POINTER, c_char, c_char_p, c_size_t, c_uint8, c_uint16, c_uint32, c_uint64
 from typing import Any, Callable
 
 from ._loading import LIBRARY
@@ -42,6 +42,7 @@ REFUSAL_LAND_NO_LOT = 64
 REFUSAL_LAND_TOO_FINE = 65
 REFUSAL_LAND_ON_LOT = 66
 REFUSAL_LAND_OVERLAP = 67
+REFUSAL_LAND_NO_LAND = 68
 REFUSAL_TRACTS_TOO_LARGE = 80
 REFUSAL_TRACT_ROW = 81
 REFUSAL_NAME_REPEATED = 82
@@ -57,6 +58,13 @@ REFUSAL_LOTS_NO_LOT = 91
 REFUSAL_LOTS_ACRES = 92
 REFUSAL_LOTS_REPEATED = 93
 REFUSAL_LOTS_LACKING = 94
+REFUSAL_LOTS_DATE = 95
+REFUSAL_LOTS_LAND = 96
+REFUSAL_LOTS_TOO_FINE = 97
+REFUSAL_LOTS_SHARED = 98
+REFUSAL_LOTS_TOO_MANY = 99
+REFUSAL_LOTS_UNFILLED = 100
+REFUSAL_LOTS_DIVIDED = 101
 LINES = 84
 NOTES_MOST = 65_536
 DESCRIPTION_MOST = 65_536
@@ -76,6 +84,7 @@ NO_LOTS = 9
 NO_TOWNSHIP = 10
 NO_OPERATION = 11
 OTHER_TOWNSHIP = 12
+OTHER_PLAT = 13
 EXACT = 0
 BY_PLAT = 1
 NORTH = 0
@@ -89,7 +98,10 @@ TRACTS_MOST = 1_000
 NAME_MOST = 64
 NAME_ROOM = 68
 PLACES_ACROSS = 32
-LOTS = 47
+RETURNED_MOST = 1_024
+BOUNDS = 37
+POSITION_BYTES = 576
+DIVIDED_BYTES = 8_192
 READINGS_MOST = 8
 RULE_HALF = 1
 RULE_QUARTER = 2
@@ -213,15 +225,22 @@ class Designation(ctypes.Structure):
 
 
 class Land(ctypes.Structure):
-    """`township_land`: 4,612 bytes."""
+    """`township_land`: 4,620 bytes."""
 
-    _fields_ = [("rows", c_uint32 * PLACES_ACROSS * SECTIONS), ("township", Designation)]
+    _fields_ = [
+        ("rows", c_uint32 * PLACES_ACROSS * SECTIONS), ("date", c_uint32), ("own_lots", c_uint32),
+        ("township", Designation),
+    ]
 
 
 class Lots(ctypes.Structure):
-    """`township_lots`: 192 bytes."""
+    """`township_lots`: 13,972 bytes."""
 
-    _fields_ = [("figures", c_uint32 * LOTS), ("township", Designation)]
+    _fields_ = [
+        ("figures", c_uint32 * RETURNED_MOST), ("first", c_uint16 * BOUNDS), ("numbers", c_uint8 * RETURNED_MOST),
+        ("positions", c_uint8 * POSITION_BYTES), ("divided", c_uint8 * DIVIDED_BYTES), ("mapped", c_uint16),
+        ("date", c_uint32), ("township", Designation),
+    ]
 
 
 class Part(ctypes.Structure):
@@ -315,6 +334,9 @@ land_parts = _call("township_land_parts", POINTER(Land), POINTER(Part), c_size_t
 land_combine = _call("township_land_combine", POINTER(Land), POINTER(Land), c_uint32, POINTER(Land))
 land_compare = _call("township_land_compare", POINTER(Land), POINTER(Land), POINTER(c_uint32))
 lots_read = _call("township_lots_read", c_char_p, c_size_t, POINTER(Lots))
+lots_plain = _call("township_lots_plain", c_char_p, c_size_t, POINTER(c_char), c_size_t)
+lots_land_read = _call("township_lots_land_read", POINTER(Lots), c_char_p, c_size_t, POINTER(Land))
+lots_land_text = _call("township_lots_land_text", POINTER(Lots), POINTER(Land), POINTER(c_char), c_size_t)
 lots_acres = _call("township_lots_acres", POINTER(Lots), c_char_p, c_size_t)
 lots_area = _call("township_lots_area", POINTER(Lots), c_char_p, c_size_t, POINTER(Fraction))
 lots_land_acres = _call("township_lots_land_acres", POINTER(Lots), POINTER(Land))
@@ -330,6 +352,10 @@ explain_list = _call(
 explain_lots = _call("township_explain_lots", c_char_p, c_size_t, c_char_p, c_size_t, POINTER(c_char), c_size_t)
 explain_lacking = _call(
     "township_explain_lacking", POINTER(Lots), c_uint32, c_char_p, c_size_t, POINTER(c_char), c_size_t,
+)
+lots_explain_description = _call(
+    "township_lots_explain_description", POINTER(Lots), c_char_p, c_size_t, c_char_p, c_size_t, POINTER(c_char),
+    c_size_t,
 )
 explain_notes_parts = _call(
     "township_explain_notes_parts", c_char_p, c_size_t, c_char_p, c_size_t, POINTER(c_char), c_size_t,
@@ -350,6 +376,10 @@ explain_lots_parts = _call(
 explain_lacking_parts = _call(
     "township_explain_lacking_parts", POINTER(Lots), c_uint32, c_char_p, c_size_t, POINTER(c_char), c_size_t,
     POINTER(Explanation),
+)
+lots_explain_description_parts = _call(
+    "township_lots_explain_description_parts", POINTER(Lots), c_char_p, c_size_t, c_char_p, c_size_t, POINTER(c_char),
+    c_size_t, POINTER(Explanation),
 )
 suggest = _call(
     "township_suggest", c_char_p, c_size_t, POINTER(Reading), c_size_t, POINTER(Change), c_size_t, POINTER(c_char),

@@ -4,31 +4,89 @@ from __future__ import annotations
 from ctypes import byref
 from decimal import Decimal
 from fractions import Fraction
-from typing import Iterable, Iterator, Sequence, Union
+from typing import TYPE_CHECKING, Iterable, Iterator, List, Sequence, Union, cast
 
 from . import _library
 from ._describing import Describing
 from ._figures import acres_of_hundredths, fraction_of
+from ._full import FullAnswers
 from ._ignored import Ignored
 from ._land import Land
-from ._lot_faults import LACKING, lacking_exception
-from ._lots_full import LotsFullAnswers
+from ._lot_faults import LACKING, described_exception, lacking_exception, table_notes
+from ._lots_drawing import LotsDrawing
+from ._lots_full import LotsFullAnswers, TableAnswers
 from ._lots_reporting import LotsReporting
 from ._many import Answers, Ask, answers_by, each_acres
+from ._note import Note
 from ._readings import Readings
 from ._refused import DESCRIPTION, LAND, Refused, failure_of
 from ._text import Text, encoded
 from ._township import nominal_plat_of, township_of
 
+if TYPE_CHECKING:
+    from ._lots import Lots
 
-class LotsAnswering(LotsReporting, Describing):
+
+class LotsAnswering(LotsReporting, LotsDrawing, Describing):
     """The answers by a lot table."""
 
     __slots__ = ()
 
     def _plat_struct(self) -> _library.Plat:
-        # Whatever depends on no acreage is the same on any plat of the township.
+        # With the standard lots, whatever depends on no acreage is the same on any plat of the township.
         return nominal_plat_of(township_of(self._parts.township))
+
+    def land(self, description: Text) -> Land:
+        """Return the land described, as a value that can be combined and compared with other land of this table.
+
+        It is on the plat of the table: with its date, and with its lots if the table says where they lie.
+
+        >>> lots = township.Lots.read("section,lot,acres,land\\nT,2,N,3,W\\n14,1,38.50,NE1/4NE1/4\\n")
+        >>> lots.land("sec. 14, all.") - lots.land("sec. 14, lot 1.")
+        <township.Land: T. 2 N., R. 3 W., sec. 14, NW1/4NE1/4, S1/2NE1/4, NW1/4, S1/2.>
+        """
+        return self._land_of(encoded(description), DESCRIPTION)
+
+    def _land_of(self, given: bytes, source: bytes) -> Land:
+        """Return the land of a description, which explanations call by this name."""
+        parts = _library.Land()
+        answer = _library.lots_land_read(byref(self._parts), given, len(given), byref(parts))
+        if answer.verdict != _library.ACCEPTED:
+            raise described_exception(answer, self._parts, given, source)
+        # The library knows the standard lots without a table.
+        return Land._of_struct(parts, cast("Lots", self) if self.has_land else None)
+
+    def normal(self, description: Text) -> str:
+        """Return the canonical description, which is the same for any two descriptions of the same land.
+
+        >>> lots = township.Lots.read("section,lot,acres,land\\nT,2,N,3,W\\n14,1,38.50,NE1/4NE1/4\\n")
+        >>> print(lots.normal("sec. 14, SE1/4 and NW1/4, lot 1."), end="")
+        T. 2 N., R. 3 W.,
+        sec. 14, lot 1, NW1/4, SE1/4.
+        """
+        return self.land(description).text
+
+    def normal_many(self, descriptions: Sequence[Text]) -> List[Union[str, Refused]]:
+        """Return the canonical descriptions of many descriptions, or their refusals, as `Plat.normal_many` does.
+
+        >>> lots = township.Lots.of_figures("T. 2 N., R. 3 W.", {(5, 1): "40.45"})
+        >>> texts = lots.normal_many(["sec. 14, SE1/4, NE1/4, NW1/4.", "sec. 5, lot 5."])
+        >>> texts[0].split("\\n")[1], texts[1].number
+        ('sec. 14, N1/2, SE1/4.', 64)
+        """
+        many = self._listed(descriptions, "normal")
+        return [self._normal_or_refused(each) for each in many] if self.has_land else super().normal_many(many)
+
+    def notes(self, description: Text) -> List[Note]:
+        """Return the notes on an accepted description, as `Plat.notes` does. With the standard lots, the acreage in
+        them is nominal; otherwise it is that of the table."""
+        return self._notes_on(encoded(description), DESCRIPTION)
+
+    def _notes_on(self, given: bytes, source: bytes) -> List[Note]:
+        """Return the notes on a description, which they call by this name."""
+        if self.has_land:
+            return table_notes(self._parts, given, source)
+        return self._notes_by(self._plat_struct(), given, source)
 
     def acres(self, description: Union[Text, Land]) -> Decimal:
         """Return the acreage of the land described, or of a `Land`, rounded once to hundredths, half up."""
@@ -81,9 +139,17 @@ class LotsAnswering(LotsReporting, Describing):
         self._nominal_plat()
         return answers_by(self._asking(), many, self._exception_of)
 
-    def _full_answers(self, descriptions: Sequence[Text]) -> LotsFullAnswers:
+    def _full_answers(self, descriptions: Sequence[Text]) -> FullAnswers:
         """Return everything that the library answers about many descriptions."""
+        if self.has_land:
+            return TableAnswers(self._parts, descriptions, self._asking(), self._exception_of)
         return LotsFullAnswers(self._nominal_plat(), descriptions, self._asking(), self._exception_of)
+
+    def _normal_or_refused(self, description: Text) -> Union[str, Refused]:
+        try:
+            return self.normal(description)
+        except Refused as refused:
+            return refused
 
     def _asking(self) -> Ask:
         """Return the call that answers a description. Whatever does not depend on the description is computed once."""
@@ -104,4 +170,4 @@ class LotsAnswering(LotsReporting, Describing):
         """Return the exception for a description that is not accepted."""
         if answer.verdict == _library.REFUSED and answer.number == LACKING:
             return lacking_exception(answer, self._parts, DESCRIPTION)
-        return self._described_exception(answer, given)
+        return described_exception(answer, self._parts, given, DESCRIPTION)

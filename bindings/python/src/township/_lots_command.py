@@ -36,14 +36,14 @@ since they differ by layer, state, and year, each can be given another name.
 Nothing is guessed. Standard output lists each row that cannot be used, and why: a lot without a quarter-quarter or
 an acreage, for example, or with two acreages. Such a lot is not written, and the name of its township's table ends
 with .incomplete: add the lots by hand, and rename it. Which part of a quarter-quarter each of several lots has is not
-in the attribute table; they are given parts in the order of their numbers. The library does not read the fourth
-column of these tables yet, so no other command can use them.
+in the attribute table; they are given parts in the order of their numbers.
 """
 
 _IMPORT_STATUS = """\
 exit status:
   0    all rows of lots are used
-  1    some are not, as the report says, or there are none
+  1    some are not, as the report says, or there are none; or a table has more lots, or more divided quarter-quarters,
+       than a lot table can have, as standard error says
   2    the command line is not valid
   3    a file cannot be read or written, the table lacks a column, or memory ran out; standard error says why
 """

@@ -3,13 +3,16 @@ from __future__ import annotations
 
 from ctypes import byref
 from decimal import Decimal
-from typing import Iterable, NamedTuple, Sequence, Tuple
+from typing import Iterable, Iterator, NamedTuple, Sequence, Tuple
 
 from . import _library
+from ._earlier import EarlierLand
+from ._explanation import Explained
 from ._figures import acres_of_hundredths
 from ._land import Land
 from ._lot_faults import LACKING, lacking_exception
-from ._refused import LIST, Refusal, failure_of, refusal_of
+from ._lots_places import LotsPlaces
+from ._refused import LIST, Refusal, Refused, failure_of, inner_refusal, refusal_of
 from ._report import (
     FIRST_TRACT,
     Described,
@@ -35,12 +38,10 @@ class _Given(NamedTuple):
     list: bytes
 
 
-class LotsReporting:
-    """The answers to lists of tracts by a lot table, which is a struct of the library."""
+class LotsReporting(LotsPlaces):
+    """The answers to lists of tracts by a lot table."""
 
-    __slots__ = ("_parts",)
-
-    _parts: _library.Lots
+    __slots__ = ()
 
     def report(self, tracts: Iterable[Tuple[Text, Described]]) -> LotsReport:
         """Return the acreage of tracts, each a name and a description or `Land`, and that of all of them together.
@@ -90,11 +91,9 @@ class LotsReporting:
         (Refusal(number=83, at=3), Refusal(number=94, at=502), Refusal(number=64, at=12))
         """
         given = _given(tracts)
-        # On the nominal plat, a tract is refused for the same errors. Only its acreage is another one.
-        answers = accepted(answers_on(byref(self._nominal_plat()), given.list), self._list_exception, given.list)
         return tuple(
-            each if each.acres is None else self._by_table(each, index, described)
-            for index, (each, (_, described)) in enumerate(zip(answers, given.tracts))
+            each if _is_refused_as_tract(each) else self._by_table(each, index, described)
+            for index, (each, (_, described)) in enumerate(zip(self._nominal_answers(given), given.tracts))
         )
 
     def overlaps(self, tracts: Iterable[Tuple[Text, Described]]) -> Tuple[LotsOverlap, ...]:
@@ -108,8 +107,30 @@ class LotsReporting:
         (LotsOverlap(first=0, second=1, acres=Decimal('40.45')), LotsOverlap(first=0, second=2, acres=None))
         """
         given = _given(tracts)
+        if self.has_land:
+            return tuple(self._overlaps_on_table(given))
         overlaps = accepted(overlaps_on(byref(self._nominal_plat()), given.list), self._list_exception, given.list)
         return tuple(self._overlap(each, given.tracts) for each in overlaps)
+
+    def _nominal_answers(self, given: _Given) -> Tuple[TractAnswer, ...]:
+        """Return the answer to each tract on the nominal plat, on which its record and name are refused as here."""
+        return accepted(answers_on(byref(self._nominal_plat()), given.list), self._list_exception, given.list)
+
+    def _overlaps_on_table(self, given: _Given) -> Iterator[LotsOverlap]:
+        """Yield the overlaps of the tracts on the plat of a table that says where its lots lie."""
+        earlier = EarlierLand()
+        for second, (answer, (_, described)) in enumerate(zip(self._nominal_answers(given), given.tracts)):
+            if answer.refusal and answer.refusal.number == _library.REFUSAL_TRACT_ROW:
+                continue
+            try:
+                land = self._land(described)
+            except Refused:
+                continue
+            if land.township != township_of(self._parts.township):
+                continue
+            for first, both in earlier.shared(land):
+                yield LotsOverlap(first, second, acres_of_hundredths(self._answer(both).hundredths))
+            earlier.add(second, land)
 
     def _nominal_plat(self) -> _library.Plat:
         """Return the nominal plat of the township. Raise `ValueError` if the table is not valid."""
@@ -118,12 +139,15 @@ class LotsReporting:
         return nominal_plat_of(township_of(self._parts.township))
 
     def _by_table(self, given: TractAnswer, index: int, described: Described) -> TractAnswer:
-        """Return the answer to a tract that is accepted on the nominal plat."""
+        """Return the answer by the table to a tract whose record and name are accepted."""
         answer = self._answer(described)
         if answer.verdict == _library.ACCEPTED:
-            return given._replace(acres=acres_of_hundredths(answer.hundredths))
+            return TractAnswer(given.name, acres_of_hundredths(answer.hundredths), None, None)
+        if answer.verdict == _library.OTHER_TOWNSHIP:
+            # The text of such land is refused for its heading, on any plat.
+            return given
         if answer.verdict != _library.REFUSED:
-            raise failure_of(answer.verdict)
+            raise failure_of(answer.verdict, township_of(self._parts.township))
         refusal = Refusal(_library.REFUSAL_TRACT_REFUSED, index + FIRST_TRACT)
         return TractAnswer(given.name, None, refusal, refusal_of(answer))
 
@@ -140,7 +164,11 @@ class LotsReporting:
     def _land(self, described: Described) -> Land:
         if isinstance(described, Land):
             return described
-        return Land.of(township_of(self._parts.township), described)
+        return self._land_of(encoded(described), LIST)
+
+    def _land_of(self, given: bytes, source: bytes) -> Land:
+        """Return the land of a description on the plat of the table."""
+        raise NotImplementedError
 
     def _answer(self, described: Described) -> _library.Answer:
         """Return the library's answer to a description or land."""
@@ -153,7 +181,31 @@ class LotsReporting:
         """Return the exception for a list of tracts that is not accepted."""
         if answer.verdict == _library.TRACT_REFUSED and answer.inner_number == LACKING:
             return lacking_exception(answer, self._parts, LIST)
+        if self.has_land and answer.number in _OF_LAND:
+            return _refused_for_land(answer)
         return exception_of_list(answer, byref(nominal_plat_of(township_of(self._parts.township))), given)
+
+
+#: The refusals of a list that depend on which lots a plat has. The library does not explain them by a lot table.
+_OF_LAND = (_library.REFUSAL_TRACT_REFUSED, _library.REFUSAL_TRACTS_OVERLAP)
+
+
+def _is_refused_as_tract(answer: TractAnswer) -> bool:
+    """Return whether a tract is refused whatever its land is: for its record, or for its name."""
+    return answer.refusal is not None and answer.refusal.number not in _OF_LAND
+
+
+def _refused_for_land(answer: _library.Answer) -> Refused:
+    """Return the refusal of a list for the land of a tract, without words of the library."""
+    inner, source = inner_refusal(answer), LIST.decode()
+    sentence = (
+        f"the description of this tract is refused on the plat of the lot table: {inner.number} at {inner.at}"
+        if inner
+        else "the land of this tract overlaps that of an earlier one"
+    )
+    explained = Explained(f"{source}: record {answer.at}", sentence)
+    text = f"township: {explained.message}\n"
+    return Refused(answer.number, answer.at, None, None, text, inner, source, explained)
 
 
 def _given(tracts: Iterable[Tuple[Text, Described]]) -> _Given:

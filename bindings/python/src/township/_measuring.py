@@ -16,7 +16,6 @@ from ._lots import Lots
 from ._plat import Plat
 from ._refused import Refused, failure_of
 from ._text import shown
-from ._township import nominal_plat_of
 from ._written import text_by
 
 #: The file descriptors of standard input and standard output.
@@ -167,12 +166,12 @@ class _Description(NamedTuple):
 
 def _read(name: str, by: Union[Plat, Lots]) -> _Description:
     """Return the description in a file."""
-    # The acreage in a note is that of aliquot parts, which is the same by a lot table as on the nominal plat.
-    plat = by._parts if isinstance(by, Plat) else nominal_plat_of(by.township)
     given, source = _bytes_in(name, _library.DESCRIPTION_MOST), _source(name)
-    land = Land._read(by.township, plat, given, source)
+    if isinstance(by, Lots):
+        return _Description(by._land_of(given, source), "".join(note.text for note in by._notes_on(given, source)))
+    land = Land._read(by.township, by._parts, given, source)
     explain = _library.explain_description
-    answer, note = text_by(explain, byref(plat), given, len(given), source, len(source))
+    answer, note = text_by(explain, byref(by._parts), given, len(given), source, len(source))
     if answer.verdict != _library.ACCEPTED:
         raise failure_of(answer.verdict)
     return _Description(land, note)

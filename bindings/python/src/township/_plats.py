@@ -1,6 +1,7 @@
 """The plats and lot tables of several townships, and the acreage of land in all of them."""
 from __future__ import annotations
 
+import datetime
 from decimal import Decimal
 from fractions import Fraction
 from typing import Dict, Iterable, Iterator, List, Mapping, NamedTuple, Optional, Tuple, Union
@@ -69,7 +70,8 @@ class Plats(Mapping[Township, Basis]):
     """The plats and lot tables of several townships on one principal meridian.
 
     To make them, call `Plats` with plats and lot tables, or `Plats.open` with a folder. A township can have a plat and
-    a lot table: the lot table then controls, as the acreage that the approved plat returns.
+    a lot table: the lot table then controls, as the acreage that the approved plat returns. Of lot tables with
+    different dates, the newest one does; a table without a date counts as older than any other.
 
     >>> table = township.Lots.of_figures("T. 3 N., R. 3 W.", {(31, 1): "38.97", (31, 2): "39.01"})
     >>> plats = township.Plats([plat, table])
@@ -87,13 +89,15 @@ class Plats(Mapping[Township, Basis]):
 
     def __init__(self, plats: Iterable[Basis] = ()) -> None:
         self._by_township: Dict[Township, Basis] = {}
-        kept: Dict[Tuple[Township, bool], Basis] = {}
+        kept: Dict[Tuple[Township, _Age], Basis] = {}
         for each in plats:
-            is_table = isinstance(each, Lots)
-            if kept.setdefault((each.township, is_table), each) != each:
-                kind = "lot tables" if is_table else "field notes"
-                raise ValueError(f"these are different {kind} for {each.township}")
-            if is_table or each.township not in self._by_township:
+            age = _age_of(each)
+            if kept.setdefault((each.township, age), each) != each:
+                kind = "lot tables" if isinstance(each, Lots) else "field notes"
+                dated = f" of {each.date}" if isinstance(each, Lots) and each.date else ""
+                raise ValueError(f"these are different {kind}{dated} for {each.township}")
+            before = self._by_township.get(each.township)
+            if before is None or age > _age_of(before):
                 self._by_township[each.township] = each
 
     @classmethod
@@ -128,10 +132,12 @@ class Plats(Mapping[Township, Basis]):
     def land(self, text: Text) -> Lands:
         """Return the land that a text names, in all its townships: see `Lands.of`.
 
+        In a township whose lot table says where its lots lie, it has these lots.
+
         >>> township.Plats([plat]).land("T2N R3W sec. 14, N1/2; T3N R3W sec. 31")
         <township.Lands: T. 2 N., R. 3 W., sec. 14, N1/2. T. 3 N., R. 3 W., sec. 31, all.>
         """
-        return Lands.of(text)
+        return Lands._read(text, self._table_of)
 
     def acres(self, located: Located, account: Account = "exact") -> Decimal:
         """Return the acreage of the land that a text names, or of a `Lands` or a `Land`.
@@ -223,16 +229,34 @@ class Plats(Mapping[Township, Basis]):
         earlier = EarlierLands()
         found = []
         for second, (_, located) in enumerate(tracts):
-            lands = _land_or_none(located)
+            lands = self._land_or_none(located)
             for first, both in earlier.shared(lands):
                 found.append(LotsOverlap(first, second, self._acres_or_none(both)))
             earlier.add(second, lands)
         return tuple(found)
 
+    def _table_of(self, township: Township) -> Optional[Lots]:
+        """Return the lot table of a township, if it says where its lots lie."""
+        by = self._by_township.get(township)
+        return by if isinstance(by, Lots) and by.has_land else None
+
+    def _lands_of(self, located: Located) -> Lands:
+        """Return land that is given as a text, or as a value."""
+        if isinstance(located, Lands):
+            return located
+        return Lands([located]) if isinstance(located, Land) else self.land(located)
+
+    def _land_or_none(self, located: Located) -> Lands:
+        """Return the land of a tract, or no land if its text is refused."""
+        try:
+            return self._lands_of(located)
+        except Refused:
+            return Lands()
+
     def _areas(self, located: Located, account: Account) -> Dict[Township, Fraction]:
         """Return the exact area of land in each of its townships."""
         code_of(account)
-        return {land.township: self._area_in_one(land, account) for land in _lands_of(located)}
+        return {land.township: self._area_in_one(land, account) for land in self._lands_of(located)}
 
     def _area_in_one(self, land: Land, account: Account) -> Fraction:
         """Return the exact area of land in one township. A refusal names the township."""
@@ -265,26 +289,20 @@ class Plats(Mapping[Township, Basis]):
     def _reported(self, index: int, located: Located, account: Account) -> Tuple[Lands, Dict[Township, Fraction]]:
         """Return the land and the areas of a tract. Raise `Refused` if it is refused."""
         try:
-            land = _lands_of(located)
+            land = self._lands_of(located)
             return land, self._areas(land, account)
         except Refused as refused:
             inner = Refusal(refused.number, refused.at)
             raise _refused(_library.REFUSAL_TRACT_REFUSED, index, str(refused), inner) from refused
 
 
-def _lands_of(located: Located) -> Lands:
-    """Return land that is given as a text, or as a value."""
-    if isinstance(located, Lands):
-        return located
-    return Lands([located]) if isinstance(located, Land) else Lands.of(located)
+#: Whether acreage is that of a lot table, and the table's date. Of two in a township, the greater one controls.
+_Age = Tuple[bool, datetime.date]
 
 
-def _land_or_none(located: Located) -> Lands:
-    """Return the land of a tract, or no land if its text is refused."""
-    try:
-        return _lands_of(located)
-    except Refused:
-        return Lands()
+def _age_of(by: Basis) -> _Age:
+    """Return how old field notes or a lot table are."""
+    return (True, by.date or datetime.date.min) if isinstance(by, Lots) else (False, datetime.date.min)
 
 
 def _each_rounded(areas: Mapping[Township, Fraction]) -> Dict[Township, Decimal]:

@@ -31,6 +31,10 @@ _MEANINGS = {
 }
 
 
+#: What is wrong with land that only its own lot table knows.
+_OTHER_LOTS = "this land is on the plat of a lot table that says where its lots lie"
+
+
 class Refusal(NamedTuple):
     """The number and location of a refusal, as in `refused 67 at 19`."""
 
@@ -74,8 +78,8 @@ class Refused(ValueError):
     sec. 14, NE1/4.
     """
 
-    #: What is wrong: 1 to 11 and 21 to 23 for field notes, 41 to 44 and 61 to 67 for a description, 50 and 51 for
-    #: phrases to leave out, 80 to 85 for a list of tracts, 86 to 94 for a lot table.
+    #: What is wrong: 1 to 11 and 21 to 23 for field notes, 41 to 44 and 61 to 68 for a description, 50 and 51 for
+    #: phrases to leave out, 80 to 85 for a list of tracts, 86 to 101 for a lot table.
     number: int
     #: The location. Its meaning depends on the number: a record counted from 1, the index of a section line,
     #: a byte of the UTF-8 text counted from 0, a lot, a phrase counted from 1, or, if the text is too long, the limit
@@ -178,6 +182,21 @@ def hinted(refused: Refused, hint: str) -> Refused:
     return again
 
 
+def without_bytes(refused: Refused) -> Refused:
+    """Return a refusal without the bytes of the input that it underlines, and those of the other place."""
+    explained = refused._explained._replace(start=None, end=None, other=None)
+    return Refused(
+        refused.number,
+        refused.at,
+        refused.line,
+        refused.column,
+        refused.explanation,
+        refused.inner,
+        refused.source,
+        explained,
+    )
+
+
 def refused_as_a_whole(source: str, refusal: Refusal, sentence: str) -> Refused:
     """Return the refusal of a text that has no place in it, with a sentence that is not the library's."""
     explained = Explained(source, sentence)
@@ -206,12 +225,14 @@ def _text_of(explained: Explained) -> str:
 def failure_of(verdict: int, *townships: Township) -> Exception:
     """Return the exception for a verdict that is neither an answer nor a refusal.
 
-    The townships are those of what was given to the call, if they could be different.
+    The townships are those of what was given to the call, if they, or its plats, could be different.
     """
     if verdict == _library.NO_MEMORY:
         return MemoryError("township: out of memory")
     if verdict == _library.OTHER_TOWNSHIP:
         return ValueError(f"these are in two different townships: {' and '.join(map(str, townships))}")
+    if verdict == _library.OTHER_PLAT:
+        return ValueError(f"these are on two different plats of {townships[0]}" if townships else _OTHER_LOTS)
     meaning = _MEANINGS.get(verdict)
     if meaning is not None:
         return ValueError(meaning)

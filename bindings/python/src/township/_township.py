@@ -17,6 +17,9 @@ EastWest = Literal["E", "W"]
 #: The largest number of a township, and of a range.
 _MOST = 99
 
+#: The number of designations that are remembered, with their texts: there are few in a list, and they are made often.
+_REMEMBERED = 4096
+
 #: A quarter mile, in thousandths of a chain.
 NOMINAL_QUARTER = 20_000
 
@@ -89,20 +92,30 @@ class Township(_Designation):
         return cls(*iterable)
 
     def __str__(self) -> str:
-        answer, text = text_by(_library.designation_text, byref(_library.Designation(*codes_of(self))))
-        if answer.verdict != _library.ACCEPTED:
-            # The module of refusals needs this one.
-            from ._refused import failure_of
+        return _text_of(self)
 
-            raise failure_of(answer.verdict)
-        return text
+
+@functools.lru_cache(maxsize=_REMEMBERED)
+def _text_of(township: Township) -> str:
+    """Return the text of a designation."""
+    answer, text = text_by(_library.designation_text, byref(_library.Designation(*codes_of(township))))
+    if answer.verdict != _library.ACCEPTED:
+        # The module of refusals needs this one.
+        from ._refused import failure_of
+
+        raise failure_of(answer.verdict)
+    return text
 
 
 def township_of(parts: Union[_library.Plat, _library.Designation]) -> Township:
     """Return the designation in a struct that is valid."""
-    return Township(
-        parts.number, _NORTH_SOUTH[parts.north_south], parts.range, _EAST_WEST[parts.east_west]
-    )
+    return _township_of(parts.number, parts.north_south, parts.range, parts.east_west)
+
+
+@functools.lru_cache(maxsize=_REMEMBERED)
+def _township_of(number: int, north_south: int, range_number: int, east_west: int) -> Township:
+    """Return the designation with these parts, with the library's codes for the sides."""
+    return Township(number, _NORTH_SOUTH[north_south], range_number, _EAST_WEST[east_west])
 
 
 def checked(township: Tuple[int, str, int, str]) -> Township:

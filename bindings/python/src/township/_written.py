@@ -26,8 +26,8 @@ def without_text(call: Callable[..., _library.Answer], *arguments: object) -> _l
     return call(*arguments, _usual.buffer, 0)
 
 
-def text_by(call: Callable[..., _library.Answer], *arguments: object) -> Tuple[_library.Answer, str]:
-    """Call a function that writes a text. Return its answer and the text, which is empty if there is none.
+def bytes_by(call: Callable[..., _library.Answer], *arguments: object) -> Tuple[_library.Answer, bytes]:
+    """Call a function that writes bytes. Return its answer and the bytes, of which there may be none.
 
     If the buffer is too small, the library reports the size it needs, and the function is called again.
     """
@@ -37,4 +37,10 @@ def text_by(call: Callable[..., _library.Answer], *arguments: object) -> Tuple[_
         room = answer.length
         buffer = ctypes.create_string_buffer(room)
         answer = call(*arguments, buffer, room)
-    return answer, ctypes.string_at(buffer, answer.length).decode("utf-8", "replace")
+    return answer, ctypes.string_at(buffer, answer.length)
+
+
+def text_by(call: Callable[..., _library.Answer], *arguments: object) -> Tuple[_library.Answer, str]:
+    """Call a function that writes a text. Return its answer and the text, which is empty if there is none."""
+    answer, text = bytes_by(call, *arguments)
+    return answer, text.decode("utf-8", "replace")

@@ -1,6 +1,7 @@
 """A program that uses the package, for a type checker: each line with a comment is an error, and no other line is."""
 from __future__ import annotations
 
+import datetime
 from decimal import Decimal
 from fractions import Fraction
 from pathlib import Path
@@ -9,8 +10,9 @@ from typing import Iterator, List, Mapping, Optional, Tuple, Union
 import township
 import township.pandas
 from township import Account, Change, Difference, EastWest, Land, Lands, LocatedTract, Lots, LotsOverlap, MissingPlat
-from township import NorthSouth, Notes, Overlap, Part, PartReadings, Phrases, Plat, Plats, PlatsReport, Reading, Readings
-from township import Refusal, Refused, Report, Section, Township, TownshipText, Tract, TractAnswer, split, suggest, suggest_parts
+from township import NorthSouth, Notes, Overlap, Part, PartReadings, Phrases, Plat, PlatLot, Plats, PlatsReport, Reading
+from township import Readings, Refusal, Refused, Report, Section, Township, TownshipText, Tract, TractAnswer, split, suggest
+from township import suggest_parts
 
 
 def answers(plat: Plat, account: Account) -> Iterator[Union[Decimal, Refused]]:
@@ -83,6 +85,15 @@ def many(plat: Plat, lots: Lots) -> Optional[Decimal]:
     new: Lots = Lots.new("T. 2 N., R. 3 W.")
     found: Readings = new.suggest("NENE Sec 14")
     return shared if answers and texts and one_by_one and tracts and found else None
+
+
+def places(lots: Lots, land: Land) -> Optional[Decimal]:
+    dates: List[Optional[datetime.date]] = [lots.date, land.date, lots.land(b"sec. 14.").date]
+    section: Tuple[PlatLot, ...] = lots.section(14)
+    where: str = lots.where(14, 2) + section[0].land
+    number: Optional[int] = section[0].lot
+    table: Optional[Lots] = land.lots
+    return section[0].acres if where and number and lots.has_land and table and dates else None
 
 
 def townships(plat: Plat, lots: Lots, path: Path, error: MissingPlat) -> Optional[Decimal]:

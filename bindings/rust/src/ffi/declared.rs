@@ -41,6 +41,7 @@ pub(crate) const REFUSAL_LAND_NO_LOT: u32 = 64;
 pub(crate) const REFUSAL_LAND_TOO_FINE: u32 = 65;
 pub(crate) const REFUSAL_LAND_ON_LOT: u32 = 66;
 pub(crate) const REFUSAL_LAND_OVERLAP: u32 = 67;
+pub(crate) const REFUSAL_LAND_NO_LAND: u32 = 68;
 pub(crate) const REFUSAL_TRACTS_TOO_LARGE: u32 = 80;
 pub(crate) const REFUSAL_TRACT_ROW: u32 = 81;
 pub(crate) const REFUSAL_NAME_REPEATED: u32 = 82;
@@ -56,6 +57,13 @@ pub(crate) const REFUSAL_LOTS_NO_LOT: u32 = 91;
 pub(crate) const REFUSAL_LOTS_ACRES: u32 = 92;
 pub(crate) const REFUSAL_LOTS_REPEATED: u32 = 93;
 pub(crate) const REFUSAL_LOTS_LACKING: u32 = 94;
+pub(crate) const REFUSAL_LOTS_DATE: u32 = 95;
+pub(crate) const REFUSAL_LOTS_LAND: u32 = 96;
+pub(crate) const REFUSAL_LOTS_TOO_FINE: u32 = 97;
+pub(crate) const REFUSAL_LOTS_SHARED: u32 = 98;
+pub(crate) const REFUSAL_LOTS_TOO_MANY: u32 = 99;
+pub(crate) const REFUSAL_LOTS_UNFILLED: u32 = 100;
+pub(crate) const REFUSAL_LOTS_DIVIDED: u32 = 101;
 pub(crate) const LINES: usize = 84;
 pub(crate) const NOTES_MOST: usize = 65_536;
 pub(crate) const DESCRIPTION_MOST: usize = 65_536;
@@ -75,6 +83,7 @@ pub(crate) const NO_LOTS: u32 = 9;
 pub(crate) const NO_TOWNSHIP: u32 = 10;
 pub(crate) const NO_OPERATION: u32 = 11;
 pub(crate) const OTHER_TOWNSHIP: u32 = 12;
+pub(crate) const OTHER_PLAT: u32 = 13;
 pub(crate) const EXACT: u32 = 0;
 pub(crate) const BY_PLAT: u32 = 1;
 pub(crate) const NORTH: u8 = 0;
@@ -88,7 +97,10 @@ pub(crate) const TRACTS_MOST: usize = 1_000;
 pub(crate) const NAME_MOST: usize = 64;
 pub(crate) const NAME_ROOM: usize = 68;
 pub(crate) const PLACES_ACROSS: usize = 32;
-pub(crate) const LOTS: usize = 47;
+pub(crate) const RETURNED_MOST: usize = 1_024;
+pub(crate) const BOUNDS: usize = 37;
+pub(crate) const POSITION_BYTES: usize = 576;
+pub(crate) const DIVIDED_BYTES: usize = 8_192;
 pub(crate) const READINGS_MOST: usize = 8;
 pub(crate) const RULE_HALF: u32 = 1;
 pub(crate) const RULE_QUARTER: u32 = 2;
@@ -338,12 +350,16 @@ impl Designation {
 #[derive(Clone, Debug, PartialEq, Eq, Hash)]
 pub(crate) struct Land {
     pub(crate) rows: [[u32; PLACES_ACROSS]; SECTIONS],
+    pub(crate) date: u32,
+    pub(crate) own_lots: u32,
     pub(crate) township: Designation,
 }
 
 impl Land {
     pub(crate) const BLANK: Land = Land {
         rows: [[0; PLACES_ACROSS]; SECTIONS],
+        date: 0,
+        own_lots: 0,
         township: Designation::BLANK,
     };
 }
@@ -352,13 +368,25 @@ impl Land {
 #[repr(C)]
 #[derive(Clone, Debug, PartialEq, Eq, Hash)]
 pub(crate) struct Lots {
-    pub(crate) figures: [u32; LOTS],
+    pub(crate) figures: [u32; RETURNED_MOST],
+    pub(crate) first: [u16; BOUNDS],
+    pub(crate) numbers: [u8; RETURNED_MOST],
+    pub(crate) positions: [u8; POSITION_BYTES],
+    pub(crate) divided: [u8; DIVIDED_BYTES],
+    pub(crate) mapped: u16,
+    pub(crate) date: u32,
     pub(crate) township: Designation,
 }
 
 impl Lots {
     pub(crate) const BLANK: Lots = Lots {
-        figures: [0; LOTS],
+        figures: [0; RETURNED_MOST],
+        first: [0; BOUNDS],
+        numbers: [0; RETURNED_MOST],
+        positions: [0; POSITION_BYTES],
+        divided: [0; DIVIDED_BYTES],
+        mapped: 0,
+        date: 0,
         township: Designation::BLANK,
     };
 }
@@ -536,8 +564,8 @@ const _: () = assert!(size_of::<Totals>() == 16 && offset_of!(Totals, remaining)
 const _: () = assert!(size_of::<TractAnswer>() == 120 && offset_of!(TractAnswer, name) == 52);
 const _: () = assert!(size_of::<Overlap>() == 16 && offset_of!(Overlap, hundredths) == 8);
 const _: () = assert!(size_of::<Designation>() == 4 && offset_of!(Designation, east_west) == 3);
-const _: () = assert!(size_of::<Land>() == 4612 && offset_of!(Land, township) == 4608);
-const _: () = assert!(size_of::<Lots>() == 192 && offset_of!(Lots, township) == 188);
+const _: () = assert!(size_of::<Land>() == 4620 && offset_of!(Land, township) == 4616);
+const _: () = assert!(size_of::<Lots>() == 13972 && offset_of!(Lots, township) == 13968);
 const _: () = assert!(size_of::<Part>() == 6 && offset_of!(Part, rows) == 5);
 const _: () = assert!(size_of::<Change>() == 56 && offset_of!(Change, assumes) == 52);
 const _: () = assert!(size_of::<Reading>() == 40 && offset_of!(Reading, reserved) == 36);
@@ -614,6 +642,15 @@ extern "C" {
         first: *const Land, second: *const Land, comparison: *mut u32,
     ) -> Answer;
     fn township_lots_read(table: *const u8, table_length: usize, lots: *mut Lots) -> Answer;
+    fn township_lots_plain(
+        table: *const u8, table_length: usize, text: *mut u8, room: usize,
+    ) -> Answer;
+    fn township_lots_land_read(
+        lots: *const Lots, description: *const u8, description_length: usize, land: *mut Land,
+    ) -> Answer;
+    fn township_lots_land_text(
+        lots: *const Lots, land: *const Land, text: *mut u8, room: usize,
+    ) -> Answer;
     fn township_lots_acres(
         lots: *const Lots, description: *const u8, description_length: usize,
     ) -> Answer;
@@ -644,6 +681,10 @@ extern "C" {
     fn township_explain_lacking(
         lots: *const Lots, at: u32, name: *const u8, name_length: usize, text: *mut u8, room: usize,
     ) -> Answer;
+    fn township_lots_explain_description(
+        lots: *const Lots, description: *const u8, description_length: usize, name: *const u8,
+        name_length: usize, text: *mut u8, room: usize,
+    ) -> Answer;
     fn township_explain_notes_parts(
         notes: *const u8, notes_length: usize, name: *const u8, name_length: usize, text: *mut u8,
         room: usize, explanation: *mut Explanation,
@@ -663,6 +704,10 @@ extern "C" {
     fn township_explain_lacking_parts(
         lots: *const Lots, at: u32, name: *const u8, name_length: usize, text: *mut u8, room: usize,
         explanation: *mut Explanation,
+    ) -> Answer;
+    fn township_lots_explain_description_parts(
+        lots: *const Lots, description: *const u8, description_length: usize, name: *const u8,
+        name_length: usize, text: *mut u8, room: usize, explanation: *mut Explanation,
     ) -> Answer;
     fn township_suggest(
         description: *const u8, description_length: usize, readings: *mut Reading,
@@ -901,6 +946,32 @@ pub(crate) fn lots_read(table: &[u8]) -> (Answer, Lots) {
     (answer, lots)
 }
 
+/// Calls `township_lots_plain`.
+pub(crate) fn lots_plain(table: &[u8], text: &mut [u8]) -> Answer {
+    // SAFETY: slices and references meet the library's requirements.
+    unsafe {
+        township_lots_plain(table.as_ptr(), table.len(), text.as_mut_ptr(), text.len())
+    }
+}
+
+/// Calls `township_lots_land_read`.
+pub(crate) fn lots_land_read(lots: &Lots, description: &[u8]) -> (Answer, Land) {
+    let mut land = Land::BLANK;
+    // SAFETY: slices and references meet the library's requirements.
+    let answer = unsafe {
+        township_lots_land_read(lots, description.as_ptr(), description.len(), &mut land)
+    };
+    (answer, land)
+}
+
+/// Calls `township_lots_land_text`.
+pub(crate) fn lots_land_text(lots: &Lots, land: &Land, text: &mut [u8]) -> Answer {
+    // SAFETY: slices and references meet the library's requirements.
+    unsafe {
+        township_lots_land_text(lots, land, text.as_mut_ptr(), text.len())
+    }
+}
+
 /// Calls `township_lots_acres`.
 pub(crate) fn lots_acres(lots: &Lots, description: &[u8]) -> Answer {
     // SAFETY: slices and references meet the library's requirements.
@@ -997,6 +1068,19 @@ pub(crate) fn explain_lacking(lots: &Lots, at: u32, name: &[u8], text: &mut [u8]
     }
 }
 
+/// Calls `township_lots_explain_description`.
+pub(crate) fn lots_explain_description(
+    lots: &Lots, description: &[u8], name: &[u8], text: &mut [u8],
+) -> Answer {
+    // SAFETY: slices and references meet the library's requirements.
+    unsafe {
+        township_lots_explain_description(
+            lots, description.as_ptr(), description.len(), name.as_ptr(), name.len(),
+            text.as_mut_ptr(), text.len(),
+        )
+    }
+}
+
 /// Calls `township_explain_notes_parts`.
 pub(crate) fn explain_notes_parts(
     notes: &[u8], name: &[u8], text: &mut [u8],
@@ -1066,6 +1150,21 @@ pub(crate) fn explain_lacking_parts(
     let answer = unsafe {
         township_explain_lacking_parts(
             lots, at, name.as_ptr(), name.len(), text.as_mut_ptr(), text.len(), &mut explanation,
+        )
+    };
+    (answer, explanation)
+}
+
+/// Calls `township_lots_explain_description_parts`.
+pub(crate) fn lots_explain_description_parts(
+    lots: &Lots, description: &[u8], name: &[u8], text: &mut [u8],
+) -> (Answer, Explanation) {
+    let mut explanation = Explanation::BLANK;
+    // SAFETY: slices and references meet the library's requirements.
+    let answer = unsafe {
+        township_lots_explain_description_parts(
+            lots, description.as_ptr(), description.len(), name.as_ptr(), name.len(),
+            text.as_mut_ptr(), text.len(), &mut explanation,
         )
     };
     (answer, explanation)

@@ -1,7 +1,7 @@
 //! Operations on two lands.
 
 use super::Land;
-use crate::answer::OtherTownship;
+use crate::answer::OtherPlat;
 use crate::ffi;
 use std::ops::{BitAnd, BitAndAssign, BitOr, BitOrAssign, BitXor, BitXorAssign, Sub, SubAssign};
 
@@ -10,7 +10,7 @@ impl Land {
     ///
     /// # Errors
     ///
-    /// Returns [`OtherTownship`] if they are in different townships.
+    /// Returns [`OtherPlat`] if they are in different townships, or on different plats of one.
     ///
     /// ```
     /// use township::Land;
@@ -25,7 +25,7 @@ impl Land {
     /// assert_eq!(east.union(&other).unwrap_err().to_string(), message);
     /// # Ok::<(), Box<dyn std::error::Error>>(())
     /// ```
-    pub fn union(&self, other: &Land) -> Result<Land, OtherTownship> {
+    pub fn union(&self, other: &Land) -> Result<Land, OtherPlat> {
         self.combined(other, ffi::UNION)
     }
 
@@ -34,7 +34,7 @@ impl Land {
     /// # Errors
     ///
     /// The same as for [`Land::union`].
-    pub fn intersection(&self, other: &Land) -> Result<Land, OtherTownship> {
+    pub fn intersection(&self, other: &Land) -> Result<Land, OtherPlat> {
         self.combined(other, ffi::INTERSECTION)
     }
 
@@ -43,7 +43,7 @@ impl Land {
     /// # Errors
     ///
     /// The same as for [`Land::union`].
-    pub fn difference(&self, other: &Land) -> Result<Land, OtherTownship> {
+    pub fn difference(&self, other: &Land) -> Result<Land, OtherPlat> {
         self.combined(other, ffi::DIFFERENCE)
     }
 
@@ -52,23 +52,22 @@ impl Land {
     /// # Errors
     ///
     /// The same as for [`Land::union`].
-    pub fn symmetric_difference(&self, other: &Land) -> Result<Land, OtherTownship> {
+    pub fn symmetric_difference(&self, other: &Land) -> Result<Land, OtherPlat> {
         self.union(other)?.difference(&self.intersection(other)?)
     }
 
-    fn combined(&self, other: &Land, operation: u32) -> Result<Land, OtherTownship> {
+    fn combined(&self, other: &Land, operation: u32) -> Result<Land, OtherPlat> {
         let (answer, data) = ffi::land_combine(&self.data, &other.data, operation);
-        let answer = answer.in_one_township(self.township(), other.township())?;
+        let answer = answer.on_one_plat(self.township(), other.township())?;
+        self.check_lots(other)?;
         match answer.accepted() {
-            Ok(_) => Ok(Land {
-                data: Box::new(data),
-            }),
+            Ok(_) => Ok(Land::of(data, self.lots.clone())),
             Err(fault) => unreachable!("land can be combined, and {}", fault.refusal),
         }
     }
 }
 
-/// An operator on land, owned or not, by a method. It panics for two different townships.
+/// An operator on land, owned or not, by a method. It panics for two different plats.
 macro_rules! operator {
     ($operator:ident, $call:ident, $assign:ident, $call_assign:ident, $method:ident) => {
         operator!(@ $operator, $call, $method, Land, Land);

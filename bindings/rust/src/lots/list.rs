@@ -1,31 +1,29 @@
-//! The lots of a township, as the library knows them.
+//! The lots of lot tables, as the library knows them.
 
-use crate::ffi;
-use crate::township::{EastWest, NorthSouth, Township};
+use crate::ffi::{self, SECTIONS};
 use std::sync::OnceLock;
 
-/// A lot: the number of its section, and its own number.
-pub(super) type Lot = (u8, u8);
+/// A lot table without a record, of any township: all regular townships have the same lots.
+const ANY: &[u8] = b"section,lot,acres\nT,1,N,1,E\n";
 
-/// Returns the section and the number of each lot, in the order of the figures of a lot table.
-///
-/// A printed plat has a figure for each lot, and 0 where a section has no such lot. The figures of a
-/// lot table are in order of section and lot, as the header says.
-pub(super) fn lots_of_township() -> &'static [Lot] {
-    static LOTS: OnceLock<Vec<Lot>> = OnceLock::new();
-    LOTS.get_or_init(|| {
-        // All townships have the same lots.
-        let any = Township::new(1, NorthSouth::North, 1, EastWest::East);
-        let plat = any.expect("it is a township").nominal_plat();
-        let (answer, figures) = ffi::figures(&plat);
+/// Returns an iterator over the lots of a lot table: the section and the number of each, and its
+/// figure, which is 0 if the table lacks the lot.
+pub(super) fn lots_in(table: &ffi::Lots) -> impl Iterator<Item = (u8, u8, u32)> + '_ {
+    let sections = (0..SECTIONS).zip(1..);
+    sections.flat_map(move |(before, section)| {
+        let indexes = usize::from(table.first[before])..usize::from(table.first[before + 1]);
+        indexes.map(move |index| (section, table.numbers[index], table.figures[index]))
+    })
+}
+
+/// Returns a lot table of a regular township that lacks each lot. Its own township means nothing.
+pub(super) fn standard_table() -> &'static ffi::Lots {
+    static TABLE: OnceLock<ffi::Lots> = OnceLock::new();
+    TABLE.get_or_init(|| {
+        let (answer, table) = ffi::lots_read(ANY);
         if let Err(fault) = answer.accepted() {
-            unreachable!("a nominal plat has figures, and {}", fault.refusal);
+            unreachable!("it is a lot table, and {}", fault.refusal);
         }
-        let sections = (1..).zip(figures.lots);
-        let lots = sections.flat_map(|(section, lots)| {
-            let numbered = (1..).zip(lots).filter(|&(_, figure)| figure > 0);
-            numbered.map(move |(lot, _)| (section, lot))
-        });
-        lots.collect()
+        table
     })
 }

@@ -3,7 +3,7 @@
 use super::Plat;
 use crate::account::Account;
 use crate::acres::Acres;
-use crate::answer::OtherTownship;
+use crate::answer::OtherPlat;
 use crate::area::Area;
 use crate::difference::Difference;
 use crate::ffi;
@@ -33,8 +33,8 @@ impl Plat {
     ///
     /// # Errors
     ///
-    /// Returns [`OtherTownship`] if the land is in another township.
-    pub fn land_acres(&self, land: &Land) -> Result<Acres, OtherTownship> {
+    /// Returns [`OtherPlat`] if the land is in another township, or has the lots of a table.
+    pub fn land_acres(&self, land: &Land) -> Result<Acres, OtherPlat> {
         self.land_acres_by(land, Account::Exact)
     }
 
@@ -54,9 +54,9 @@ impl Plat {
     /// assert_eq!(plat.land_acres_by(&lots, Account::Plat)?.to_string(), "156.42");
     /// # Ok::<(), Box<dyn std::error::Error>>(())
     /// ```
-    pub fn land_acres_by(&self, land: &Land, account: Account) -> Result<Acres, OtherTownship> {
+    pub fn land_acres_by(&self, land: &Land, account: Account) -> Result<Acres, OtherPlat> {
         let answer = ffi::land_acres(&self.parts, land.data(), account.code());
-        let answer = answer.in_one_township(land.township(), self.township())?;
+        let answer = answer.on_one_plat(land.township(), self.township())?;
         match answer.accepted() {
             Ok(answer) => Ok(Acres::from_hundredths(answer.hundredths)),
             Err(fault) => unreachable!("land has acres, and {}", fault.refusal),
@@ -76,7 +76,7 @@ impl Plat {
     /// assert_eq!(plat.land_area(&lot)?.to_string(), "809/20");
     /// # Ok::<(), Box<dyn std::error::Error>>(())
     /// ```
-    pub fn land_area(&self, land: &Land) -> Result<Area, OtherTownship> {
+    pub fn land_area(&self, land: &Land) -> Result<Area, OtherPlat> {
         self.land_area_by(land, Account::Exact)
     }
 
@@ -85,9 +85,9 @@ impl Plat {
     /// # Errors
     ///
     /// The same as for [`Plat::land_acres`].
-    pub fn land_area_by(&self, land: &Land, account: Account) -> Result<Area, OtherTownship> {
+    pub fn land_area_by(&self, land: &Land, account: Account) -> Result<Area, OtherPlat> {
         let (answer, area) = ffi::land_area(&self.parts, land.data(), account.code());
-        let answer = answer.in_one_township(land.township(), self.township())?;
+        let answer = answer.on_one_plat(land.township(), self.township())?;
         match answer.accepted() {
             Ok(_) => Ok(Area::from_fraction(area)),
             Err(fault) => unreachable!("land has an area, and {}", fault.refusal),
@@ -99,7 +99,7 @@ impl Plat {
     ///
     /// # Errors
     ///
-    /// Returns [`OtherTownship`] if the table is for another township.
+    /// Returns [`OtherPlat`] if the table is for another township, or says where its lots lie.
     ///
     /// ```
     /// # let notes = include_bytes!(concat!(env!("TOWNSHIP_FILES"), "/samples/b1.csv"));
@@ -114,9 +114,9 @@ impl Plat {
     /// assert_eq!(differences[0].hundredths(), -5);
     /// # Ok::<(), Box<dyn std::error::Error>>(())
     /// ```
-    pub fn differences(&self, lots: &Lots) -> Result<Vec<Difference>, OtherTownship> {
-        if lots.township() != self.township() {
-            return Err(OtherTownship {
+    pub fn differences(&self, lots: &Lots) -> Result<Vec<Difference>, OtherPlat> {
+        if lots.township() != self.township() || lots.has_land() {
+            return Err(OtherPlat {
                 first: lots.township(),
                 second: self.township(),
             });

@@ -122,7 +122,7 @@ impl Plats {
         let mut earlier = EarlierLands::default();
         let mut found = Vec::new();
         for (second, (_, text)) in tracts.into_iter().enumerate() {
-            let lands = Lands::read(text.as_ref()).unwrap_or_default();
+            let lands = self.land(text.as_ref()).unwrap_or_default();
             for (first, both) in earlier.shared(&lands) {
                 let acres = self.lands_acres(&both).ok();
                 found.push(LotsOverlap {
@@ -138,7 +138,7 @@ impl Plats {
 
     /// Returns the land that a text names, and its exact area in each township.
     fn measured(&self, text: &str) -> Result<(Lands, Vec<(Township, Area)>), NoAcres> {
-        let lands = Lands::read(text)?;
+        let lands = self.land(text)?;
         let areas = self.areas(&lands, Account::Exact)?;
         Ok((lands, areas))
     }

@@ -12,7 +12,8 @@ pub acres_on_are_of_land : AcresOnAreOfLand
 acres_on_are_of_land plat description account places hundredths is = (
   λ has.
       let same : has.area_is.places ≡ places =
-      one_land plat.township description has.area_is.places places has.area_is.described is.described in
+      one_land STANDARD_LOTS plat.township description has.area_is.places places has.area_is.described
+      is.described in
       record {
         area = has.area;
         area_is =

@@ -31,10 +31,11 @@ use Rattle.twp_answers.specs.declared.stop.RunFault.TheVariants.{Memory}
 use Rattle.twp_answers.specs.declared.stop.Verdict.{Verdict}
 use Rattle.twp_answers.specs.declared.stop.Verdict.TheVariants as verdict
 use Rattle.twp_answers.proofs.OneAnswer.{one_plat, one_land, not_described, not_platted}
+use Rattle.twp_grid.specs.Lands.{STANDARD_LOTS}
 
 -- with a stop on the plat, the answer can only fail because memory runs out
 pub stop_memory : (township : Designation) (d : List ℕ) (by : Stop) (r : Result Answer RunFault)
-    → StopsOn township d by → AnswersStop by r → IfErr r (λ fault. fault ≡ Memory)
+    → StopsOn STANDARD_LOTS township d by → AnswersStop by r → IfErr r (λ fault. fault ≡ Memory)
 stop_memory township d (stop.Refused refusal) (Ok answer) is answers = tt
 stop_memory township d (stop.Refused refusal) (Err fault) is answers = answers
 stop_memory township d (stop.Failed fault) (Ok answer) is answers = absurd answers
@@ -43,8 +44,8 @@ stop_memory township d (stop.Failed fault) (Err answered) is answers = cc (answe
 -- the answer is the refusal
 pub stop_refused : (Answers : AnswerRelation) (township : Designation) (d : List ℕ) (by : Stop)
     (r : Result Answer RunFault)
-    → StopsOn township d by → AnswersStop by r
-    → ((refusal : Refusal) → IsNoDescription township d refusal
+    → StopsOn STANDARD_LOTS township d by → AnswersStop by r
+    → ((refusal : Refusal) → IsNoDescription STANDARD_LOTS township d refusal
     → Answers (refusal_line refusal) (verdict.Refused refusal))
     → IfOk r (λ answer. Answers answer.text.items answer.verdict)
 stop_refused Answers township d (stop.Refused refusal) (Ok answer) is answers refused =
@@ -65,7 +66,7 @@ area_accepted account plat d area h (Err fault) found rounded is = tt
 
 -- land on the plat of the notes
 abbrev land_on : (notes d : List ℕ) (plat : TownshipPlat) (places : ℕ → ℕ → ℕ → Bool)
-    → ArePlatted notes plat → Describe plat.township d places → IsLandOnPlat notes d plat places
+    → ArePlatted notes plat → Describe STANDARD_LOTS plat.township d places → IsLandOnPlat notes d plat places
 land_on notes d plat places platted described = record { platted = platted; described = described }
 
 pub acres_of_notes : (account : Account) (notes d : List ℕ) (plat : TownshipPlat) (h : ℕ)
@@ -152,16 +153,16 @@ text_of_plat_is_of_notes notes text plat platted =
     ((λ is. text_of_notes notes text plat platted is), (λ is. text_of_plat notes text plat platted is))
 
 pub refusal_of_notes : (notes d : List ℕ) (plat : TownshipPlat) (refusal : Refusal) → ArePlatted notes plat
-    → IsNoDescription plat.township d refusal → IsRefusal notes d refusal
+    → IsNoDescription STANDARD_LOTS plat.township d refusal → IsRefusal notes d refusal
 refusal_of_notes notes d plat refusal platted is =
     inr (record { plat = plat; platted = platted; refused = is })
 
 refusal_on_plat : (notes d : List ℕ) (plat : TownshipPlat) (refusal : Refusal) → ArePlatted notes plat
-    → IsRefusal notes d refusal → IsNoDescription plat.township d refusal
+    → IsRefusal notes d refusal → IsNoDescription STANDARD_LOTS plat.township d refusal
 refusal_on_plat notes d plat refusal platted (inl none) =
     absurd (not_platted notes refusal plat none platted)
 refusal_on_plat notes d plat refusal platted (inr is) =
-    subst (λ (p : TownshipPlat). IsNoDescription p.township d refusal)
+    subst (λ (p : TownshipPlat). IsNoDescription STANDARD_LOTS p.township d refusal)
     (one_plat notes is.plat plat is.platted platted) is.refused
 
 pub refusal_on_is_of_notes : RefusalOnIsOfNotes
@@ -172,7 +173,7 @@ refusal_on_is_of_notes notes d plat refusal platted = (
 
 pub answered_or_refused_on : AnsweredOrRefusedOn
 answered_or_refused_on d plat account area refusal has is =
-    not_described plat.township d refusal has.places is has.described
+    not_described STANDARD_LOTS plat.township d refusal has.places is has.described
 
 one_area_by : (account : Account) (plat : TownshipPlat) (places : ℕ → ℕ → ℕ → Bool) (area area' : Fraction)
     → IsAreaBy account PLACE_DIGITS plat places area → IsAreaBy account PLACE_DIGITS plat places area'
@@ -184,7 +185,7 @@ one_area_by Plat plat places area area' is is' = one_plat_area PLACE_DIGITS plat
 pub one_area_on : OneAreaOn
 one_area_on d plat account area area' has has' =
     let same : has.places ≡ has'.places =
-    one_land plat.township d has.places has'.places has.described has'.described in
+    one_land STANDARD_LOTS plat.township d has.places has'.places has.described has'.described in
     one_area_by account plat has'.places area area'
     (subst (λ p. IsAreaBy account PLACE_DIGITS plat p area) same has.area_is) has'.area_is
 

@@ -15,6 +15,7 @@ use Rattle.twp_answers.specs.declared.stop.Verdict.TheVariants.{Accepted, Refuse
 use Rattle.twp_answers.proofs.OneAnswer.{one_land, one_plat, one_refusal}
 use Rattle.twp_answers.proofs.runs.OneAnswer.{not_land, one_acres}
 use Rattle.twp_plat.proofs.PlatLaws.{one_plat_area}
+use Rattle.twp_grid.specs.Lands.{STANDARD_LOTS}
 
 -- the plat area of land rounds to only one number of hundredths
 one_plat_hundredths : (plat : TownshipPlat) (places : ℕ → ℕ → ℕ → Bool) (h h' : ℕ)
@@ -30,10 +31,10 @@ one_plat_acres : (notes d : List ℕ) (h h' : ℕ) → HasPlatAcres notes d h �
 one_plat_acres notes d h h' is is' =
     let p : is.plat ≡ is'.plat =
     one_plat notes is.plat is'.plat is.land.platted is'.land.platted in
-    let described : Describe is'.plat.township d is.places =
-    subst (λ (q : TownshipPlat). Describe q.township d is.places) p is.land.described in
+    let described : Describe STANDARD_LOTS is'.plat.township d is.places =
+    subst (λ (q : TownshipPlat). Describe STANDARD_LOTS q.township d is.places) p is.land.described in
     let l : is.places ≡ is'.places =
-    one_land is'.plat.township d is.places is'.places described is'.land.described in
+    one_land STANDARD_LOTS is'.plat.township d is.places is'.places described is'.land.described in
     let on_plat : ArePlatHundredthsOf is'.plat is.places h =
     subst (λ q. ArePlatHundredthsOf q is.places h) p is.acres in
     one_plat_hundredths is'.plat is'.places h h'

@@ -11,6 +11,7 @@ use Rattle.twp_answers.specs.declared.stop.Verdict.{Verdict}
 use Rattle.twp_answers.specs.declared.stop.Verdict.TheVariants.{Accepted, Refused, TractRefused}
 use Rattle.twp_answers.proofs.OneAnswer.{one_plat, one_land, not_platted, not_described, one_refusal}
 use Rattle.twp_answers.specs.Laws.{OneAnswerOfLand}
+use Rattle.twp_grid.specs.Lands.{STANDARD_LOTS}
 
 -- the exact area of land rounds to only one number of hundredths
 pub one_hundredths : (plat : TownshipPlat) (places : ℕ → ℕ → ℕ → Bool) (h h' : ℕ)
@@ -25,9 +26,10 @@ acres_of_land : (notes d : List ℕ) (h : ℕ) (plat : TownshipPlat) (places : �
     → IsLandOnPlat notes d plat places → HasAcres notes d h → AreHundredthsOf plat places h
 acres_of_land notes d h plat places land is =
     let p : is.plat ≡ plat = one_plat notes is.plat plat is.land.platted land.platted in
-    let described : Describe plat.township d is.places =
-    subst (λ (q : TownshipPlat). Describe q.township d is.places) p is.land.described in
-    let l : is.places ≡ places = one_land plat.township d is.places places described land.described in
+    let described : Describe STANDARD_LOTS plat.township d is.places =
+    subst (λ (q : TownshipPlat). Describe STANDARD_LOTS q.township d is.places) p is.land.described in
+    let l : is.places ≡ places =
+    one_land STANDARD_LOTS plat.township d is.places places described land.described in
     subst (λ q. AreHundredthsOf plat q h) l (subst (λ q. AreHundredthsOf q is.places h) p is.acres)
 
 pub one_acres : (notes d : List ℕ) (h h' : ℕ) → HasAcres notes d h → HasAcres notes d h' → h ≡ h'
@@ -41,8 +43,9 @@ pub not_land : (notes d : List ℕ) (refusal : Refusal) (plat : TownshipPlat) (p
 not_land notes d refusal plat places (inl none) land = not_platted notes refusal plat none land.platted
 not_land notes d refusal plat places (inr is) land =
     let same : is.plat ≡ plat = one_plat notes is.plat plat is.platted land.platted in
-    not_described plat.township d refusal places
-    (subst (λ (p : TownshipPlat). IsNoDescription p.township d refusal) same is.refused) land.described
+    not_described STANDARD_LOTS plat.township d refusal places
+    (subst (λ (p : TownshipPlat). IsNoDescription STANDARD_LOTS p.township d refusal) same is.refused)
+    land.described
 
 -- an answer with acres is for land, so nothing in it is refused
 not_refused : (notes d : List ℕ) (r : Refusal) (h : ℕ) → IsRefusal notes d r → HasAcres notes d h → ⊥

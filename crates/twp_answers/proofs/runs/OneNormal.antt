@@ -19,10 +19,10 @@ one_form : (notes d text text' : List ℕ) → IsNormalForm notes d text → IsN
     → text ≡ text'
 one_form notes d text text' is is' =
     let p : is.plat ≡ is'.plat = one_plat notes is.plat is'.plat is.land.platted is'.land.platted in
-    let described : Describe is'.plat.township d is.places =
-    subst (λ (q : TownshipPlat). Describe q.township d is.places) p is.land.described in
+    let described : Describe STANDARD_LOTS is'.plat.township d is.places =
+    subst (λ (q : TownshipPlat). Describe STANDARD_LOTS q.township d is.places) p is.land.described in
     let l : is.places ≡ is'.places =
-    one_land is'.plat.township d is.places is'.places described is'.land.described in
+    one_land STANDARD_LOTS is'.plat.township d is.places is'.places described is'.land.described in
     let spelled : IsCanonicalText STANDARD_LOTS is'.plat.township is.places text =
     subst (λ (q : TownshipPlat). IsCanonicalText STANDARD_LOTS q.township is.places text) p is.text_is in
     let spelled' : IsCanonicalText STANDARD_LOTS is'.plat.township is'.places text =

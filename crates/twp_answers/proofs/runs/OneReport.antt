@@ -23,13 +23,14 @@ use Rattle.twp_answers.proofs.runs.OneAnswer.{one_hundredths}
 use Rattle.twp_answers.proofs.OneAnswer.{one_description_refusal, not_platted}
 use Rattle.twp_answers.proofs.TractLands.{one_land_of_tracts}
 use Rattle.twp_answers.proofs.FirstTractFaults.{none_before}
+use Rattle.twp_grid.specs.Lands.{STANDARD_LOTS}
 
 -- a tract has only one line
 one_line : (plat : TownshipPlat) (fields : Fields) (line line' : List ℕ) → IsTractLine plat fields line
     → IsTractLine plat fields line' → line ≡ line'
 one_line plat fields line line' is is' =
     let land : is.places ≡ is'.places =
-    one_land plat.township (description_in fields) is.places is'.places is.land is'.land in
+    one_land STANDARD_LOTS plat.township (description_in fields) is.places is'.places is.land is'.land in
     let same : is.hundredths ≡ is'.hundredths =
     one_hundredths plat is'.places is.hundredths is'.hundredths
     (subst (λ p. AreHundredthsOf plat p is.hundredths) land is.acres) is'.acres in
@@ -50,7 +51,7 @@ one_account : (plat : TownshipPlat) (rows : List Fields) (text text' : List ℕ)
 one_account plat rows text text' is is' =
     let lines : is.lines ≡ is'.lines = one_lines plat rows is.lines is'.lines is.lines_are is'.lines_are in
     let land : is.places ≡ is'.places =
-    one_land_of_tracts plat.township rows (length rows) is.places is'.places is.land is'.land in
+    one_land_of_tracts STANDARD_LOTS plat.township rows (length rows) is.places is'.places is.land is'.land in
     let total : is.total ≡ is'.total =
     one_hundredths plat is'.places is.total is'.total
     (subst (λ p. AreHundredthsOf plat p is.total) land is.total_is) is'.total_is in
@@ -60,32 +61,37 @@ one_account plat rows text text' is is' =
     is.text_is ∙ rw (lines, total, remaining) (sym is'.text_is)
 
 -- a list of tracts has no fault
-not_faulty : (township : Designation) (bytes : List ℕ) (tract_fault : TractFault) → IsTractList township bytes
-    → HasTractFault township bytes tract_fault → ⊥
+not_faulty : (township : Designation) (bytes : List ℕ) (tract_fault : TractFault)
+    → IsTractList STANDARD_LOTS township bytes
+    → HasTractFault STANDARD_LOTS township bytes tract_fault → ⊥
 not_faulty township bytes fault.TractsTooLarge list has = let most = list.size in omega arith
 not_faulty township bytes fault.TooManyTracts list has = let most = list.few in omega arith
 not_faulty township bytes (fault.TractRow n) list (inl (e, bad)) = bad list.heading_is
 not_faulty township bytes (fault.TractRow n) list (inr is) =
-    none_before township bytes list.size list.heading_is (length (tract_records bytes)) list.tracts
+    none_before STANDARD_LOTS township bytes list.size list.heading_is (length (tract_records bytes))
+    list.tracts
     (fault.TractRow n) is is.within
 not_faulty township bytes (fault.NameRepeated n) list (inl none) = none
 not_faulty township bytes (fault.NameRepeated n) list (inr is) =
-    none_before township bytes list.size list.heading_is (length (tract_records bytes)) list.tracts
+    none_before STANDARD_LOTS township bytes list.size list.heading_is (length (tract_records bytes))
+    list.tracts
     (fault.NameRepeated n) is is.within
 not_faulty township bytes (fault.TractRefused n inner) list (inl none) = none
 not_faulty township bytes (fault.TractRefused n inner) list (inr is) =
-    none_before township bytes list.size list.heading_is (length (tract_records bytes)) list.tracts
+    none_before STANDARD_LOTS township bytes list.size list.heading_is (length (tract_records bytes))
+    list.tracts
     (fault.TractRefused n inner) is is.within
 not_faulty township bytes (fault.TractsOverlap n) list (inl none) = none
 not_faulty township bytes (fault.TractsOverlap n) list (inr is) =
-    none_before township bytes list.size list.heading_is (length (tract_records bytes)) list.tracts
+    none_before STANDARD_LOTS township bytes list.size list.heading_is (length (tract_records bytes))
+    list.tracts
     (fault.TractsOverlap n) is is.within
 not_faulty township bytes fault.Memory list (inl none) = none
 not_faulty township bytes fault.Memory list (inr is) = is.has
 
 -- faults at the same record and turn are the same
 same_fault : (township : Designation) (bytes : List ℕ) (one other : TractFault)
-    → HasTractFault township bytes one → HasTractFault township bytes other
+    → HasTractFault STANDARD_LOTS township bytes one → HasTractFault STANDARD_LOTS township bytes other
     → record_of one ≡ record_of other → turn_of one ≡ turn_of other → one ≡ other
 same_fault township bytes fault.Memory other (inl none) has' at_ turn = absurd none
 same_fault township bytes fault.Memory other (inr is) has' at_ turn = absurd is.has
@@ -109,8 +115,11 @@ same_fault township bytes (fault.TractRefused n inner) (fault.TractRefused n' in
     let there : n' ≡ is'.index + 2 = is'.has.0 in
     let index : is.index ≡ is'.index = omega arith in
     let same : inner ≡ inner' =
-    one_description_refusal township (description_in (record_at (tract_records bytes) is'.index)) inner inner'
-    (subst (λ i. IsNoDescription township (description_in (record_at (tract_records bytes) i)) inner) index
+    one_description_refusal STANDARD_LOTS township
+    (description_in (record_at (tract_records bytes) is'.index)) inner inner'
+    (subst
+    (λ i. IsNoDescription STANDARD_LOTS township (description_in (record_at (tract_records bytes) i)) inner)
+    index
     is.has.1)
     is'.has.1 in
     ap (λ k. fault.TractRefused k inner) at_ ∙ ap (λ r. fault.TractRefused n' r) same
@@ -130,7 +139,8 @@ neither_is_after one other (inr (at_, turn)) (inr (at', turn')) = record { at_ =
 
 -- only one fault of a list is the first
 one_first : (township : Designation) (bytes : List ℕ) (one other : TractFault)
-    → IsFirstTractFault township bytes one → IsFirstTractFault township bytes other → one ≡ other
+    → IsFirstTractFault STANDARD_LOTS township bytes one
+    → IsFirstTractFault STANDARD_LOTS township bytes other → one ≡ other
 one_first township bytes one other is is' =
     let same = neither_is_after one other (is.first other is'.is) (is'.first one is.is) in
     same_fault township bytes one other is.is is'.is same.at_ same.turn

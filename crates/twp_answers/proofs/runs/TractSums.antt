@@ -18,6 +18,7 @@ use Rattle.twp_answers.specs.TractLaws.{AreTractAreas, RestAddsUp, TractsAddUp}
 use Rattle.twp_plat.proofs.AreaLaws.{one_land_area, disjoint_areas_add, rest_of_places}
 use Rattle.twp_answers.proofs.TractAreas.{no_area}
 use Rattle.twp_answers.proofs.TractLands.{no_land, land_next, one_land_of_tracts}
+use Rattle.twp_grid.specs.Lands.{STANDARD_LOTS}
 
 pub rest_adds_up : RestAddsUp
 rest_adds_up plat places area rest whole is others all =
@@ -36,7 +37,7 @@ units_to areas count = total count (λ index. (areas index).units)
 -- the land of the first tracts, up to this number, whose area is the sum of theirs
 record IsSummed (plat : TownshipPlat) (rows : List Fields) (areas : ℕ → Fraction) (count : ℕ) : Type 0 where
   places : ℕ → ℕ → ℕ → Bool
-  land : IsLandOfTracts plat.township rows count places
+  land : IsLandOfTracts STANDARD_LOTS plat.township rows count places
   area : IsLandArea PLACE_DIGITS plat places (record { units = units_to areas count; over = over_of plat })
 
 module _ (plat : TownshipPlat) (rows : List Fields) (areas : ℕ → Fraction) (pieces : ℕ → ℕ → ℕ → ℕ)
@@ -44,11 +45,11 @@ module _ (plat : TownshipPlat) (rows : List Fields) (areas : ℕ → Fraction) (
   none : IsSummed plat rows areas 0
   none = record {
     places = no_places;
-    land = no_land plat.township rows;
+    land = no_land STANDARD_LOTS plat.township rows;
     area = rw (total-zero (λ index. (areas index).units)) (no_area plat pieces are);
   }
 
-  one_more : (count : ℕ) → AreTracts plat.township rows (count + 1)
+  one_more : (count : ℕ) → AreTracts STANDARD_LOTS plat.township rows (count + 1)
       → AreTractAreas plat rows (count + 1) areas → IsSummed plat rows areas count
       → IsSummed plat rows areas (count + 1)
   one_more count tracts each so_far =
@@ -66,21 +67,23 @@ module _ (plat : TownshipPlat) (rows : List Fields) (areas : ℕ → Fraction) (
       }) in
       record {
         places = union so_far.places next.places;
-        land = land_next plat.township rows count so_far.places next.places so_far.land next.land;
+        land =
+            land_next STANDARD_LOTS plat.township rows count so_far.places next.places so_far.land next.land;
         area = rw (total-next count (λ index. (areas index).units))
             (disjoint_areas_add PLACE_DIGITS (omega arith) plat so_far.places next.places
             (record { units = units_to areas count; over = over_of plat }) (areas count) apart so_far.area
             next.area_is);
       }
 
-  summed : (count : ℕ) → AreTracts plat.township rows count → AreTractAreas plat rows count areas
+  summed : (count : ℕ) → AreTracts STANDARD_LOTS plat.township rows count
+      → AreTractAreas plat rows count areas
       → IsSummed plat rows areas count
   summed zero tracts each = none
   summed (suc count) tracts each =
       let e : suc count ≡ count + 1 = omega arith in
       let back : count + 1 ≡ suc count = omega arith in
       subst (IsSummed plat rows areas) back
-      (one_more count (subst (AreTracts plat.township rows) e tracts)
+      (one_more count (subst (AreTracts STANDARD_LOTS plat.township rows) e tracts)
       (subst (λ n. AreTractAreas plat rows n areas) e each)
       (summed count
       (record {
@@ -96,7 +99,8 @@ tracts_add_up plat bytes areas places area list each land is =
     summed plat (tract_records bytes) areas is.pieces is.are (length (tract_records bytes)) list.tracts
     each in
     let same : places ≡ all.places =
-    one_land_of_tracts plat.township (tract_records bytes) (length (tract_records bytes)) places all.places
+    one_land_of_tracts STANDARD_LOTS plat.township (tract_records bytes) (length (tract_records bytes)) places
+    all.places
     land all.land in
     let one : area ≡ record { units = units_to areas (length (tract_records bytes)); over = over_of plat } =
     one_land_area PLACE_DIGITS (omega arith) plat all.places area

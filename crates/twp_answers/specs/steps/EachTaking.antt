@@ -13,6 +13,7 @@ use Rattle.twp_answers.specs.declared.each_tract.TractAnswer.{TractAnswer}
 use Rattle.twp_answers.specs.declared.names.NamesSoFar.{NamesSoFar}
 use Rattle.twp_answers.specs.declared.tract_fault.TractFault.{TractFault}
 use Rattle.twp_answers.specs.declared.tract_fault.TractFault.TheVariants as fault
+use Rattle.twp_grid.specs.Lands.{STANDARD_LOTS}
 
 -- the set contains the names of the first records, up to this number, as far as tracts can have them
 pub record AreNamesOf (rows : List Fields) (count : ℕ) (names : NamesSoFar) : Type 0 where
@@ -54,5 +55,5 @@ StopsTaking rows other = ⊥
 abbrev pub AnswersLand : TownshipPlat → List ℕ → ℕ → Result ℕ TractFault → Type 0
 AnswersLand plat description number (Ok hundredths) = HasAcresOn plat description Exact hundredths
 AnswersLand plat description number (Err (fault.TractRefused at_ inner)) =
-    (at_ ≡ number) × IsNoDescription plat.township description inner
+    (at_ ≡ number) × IsNoDescription STANDARD_LOTS plat.township description inner
 AnswersLand plat description number (Err other) = ⊥

@@ -2,10 +2,11 @@
 -- cites this module.
 use Rattle.std.specs.Prelude.{◌≡◌, ◌⊎◌, ℕ, ◌<◌, ◌≤◌, Bool, List, length, ⊤}
 use Rattle.twp_measure.specs.Areas.{Fraction}
-use Rattle.twp_grid.specs.Places.{PLACE_DIGITS}
 use Rattle.twp_grid.specs.Lands.{SharePlace}
 use Rattle.twp_plat.specs.LotAreas.{HasFigures}
-use Rattle.twp_plat.specs.LotTables.{ReturnedLots}
+use Rattle.twp_plat.specs.LotTables.{figure_of, lots_of}
+use Rattle.twp_plat.specs.declared.lots.returned.ReturnedLots.{ReturnedLots}
+use Rattle.twp_grid.specs.Townships.{Designation}
 use Rattle.twp_notes.specs.Records.{Fields}
 use Rattle.twp_answers.specs.Answers.{Describe}
 use Rattle.twp_answers.specs.EarlierTracts.{TractsSoFar, IsNamedAnew, IsUnread, TakesLand}
@@ -17,58 +18,62 @@ use Rattle.twp_answers.specs.LotLands.{HasLotArea, HasNoLotAreaOf}
 use Rattle.twp_answers.specs.LotTractFaults.{LacksLotAt}
 
 -- the tracts so far grew by the tract of the record, which has this area by the table
-pub record TakesByLots (table : ReturnedLots) (fields : Fields) (old new : TractsSoFar) (area : Fraction)
+pub record TakesByLots (township : Designation) (lots : ReturnedLots) (fields : Fields)
+    (old new : TractsSoFar) (area : Fraction)
     : Type 0 where
   pub more : ℕ → ℕ → ℕ → Bool
-  pub takes : TakesLand table.township fields old new more
-  pub area_is : HasLotArea table more area
+  pub takes : TakesLand (lots_of lots) township fields old new more
+  pub area_is : HasLotArea lots more area
 
 -- the record's land, for whose lots the table has figures, contains a place of the tracts so far
-pub record OverlapsByLots (table : ReturnedLots) (fields : Fields) (earlier : TractsSoFar) : Type 0 where
+pub record OverlapsByLots (township : Designation) (lots : ReturnedLots) (fields : Fields)
+    (earlier : TractsSoFar) : Type 0 where
   pub more : ℕ → ℕ → ℕ → Bool
-  pub land : Describe table.township (description_in fields) more
-  pub figures : HasFigures PLACE_DIGITS table more
+  pub land : Describe (lots_of lots) township (description_in fields) more
+  pub figures : HasFigures (lots_of lots) (figure_of lots) more
   pub shared : SharePlace earlier.places more
 
 -- the numbered record is refused by the table: this is why, and no earlier reason applies
-abbrev pub IsRefusedByLots : ReturnedLots → Fields → TractsSoFar → ℕ → TractFault → Type 0
-IsRefusedByLots table fields earlier number (fault.TractRefused at_ inner) =
-    (at_ ≡ number) × IsNamedAnew fields earlier × HasNoLotAreaOf table (description_in fields) inner
-IsRefusedByLots table fields earlier number (fault.TractsOverlap at_) =
-    (at_ ≡ number) × IsNamedAnew fields earlier × OverlapsByLots table fields earlier
-IsRefusedByLots table fields earlier number other = IsUnread table.township fields earlier number other
+abbrev pub IsRefusedByLots : Designation → ReturnedLots → Fields → TractsSoFar → ℕ → TractFault → Type 0
+IsRefusedByLots township lots fields earlier number (fault.TractRefused at_ inner) =
+    (at_ ≡ number) × IsNamedAnew fields earlier × HasNoLotAreaOf township lots (description_in fields) inner
+IsRefusedByLots township lots fields earlier number (fault.TractsOverlap at_) =
+    (at_ ≡ number) × IsNamedAnew fields earlier × OverlapsByLots township lots fields earlier
+IsRefusedByLots township lots fields earlier number other =
+    IsUnread (lots_of lots) township fields earlier number other
 
 -- the tract at the index has the fault
-abbrev pub HasAtByLots : ReturnedLots → List Fields → ℕ → TractFault → Type 0
-HasAtByLots table rows index tract_fault =
-    HasAt table.township rows index tract_fault ⊎ LacksLotAt table rows index tract_fault
+abbrev pub HasAtByLots : Designation → ReturnedLots → List Fields → ℕ → TractFault → Type 0
+HasAtByLots township lots rows index tract_fault =
+    HasAt (lots_of lots) township rows index tract_fault ⊎ LacksLotAt township lots rows index tract_fault
 
 -- the table lacks no lot of the first tracts, up to this number
-abbrev pub LackNoLots : ReturnedLots → List Fields → ℕ → Type 0
-LackNoLots table rows count = (index : ℕ) (other : TractFault) → index < count
-    → ¬ LacksLotAt table rows index other
+abbrev pub LackNoLots : Designation → ReturnedLots → List Fields → ℕ → Type 0
+LackNoLots township lots rows count = (index : ℕ) (other : TractFault) → index < count
+    → ¬ LacksLotAt township lots rows index other
 
 -- this many of the records are tracts for whose lots the table has figures, and the next one is refused for
 -- its first fault
-pub record IsNextRefusedByLots (table : ReturnedLots) (rows : List Fields) (tract_fault : TractFault)
+pub record IsNextRefusedByLots (township : Designation) (lots : ReturnedLots) (rows : List Fields)
+    (tract_fault : TractFault)
     : Type 0 where
   pub index : ℕ
   pub within : index < length rows
   pub below : index < TRACTS_MOST
-  pub tracts : AreTracts table.township rows index
-  pub figures : LackNoLots table rows index
-  pub has : HasAtByLots table rows index tract_fault
-  pub first : (other : TractFault) → HasAtByLots table rows index other
+  pub tracts : AreTracts (lots_of lots) township rows index
+  pub figures : LackNoLots township lots rows index
+  pub has : HasAtByLots township lots rows index tract_fault
+  pub first : (other : TractFault) → HasAtByLots township lots rows index other
       → turn_of tract_fault ≤ turn_of other
 
 -- there is one tract too many after such tracts
-pub record AreTooManyByLots (table : ReturnedLots) (rows : List Fields) : Type 0 where
+pub record AreTooManyByLots (township : Designation) (lots : ReturnedLots) (rows : List Fields) : Type 0 where
   pub many : TRACTS_MOST < length rows
-  pub tracts : AreTracts table.township rows TRACTS_MOST
-  pub figures : LackNoLots table rows TRACTS_MOST
+  pub tracts : AreTracts (lots_of lots) township rows TRACTS_MOST
+  pub figures : LackNoLots township lots rows TRACTS_MOST
 
 -- there is one tract too many, or one of the records is refused, or memory ran out
-abbrev pub AreRefusedByLots : ReturnedLots → List Fields → TractFault → Type 0
-AreRefusedByLots table rows fault.TooManyTracts = AreTooManyByLots table rows
-AreRefusedByLots table rows fault.Memory = ⊤
-AreRefusedByLots table rows other = IsNextRefusedByLots table rows other
+abbrev pub AreRefusedByLots : Designation → ReturnedLots → List Fields → TractFault → Type 0
+AreRefusedByLots township lots rows fault.TooManyTracts = AreTooManyByLots township lots rows
+AreRefusedByLots township lots rows fault.Memory = ⊤
+AreRefusedByLots township lots rows other = IsNextRefusedByLots township lots rows other

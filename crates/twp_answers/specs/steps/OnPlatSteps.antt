@@ -12,6 +12,7 @@ use Rattle.twp_answers.specs.PlatReading.{IfRefused}
 use Rattle.twp_answers.specs.declared.runs.answer.Texts.{Texts}
 use Rattle.twp_answers.specs.declared.stop.Stop.{Stop}
 use Rattle.twp_answers.specs.declared.stop.Verdict.TheVariants.{Accepted, Refused, TractRefused}
+use Rattle.twp_grid.specs.Lands.{STANDARD_LOTS}
 
 -- the bytes that were read, or their refusal
 abbrev pub IsTextRead : {V : Type 0} → (V → List ℕ) → List ℕ → Result V Stop → Type 0
@@ -30,12 +31,12 @@ IsAcresAnswerOn account plat description answer Accepted =
     (hundredths : ℕ) × HasAcresOn plat description account hundredths
     × (answer ≡ acres_line hundredths)
 IsAcresAnswerOn account plat description answer (Refused refusal) =
-    AnswersRefusal (IsNoDescription plat.township description) refusal answer
+    AnswersRefusal (IsNoDescription STANDARD_LOTS plat.township description) refusal answer
 IsAcresAnswerOn account plat description answer (TractRefused at inner) = ⊥
 
 -- the canonical text of the land described on the plat, or the refusal
 abbrev pub IsNormalAnswerOn : TownshipPlat → List ℕ → AnswerRelation
 IsNormalAnswerOn plat description answer Accepted = HasNormalOn plat description answer
 IsNormalAnswerOn plat description answer (Refused refusal) =
-    AnswersRefusal (IsNoDescription plat.township description) refusal answer
+    AnswersRefusal (IsNoDescription STANDARD_LOTS plat.township description) refusal answer
 IsNormalAnswerOn plat description answer (TractRefused at inner) = ⊥

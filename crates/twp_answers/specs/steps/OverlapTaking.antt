@@ -16,13 +16,13 @@ use Rattle.twp_answers.specs.declared.overlaps.TractOverlap.{TractOverlap}
 -- the record is a tract, whose land is this
 pub record IsTractLand (township : Designation) (fields : Fields) (places : ℕ → ℕ → ℕ → Bool) : Type 0 where
   pub is_record : IsTractRecord fields
-  pub land : Describe township (description_in fields) places
+  pub land : Describe STANDARD_LOTS township (description_in fields) places
   pub whole : HasWholeLots STANDARD_LOTS places
 
 -- the record is a tract with this land, or no tract
 abbrev pub IsLandOfRecord : {L : Type 0} → (L → ℕ → ℕ → ℕ → Bool) → Designation → Fields → Option L → Type 0
 IsLandOfRecord places township fields (Some land) = IsTractLand township fields (places land)
-IsLandOfRecord places township fields None = ¬ IsTract township fields
+IsLandOfRecord places township fields None = ¬ IsTract STANDARD_LOTS township fields
 
 -- these are the lands of the first records, up to this number
 pub record AreLandsTo {L : Type 0} (places : L → ℕ → ℕ → ℕ → Bool) (township : Designation)

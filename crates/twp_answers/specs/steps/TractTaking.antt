@@ -18,6 +18,7 @@ use Rattle.twp_answers.specs.declared.running_account.RunningAccount.{RunningAcc
 use Rattle.twp_answers.specs.declared.totals.Totals.{Totals}
 use Rattle.twp_answers.specs.declared.tract_fault.TractFault.{TractFault}
 use Rattle.twp_answers.specs.declared.tract_fault.TractFault.TheVariants as fault
+use Rattle.twp_grid.specs.Lands.{Lotting, STANDARD_LOTS}
 
 -- the parts of an account of tracts: their names and all their places, their figures, and their lines
 pub record Tally : Type 0 where
@@ -49,7 +50,7 @@ pub record TakesArea (area : Fraction) (old new : Totals) : Type 0 where
 -- the tally grew by the tract of the record
 pub record TakesTract (plat : TownshipPlat) (fields : Fields) (old new : Tally) : Type 0 where
   pub more : ℕ → ℕ → ℕ → Bool
-  pub takes : TakesLand plat.township fields old.earlier new.earlier more
+  pub takes : TakesLand STANDARD_LOTS plat.township fields old.earlier new.earlier more
   pub hundredths : ℕ
   pub acres : AreHundredthsOf plat more hundredths
   pub totals_are : AreTotals plat new.earlier.places new.totals
@@ -58,7 +59,7 @@ pub record TakesTract (plat : TownshipPlat) (fields : Fields) (old new : Tally) 
 -- the tally is that of the first records, up to this number, which are tracts
 pub record IsTallyOf (plat : TownshipPlat) (rows : List Fields) (count : ℕ) (tally : Tally)
     : Type 0 where
-  pub earlier : AreEarlier plat.township rows count tally.earlier
+  pub earlier : AreEarlier STANDARD_LOTS plat.township rows count tally.earlier
   pub totals_are : AreTotals plat tally.earlier.places tally.totals
   pub lines : List (List ℕ)
   pub lines_are : AreTractLines plat rows count lines
@@ -74,19 +75,20 @@ pub record EndsAccount (plat : TownshipPlat) (places : ℕ → ℕ → ℕ → B
   pub text_is : new ≡ old ++ total_lines total remaining
 
 -- this many of the records are tracts, and the next one is refused for its first fault
-pub record IsNextRefused (township : Designation) (rows : List Fields) (tract_fault : TractFault)
+pub record IsNextRefused (lots : Lotting) (township : Designation) (rows : List Fields)
+    (tract_fault : TractFault)
     : Type 0 where
   pub index : ℕ
   pub within : index < length rows
   pub below : index < TRACTS_MOST
-  pub tracts : AreTracts township rows index
-  pub has : HasAt township rows index tract_fault
-  pub first : (other : TractFault) → HasAt township rows index other
+  pub tracts : AreTracts lots township rows index
+  pub has : HasAt lots township rows index tract_fault
+  pub first : (other : TractFault) → HasAt lots township rows index other
       → turn_of tract_fault ≤ turn_of other
 
 -- there is one tract too many, or one of the records is refused, or memory ran out
-abbrev pub AreTractsRefused : Designation → List Fields → TractFault → Type 0
-AreTractsRefused township rows fault.TooManyTracts =
-    (TRACTS_MOST < length rows) × AreTracts township rows TRACTS_MOST
-AreTractsRefused township rows fault.Memory = ⊤
-AreTractsRefused township rows other = IsNextRefused township rows other
+abbrev pub AreTractsRefused : Lotting → Designation → List Fields → TractFault → Type 0
+AreTractsRefused lots township rows fault.TooManyTracts =
+    (TRACTS_MOST < length rows) × AreTracts lots township rows TRACTS_MOST
+AreTractsRefused lots township rows fault.Memory = ⊤
+AreTractsRefused lots township rows other = IsNextRefused lots township rows other

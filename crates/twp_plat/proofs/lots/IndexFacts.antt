@@ -12,7 +12,7 @@ use Rattle.twp_plat.specs.LotTables.{LOT_COUNT, lots_before}
 abbrev pub before_by_code : List ℕ
 before_by_code =
     0 ∷ 4 ∷ 8 ∷ 12 ∷ 16 ∷ 20 ∷ 27 ∷ 31 ∷ 31 ∷ 31 ∷ 31 ∷ 31 ∷ 31 ∷ 31 ∷ 31 ∷ 31 ∷ 31 ∷ 31 ∷ 35 ∷ 39 ∷ 39
-    ∷ 39 ∷ 39 ∷ 39 ∷ 39 ∷ 39 ∷ 39 ∷ 39 ∷ 39 ∷ 39 ∷ 43 ∷ 47 ∷ 47 ∷ 47 ∷ 47 ∷ 47 ∷ []
+    ∷ 39 ∷ 39 ∷ 39 ∷ 39 ∷ 39 ∷ 39 ∷ 39 ∷ 39 ∷ 39 ∷ 43 ∷ 47 ∷ 47 ∷ 47 ∷ 47 ∷ 47 ∷ 47 ∷ []
 
 before_test : each 37 (λ s. each 1 (λ y. each 1 (λ z.
     (s == 0) || (get_or before_by_code (s - 1) 0 == lots_before s)))) ≡ true

@@ -1,104 +1,253 @@
--- The laws of areas by a lot table.
-use Rattle.std.proofs.Common.{◌≡◌, ℕ, ◌+◌, ◌*◌, Bool, ap, sym, ◌∙◌, arith, if◌then◌else◌}
+-- The laws of areas by the lots of a plat.
+use Rattle.std.proofs.Common.{◌≡◌, ◌==◌, ℕ, ◌+◌, ◌*◌, ◌<◌, ◌&&◌, ◌||◌, not, Bool, true, false, refl, ap, sym}
+use Rattle.std.proofs.Common.{◌∙◌}
+use Rattle.std.proofs.Common.{arith, inl, inr, nat_lt, if◌then◌else◌}
 use Rattle.std.specs.Prelude.{sum_by}
+use Rattle.std.proofs.lemmas.Bool.{cases_lt}
+use Rattle.std.proofs.lemmas.Bool.Decides.{nat_tests}
 use Rattle.twp_measure.specs.Areas.{Fraction}
-use Rattle.twp_grid.specs.Lots.{lot, lots}
-use Rattle.twp_grid.specs.Lands.{union, intersection, difference}
-use Rattle.twp_grid.specs.Lands.{HasWholeLots}
-use Rattle.twp_grid.specs.Lands.{standard_lots}
-use Rattle.twp_land.proofs.LotFacts.{fills}
+use Rattle.twp_grid.specs.Winding.{IsSection, SECTION_COUNT}
+use Rattle.twp_grid.specs.Places.{IsPlace}
+use Rattle.twp_grid.specs.Spans.{one_where, total}
+use Rattle.twp_grid.specs.Lands.{HasWholeLots, IsWholeOrNot, LOT_NUMBER_MOST, Lotting, difference}
+use Rattle.twp_grid.specs.Lands.{intersection}
+use Rattle.twp_grid.specs.Lands.{lot_places, standard_lots, union}
+use Rattle.twp_grid.proofs.TotalFacts.{total-all_zero, total-both, total-ext}
+use Rattle.twp_land.specs.LotMaps.{land_off_lots}
 use Rattle.twp_land.proofs.CombinedLots.{combined_lots_are_whole}
-use Rattle.twp_plat.proofs.RatioFacts.{cancelled}
-use Rattle.twp_plat.specs.LandAreas.{places_of_position, township_sum}
-use Rattle.twp_plat.specs.PlatFigures.{PlatFigures}
-use Rattle.twp_plat.specs.PlatAccounts.{holds_lot, lots_held, places_off_lots, printed_units}
-use Rattle.twp_plat.specs.steps.Accounts.{position_units}
+use Rattle.twp_plat.specs.LandAreas.{places_of_position}
+use Rattle.twp_plat.specs.PlatAccounts.{lots_held, printed_units}
+use Rattle.twp_plat.specs.LotAreas.{IsLotArea, contains_lot, count_off_lots, returned_units, size_of_lot}
+use Rattle.twp_plat.specs.LotAreas.{units_of_lots}
+use Rattle.twp_plat.specs.LotAreaLaws.{OneLotArea, LotAreaIsPlatArea, LotAreasAdd}
 use Rattle.twp_plat.proofs.AreaLaws.{some_places}
-use Rattle.twp_plat.proofs.CombinedAreas.{union_and_intersection_sums, difference_and_intersection_sums}
-use Rattle.twp_plat.proofs.LotSums.{filtered, sum_by_lots}
-use Rattle.twp_plat.proofs.PlatLaws.{shared, one_share, table-ext}
-use Rattle.twp_plat.specs.LotTables.{ReturnedLots}
-use Rattle.twp_plat.specs.LotAreas.{returned_units, IsLotArea}
-use Rattle.twp_plat.specs.LotAreaLaws.{OneLotArea, HasFiguresOf, LotAreaIsPlatArea, LotAreasAdd}
-use Rattle.twp_plat.specs.steps.SectionUnits.{lot_units}
+use Rattle.twp_plat.proofs.CountFacts.{SomePlace, counted_none, counted_some, counts_add}
+use Rattle.twp_plat.proofs.PlatLaws.{shared, one_share}
+use Rattle.twp_plat.proofs.StandardUnits.{units_alike, off_alike}
+use Rattle.twp_plat.proofs.ContainedLots.{decided, of_lot}
+
+-- the units of all lots that the set contains, and how many of its places are land in no lot
+abbrev all_units : Lotting → (ℕ → ℕ → ℕ) → (ℕ → ℕ → ℕ → Bool) → ℕ
+all_units lots figure places = total SECTION_COUNT (λ before. units_of_lots lots figure places (before + 1))
+
+abbrev all_off : Lotting → (ℕ → ℕ → ℕ → Bool) → ℕ
+all_off lots places = total SECTION_COUNT (λ before. count_off_lots lots places (before + 1))
+
+-- places have only one nominal share
+same_share : (lots : Lotting) (figure : ℕ → ℕ → ℕ) (places more : ℕ → ℕ → ℕ → Bool) (area area' : Fraction)
+    → (is : IsLotArea lots figure places area) → (is' : IsLotArea lots figure more area')
+    → is'.share ≡ is.share
+same_share lots figure places more area area' is is' =
+    let some = some_places lots.digits (shared lots.digits is.share is.share_is) in
+    sym (one_share (places_of_position lots.digits) is.share is'.share some is.share_is is'.share_is)
+
+-- the units by another area's share
+by_share : (lots : Lotting) (figure : ℕ → ℕ → ℕ) (places more : ℕ → ℕ → ℕ → Bool) (area area' : Fraction)
+    → (is : IsLotArea lots figure places area) → IsLotArea lots figure more area'
+    → area'.units ≡ all_units lots figure more + is.share * all_off lots more
+by_share lots figure places more area area' is is' =
+    is'.sum_is ∙ ap (λ s. all_units lots figure more + s * all_off lots more)
+    (same_share lots figure places more area area' is is')
 
 pub one_lot_area : OneLotArea
-one_lot_area g table places area area' is is' =
-    let some = some_places g (shared g is.share is.share_is) in
-    let share : is.share ≡ is'.share =
-    one_share (places_of_position g) is.share is'.share some is.share_is is'.share_is in
+one_lot_area lots figure places area area' is is' =
     let units : area.units ≡ area'.units =
-    is.sum_is
-    ∙ ap (λ s. sum_by (returned_units table) (lots_held g places) + s * places_off_lots g places) share
-    ∙ sym is'.sum_is in
+    is.sum_is ∙ sym (by_share lots figure places places area area' is is') in
     let over : area.over ≡ area'.over = is.over_is ∙ sym is'.over_is in
     let make : ℕ → ℕ → Fraction = λ units over. record { units = units; over = over } in
     ap (λ u. make u area.over) units ∙ ap (make area'.units) over
 
--- the units that are returned for the lots in a set are those that the plat shows
-returned_alike : (g : ℕ) (table : ReturnedLots) (figures : PlatFigures) (places : ℕ → ℕ → ℕ → Bool)
-    → HasFiguresOf table figures
-    → sum_by (returned_units table) (lots_held g places)
-    ≡ sum_by (printed_units figures) (lots_held g places)
-returned_alike g table figures places has =
-    filtered (holds_lot g places) (returned_units table) lots
-    ∙ table-ext (λ l. if holds_lot g places l then returned_units table l else 0)
-    (λ l. if holds_lot g places l then printed_units figures l else 0)
-    (λ section column row number range is.
-    ap (λ h. if holds_lot g places (lot section number column row) then 100000 * h else 0)
-    (has section number column row range (fills section column row number range is).position))
-    ∙ sym (filtered (holds_lot g places) (printed_units figures) lots)
-
 pub lot_area_is_plat_area : LotAreaIsPlatArea
-lot_area_is_plat_area g plat figures table places area are has is = record {
+lot_area_is_plat_area g plat figures figure places area are has is = record {
   figures = figures;
   are = are;
   share = is.share;
   share_is = is.share_is;
   over_is = is.over_is;
   sum_is =
+      let fits = shared g is.share is.share_is in
       is.sum_is
-      ∙ ap (λ t. t + is.share * places_off_lots g places) (returned_alike g table figures places has);
+      ∙ ap (λ t. t + is.share * all_off (standard_lots g) places)
+      (units_alike g fits figure figures places has)
+      ∙ ap (λ t. sum_by (printed_units figures) (lots_held g places) + is.share * t) (off_alike g places);
 }
 
--- an area by a lot table is a sum over places
-place_sum : (g : ℕ) (table : ReturnedLots) (places : ℕ → ℕ → ℕ → Bool) (area : Fraction)
-    → HasWholeLots (standard_lots g) places → IsLotArea g table places area
-    → places_of_position g * area.units ≡ township_sum g (position_units (lot_units table) 400000000) places
-place_sum g table places area whole is =
-    let by_lots = sum_by_lots g (shared g is.share is.share_is) (lot_units table) 400000000 places whole in
-    product (places_of_position g) area.units _ is.share (places_off_lots g places) is.sum_is is.share_is
-    ∙ by_lots
+-- a lot counts as often in two sets as in their union and their intersection
+record OfLot (lots : Lotting) (figure : ℕ → ℕ → ℕ) (places more : ℕ → ℕ → ℕ → Bool) (section number : ℕ)
+    : Type 0 where
+  joined : returned_units lots figure (union places more) section number
+      + returned_units lots figure (intersection places more) section number
+      ≡ returned_units lots figure places section number + returned_units lots figure more section number
+  parted : returned_units lots figure (difference places more) section number
+      + returned_units lots figure (intersection places more) section number
+      ≡ returned_units lots figure places section number
+
+of_each : (lots : Lotting) (figure : ℕ → ℕ → ℕ) (places more : ℕ → ℕ → ℕ → Bool) (section number : ℕ)
+    → HasWholeLots lots places → HasWholeLots lots more → IsSection section
+    → OfLot lots figure places more section number
+of_each lots figure places more section number whole whole' range =
+    elim (cases_lt 0 (size_of_lot lots section number)) [
+      | inl some ↦ there (counted_some lots.digits (lot_places lots section number section) some)
+      | inr few ↦
+          let test : nat_lt 0 (size_of_lot lots section number) ≡ false = grind (arith, nat_tests, few) in
+          record { joined = rw test refl; parted = rw test refl }
+    ]
   where
-    product : (n units lots share off : ℕ) → units ≡ lots + share * off → n * share ≡ 400000000
-        → n * units ≡ n * lots + 400000000 * off
-    product n units lots share off is is' =
-        let all : n * units ≡ n * lots + n * share * off = rw is (omega arith) in
-        rw is' at all
+    units : ℕ
+    units = 100000 * figure section number
+
+    sums : (a b : Bool) (u : ℕ) → (if a || b then u else 0) + (if a && b then u else 0)
+        ≡ (if a then u else 0) + (if b then u else 0)
+    sums true true u = refl
+    sums true false u = refl
+    sums false true u = omega arith
+    sums false false u = refl
+
+    parts : (a b : Bool) (u : ℕ) → (if a && not b then u else 0) + (if a && b then u else 0)
+        ≡ (if a then u else 0)
+    parts true true u = omega arith
+    parts true false u = omega arith
+    parts false true u = refl
+    parts false false u = refl
+
+    there : SomePlace lots.digits (lot_places lots section number section)
+        → OfLot lots figure places more section number
+    there found =
+        let c = found.column in
+        let r = found.row in
+        let lot = of_lot lots section number found.column found.row found.is_held in
+        let wholes = combined_lots_are_whole lots places more whole whole' in
+        let first = decided lots places section number c r lot.0 lot.1 (whole section number range) in
+        let second = decided lots more section number c r lot.0 lot.1 (whole' section number range) in
+        let either =
+        decided lots (union places more) section number c r lot.0 lot.1 (wholes.0 section number range) in
+        let both =
+        decided lots (intersection places more) section number c r lot.0 lot.1
+        (wholes.1 section number range) in
+        let rest =
+        decided lots (difference places more) section number c r lot.0 lot.1
+        (wholes.2 section number range) in
+        record {
+          joined =
+              rw (first, second, either, both)
+              (sums (places section found.column found.row) (more section found.column found.row)
+              (100000 * figure section number));
+          parted =
+              rw (first, both, rest)
+              (parts (places section found.column found.row) (more section found.column found.row)
+              (100000 * figure section number));
+        }
+
+-- sums over the lots of all sections
+lots_add : (f g h k : ℕ → ℕ → ℕ)
+    → ((section number : ℕ) → IsSection section → f section number + g section number
+    ≡ h section number + k section number)
+    → total SECTION_COUNT (λ before. total LOT_NUMBER_MOST (λ less. f (before + 1) (less + 1)))
+    + total SECTION_COUNT (λ before. total LOT_NUMBER_MOST (λ less. g (before + 1) (less + 1)))
+    ≡ total SECTION_COUNT (λ before. total LOT_NUMBER_MOST (λ less. h (before + 1) (less + 1)))
+    + total SECTION_COUNT (λ before. total LOT_NUMBER_MOST (λ less. k (before + 1) (less + 1)))
+lots_add f g h k same =
+    sym (pairs f g)
+    ∙ total-ext SECTION_COUNT _ _ (λ before below.
+    total-ext LOT_NUMBER_MOST _ _
+    (λ less _. same (before + 1) (less + 1) (omega arith, omega (arith, below))))
+    ∙ pairs h k
+  where
+    pairs : (f g : ℕ → ℕ → ℕ)
+        → total SECTION_COUNT (λ before. total LOT_NUMBER_MOST (λ less.
+        f (before + 1) (less + 1) + g (before + 1) (less + 1)))
+        ≡ total SECTION_COUNT (λ before. total LOT_NUMBER_MOST (λ less. f (before + 1) (less + 1)))
+        + total SECTION_COUNT (λ before. total LOT_NUMBER_MOST (λ less. g (before + 1) (less + 1)))
+    pairs f g =
+        total-ext SECTION_COUNT _
+        (λ before. total LOT_NUMBER_MOST (λ less. f (before + 1) (less + 1))
+        + total LOT_NUMBER_MOST (λ less. g (before + 1) (less + 1)))
+        (λ before _.
+        total-both LOT_NUMBER_MOST (λ less. f (before + 1) (less + 1)) (λ less. g (before + 1) (less + 1)))
+        ∙ total-both SECTION_COUNT (λ before. total LOT_NUMBER_MOST (λ less. f (before + 1) (less + 1)))
+        (λ before. total LOT_NUMBER_MOST (λ less. g (before + 1) (less + 1)))
+
+-- sums over the places in no lot
+off_add : (lots : Lotting) (a b a' b' : ℕ → ℕ → ℕ → Bool)
+    → ((section c r : ℕ) → one_where (land_off_lots lots section (a section) c r)
+    + one_where (land_off_lots lots section (b section) c r)
+    ≡ one_where (land_off_lots lots section (a' section) c r)
+    + one_where (land_off_lots lots section (b' section) c r))
+    → all_off lots a + all_off lots b ≡ all_off lots a' + all_off lots b'
+off_add lots a b a' b' same =
+    sym
+    (total-both SECTION_COUNT (λ before. count_off_lots lots a (before + 1))
+    (λ before. count_off_lots lots b (before + 1)))
+    ∙ total-ext SECTION_COUNT _ _ (λ before _.
+    counts_add lots.digits (land_off_lots lots (before + 1) (a (before + 1)))
+    (land_off_lots lots (before + 1) (b (before + 1))) (land_off_lots lots (before + 1) (a' (before + 1)))
+    (land_off_lots lots (before + 1) (b' (before + 1))) (λ c r. same (before + 1) c r))
+    ∙ total-both SECTION_COUNT (λ before. count_off_lots lots a' (before + 1))
+    (λ before. count_off_lots lots b' (before + 1))
+
+weighted : (s u v w x o p q r : ℕ) → u + v ≡ w + x → o + p ≡ q + r
+    → (u + s * o) + (v + s * p) ≡ (w + s * q) + (x + s * r)
+weighted s u v w x o p q r is is' =
+    let left : s * o + s * p ≡ s * (o + p) = omega arith in
+    let right : s * q + s * r ≡ s * (q + r) = omega arith in
+    let same : s * (o + p) ≡ s * (q + r) = ap (λ t. s * t) is' in
+    omega (arith, is, left, right, same)
+
+joined_one : (a b n l : Bool) → one_where (((a || b) && n) && l) + one_where (((a && b) && n) && l)
+    ≡ one_where ((a && n) && l) + one_where ((b && n) && l)
+joined_one true true n l = refl
+joined_one true false n l = refl
+joined_one false true n l = omega arith
+joined_one false false n l = refl
+
+parted_one : (a b n l : Bool) → one_where (((a && not b) && n) && l) + one_where (((a && b) && n) && l)
+    ≡ one_where ((a && n) && l) + one_where ((false && n) && l)
+parted_one true true n l = omega arith
+parted_one true false n l = refl
+parted_one false true n l = refl
+parted_one false false n l = refl
 
 pub lot_areas_add : LotAreasAdd
-lot_areas_add g table places more first second either both rest whole whole' is is' is-either is-both
+lot_areas_add lots figure places more first second either both rest whole whole' is is' is-either is-both
     is-rest =
-    let n : ℕ = places_of_position g in
-    let units : ℕ → ℕ → ℕ → ℕ = position_units (lot_units table) 400000000 in
-    let some = some_places g (shared g is.share is.share_is) in
-    let wholes = combined_lots_are_whole (standard_lots g) places more whole whole' in
-    let of_first = place_sum g table places first whole is in
-    let of_second = place_sum g table more second whole' is' in
-    let of_either = place_sum g table (union places more) either wholes.0 is-either in
-    let of_both = place_sum g table (intersection places more) both wholes.1 is-both in
-    let of_rest = place_sum g table (difference places more) rest wholes.2 is-rest in (
-      cancelled (either.units + both.units) (first.units + second.units) n some
-          (four n either.units both.units first.units second.units _ _ _ _ of_either of_both of_first
-          of_second (union_and_intersection_sums g units places more)),
-      cancelled (rest.units + both.units) first.units n some
-          (three n rest.units both.units first.units _ _ _ of_rest of_both of_first
-          (difference_and_intersection_sums g units places more)),
+    let of_second = by_share lots figure places more first second is is' in
+    let of_either = by_share lots figure places (union places more) first either is is-either in
+    let of_both = by_share lots figure places (intersection places more) first both is is-both in
+    let of_rest = by_share lots figure places (difference places more) first rest is is-rest in
+    let units =
+    lots_add (returned_units lots figure (union places more))
+    (returned_units lots figure (intersection places more))
+    (returned_units lots figure places) (returned_units lots figure more)
+    (λ s n range. (of_each lots figure places more s n whole whole' range).joined) in
+    let off =
+    off_add lots (union places more) (intersection places more) places more (λ s c r.
+    joined_one (places s c r) (more s c r) _ (lots.has_land s c r)) in
+    let units' =
+    lots_add (returned_units lots figure (difference places more))
+    (returned_units lots figure (intersection places more)) (returned_units lots figure places) (λ s n. 0)
+    (λ s n range. (of_each lots figure places more s n whole whole' range).parted ∙ none _) in
+    let off' =
+    off_add lots (difference places more) (intersection places more) places (λ s c r. false) (λ s c r.
+    parted_one (places s c r) (more s c r) _ (lots.has_land s c r)) in (
+      sums either.units both.units first.units second.units _ _ _ _ of_either of_both is.sum_is of_second
+          (weighted is.share _ _ _ _ _ _ _ _ units off),
+      sums rest.units both.units first.units 0 _ _ _ _ of_rest of_both is.sum_is (nothing is.share)
+          (weighted is.share _ _ _ _ _ _ _ _ units' off')
+          ∙ sym (none first.units),
     )
   where
-    four : (n e b f s E B F S : ℕ) → n * e ≡ E → n * b ≡ B → n * f ≡ F → n * s ≡ S → E + B ≡ F + S
-        → (e + b) * n ≡ (f + s) * n
-    four n e b f s E B F S is is' is'' is''' sums = omega arith
+    none : (n : ℕ) → n ≡ n + 0
+    none n = omega arith
 
-    three : (n r b f R B F : ℕ) → n * r ≡ R → n * b ≡ B → n * f ≡ F → R + B ≡ F → (r + b) * n ≡ f * n
-    three n r b f R B F is is' is'' sums = omega arith
+    zeros : total SECTION_COUNT (λ before. total LOT_NUMBER_MOST (λ less. 0)) ≡ 0
+    zeros = total-all_zero SECTION_COUNT _ (λ _ _. total-all_zero LOT_NUMBER_MOST _ (λ _ _. refl))
+
+    empty : all_off lots (λ s c r. false) ≡ 0
+    empty = total-all_zero SECTION_COUNT _ (λ _ _. counted_none lots.digits _ (λ c r. refl))
+
+    nothing : (share : ℕ) → 0 ≡ total SECTION_COUNT (λ before. total LOT_NUMBER_MOST (λ less. 0))
+        + share * all_off lots (λ s c r. false)
+    nothing share = rw (zeros, empty) (omega arith)
+
+    sums : (a b c d a' b' c' d' : ℕ) → a ≡ a' → b ≡ b' → c ≡ c' → d ≡ d' → a' + b' ≡ c' + d' → a + b ≡ c + d
+    sums a b c d a' b' c' d' x y z w all = omega arith

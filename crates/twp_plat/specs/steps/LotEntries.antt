@@ -3,8 +3,8 @@
 use Rattle.std.specs.Prelude.{slice_set, ◌≡◌, ◌≢◌, ℕ, ◌+◌, ◌<◌, ◌≤◌, List, length, slice_index_or, ⊤}
 use Rattle.twp_notes.specs.Records.{Fields, record_at}
 use Rattle.twp_plat.specs.LotTables.{LOT_COUNT, FIGURE_MOST, lot_index}
-use Rattle.twp_plat.specs.LotRecords.{LOT_FIELDS, NamesLot, IsLotRecord}
-use Rattle.twp_plat.specs.LotsFaults.{NamesNoLot, HasNoAcres}
+use Rattle.twp_plat.specs.LotRecords.{LOT_FIELDS, HasNoAcres, NamesLot, IsLotRecord}
+use Rattle.twp_plat.specs.LotsFaults.{NamesNoLot}
 use Rattle.twp_plat.specs.declared.lots.fault.LotsFault.{LotsFault}
 use Rattle.twp_plat.specs.declared.lots.fault.LotsFault.TheVariants as fault
 

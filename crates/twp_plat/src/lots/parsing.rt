@@ -7,11 +7,15 @@ ghost use Rattle.twp_plat.specs.steps.LotEntries.{Enters, IsNotEntered, AreEnter
 ghost use Rattle.twp_plat.specs.steps.LotEntries.{IsLotRefusedAfter};
 
 use crate::lots::fault::LotsFault;
-use crate::lots::record::{LOT_FIELDS, hundredths_of, is_heading, lot_of};
-use crate::lots::table::{LOTS, LotTable, lot_index};
+use crate::lots::heading::{Heading, heading_of};
+use crate::lots::land_parsing::land_table;
+use crate::lots::plat_record::plat_of;
+use crate::lots::record::{LOT_FIELDS, hundredths_of, lot_of};
+use crate::lots::returned::{LOTS, ReturnedLots};
+use crate::lots::table::{LotTable, lot_index};
 use csv::ByteRecord;
 use std::alloc::Global;
-use twp_notes::{FIELDS, Records, field, township_of};
+use twp_notes::{Records, field};
 
 /// The number of the record after the heading and the township's record, which is the first record
 /// of a lot.
@@ -29,20 +33,25 @@ pub fn parse(alloc: Global, bytes: &[u8]) -> Result<LotTable, LotsFault>
     if !records.read(&mut row)? {
         return Err(LotsFault::Empty);
     }
-    if !is_heading(&row) {
+    let Some(heading) = heading_of(&row) else {
         return Err(LotsFault::Heading);
-    }
+    };
     if !records.read(&mut row)? {
         return Err(LotsFault::Township);
     }
-    if row.len() != FIELDS {
-        return Err(LotsFault::Columns(2));
+    let plat = plat_of(&mut row)?;
+    // The table is made where it is returned, because moving it would copy its lots.
+    match heading {
+        Heading::Standard => {
+            let figures = enter_lots(records, &mut row)?;
+            Ok(LotTable {
+                township: plat.township,
+                date: plat.date,
+                lots: ReturnedLots::standard(&figures),
+            })
+        }
+        Heading::Land => land_table(alloc, plat, records, &mut row),
     }
-    let Some(township) = township_of(&row) else {
-        return Err(LotsFault::Township);
-    };
-    let figures = enter_lots(records, &mut row)?;
-    Ok(LotTable::new(township, &figures).unwrap())
 }
 
 /// Enters the remaining records, each of a lot.

@@ -14,8 +14,9 @@ use twp_notes::read_whole;
 impl LotTable {
     /// Reads a lot table from a source, to its end or to one byte more than a table can have,
     /// before it refuses it for any reason. The result is the first fault: too many bytes come
-    /// first, and next the fault of the first record that has one, with the smallest number if that
-    /// record has several. `Read` is the result exactly if the source failed in this call.
+    /// first, next the fault of the first record that has one, with the smallest number if that
+    /// record has several, and then those of all records with land together, 100 and 101. `Read` is
+    /// the result exactly if the source failed in this call.
     pub fn read<R: Source>(alloc: Global, source: &mut R) -> Result<LotTable, LotsFault>
         requires { R.has_failed source.old ≡ false }
         ensures failed { IsErrOf result LotsFault.Read ↔ (R.has_failed source.new ≡ true) }

@@ -158,7 +158,14 @@ pub(crate) fn has_number_fronts(seen: &[u8]) -> bool
 }
 
 /// The texts `interest_fronts` of the specification.
-static INTEREST_FRONTS: [[u8; 8]; 4] = [*b"an und__", *b"und_____", *b"one-half", *b"one half"];
+static INTEREST_FRONTS: [[u8; 13]; 6] = [
+    *b"an und_______",
+    *b"und__________",
+    *b"one-half_____",
+    *b"one half_____",
+    *b"all the right",
+    *b"all right____",
+];
 
 /// Whether a text begins with one of them.
 pub(crate) fn has_interest_fronts(seen: &[u8]) -> bool

@@ -122,7 +122,7 @@ pub(crate) fn is_in_worn_section_words(seen: &[u8], written: &[u8]) -> bool
 }
 
 /// The table `lot_words` of the specification.
-static LOT_WORDS: [[u8; 11]; 14] = [
+static LOT_WORDS: [[u8; 11]; 15] = [
     *b"l=lot _____",
     *b"lt=lot ____",
     *b"lts=lots __",
@@ -137,6 +137,7 @@ static LOT_WORDS: [[u8; 11]; 14] = [
     *b"no=________",
     *b"nos=_______",
     *b"gl=lot ____",
+    *b"trct=______",
 ];
 
 /// Whether this is a row of it: what it looks at, and what it writes.
@@ -147,8 +148,8 @@ pub(crate) fn is_in_lot_words(seen: &[u8], written: &[u8]) -> bool
         seen,
         written,
         0x0038_5080,
-        0x2030_9100,
-        0x2048_2020,
+        0x2034_9100,
+        0x2048_2028,
         &LOT_WORDS,
     )
 }

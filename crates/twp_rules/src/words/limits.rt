@@ -3,7 +3,7 @@ ghost use Rattle.std.specs.Prelude.{◌≡◌};
 ghost use Rattle.twp_rules.specs.Edges.{is_one_of};
 ghost use Rattle.twp_rules.specs.Words.{share_words, taking_words, more_taking_words, portion_words};
 ghost use Rattle.twp_rules.specs.Words.{bound_words, measure_words, record_limits, reserving_words};
-ghost use Rattle.twp_rules.specs.Words.{depth_limits, lease_limits, acreage_limits, mineral_words};
+ghost use Rattle.twp_rules.specs.Words.{claim_words, depth_limits, lease_limits, acreage_limits, mineral_words};
 ghost use Rattle.twp_rules.specs.Words.{depth_words, further_exceptions};
 
 use crate::rows::is_one_of;
@@ -187,6 +187,16 @@ pub(crate) fn is_in_depth_limits(word: &[u8]) -> bool
     ensures { result ≡ is_one_of word.now depth_limits }
 {
     is_one_of(word, 0x0080_0046, 0x0010_8224, 0x8010_9020, &DEPTH_LIMITS)
+}
+
+/// The texts `claim_words` of the specification.
+static CLAIM_WORDS: [[u8; 6]; 2] = [*b"claim_", *b"claims"];
+
+/// Whether a word is one of them.
+pub(crate) fn is_in_claim_words(word: &[u8]) -> bool
+    ensures { result ≡ is_one_of word.now claim_words }
+{
+    is_one_of(word, 0x0000_0008, 0x0000_1000, 0x0000_0002, &CLAIM_WORDS)
 }
 
 /// The texts `lease_limits` of the specification.

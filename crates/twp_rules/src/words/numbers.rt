@@ -8,7 +8,7 @@ ghost use Rattle.twp_rules.specs.Words.{numeral_words};
 use crate::rows::is_one_of;
 
 /// The texts `numbered_words` of the specification.
-static NUMBERED_WORDS: [[u8; 10]; 60] = [
+static NUMBERED_WORDS: [[u8; 10]; 62] = [
     *b"tract_____",
     *b"tr________",
     *b"parcel____",
@@ -69,27 +69,29 @@ static NUMBERED_WORDS: [[u8; 10]; 60] = [
     *b"november__",
     *b"dec_______",
     *b"december__",
+    *b"row_______",
+    *b"pasture___",
 ];
 
 /// Whether a word is one of them.
 pub(crate) fn is_in_numbered_words(word: &[u8]) -> bool
     ensures { result ≡ is_one_of word.now numbered_words }
 {
-    is_one_of(word, 0x0079_f67e, 0x81bd_daba, 0x825d_f3ae, &NUMBERED_WORDS)
+    is_one_of(word, 0x007d_f67e, 0x81bd_daba, 0x82dd_f3ae, &NUMBERED_WORDS)
 }
 
 /// The texts `units` of the specification.
-static UNITS: [[u8; 6]; 18] = [
+static UNITS: [[u8; 6]; 20] = [
     *b"acres_", *b"acre__", *b"ac____", *b"acs___", *b"a_____", *b"net___", *b"gross_", *b"yr____",
     *b"yrs___", *b"year__", *b"years_", *b"shares", *b"feet__", *b"foot__", *b"ft____", *b"pm____",
-    *b"p_____", *b"mer___",
+    *b"p_____", *b"mer___", *b"bm____", *b"nmpm__",
 ];
 
 /// Whether a word is one of them.
 pub(crate) fn is_in_units(word: &[u8]) -> bool
     ensures { result ≡ is_one_of word.now units }
 {
-    is_one_of(word, 0x0209_60c2, 0x8014_a128, 0x801c_8022, &UNITS)
+    is_one_of(word, 0x0209_60c6, 0x8014_a128, 0x801d_8022, &UNITS)
 }
 
 /// Whether a byte is one of the texts `code_marks` of the specification.

@@ -154,30 +154,37 @@ pub(crate) fn is_in_moved_heading_words(word: &[u8]) -> bool
     )
 }
 
-/// Whether a word is one of the texts `section_names` of the specification.
+/// The texts `section_names` of the specification.
+static SECTION_NAMES: [[u8; 10]; 22] = [
+    *b"sec_______",
+    *b"secs______",
+    *b"sect______",
+    *b"sects_____",
+    *b"section___",
+    *b"sections__",
+    *b"scc_______",
+    *b"sce_______",
+    *b"seo_______",
+    *b"ec________",
+    *b"ection____",
+    *b"sn________",
+    *b"secton____",
+    *b"sectlon___",
+    *b"sectoin___",
+    *b"seciton___",
+    *b"sectiou___",
+    *b"seclion___",
+    *b"seotion___",
+    *b"sectior___",
+    *b"frstdivno_",
+    *b"frstdivlab",
+];
+
+/// Whether a word is one of them.
 pub(crate) fn is_in_section_names(word: &[u8]) -> bool
     ensures { result ≡ is_one_of word.now section_names }
 {
-    is_text(word, b"sec")
-        || is_text(word, b"secs")
-        || is_text(word, b"sect")
-        || is_text(word, b"sects")
-        || is_text(word, b"section")
-        || is_text(word, b"sections")
-        || is_text(word, b"scc")
-        || is_text(word, b"sce")
-        || is_text(word, b"seo")
-        || is_text(word, b"ec")
-        || is_text(word, b"ection")
-        || is_text(word, b"sn")
-        || is_text(word, b"secton")
-        || is_text(word, b"sectlon")
-        || is_text(word, b"sectoin")
-        || is_text(word, b"seciton")
-        || is_text(word, b"sectiou")
-        || is_text(word, b"seclion")
-        || is_text(word, b"seotion")
-        || is_text(word, b"sectior")
+    is_one_of(word, 0x0008_0060, 0x0004_4028, 0x8018_8028, &SECTION_NAMES)
 }
 
 /// The texts `list_words` of the specification.

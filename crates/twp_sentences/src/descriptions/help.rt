@@ -2,12 +2,14 @@
 //! lots and aliquot parts can't describe its land.
 ghost use Rattle.std.specs.Prelude.{◌≡◌, None, IfOk, IfSome};
 ghost use Rattle.twp_diagnose.specs.Suggestions.{NamesLandOf};
+ghost use Rattle.twp_grid.specs.Lands.{lotting};
 
 use crate::descriptions::hints::{does_as_hinted, hint_on};
 use std::alloc::{AllocError, Global};
 use twp_diagnose::{Suggested, Suggestion, Suggests, Surroundings};
 use twp_excerpt::{columns_of, write_escaped};
 use twp_grid::Township;
+use twp_land::Lotting;
 
 /// The most columns of a reading that is shown: a line has 100, of which its beginning takes 11.
 const READING_WIDTH: usize = 87;
@@ -36,14 +38,16 @@ pub(crate) struct Help {
 }
 
 /// What helps with a text that is refused for the plat of a township.
-pub(crate) fn help_with<S: Suggests>(
+pub(crate) fn help_with<S: Suggests, P: Lotting>(
     alloc: Global,
     sight: &Surroundings<'_>,
     township: Township,
+    lots: &P,
 ) -> Result<Help, AllocError>
-    ensures { IfOk result (λ help. IfSome help.reading (λ text. NamesLandOf township text.items)) }
+    ensures { IfOk result (λ help. IfSome help.reading
+        (λ text. NamesLandOf (lotting (P.layout lots.now)) township text.items)) }
 {
-    match S::suggest(alloc, sight.text, township)? {
+    match S::suggest(alloc, sight.text, township, lots)? {
         Suggestion::Nothing => hint_alone(alloc, sight),
         Suggestion::Beyond(reason) => beyond(alloc, reason),
         Suggestion::Several => several(alloc, sight),

@@ -22,11 +22,12 @@ use twp_resolve::PlaceFault;
 /// plat of the township.
 #[tactic(auto, using(twp_diagnose::proofs::FindingFacts::of_fault, twp_diagnose::proofs::FindingFacts::of_found, crate::proofs::ShownFacts::text_shown))]
 #[inline(never)]
-pub fn stop_of_text<S: Suggests>(
+pub fn stop_of_text<S: Suggests, P: Lotting>(
     alloc: Global,
     origin: &Origin<'_>,
     bytes: &[u8],
     township: Township,
+    lots: &P,
     fault: TextFault,
 ) -> SearchStop
     ensures refusal { IfFound result (λ refusal. refusal_of_text fault ≡ Some refusal) }
@@ -35,14 +36,15 @@ pub fn stop_of_text<S: Suggests>(
         EndsWithSign origin.now bytes.now finding.refusal.at finding.place) }
     ensures other { IfFinds result (λ finding. finding.other ≡ None) }
     ensures reading { IfFinds result (λ finding.
-        IfSome finding.reading (λ text. NamesLandOf township text.items)) }
+        IfSome finding.reading
+        (λ text. NamesLandOf (lotting (P.layout lots.now)) township text.items)) }
 {
     let Some(refusal) = fault.refusal() else {
         return SearchStop::Memory;
     };
     SearchStop::of(
         refusal,
-        text::find::<S>(alloc, origin, bytes, township, fault, refusal),
+        text::find::<S, P>(alloc, origin, bytes, township, lots, fault, refusal),
     )
 }
 

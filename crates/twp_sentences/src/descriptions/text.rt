@@ -4,6 +4,7 @@ ghost use Rattle.twp_diagnose.specs.Sights.{shown_place};
 ghost use Rattle.twp_read.specs.declared.fault.TextFault.TheVariants.{TooLarge};
 ghost use Rattle.twp_sentences.specs.ShownPlaces.{ShowsAt};
 ghost use Rattle.twp_diagnose.specs.Suggestions.{NamesLandOf};
+ghost use Rattle.twp_grid.specs.Lands.{lotting};
 ghost use Rattle.twp_sentences.specs.Underlined.{EndsAt, EndsWithSign};
 
 mod character;
@@ -15,17 +16,19 @@ use twp_diagnose::{Finding, Location, Origin, Suggests, Surroundings};
 use twp_excerpt::{Span, write_escaped};
 use twp_grammar::Expected;
 use twp_grid::{Refusal, Township};
+use twp_land::Lotting;
 use twp_read::TextFault;
 
 /// The most bytes of a token that a sentence quotes.
 const QUOTED_LIMIT: usize = 20;
 
 /// The explanation of a text, which is the whole of its file or a field of it, that has a fault.
-pub(crate) fn find<S: Suggests>(
+pub(crate) fn find<S: Suggests, P: Lotting>(
     alloc: Global,
     origin: &Origin<'_>,
     text: &[u8],
     township: Township,
+    lots: &P,
     fault: TextFault,
     refusal: Refusal,
 ) -> Result<Finding, AllocError>
@@ -36,7 +39,8 @@ pub(crate) fn find<S: Suggests>(
         EndsWithSign origin.now text.now refusal.at finding.place) }
     ensures other { IfOk result (λ finding. finding.other ≡ None) }
     ensures reading { IfOk result (λ finding.
-        IfSome finding.reading (λ text. NamesLandOf township text.items)) }
+        IfSome finding.reading
+        (λ text. NamesLandOf (lotting (P.layout lots.now)) township text.items)) }
 {
     let expected = expected(fault);
     let sight = Surroundings::of(text, refusal, expected);
@@ -45,7 +49,7 @@ pub(crate) fn find<S: Suggests>(
     let Help {
         text: help,
         reading,
-    } = help_with::<S>(alloc, &sight, township)?;
+    } = help_with::<S, P>(alloc, &sight, township, lots)?;
     Ok(Finding {
         refusal,
         place: place(origin, text, &sight, fault),

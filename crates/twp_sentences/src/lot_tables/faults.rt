@@ -3,7 +3,7 @@
 use crate::descriptions::write_lots_of;
 use crate::field_notes::{write_section_fault, write_township_fault};
 use crate::lot_tables::acres::write_acres_fault;
-use crate::lot_tables::blamed::{LOT_FIELDS, columns_of};
+use crate::lot_tables::blamed::LOT_FIELDS;
 use crate::lot_tables::earlier::numbers_in;
 use std::alloc::AllocError;
 use twp_diagnose::{Record, write_count, write_quoted};
@@ -15,6 +15,7 @@ pub(crate) fn write_lots_fault(
     fault: LotsFault,
     record: &Record<'_>,
     field: usize,
+    lot_fields: usize,
     out: &mut String,
 ) -> Result<(), AllocError> {
     match fault {
@@ -22,13 +23,33 @@ pub(crate) fn write_lots_fault(
         LotsFault::Columns(number) => {
             out.push_str("this record has ")?;
             write_count(record.len(), out)?;
-            write!(out, ", not {}", columns_of(number))
+            match number {
+                2 => out.push_str(", not 5, or 6 with a date"),
+                _ => write!(out, ", not {lot_fields}"),
+            }
         }
         LotsFault::Township => write_township_fault(record, field, out),
         LotsFault::NoLot(_) if field == 0 => write_section_fault(record, field, out),
         LotsFault::NoLot(_) => write_lot_fault(record, out),
         LotsFault::Acres(_) => write_acres_fault(record.text(field), out),
         LotsFault::Repeated(_) => write_repeated(record, out),
+        LotsFault::Date => write_date_fault(record.text(field), out),
+        LotsFault::Land(_) => write_land_fault(record.text(field), out),
+        LotsFault::TooFine(_) => out.push_str(
+            "a part of this land is too small: a section's side can be halved at most five times",
+        ),
+        LotsFault::Shared(_) => out.push_str(
+            "this land shares a place with another part of this record, or of an earlier one",
+        ),
+        LotsFault::TooMany(_) => out.push_str(
+            "this is one lot too many: a section has at most 64 lots, and a township 1,024",
+        ),
+        LotsFault::Unfilled(_) => {
+            out.push_str("a quarter-quarter of this lot also contains land that is in no lot")
+        }
+        LotsFault::Divided(_) => out.push_str(
+            "more than 128 quarter-quarters are divided between lots, or between a lot and other land",
+        ),
         _ => write!(out, "{fault}"),
     }
 }
@@ -39,7 +60,7 @@ fn write_heading_fault(
     field: usize,
     out: &mut String,
 ) -> Result<(), AllocError> {
-    out.push_str("the heading must be `section,lot,acres`: ")?;
+    out.push_str("the heading must be `section,lot,acres`, or `section,lot,acres,land`: ")?;
     if field < LOT_FIELDS && field < record.len() {
         write!(out, "field {} is ", field.saturating_add(1))?;
         write_quoted(record.text(field), out)
@@ -65,6 +86,24 @@ fn write_lot_fault(record: &Record<'_>, out: &mut String) -> Result<(), AllocErr
             out.push_str(" is not a lot number: write it in one or two digits")
         }
     }
+}
+
+/// Appends what is no date.
+fn write_date_fault(text: &[u8], out: &mut String) -> Result<(), AllocError> {
+    if text.is_empty() {
+        return out.push_str("the date is missing");
+    }
+    write_quoted(text, out)?;
+    out.push_str(" is not a date: write the year, the month, and the day, as in `1912-03-04`")
+}
+
+/// Appends what is no land.
+fn write_land_fault(text: &[u8], out: &mut String) -> Result<(), AllocError> {
+    if text.is_empty() {
+        return out.push_str("the land is missing: write it in aliquot parts, such as `NE1/4NE1/4`");
+    }
+    write_quoted(text, out)?;
+    out.push_str(" is not land in aliquot parts, such as `NE1/4NE1/4`, or `N1/2NE1/4, SE1/4NE1/4`")
 }
 
 /// Appends that a lot has a record already.

@@ -6,17 +6,14 @@ ghost use Rattle.twp_diagnose.specs.declared.location.Location.TheVariants.{Whol
 use std::alloc::{AllocError, Global};
 use twp_diagnose::{Finding, Location};
 use twp_grid::{Refusal, Section};
-use twp_plat::LotTable;
-
-/// The greatest number of a lot.
-const LOT_MOST: u8 = 99;
+use twp_plat::{LOT_MOST, ReturnedLots};
 
 /// The explanation of land with a lot of a section that a table lacks. It is not at one place of the text
 /// that describes the land.
 #[inline(never)]
 pub fn find_lacking(
     alloc: Global,
-    table: &LotTable,
+    lots: &ReturnedLots,
     section: Section,
     lot: u8,
 ) -> Result<Finding, AllocError>
@@ -32,7 +29,7 @@ pub fn find_lacking(
         "the lot table has no record for lot {lot} of section {number}"
     )?;
     let mut help = String::new(alloc);
-    write_lots_in(table, section, &mut help)?;
+    write_lots_in(lots, section, &mut help)?;
     Ok(Finding::new(refusal, Location::Whole, sentence, help))
 }
 
@@ -45,10 +42,14 @@ fn lacking(section: Section, lot: u8) -> Refusal
 }
 
 /// Appends for which lots of a section a table has records.
-fn write_lots_in(table: &LotTable, section: Section, out: &mut String) -> Result<(), AllocError> {
+fn write_lots_in(
+    lots: &ReturnedLots,
+    section: Section,
+    out: &mut String,
+) -> Result<(), AllocError> {
     let mut before: Option<u8> = None;
-    for lot in 1..LOT_MOST + 1 {
-        if table.figure(section, lot).is_some() {
+    for lot in 1..LOT_MOST as u8 + 1 {
+        if lots.figure(section, lot).is_some() {
             write_joint(before, section, out)?;
             write!(out, "{lot}")?;
             before = Some(lot);

@@ -33,8 +33,10 @@ enum LotPattern {
     SpacedHeading,
     /// The fields of the heading, but for capitals.
     CasedHeading,
-    /// It has the fields of a lot's record.
+    /// It has the fields of a lot's record, without land.
     LotRecord,
+    /// The same, of the record of the township.
+    SecondLotRecord,
     /// It has the fields of a lot's record, with a comma in its acreage.
     CutAcres,
     /// The field to blame is this one, from 0, and a number with a word before it.
@@ -43,15 +45,26 @@ enum LotPattern {
     DecimalComma,
     /// The field to blame is an acreage, and a word after it.
     WithUnit,
+    /// The field to blame is empty.
+    EmptyField,
+    /// The field to blame has this byte in it.
+    Contains(u8),
+    /// The field to blame begins with this text, in small letters or capitals.
+    StartsField(&'static str),
+    /// The field to blame is letters of directions alone.
+    Letters,
+    /// Any record.
+    Any,
 }
 
 use LotPattern::{
-    Begins, CasedHeading, CutAcres, DecimalComma, Empty, EmptyFields, LongHeading, LotRecord,
-    OneField, Says, Spaced, SpacedHeading, WithUnit, Worded, Zeros,
+    Any, Begins, CasedHeading, Contains, CutAcres, DecimalComma, Empty, EmptyField, EmptyFields,
+    Letters, LongHeading, LotRecord, OneField, Says, SecondLotRecord, Spaced, SpacedHeading,
+    StartsField, WithUnit, Worded, Zeros,
 };
 
 /// The rows, by the numbers of refusals.
-const LOT_HINTS: [LotHint; 29] = [
+const LOT_HINTS: [LotHint; 37] = [
     LotHint(88, Zeros, "the file looks like UTF-16: save it as UTF-8"),
     LotHint(
         88,
@@ -71,7 +84,7 @@ const LOT_HINTS: [LotHint; 29] = [
     LotHint(
         88,
         LongHeading,
-        "delete the columns after the third, in every record of a lot",
+        "delete the columns after `acres`, or after `land`, in every record of a lot",
     ),
     LotHint(
         88,
@@ -134,8 +147,13 @@ const LOT_HINTS: [LotHint; 29] = [
     ),
     LotHint(
         89,
-        LotRecord,
+        SecondLotRecord,
         "the township is missing: write it as the second record, such as `T,2,N,3,W`",
+    ),
+    LotHint(
+        89,
+        LotRecord,
+        "the land is missing: write where the lot lies, as in `NE1/4NE1/4`",
     ),
     LotHint(91, Empty, "delete the empty row"),
     LotHint(91, Spaced, "spaces are significant here: delete the space"),
@@ -149,10 +167,46 @@ const LOT_HINTS: [LotHint; 29] = [
         "write a decimal point instead of the comma",
     ),
     LotHint(92, WithUnit, "write only the number"),
+    LotHint(
+        95,
+        EmptyField,
+        "delete the comma before it, or write the date of approval",
+    ),
+    LotHint(95, Spaced, "spaces are significant here: delete the space"),
+    LotHint(
+        95,
+        Contains(b'/'),
+        "write the year first, and hyphens, as in `1912-03-04`",
+    ),
+    LotHint(
+        96,
+        StartsField("sec"),
+        "leave out the section: it is the first field",
+    ),
+    LotHint(
+        96,
+        StartsField("lot"),
+        "write the lot's number in the second field, and the parts in which it lies here",
+    ),
+    LotHint(
+        96,
+        Letters,
+        "write a fraction after each direction, as in `NE1/4NE1/4`",
+    ),
+    LotHint(
+        100,
+        Any,
+        "add the other lots of the quarter-quarter, or a record without lot and acres for what is not there",
+    ),
 ];
 
-/// The words of the heading.
-const HEADING: [&str; 3] = ["section", "lot", "acres"];
+/// How many fields the record of a lot has, without land, and with it.
+const FIELDS: usize = 3;
+
+const LAND_FIELDS: usize = 4;
+
+/// The number of the township's record.
+const TOWNSHIP_RECORD: u32 = 2;
 
 /// Appends what mends a record with a refusal, of which this is the first field to blame.
 pub(crate) fn write_lots_hint(
@@ -204,14 +258,21 @@ impl LotPattern {
             LotPattern::EmptyFields => field > 0
                 && field < record.len()
                 && are_empty(record, field),
-            LotPattern::LongHeading => record.len() > HEADING.len() && is_like_heading(record),
+            LotPattern::LongHeading => record.len() > columns(record) && is_like_heading(record),
             LotPattern::SpacedHeading => is_like_heading(record) && has_spaces(record),
-            LotPattern::CasedHeading => record.len() == HEADING.len() && is_like_heading(record),
+            LotPattern::CasedHeading => record.len() == columns(record) && is_like_heading(record),
             LotPattern::LotRecord => is_lot_record(record),
+            LotPattern::SecondLotRecord => record.number == TOWNSHIP_RECORD
+                && is_lot_record(record),
             LotPattern::CutAcres => is_cut_record(record),
             LotPattern::Worded(place) => place == field && is_worded(record.text(field)),
             LotPattern::DecimalComma => is_decimal_comma(record.text(field)),
             LotPattern::WithUnit => is_with_unit(record.text(field)),
+            LotPattern::EmptyField => record.text(field).is_empty(),
+            LotPattern::Contains(byte) => record.text(field).contains(&byte),
+            LotPattern::StartsField(word) => begins(record.text(field), word),
+            LotPattern::Letters => is_letters(record.text(field)),
+            LotPattern::Any => true,
         }
     }
 }
@@ -226,26 +287,36 @@ fn has_spaces(record: &Record<'_>) -> bool {
     (0..record.len()).any(|place| is_spaced(record.text(place)))
 }
 
-/// Whether the first fields are those of the heading, but for capitals, and white space around.
+/// Whether the first fields are those that each heading has, but for capitals, and white space around.
 fn is_like_heading(record: &Record<'_>) -> bool {
-    for (place, word) in HEADING.iter().enumerate() {
-        if !is_word(record.text(place).trim_ascii(), word) {
-            return false;
-        }
+    is_heading(record, 0, "section")
+        && is_heading(record, 1, "lot")
+        && is_heading(record, 2, "acres")
+}
+
+/// Whether a field is a word of the heading, but for capitals, and white space around.
+fn is_heading(record: &Record<'_>, place: usize, word: &str) -> bool {
+    is_word(record.text(place).trim_ascii(), word)
+}
+
+/// How many fields of a heading are those of a table.
+fn columns(record: &Record<'_>) -> usize {
+    if is_heading(record, FIELDS, "land") {
+        return LAND_FIELDS;
     }
-    true
+    FIELDS
 }
 
 /// Whether a record has three fields, of which the first two are short numbers.
 fn is_lot_record(record: &Record<'_>) -> bool {
-    record.len() == HEADING.len()
+    record.len() == FIELDS
         && is_short_number(record.text(0), 2)
         && is_short_number(record.text(1), 2)
 }
 
 /// Whether a record has four fields, all numbers, of which the last one may be the decimals of the third.
 fn is_cut_record(record: &Record<'_>) -> bool {
-    record.len() == HEADING.len() + 1
+    record.len() == LAND_FIELDS
         && is_short_number(record.text(0), 2)
         && is_short_number(record.text(1), 2)
         && is_short_number(record.text(2), 3)
@@ -276,4 +347,12 @@ fn is_with_unit(text: &[u8]) -> bool {
         .count();
     let unit = text.get(number..).unwrap_or(b"").trim_ascii_start();
     number > 0 && matches!(unit.first(), Some(b'a'..=b'z' | b'A'..=b'Z'))
+}
+
+/// Whether a text is nothing but letters of directions.
+fn is_letters(text: &[u8]) -> bool {
+    !text.is_empty()
+        && text
+            .iter()
+            .all(|byte| matches!(*byte, b'N' | b'S' | b'E' | b'W'))
 }

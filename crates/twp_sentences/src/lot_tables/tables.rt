@@ -1,6 +1,6 @@
 //! What is wrong with a lot table.
 ghost use Rattle.std.specs.Prelude.{◌≡◌, ◌≤◌, ◌<◌, length, IfOk, MatchOption};
-ghost use Rattle.twp_notes.specs.Records.{records_of};
+ghost use Rattle.twp_notes.specs.Records.{records_of, record_numbered};
 ghost use Rattle.twp_diagnose.specs.RecordFields.{fields_in};
 ghost use Rattle.twp_sentences.specs.BlamedInTables.{IsOfTableRecord, IsTableRecordOf, ShowsBlamedInTable};
 ghost use Rattle.twp_sentences.specs.OtherTableRecords.{IsOtherTableRecord};
@@ -34,9 +34,10 @@ pub(crate) fn find(
         let help = String::new(alloc);
         return Ok(Finding::new(refusal, Location::Whole, sentence, help));
     };
-    let fields = blamed_in_table(fault, &record);
+    let lot_fields = lot_fields_of(alloc, table)?;
+    let fields = blamed_in_table(fault, &record, lot_fields);
     let mut sentence = String::new(alloc);
-    write_lots_fault(fault, &record, fields.first, &mut sentence)?;
+    write_lots_fault(fault, &record, fields.first, lot_fields, &mut sentence)?;
     let mut help = String::new(alloc);
     let earlier = earlier_of(alloc, table, fault, &record)?;
     if let Some(EarlierRecord { number, line, .. }) = earlier {
@@ -67,6 +68,17 @@ fn refused_record<'a>(
     match fault {
         LotsFault::TooLarge | LotsFault::Empty | LotsFault::Read | LotsFault::Memory => Ok(None),
         _ => Record::numbered(alloc, table.bytes, refusal.at),
+    }
+}
+
+/// How many fields a lot's record has: as many as the heading.
+fn lot_fields_of(alloc: Global, table: &Given<'_>) -> Result<usize, AllocError>
+    ensures { IfOk result
+        (λ count. count ≡ length (record_numbered (records_of table.now.bytes.now) 1)) }
+{
+    match Record::numbered(alloc, table.bytes, 1)? {
+        Some(heading) => Ok(heading.len()),
+        None => Ok(0),
     }
 }
 

@@ -34,8 +34,8 @@ never_clear text found are clear =
 pub with_doubt : (text : List ℕ) (found : Doubts) → AreDoubts text found → IsTrue false ↔ IsClear text
 with_doubt text found are = (λ no. cc no, λ clear. absurd (never_clear text found are clear))
 
-none_is_some : (refusal : Refusal) (none : Option Refusal) → none ≡ None → none ≡ Some refusal → ⊥
-none_is_some refusal none is has = cc (sym is ∙ has)
+none_is_some : (refusal : Refusal) (found : Option Refusal) → found ≡ None → found ≡ Some refusal → ⊥
+none_is_some refusal found is has = cc (sym is ∙ has)
 
 -- a text that is refused isn't clear
 pub if_refused : (text : List ℕ) (fault : TextFault) (refusal : Refusal)

@@ -3,8 +3,7 @@ use Rattle.std.proofs.Common.{◌≡◌, ◌↔◌, ℕ, Bool, List, IsTrue, fal
 use Rattle.std.proofs.lemmas.Bool.{false≢true}
 use Rattle.std.proofs.Common.{◌∙◌}
 use Rattle.twp_grid.specs.Townships.{Designation}
-use Rattle.twp_grid.specs.Lands.{ContainsAll, SamePlaces, difference}
-use Rattle.twp_grid.specs.Lands.{STANDARD_LOTS}
+use Rattle.twp_grid.specs.Lands.{Lotting, ContainsAll, SamePlaces, difference}
 use Rattle.twp_grammar.specs.declared.item.Item.{Item}
 use Rattle.twp_grammar.specs.ItemPlaces.{parts_of, land_of}
 use Rattle.twp_grammar.specs.OnPlat.{AreOnPlat, IsLandOfItems}
@@ -15,38 +14,41 @@ use Rattle.twp_suggest.specs.Descriptions.{NamesNoLand, as_written}
 use Rattle.twp_suggest.specs.Excepting.{IsParted}
 use Rattle.twp_suggest.specs.declared.meaning.wording.Excepted.{Excepted}
 
-pub is_land : (township : Designation) (text : List ℕ) (items : List Item) (places : ℕ → ℕ → ℕ → Bool)
-    → IsReadAs text items → IsLandOfItems STANDARD_LOTS township items places
-    → IsLandOfText township text places
-is_land township text items places read land = record { items = items; read = read; land = land }
+pub is_land : (lots : Lotting) (township : Designation) (text : List ℕ) (items : List Item)
+    (places : ℕ → ℕ → ℕ → Bool)
+    → IsReadAs text items → IsLandOfItems lots township items places
+    → IsLandOfText lots township text places
+is_land lots township text items places read land = record { items = items; read = read; land = land }
 
-pub is_only_land : (township : Designation) (text : List ℕ) (items : List Item) (places : ℕ → ℕ → ℕ → Bool)
+pub is_only_land : (lots : Lotting) (township : Designation) (text : List ℕ) (items : List Item)
+    (places : ℕ → ℕ → ℕ → Bool)
     → ((others : List Item) → IsReadAs text others → items ≡ others)
-    → IsLandOfItems STANDARD_LOTS township items places → IsOnlyLandOfText text places
-is_only_land township text items places only land = λ other others is.
+    → IsLandOfItems lots township items places → IsOnlyLandOfText lots text places
+is_only_land lots township text items places only land = λ other others is.
     is.land.land_is
-    ∙ ap (λ (named : List Item). land_of STANDARD_LOTS (parts_of named)) (sym (only is.items is.read))
+    ∙ ap (λ (named : List Item). land_of lots (parts_of named)) (sym (only is.items is.read))
     ∙ sym land.land_is
 
 -- a text whose items don't lie on the plat names no land
-pub no_land : (township : Designation) (text : List ℕ) (items : List Item)
+pub no_land : (lots : Lotting) (township : Designation) (text : List ℕ) (items : List Item)
     → ((others : List Item) → IsReadAs text others → items ≡ others)
-    → IsTrue false ↔ AreOnPlat STANDARD_LOTS township items → NamesNoLand township text
-no_land township text items only on_plat places is =
+    → IsTrue false ↔ AreOnPlat lots township items → NamesNoLand lots township text
+no_land lots township text items only on_plat places is =
     false≢true
     (on_plat.1
-    (subst (λ (its : List Item). AreOnPlat STANDARD_LOTS township its) (sym (only is.items is.read))
+    (subst (λ (its : List Item). AreOnPlat lots township its) (sym (only is.items is.read))
     is.land.on_plat))
 
 -- what is left of a text without its exception
-pub is_remainder : (made whole excepted : List ℕ) (at : ℕ) (text full : List ℕ) (items : List Item)
+pub is_remainder : (lots : Lotting) (made whole excepted : List ℕ) (at : ℕ) (text full : List ℕ)
+    (items : List Item)
     (township : Designation)
     (places less : ℕ → ℕ → ℕ → Bool) → ((others : List Item) → IsReadAs whole others → items ≡ others)
-    → IsLandOfText township whole places → IsLandOfText township excepted less
+    → IsLandOfText lots township whole places → IsLandOfText lots township excepted less
     → ContainsAll places less → ¬ SamePlaces places less
-    → IsCanonicalText STANDARD_LOTS township (difference places less) full → text ≡ as_written items full
-    → IsParted made whole excepted at → IsRemainder made text
-is_remainder made whole excepted at text full items township places less only of_whole of_excepted inside
+    → IsCanonicalText lots township (difference places less) full → text ≡ as_written items full
+    → IsParted made whole excepted at → IsRemainder lots made text
+is_remainder lots made whole excepted at text full items township places less only of_whole of_excepted inside
     some_left spelled written parted =
     record {
       whole = whole;

@@ -72,6 +72,13 @@ impl LandSoFar {
         Role::Kept(self.group)
     }
 
+    /// Ends an exception of the last section, before land of another one.
+    fn end_exception(&mut self) {
+        self.is_excepting = false;
+        self.excepted = None;
+        self.group = self.group.saturating_add(1);
+    }
+
     /// Takes land that is excepted: with no land since the last section, it is land of that section.
     fn take_excepted(&mut self, placed: &mut Placed, index: usize) {
         placed.role = Role::Kept(self.group);
@@ -110,12 +117,70 @@ impl<'a> Plan<'a> {
                 self.take_section_after_land(list, phrase, found);
             }
             Names::Except => placed.role = found.take_except(),
-            _ if found.is_excepting => found.take_excepted(placed, index),
             _ => {
-                placed.role = Role::Kept(found.group);
-                self.take_land(phrase, index, found);
+                if found.is_excepting && self.is_of_other_section(list.as_slice(), index, found) {
+                    found.end_exception();
+                }
+                self.take_or_except(list, index, found);
             }
         }
+    }
+
+    /// Takes the land at an index, or the land there that is excepted.
+    fn take_or_except(&self, list: &mut Vec<Placed>, index: usize, found: &mut LandSoFar) {
+        let Some(placed) = list.get_mut(index) else {
+            return;
+        };
+        if found.is_excepting {
+            return found.take_excepted(placed, index);
+        }
+        placed.role = Role::Kept(found.group);
+        self.take_land(placed.phrase, index, found);
+    }
+
+    /// Whether the land at an index isn't excepted with the land before it, since it is of another section,
+    /// which follows it with `of`, as in `All of Section 20, except the SESE thereof, and the W/2 of Section 21`.
+    fn is_of_other_section(&self, list: &[Placed], index: usize, found: &LandSoFar) -> bool {
+        let Some(before) = index.checked_sub(1) else {
+            return false;
+        };
+        let (Some(excepted), Some(land)) = (list.get(before), list.get(index)) else {
+            return false;
+        };
+        let is_of_one = match found.section {
+            Some(section) => self.count_of(section) == 1,
+            None => false,
+        };
+        is_of_one
+            && found.excepted.is_some()
+            && found.lands == 0
+            && self.are_set_apart_lands(&excepted.phrase, &land.phrase)
+            && self.is_before_other_section(list, index, found)
+    }
+
+    /// Whether `and`, with a comma or a semicolon or after `thereof`, is between two lands.
+    fn are_set_apart_lands(&self, one: &Phrase, other: &Phrase) -> bool {
+        let is_apart = self.draft.pieces.is(one.end, b"thereof")
+            || self.has_kind(one.end, other.first, Kind::Comma)
+            || self.has_kind(one.end, other.first, Kind::Semicolon);
+        is_apart && self.has_kind(one.end, other.first, Kind::And)
+    }
+
+    /// Whether the next section after an index is another one than the last, with `of` before it.
+    fn is_before_other_section(&self, list: &[Placed], index: usize, found: &LandSoFar) -> bool {
+        for placed in list.get(index..).unwrap_or(&[]) {
+            let phrase = placed.phrase;
+            match phrase.names {
+                Names::Sections => {
+                    return self.count_of(phrase) == 1
+                        && self.draft.pieces.follows(phrase.first, b"of")
+                        && !self.is_again(found.section, phrase);
+                }
+                Names::Part | Names::Lots | Names::All => {}
+                _ => return false,
+            }
+        }
+        false
     }
 
     /// Takes a section: that of the land since the last one, and of what is excepted.

@@ -224,11 +224,29 @@ impl<'a> Plan<'a> {
         }
         let distance = self.distance(last, found.place, section, index);
         if found.is_land_first {
-            found.take_near(distance);
-        } else {
-            found.take_far(distance);
-            found.await_land(distance);
+            return found.take_near(distance);
         }
+        let far = if self.begins_row_between(found.place, index) {
+            distance.or_longer(Distance::Semicolon)
+        } else {
+            distance
+        };
+        found.take_far(far);
+        found.await_land(far);
+    }
+
+    /// Whether a row begins with a township between two phrases, as in a register: what is before it is of the row
+    /// before.
+    fn begins_row_between(&self, first: usize, last: usize) -> bool {
+        let mut has_line = false;
+        for placed in self.draft.phrases.get(plus(first, 1)..last).unwrap_or(&[]) {
+            let phrase = &placed.phrase;
+            has_line = has_line || self.draft.pieces.has_before(phrase.first, b'\n');
+            if has_line && phrase.names == Names::Heading {
+                return true;
+            }
+        }
+        false
     }
 
     /// How far apart two phrases are, with their indexes. Phrases between them, which are no land, aren't

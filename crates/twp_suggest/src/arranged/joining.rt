@@ -196,44 +196,6 @@ impl<'a> Plan<'a> {
             || matches!(index.checked_sub(4), Some(label) if pieces.is_label_of_tract(label))
     }
 
-    /// Whether two corners without a fraction are in cells of their own: the second may be a part of the
-    /// first.
-    fn are_bare_cells(&self, before: &Phrase, after: &Phrase) -> bool {
-        let pieces = &self.draft.pieces;
-        pieces.has_before(after.first, b'\t')
-            && matches!(pieces.kind_before(before.end), Some(Kind::Corner(_)))
-            && matches!(pieces.kind_before(after.end), Some(Kind::Corner(_)))
-    }
-
-    /// Whether two corners without a fraction are in cells of their own, with commas between the cells of
-    /// their row, as in `2N,3W,14,NE,SE`: the second may be a part of the first.
-    fn are_comma_cells(&self, before: &Phrase, after: &Phrase) -> bool {
-        let pieces = &self.draft.pieces;
-        let Some(comma) = before.first.checked_sub(1) else {
-            return false;
-        };
-        self.is_after_cell(comma)
-            && pieces.is(comma, b",")
-            && pieces.is_joined(comma)
-            && pieces.is_joined(before.first)
-            && pieces.is_joined(before.end)
-            && pieces.is_joined(after.first)
-            && matches!(pieces.kind_before(before.end), Some(Kind::Corner(_)))
-            && matches!(pieces.kind_before(after.end), Some(Kind::Corner(_)))
-    }
-
-    /// Whether the side of a range, or a number after the comma of another cell, is before an index.
-    fn is_after_cell(&self, index: usize) -> bool {
-        let pieces = &self.draft.pieces;
-        let Some(last) = index.checked_sub(1) else {
-            return false;
-        };
-        let is_number = pieces.number(last).is_some()
-            && pieces.follows(last, b",")
-            && matches!(last.checked_sub(1), Some(mark) if pieces.is_joined(mark));
-        is_number || pieces.is_east_west(last)
-    }
-
     /// Whether other pieces than commas and semicolons between two lands may mean something else: only an
     /// ampersand or a plus sign doesn't, between parts that both have an `of`, or none, nor a colon after a
     /// section that is named again.
@@ -249,6 +211,9 @@ impl<'a> Plan<'a> {
                 }
             }
             if index < next || (pieces.is(index, b":") && has_section(left_out)) {
+                continue;
+            }
+            if self.is_edge_of_cell(index) && self.are_whole_cells(before, after, left_out) {
                 continue;
             }
             if !(pieces.is(index, b"&")

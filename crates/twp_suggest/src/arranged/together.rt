@@ -114,6 +114,11 @@ impl<'a> Plan<'a> {
                     is_land = true;
                     is_labelled = false;
                 }
+                // What is excepted is no further land, but its section has some.
+                Names::Except => {
+                    lands = plus(lands, usize::from(lands < sections));
+                    is_land = true;
+                }
                 Names::Nothing(LeftOut::Label) => {
                     let is_label = pieces.is_label_of_tract(phrase.first);
                     if is_label && is_labelled {

@@ -1,20 +1,19 @@
 //! The land that a text names, also by aliquot parts that include lots.
 ghost use Rattle.std.specs.Prelude.{◌≡◌, ℕ, ◌≤◌, true, IfOk};
 ghost use Rattle.twp_grid.specs.Winding.{IsSection};
-ghost use Rattle.twp_grid.specs.Lands.{HasWholeLots, IsWholeOrNot, Meets, block_places, union};
-ghost use Rattle.twp_grid.specs.Lands.{STANDARD_LOTS};
+ghost use Rattle.twp_grid.specs.Lands.{HasLots, HasWholeLots, lotting, union};
 ghost use Rattle.twp_grammar.specs.declared.item.Item.TheVariants.{Chain, All, Sections as RangeOfSections, Lots as RangeOfLots};
 ghost use Rattle.twp_grammar.specs.ItemPlaces.{item_of, item_places, land_of, parts_of, section_after};
-ghost use Rattle.twp_grid.specs.Lands.{HasLot};
 ghost use Rattle.twp_suggest.specs.Descriptions.{AreNamed};
 ghost use Rattle.twp_resolve.specs.steps.ResolvingSteps.{sections_from, lots_from, AreAdded, number_of_section};
 
 use crate::meaning::on_plat::read;
 use crate::meaning::unread::Unread;
 use std::alloc::{AllocError, Global};
+use twp_diagnose::holds_whole_lots;
 use twp_grammar::{Item, Numeral, Steps};
-use twp_grid::{Block, Section, lot_count};
-use twp_land::{Land, Lanes, PlaceSet};
+use twp_grid::{Block, Section};
+use twp_land::{Land, Lanes, Lotting, PlaceSet};
 use twp_read::Description;
 use twp_resolve::chain_block;
 
@@ -22,66 +21,119 @@ use twp_resolve::chain_block;
 #[derive(Clone, Copy, PartialEq, Eq)]
 struct Unnamed;
 
-/// Whether a text names land, also by aliquot parts that include lots, which `land` is then. It is filled in
-/// place, as in `find_land`. It names none if it names what no township has, land twice, or a part of a lot.
-pub fn find_named_land(alloc: Global, text: &[u8], land: &mut Lanes) -> Result<bool, AllocError>
+/// Whether a text names land of a plat with these lots, also by aliquot parts that include lots, which `land` is
+/// then. It is filled in place, as in `find_land`. It names none if it names what the plat doesn't have, land
+/// twice, or a part of a lot.
+pub fn find_named_land<P: Lotting>(
+    alloc: Global,
+    text: &[u8],
+    land: &mut Lanes,
+    lots: &P,
+) -> Result<bool, AllocError>
     ensures { IfOk result (λ it. it ≡ true →
-        AreNamed text.now (⟦<Lanes as PlaceSet>⟧.places land.new)) }
+        AreNamed (lotting (P.layout lots.now)) text.now (⟦<Lanes as PlaceSet>⟧.places land.new)) }
 {
     match read(alloc, text)? {
-        Some(description) => Ok(find_with_lots(&description, land)),
+        Some(description) => Ok(find_with_lots(&description, land, lots)),
         None => Ok(false),
     }
 }
 
 /// Whether a description names land, also by aliquot parts that include whole lots, which `land` is then.
-pub(crate) fn find_with_lots(description: &Description, land: &mut Lanes) -> bool
-    ensures named { result ≡ true →
-        ⟦<Lanes as PlaceSet>⟧.places land.new ≡ land_of STANDARD_LOTS (parts_of description.now) }
-    ensures whole { result ≡ true → HasWholeLots STANDARD_LOTS (⟦<Lanes as PlaceSet>⟧.places land.new) }
+pub(crate) fn find_with_lots<P: Lotting>(
+    description: &Description,
+    land: &mut Lanes,
+    lots: &P,
+) -> bool
+    ensures named { result ≡ true → ⟦<Lanes as PlaceSet>⟧.places land.new
+        ≡ land_of (lotting (P.layout lots.now)) (parts_of description.now) }
+    ensures whole { result ≡ true
+        → HasWholeLots (lotting (P.layout lots.now)) (⟦<Lanes as PlaceSet>⟧.places land.new) }
+    ensures on_land { result ≡ true → (section column row : ℕ)
+        → ⟦<Lanes as PlaceSet>⟧.places land.new section column row ≡ true
+        → (P.layout lots.now).has_land section column row ≡ true }
 {
-    let is_named = find_items(description, land);
+    let is_named = find_items(description, land, lots);
     if !is_named {
         return false;
     }
-    has_whole_lots(land)
+    let are_whole = has_whole_lots(land, lots);
+    if !are_whole {
+        return false;
+    }
+    is_on_land(land, lots)
 }
 
 /// Whether land contains each lot wholly or not at all. Only the sections between which it is are looked at,
 /// of which most have no lots.
-fn has_whole_lots<L: Land>(land: &L) -> bool
-    ensures { result ≡ true → HasWholeLots STANDARD_LOTS (L.places land.now) }
+fn has_whole_lots<L: Land, P: Lotting>(land: &L, lots: &P) -> bool
+    ensures { result ≡ true → HasWholeLots (lotting (P.layout lots.now)) (L.places land.now) }
 {
     let Some((first, last)) = land.sections() else {
         return true;
     };
     for number in first.number()..last.number() + 1 {
         let section = Section::new(number).unwrap();
-        if !holds_whole_lots(land, section) {
+        if !holds_whole_lots(land, section, lots) {
             return false;
         }
     }
     true
 }
 
-/// Whether land contains each lot of a section wholly or not at all.
-fn holds_whole_lots<L: Land>(land: &L, section: Section) -> bool
-    ensures { result ≡ true → (lot : ℕ) → IsWholeOrNot STANDARD_LOTS section lot (L.places land.now section) }
+/// Whether the plat has land at each place of a set.
+fn is_on_land<L: Land, P: Lotting>(land: &L, lots: &P) -> bool
+    ensures { result ≡ true → (section column row : ℕ) → L.places land.now section column row ≡ true
+        → (P.layout lots.now).has_land section column row ≡ true }
 {
-    for lot in 1..lot_count(section) + 1 {
-        let places = Block::of_lot(section, lot).unwrap();
-        if land.meets(section, places) && !land.full(section, places) {
+    let Some((first, last)) = land.sections() else {
+        return true;
+    };
+    for number in first.number()..last.number() + 1 {
+        let section = Section::new(number).unwrap();
+        if !is_on_land_in(land, section, lots) {
             return false;
         }
+    }
+    true
+}
+
+/// The same for the places of one section. Few sections have a place without land.
+#[inline(always)]
+fn is_on_land_in<L: Land, P: Lotting>(land: &L, section: Section, lots: &P) -> bool
+    ensures { result ≡ true → (column row : ℕ) → L.places land.now section column row ≡ true
+        → (P.layout lots.now).has_land section column row ≡ true }
+{
+    if !lots.lacks_land(section, Block::whole()) {
+        return true;
+    }
+    has_none_off_plat(land, section, lots)
+}
+
+/// Whether no place of a set in a section is off the plat's land there.
+#[inline(never)]
+fn has_none_off_plat<L: Land, P: Lotting>(land: &L, section: Section, lots: &P) -> bool
+    ensures { result ≡ true → (column row : ℕ) → L.places land.now section column row ≡ true
+        → (P.layout lots.now).has_land section column row ≡ true }
+{
+    let mut on_plat = L::empty();
+    if !lots.add_section(&mut on_plat, section) {
+        return false;
+    }
+    let mut off_plat = L::empty();
+    off_plat.add_land(land);
+    off_plat.take_away(&on_plat);
+    if off_plat.meets(section, Block::whole()) {
+        return false;
     }
     true
 }
 
 /// Why a description isn't read whose land isn't on the plat: it names some land twice, or a part of a lot.
 #[inline(never)]
-pub(crate) fn why_unread(description: &Description) -> Unread {
+pub(crate) fn why_unread<P: Lotting>(description: &Description, lots: &P) -> Unread {
     let mut land = Lanes::empty();
-    if find_items(description, &mut land) {
+    if find_items(description, &mut land, lots) {
         return Unread::Refused;
     }
     Unread::Unfit
@@ -90,14 +142,15 @@ pub(crate) fn why_unread(description: &Description) -> Unread {
 /// Whether the items of a description name land that a township has, and none of it twice; `land` is then all
 /// places of its items.
 #[tactic(auto, using(crate::proofs::meaning::NamedFacts::named_none, crate::proofs::meaning::NamedFacts::named_next, crate::proofs::meaning::NamedFacts::named_all))]
-fn find_items<L: Land>(description: &Description, land: &mut L) -> bool
-    ensures { result ≡ true → L.places land.new ≡ land_of STANDARD_LOTS (parts_of description.now) }
+fn find_items<L: Land, P: Lotting>(description: &Description, land: &mut L, lots: &P) -> bool
+    ensures { result ≡ true
+        → L.places land.new ≡ land_of (lotting (P.layout lots.now)) (parts_of description.now) }
 {
     let items = description.items();
     land.clear();
     let mut section = None;
     for item in items {
-        let Ok(after) = add_item(land, section, item) else {
+        let Ok(after) = add_item(land, section, item, lots) else {
             return false;
         };
         section = after;
@@ -106,37 +159,39 @@ fn find_items<L: Land>(description: &Description, land: &mut L) -> bool
 }
 
 /// Adds an item to the land of the items before it, and returns the section of the next item.
-fn add_item<L: Land>(
+fn add_item<L: Land, P: Lotting>(
     land: &mut L,
     section: Option<Section>,
     item: &Item,
+    lots: &P,
 ) -> Result<Option<Section>, Unnamed>
     ensures added { IfOk result (λ _. L.places land.new ≡ union (L.places land.old)
-        (item_places STANDARD_LOTS (item_of (number_of_section section) item.now))) }
+        (item_places (lotting (P.layout lots.now)) (item_of (number_of_section section) item.now))) }
     ensures after { IfOk result (λ after. number_of_section after
         ≡ section_after (number_of_section section) item.now) }
 {
     match item {
         Item::Heading { .. } => Ok(section),
         Item::Sections { first, last, whole } => {
-            let from = sections_named(land, *first, *last, *whole)?;
+            let from = sections_named(land, *first, *last, *whole, lots)?;
             Ok(Some(from))
         }
-        Item::Lots { first, last } => lots_named(land, section, *first, *last),
-        Item::Chain { steps, .. } => chain_named(land, section, steps),
-        Item::All { .. } => all_named(land, section),
+        Item::Lots { first, last } => lots_named(land, section, *first, *last, lots),
+        Item::Chain { steps, .. } => chain_named(land, section, steps, lots),
+        Item::All { .. } => all_named(land, section, lots),
     }
 }
 
 /// Adds the sections from the first to the last, if they are whole, and returns the first.
-fn sections_named<L: Land>(
+fn sections_named<L: Land, P: Lotting>(
     land: &mut L,
     first: Numeral,
     last: Numeral,
     whole: bool,
+    lots: &P,
 ) -> Result<Section, Unnamed>
     ensures added { IfOk result (λ _. (section : ℕ) → L.places land.new ≡ union (L.places land.old)
-        (item_places STANDARD_LOTS (item_of section (RangeOfSections first last whole)))) }
+        (item_places (lotting (P.layout lots.now)) (item_of section (RangeOfSections first last whole)))) }
     ensures first { IfOk result (λ section. section ≡ first.value) }
 {
     let from = section_of(first)?;
@@ -145,20 +200,22 @@ fn sections_named<L: Land>(
         return Err(Unnamed);
     }
     if whole {
-        add_sections(land, from.number(), to.number())?;
+        add_sections(land, from.number(), to.number(), lots)?;
     }
     Ok(from)
 }
 
 /// Adds the lots of a section from the first to the last.
-fn lots_named<L: Land>(
+fn lots_named<L: Land, P: Lotting>(
     land: &mut L,
     section: Option<Section>,
     first: Numeral,
     last: Numeral,
+    lots: &P,
 ) -> Result<Option<Section>, Unnamed>
     ensures added { IfOk result (λ _. L.places land.new ≡ union (L.places land.old)
-        (item_places STANDARD_LOTS (item_of (number_of_section section) (RangeOfLots first last)))) }
+        (item_places (lotting (P.layout lots.now))
+        (item_of (number_of_section section) (RangeOfLots first last)))) }
     ensures same { IfOk result (λ after. after ≡ section) }
 {
     let Some(section) = section else {
@@ -167,20 +224,23 @@ fn lots_named<L: Land>(
     if last.value < first.value {
         return Err(Unnamed);
     }
-    let from = lot_of(section, first)?;
-    let to = lot_of(section, last)?;
-    add_lots(land, section, from, to)?;
+    if !lots.has_lots(section, first.value, last.value) {
+        return Err(Unnamed);
+    }
+    add_lots(land, section, first.value, last.value, lots)?;
     Ok(Some(section))
 }
 
 /// Adds an aliquot part of a section.
-fn chain_named<L: Land>(
+fn chain_named<L: Land, P: Lotting>(
     land: &mut L,
     section: Option<Section>,
     steps: &Steps,
+    lots: &P,
 ) -> Result<Option<Section>, Unnamed>
     ensures added { IfOk result (λ _. (at : ℕ) → L.places land.new ≡ union (L.places land.old)
-        (item_places STANDARD_LOTS (item_of (number_of_section section) (Chain steps.now at)))) }
+        (item_places (lotting (P.layout lots.now))
+        (item_of (number_of_section section) (Chain steps.now at)))) }
     ensures same { IfOk result (λ after. after ≡ section) }
 {
     let Some(section) = section else {
@@ -189,62 +249,77 @@ fn chain_named<L: Land>(
     let Some(block) = chain_block(steps) else {
         return Err(Unnamed);
     };
-    add_block(land, section, block)?;
+    if land.meets(section, block) {
+        return Err(Unnamed);
+    }
+    land.add(section, block);
     Ok(Some(section))
 }
 
 /// Adds all of a section.
-fn all_named<L: Land>(land: &mut L, section: Option<Section>) -> Result<Option<Section>, Unnamed>
+fn all_named<L: Land, P: Lotting>(
+    land: &mut L,
+    section: Option<Section>,
+    lots: &P,
+) -> Result<Option<Section>, Unnamed>
     ensures added { IfOk result (λ _. (at : ℕ) → L.places land.new ≡ union (L.places land.old)
-        (item_places STANDARD_LOTS (item_of (number_of_section section) (All at)))) }
+        (item_places (lotting (P.layout lots.now)) (item_of (number_of_section section) (All at)))) }
     ensures same { IfOk result (λ after. after ≡ section) }
 {
     let Some(section) = section else {
         return Err(Unnamed);
     };
-    add_block(land, section, Block::whole())?;
+    if !lots.has_land(section) {
+        return Err(Unnamed);
+    }
+    if !lots.add_section(land, section) {
+        return Err(Unnamed);
+    }
     Ok(Some(section))
 }
 
-/// Adds a block of a section, if the land contains no place of it.
-fn add_block<L: Land>(land: &mut L, section: Section, block: Block) -> Result<(), Unnamed>
-    ensures { IfOk result (λ _. (¬ Meets (L.places land.old section) block)
-        × (L.places land.new ≡ union (L.places land.old) (block_places section block))) }
-{
-    if land.meets(section, block) {
-        return Err(Unnamed);
-    }
-    land.add(section, block);
-    Ok(())
-}
-
 /// Adds the whole sections from a first number to a last.
-fn add_sections<L: Land>(land: &mut L, first: u8, last: u8) -> Result<(), Unnamed>
+fn add_sections<L: Land, P: Lotting>(
+    land: &mut L,
+    first: u8,
+    last: u8,
+    lots: &P,
+) -> Result<(), Unnamed>
     requires first { IsSection first }
     requires last { IsSection last }
     requires order { first ≤ last }
-    ensures { IfOk result (λ _.
-        AreAdded (sections_from STANDARD_LOTS first last) (L.places land.old) (L.places land.new)) }
+    ensures { IfOk result (λ _. AreAdded (sections_from (lotting (P.layout lots.now)) first last)
+        (L.places land.old) (L.places land.new)) }
 {
     for number in first..last + 1 {
         let section = Section::new(number).unwrap();
-        add_block(land, section, Block::whole())?;
+        if !lots.has_land(section) {
+            return Err(Unnamed);
+        }
+        if !lots.add_section(land, section) {
+            return Err(Unnamed);
+        }
     }
     Ok(())
 }
 
 /// Adds the lots of a section from a first number to a last.
-fn add_lots<L: Land>(land: &mut L, section: Section, first: u8, last: u8) -> Result<(), Unnamed>
-    requires section { IsSection section }
-    requires first { HasLot STANDARD_LOTS section first }
-    requires last { HasLot STANDARD_LOTS section last }
+fn add_lots<L: Land, P: Lotting>(
+    land: &mut L,
+    section: Section,
+    first: u16,
+    last: u16,
+    lots: &P,
+) -> Result<(), Unnamed>
     requires order { first ≤ last }
-    ensures { IfOk result (λ _.
-        AreAdded (lots_from STANDARD_LOTS section first last) (L.places land.old) (L.places land.new)) }
+    requires have { HasLots (lotting (P.layout lots.now)) section first last }
+    ensures { IfOk result (λ _. AreAdded (lots_from (lotting (P.layout lots.now)) section first last)
+        (L.places land.old) (L.places land.new)) }
 {
     for lot in first..last + 1 {
-        let block = Block::of_lot(section, lot).unwrap();
-        add_block(land, section, block)?;
+        if !lots.add_lot(land, section, lot as u8) {
+            return Err(Unnamed);
+        }
     }
     Ok(())
 }
@@ -257,17 +332,4 @@ fn section_of(number: Numeral) -> Result<Section, Unnamed>
         return Err(Unnamed);
     }
     Section::new(number.value as u8).ok_or(Unnamed)
-}
-
-/// The lot with a number in a section.
-#[tactic(auto, using(twp_land::proofs::LottingFacts::standard_has))]
-fn lot_of(section: Section, number: Numeral) -> Result<u8, Unnamed>
-    ensures lot { IfOk result (λ lot. (lot ≡ number.value) × HasLot STANDARD_LOTS section number.value) }
-    ensures section { IsSection section }
-{
-    let count = u16::from(lot_count(section));
-    if number.value < 1 || number.value > count {
-        return Err(Unnamed);
-    }
-    Ok(number.value as u8)
 }

@@ -1,7 +1,7 @@
 //! The description that comes of a changed text: the text, or the canonical description of what is left
 //! without the land that it excepts.
 ghost use Rattle.std.specs.Prelude.{◌≡◌, ◌≤◌, ◌++◌, IfOk, IfSome, IsTrue, OnOk, drop, length};
-ghost use Rattle.twp_grid.specs.Lands.{ContainsAll, SamePlaces};
+ghost use Rattle.twp_grid.specs.Lands.{ContainsAll, SamePlaces, lotting};
 ghost use Rattle.twp_grammar.specs.Sentences.{IsReadAs};
 ghost use Rattle.twp_suggest.specs.Descriptions.{AreItemsOf, AreLotsNamed, IsAccepted, IsDescribed};
 ghost use Rattle.twp_suggest.specs.Descriptions.{IsRemainder, NamesTownship};
@@ -17,7 +17,7 @@ use crate::meaning::unread::Unread;
 use std::alloc::{AllocError, Global};
 use twp_grammar::Item;
 use twp_grid::Township;
-use twp_land::{Land, Lanes, OneLanes, PlaceSet, StandardLots};
+use twp_land::{Land, Lanes, Lotting, OneLanes, PlaceSet};
 use twp_read::Description;
 use twp_resolve::{PlaceFault, names_one_section, resolve_if_room, resolve_into};
 use twp_spell::spell;
@@ -48,17 +48,22 @@ pub struct Wording {
     pub excepted: Option<Excepted>,
 }
 
-/// The description that comes of a changed text in its township, or in any if it names none. None if it names
-/// some land twice, or a part that is too fine.
-pub fn described(alloc: Global, made: Vec<u8>, has_except: bool) -> Result<Option<Wording>, Unread>
+/// The description that comes of a changed text in its township, or in any if it names none, on a plat with
+/// these lots. None if it names some land twice, or a part that is too fine.
+pub fn described<P: Lotting>(
+    alloc: Global,
+    made: Vec<u8>,
+    has_except: bool,
+    lots: &P,
+) -> Result<Option<Wording>, Unread>
     ensures described { IfOk result (λ it. IfSome it (λ found.
-        IsDescribed found.manner made.items found.text.items)) }
+        IsDescribed (lotting (P.layout lots.now)) found.manner made.items found.text.items)) }
     ensures accepted { IfOk result (λ it. IfSome it (λ found. IsAccepted found.text.items)) }
     ensures items { IfOk result (λ it. IfSome it (λ found.
         AreItemsOf made.items found.items found.excepted)) }
 {
     if has_except {
-        let wording = without_excepted(alloc, made.as_slice())?;
+        let wording = without_excepted(alloc, made.as_slice(), lots)?;
         accept(alloc, wording.text.as_slice())?;
         return Ok(Some(wording));
     }
@@ -68,7 +73,7 @@ pub fn described(alloc: Global, made: Vec<u8>, has_except: bool) -> Result<Optio
     let Some(township) = first_township(description.items()) else {
         return Err(Unread::Refused);
     };
-    match is_on_plat(&description, township) {
+    match is_on_plat(&description, township, lots) {
         Ok(()) => Ok(Some(Wording {
             text: made,
             manner: Manner::Changed,
@@ -77,7 +82,7 @@ pub fn described(alloc: Global, made: Vec<u8>, has_except: bool) -> Result<Optio
         })),
         Err(PlaceFault::Overlap { .. } | PlaceFault::TooFine { .. }) => Ok(None),
         Err(PlaceFault::OnLot { .. }) => {
-            let text = with_lots_named(alloc, made.as_slice(), &description, township)?;
+            let text = with_lots_named(alloc, made.as_slice(), &description, township, lots)?;
             accept(alloc, text.as_slice())?;
             Ok(Some(Wording {
                 text,
@@ -92,21 +97,29 @@ pub fn described(alloc: Global, made: Vec<u8>, has_except: bool) -> Result<Optio
 
 /// Whether what a description names is on the plat of a township, or its first fault. Most descriptions name
 /// land in one section, for which a small set of places is enough.
-fn is_on_plat(description: &Description, township: Township) -> Result<(), PlaceFault> {
+fn is_on_plat<P: Lotting>(
+    description: &Description,
+    township: Township,
+    lots: &P,
+) -> Result<(), PlaceFault> {
     if names_one_section(description) {
         let mut land = OneLanes::empty();
-        if resolve_if_room(&mut land, description, township, &StandardLots)? {
+        if resolve_if_room(&mut land, description, township, lots)? {
             return Ok(());
         }
     }
-    is_on_plat_in_all(description, township)
+    is_on_plat_in_all(description, township, lots)
 }
 
 /// The same for land in any sections. Not inlined, since its set of land would be cleared for each text.
 #[inline(never)]
-fn is_on_plat_in_all(description: &Description, township: Township) -> Result<(), PlaceFault> {
+fn is_on_plat_in_all<P: Lotting>(
+    description: &Description,
+    township: Township,
+    lots: &P,
+) -> Result<(), PlaceFault> {
     let mut land = Lanes::empty();
-    resolve_into(&mut land, description, township, &StandardLots)
+    resolve_into(&mut land, description, township, lots)
 }
 
 /// Reads a canonical description.
@@ -122,41 +135,43 @@ fn accept(alloc: Global, text: &[u8]) -> Result<(), Unread>
 /// The canonical description of the land of a text in which aliquot parts include whole lots.
 #[tactic(auto, using(crate::proofs::meaning::NamedFacts::are_lots_named))]
 #[inline(never)]
-fn with_lots_named(
+fn with_lots_named<P: Lotting>(
     alloc: Global,
     made: &[u8],
     description: &Description,
     township: Township,
+    lots: &P,
 ) -> Result<Vec<u8>, Unread>
     requires read { IsReadAs made.now description.now }
     requires township { NamesTownship description.now township }
-    ensures { IfOk result (λ text. AreLotsNamed made.now text.items) }
+    ensures { IfOk result (λ text. AreLotsNamed (lotting (P.layout lots.now)) made.now text.items) }
 {
     let mut land = Lanes::empty();
-    let is_named = find_with_lots(description, &mut land);
+    let is_named = find_with_lots(description, &mut land, lots);
     if !is_named {
-        return Err(why_unread(description));
+        return Err(why_unread(description, lots));
     }
-    let full = spell(alloc, &land, township, &StandardLots)?;
+    let full = spell(alloc, &land, township, lots)?;
     let text = as_written(alloc, description, full.as_slice())?;
     Ok(text)
 }
 
 /// The canonical description of the land of a text that it doesn't except.
-fn without_excepted(alloc: Global, made: &[u8]) -> Result<Wording, Unread>
-    ensures described { IfOk result (λ found. IsDescribed found.manner made.now found.text.items) }
+fn without_excepted<P: Lotting>(alloc: Global, made: &[u8], lots: &P) -> Result<Wording, Unread>
+    ensures described { IfOk result (λ found.
+        IsDescribed (lotting (P.layout lots.now)) found.manner made.now found.text.items) }
     ensures items { IfOk result (λ found. AreItemsOf made.now found.items found.excepted) }
 {
     let Some(parts) = around_except(made) else {
         return Err(Unread::Refused);
     };
-    match of_last(alloc, made, parts) {
+    match of_last(alloc, made, parts, lots) {
         Ok(wording) => Ok(wording),
         Err(Unread::Memory) => Err(Unread::Memory),
         Err(unread) => {
             // Another section may follow the exception.
             if parts.excepted.contains(&b';') {
-                of_each(alloc, made)
+                of_each(alloc, made, lots)
             } else {
                 Err(unread)
             }
@@ -165,24 +180,31 @@ fn without_excepted(alloc: Global, made: &[u8]) -> Result<Wording, Unread>
 }
 
 /// The description of a text without its exception, which is of the last land.
-fn of_last(alloc: Global, made: &[u8], parts: Excepting<'_>) -> Result<Wording, Unread>
+fn of_last<P: Lotting>(
+    alloc: Global,
+    made: &[u8],
+    parts: Excepting<'_>,
+    lots: &P,
+) -> Result<Wording, Unread>
     requires { made.now ≡ parts.whole.now ++ except ++ parts.excepted.now }
-    ensures described { IfOk result (λ found. IsDescribed found.manner made.now found.text.items) }
+    ensures described { IfOk result (λ found.
+        IsDescribed (lotting (P.layout lots.now)) found.manner made.now found.text.items) }
     ensures items { IfOk result (λ found. AreItemsOf made.now found.items found.excepted) }
 {
     let at = parts.whole.len() + EXCEPT.len();
-    remainder(alloc, made, parts.whole, parts.excepted, at)
+    remainder(alloc, made, parts.whole, parts.excepted, at, lots)
 }
 
 /// The description of a text without its exceptions, each of which ends with a semicolon.
 #[inline(never)]
-fn of_each(alloc: Global, made: &[u8]) -> Result<Wording, Unread>
-    ensures described { IfOk result (λ found. IsDescribed found.manner made.now found.text.items) }
+fn of_each<P: Lotting>(alloc: Global, made: &[u8], lots: &P) -> Result<Wording, Unread>
+    ensures described { IfOk result (λ found.
+        IsDescribed (lotting (P.layout lots.now)) found.manner made.now found.text.items) }
     ensures items { IfOk result (λ found. AreItemsOf made.now found.items found.excepted) }
 {
     let whole = kept(alloc, made)?;
     let excepted = taken(alloc, made)?;
-    remainder(alloc, made, whole.as_slice(), excepted.as_slice(), 0)
+    remainder(alloc, made, whole.as_slice(), excepted.as_slice(), 0, lots)
 }
 
 /// The texts before the first `except` and after it.
@@ -218,15 +240,17 @@ fn split_at_except(text: &[u8], at: usize) -> Option<Excepting<'_>>
 /// would be cleared for each text.
 #[tactic(auto, using(crate::proofs::meaning::LandFacts::are_excepted))]
 #[inline(never)]
-fn remainder(
+fn remainder<P: Lotting>(
     alloc: Global,
     _made: &[u8],
     whole: &[u8],
     excepted: &[u8],
     at: usize,
+    lots: &P,
 ) -> Result<Wording, Unread>
     requires { IsParted _made.now whole.now excepted.now at }
-    ensures described { IfOk result (λ found. IsDescribed found.manner _made.now found.text.items) }
+    ensures described { IfOk result (λ found.
+        IsDescribed (lotting (P.layout lots.now)) found.manner _made.now found.text.items) }
     ensures items { IfOk result (λ found. AreItemsOf _made.now found.items found.excepted) }
 {
     let mut land = Lanes::empty();
@@ -237,20 +261,20 @@ fn remainder(
     let Some(township) = first_township(description.items()) else {
         return Err(Unread::Refused);
     };
-    let Ok(()) = resolve_into(&mut land, &description, township, &StandardLots) else {
-        return Err(why_unread(&description));
+    let Ok(()) = resolve_into(&mut land, &description, township, lots) else {
+        return Err(why_unread(&description, lots));
     };
     let Some(items) = read(alloc, excepted)? else {
         return Err(Unread::Refused);
     };
-    let Ok(()) = resolve_into(&mut less, &items, township, &StandardLots) else {
-        return Err(why_unread(&items));
+    let Ok(()) = resolve_into(&mut less, &items, township, lots) else {
+        return Err(why_unread(&items, lots));
     };
     if !is_proper_part(&less, &land) {
         return Err(Unread::Unfit);
     }
     land.take_away(&less);
-    let full = spell(alloc, &land, township, &StandardLots)?;
+    let full = spell(alloc, &land, township, lots)?;
     let text = as_written(alloc, &description, full.as_slice())?;
     Ok(Wording {
         text,

@@ -2,9 +2,9 @@
 
 use std::io;
 use twp_answers::{Stop, acres_of, land_of};
-use twp_grid::Bytes;
+use twp_grid::{Bytes, Section};
 use twp_land::{Comparison, Land, LandRows, Lanes, StandardLots, compare};
-use twp_plat::{Account, LOTS, LotTable, Plat, area_by_lots};
+use twp_plat::{Account, LOTS, LotTable, Plat, ReturnedLots, area_by_lots};
 use twp_spell::spell;
 
 /// Pairs of descriptions, which are combined and compared.
@@ -78,7 +78,7 @@ fn print_lot_text(rt: &HostRuntime, text: &str) -> io::Result<()> {
     match LotTable::read(rt.alloc(), &mut source) {
         Ok(table) => {
             rt.print("a lot table:")?;
-            for figure in table.figures().iter() {
+            for figure in table.lots.figures.iter() {
                 if *figure > 0 {
                     rt.print(" ")?;
                     rt.print(*figure)?;
@@ -125,7 +125,7 @@ fn print_pair(rt: &HostRuntime, plat: &Plat, first: &str, second: &str) -> io::R
 
 /// The land of a description on a plat.
 fn parcel(rt: &HostRuntime, plat: &Plat, text: &str) -> Result<Lanes, Stop> {
-    land_of(rt.alloc(), plat.township(), text.as_bytes())
+    land_of(rt.alloc(), plat.township(), text.as_bytes(), &StandardLots)
 }
 
 /// The name of a comparison.
@@ -151,7 +151,7 @@ fn print_parcel(rt: &HostRuntime, plat: &Plat, lead: &str, land: &Lanes) -> io::
     rt.print(acres_of(plat, &land, Account::Plat))?;
     rt.print(" hundredths of an acre; its text is ")?;
     let text = spell(rt.alloc(), &land, plat.township(), &StandardLots)?;
-    match land_of(rt.alloc(), plat.township(), text.as_slice()) {
+    match land_of(rt.alloc(), plat.township(), text.as_slice(), &StandardLots) {
         Ok(again) => rt.println(name_of(compare(&again, &land))),
         Err(stop) => rt.println(stop),
     }
@@ -189,27 +189,26 @@ fn try_lots(rt: &HostRuntime, plat: &Plat) -> io::Result<()> {
             figures[*index] = *figure;
         }
     }
-    let Some(table) = LotTable::new(plat.township(), &figures) else {
-        return rt.println("no lot table");
-    };
+    let lots = ReturnedLots::standard(&figures);
     for text in BY_LOTS.iter() {
-        print_by_lots(rt, plat, &table, text)?;
+        print_by_lots(rt, plat, &lots, text)?;
     }
     figures[0] = 100_000;
-    rt.print("1,000 acres in a lot table: it is none: ")?;
-    rt.println(LotTable::new(plat.township(), &figures).is_none())
+    rt.print("1,000 acres in a lot table: it lacks the lot: ")?;
+    let first = Section::new(1).unwrap();
+    rt.println(ReturnedLots::standard(&figures).figure(first, 1).is_none())
 }
 
 /// Prints the acres of a description by a lot table.
-fn print_by_lots(rt: &HostRuntime, plat: &Plat, table: &LotTable, text: &str) -> io::Result<()> {
+fn print_by_lots(rt: &HostRuntime, plat: &Plat, lots: &ReturnedLots, text: &str) -> io::Result<()> {
     rt.print("by the lot table, `")?;
     rt.print(text)?;
     rt.print("`: ")?;
-    let land = match land_of(rt.alloc(), plat.township(), text.as_bytes()) {
+    let land = match land_of(rt.alloc(), plat.township(), text.as_bytes(), &lots.plat) {
         Ok(land) => land,
         Err(stop) => return rt.println(stop),
     };
-    match area_by_lots(table, &land) {
+    match area_by_lots(lots, &land) {
         Ok(area) => {
             rt.print(area.hundredths())?;
             rt.println(" hundredths of an acre")

@@ -1,17 +1,23 @@
 """A folder of townships: their field notes, and their lot tables."""
 from __future__ import annotations
 
+import datetime
 import os
 from dataclasses import dataclass, field
-from typing import Dict, List, NamedTuple, Optional, Sequence, Union
+from typing import Dict, List, NamedTuple, Optional, Sequence, Tuple, Union
 
+from .. import _library
 from .._lots import Lots
 from .._text import Path, shown
 from .._township import Township
+from .dates import dated_in, listed
 from .files import Basis, Unrecognized, basis_in
 from .stopped import Status, Stopped, reading
 
 _SUFFIX = ".csv"
+
+#: What a lot table without a date has in place of one.
+_NO_DATE = datetime.date.min
 
 #: The key of the townships in no folder of a meridian.
 NO_MERIDIAN = ""
@@ -25,6 +31,19 @@ class PlatFile(NamedTuple):
     name: str
     by: Basis
 
+    @property
+    def date(self) -> Optional[datetime.date]:
+        """The date of a lot table, if it has one."""
+        return self.by.date if isinstance(self.by, Lots) else None
+
+
+class NoFile(NamedTuple):
+    """Why acreage in a township is computed by none of its files."""
+
+    fault: str
+    #: Whether a file is missing. Otherwise, one is refused, or two are different.
+    is_missing: bool = False
+
 
 @dataclass
 class PlatFiles:
@@ -33,23 +52,63 @@ class PlatFiles:
     township: Township
     notes: List[PlatFile] = field(default_factory=list)
     tables: List[PlatFile] = field(default_factory=list)
+    #: The paths of lot tables that are refused, by their dates.
+    refused: Dict[datetime.date, str] = field(default_factory=dict)
 
     def add(self, file: PlatFile) -> None:
         """Add a file."""
         (self.tables if isinstance(file.by, Lots) else self.notes).append(file)
 
-    def controlling(self) -> Union[PlatFile, str]:
-        """Return the file that acreage is computed by, or why there is none.
+    def controlling(self, folder: str, date: Optional[datetime.date] = None) -> Union[PlatFile, NoFile]:
+        """Return the file of a folder that acreage is computed by, or why there is none.
 
-        The acreage that the approved plat returns controls: a lot table comes before field notes. Several files of a
-        kind must be the same.
+        The acreage that the approved plat returns controls: a lot table comes before field notes. Of several tables,
+        it is that of the date, or without one the newest: a table without a date counts as older than any other. No
+        older table is used if the newest is refused. Several files of a kind, and of one date, must be the same: if
+        they are not, one of them is not of this township, and perhaps the others aren't, either.
         """
+        different = self._different()
+        if different is not None:
+            return different
+        if date is not None:
+            dated = next((each for each in self.tables if each.date == date), None)
+            return dated or self._without(date, folder)
+        newest = max(self.tables, key=_age, default=None)
+        if self.refused and max(self.refused) > (_NO_DATE if newest is None else _age(newest)):
+            return self._refused(max(self.refused))
+        return newest or self.notes[0]
+
+    def _different(self) -> Optional[NoFile]:
+        """Return that two files of a kind, and of one date, are different, if any are."""
+        first: Dict[Tuple[str, Optional[datetime.date]], PlatFile] = {}
         for kind, files in (("lot tables", self.tables), ("field notes", self.notes)):
-            other = next((each for each in files if each.by != files[0].by), None)
-            if other is not None:
-                names = f"{shown(files[0].path)} and {shown(other.path)}"
-                return f"two files have different {kind} for {self.township}: {names}"
-        return (self.tables or self.notes)[0]
+            for each in files:
+                before = first.setdefault((kind, each.date), each)
+                if each.by != before.by:
+                    dated = f" of {each.date}" if each.date else ""
+                    names = f"{shown(before.path)} and {shown(each.path)}"
+                    return NoFile(f"two files have different {kind}{dated} for {self.township}: {names}")
+        return None
+
+    def _without(self, date: datetime.date, folder: str) -> NoFile:
+        """Return that there is no lot table of a date, with the dates of those that there are."""
+        if date in self.refused:
+            return self._refused(date)
+        dates = {each.date for each in self.tables if each.date is not None}
+        others = f"; there are those of {listed(dates)}" if len(dates) > 1 else ""
+        if len(dates) == 1:
+            others = f"; there is one of {listed(dates)}"
+        return NoFile(f"there is no lot table of {date} for {self.township} in {folder}{others}", is_missing=True)
+
+
+    def _refused(self, date: datetime.date) -> NoFile:
+        """Return that the lot table of a date is refused."""
+        return NoFile(f"the lot table of {date} for {self.township} is refused: {shown(self.refused[date])}")
+
+
+def _age(table: PlatFile) -> datetime.date:
+    """Return the date of a lot table: the first of all dates if it has none."""
+    return table.date or _NO_DATE
 
 
 #: The files of each township.
@@ -101,36 +160,47 @@ class Folder:
                 raise
             self.files.append(path)
             self.refused.append(str(stopped))
+            self._note_refused(path, meridian)
             return
         self.files.append(path)
-        townships = self.meridians.setdefault(meridian, {})
-        files = townships.setdefault(by.township, PlatFiles(by.township))
+        files = self._files_of(by.township, meridian)
         files.add(PlatFile(path, shown(os.path.relpath(path, self.name)), by))
+
+    def _files_of(self, township: Township, meridian: str) -> PlatFiles:
+        return self.meridians.setdefault(meridian, {}).setdefault(township, PlatFiles(township))
+
+    def _note_refused(self, path: str, meridian: str) -> None:
+        """Note which plat a file that is refused is about, if its second record says so."""
+        with reading(path), open(path, "rb") as file:
+            dated = dated_in(file.read(_library.LOTS_TEXT_MOST))
+        if dated is not None:
+            self._files_of(dated.township, meridian).refused[dated.date] = path
 
     def _is_other(self, path: str) -> bool:
         """Return whether a file is the list, or the output."""
         return any(os.path.exists(other) and os.path.samefile(other, path) for other in self._others)
 
 
-def plats_in(name: Path, meridian: Optional[str]) -> List[Basis]:
-    """Return the plat or the lot table of each township in a folder.
+def plats_in(given: Path, meridian: Optional[str]) -> List[Basis]:
+    """Return the plat or the newest lot table of each township in a folder.
 
     Raise `OSError` if it can't be read, and `ValueError` if a file is refused, if two files of a township are
     different, or if the meridian is not one of the folder.
     """
     try:
-        folder = Folder(os.fsdecode(name))
+        folder = Folder(os.fsdecode(given))
     except Stopped as stopped:
         if isinstance(stopped.__cause__, OSError):
             raise stopped.__cause__
         raise ValueError(str(stopped)) from None
     if folder.refused:
         raise ValueError("\n".join(folder.refused))
-    controlling = [files.controlling() for files in _townships_on(folder, meridian).values()]
-    faults = [each for each in controlling if isinstance(each, str)]
+    name = shown(folder.name)
+    controlling = [files.controlling(name) for files in _townships_on(folder, meridian).values()]
+    faults = [each.fault for each in controlling if isinstance(each, NoFile)]
     if faults:
         raise ValueError("\n".join(faults))
-    return [each.by for each in controlling if not isinstance(each, str)]
+    return [each.by for each in controlling if isinstance(each, PlatFile)]
 
 
 def _townships_on(folder: Folder, meridian: Optional[str]) -> Townships:

@@ -5,10 +5,12 @@ from fractions import Fraction
 from math import prod
 from typing import Any, Dict, List, Optional, Sequence, Tuple
 
+from .. import _library
 from .._account import Account
 from .._ignored import Phrases
 from .._land import Land
 from .._lands import Lands, PartRefused, parts_and_lands
+from .._lots import Lots
 from .._part_readings import suggest_parts
 from .._phrases import tidy
 from .._plat import Plat
@@ -26,6 +28,9 @@ from .plats import MISSING, Found, HeadedPlats
 
 #: What is between the files, the acreages, and the faults of several townships.
 _BETWEEN = "; "
+
+#: The refusals of a description that depend on where lots are.
+_FOR_LOTS = (_library.REFUSAL_LAND_NO_LOT, _library.REFUSAL_LAND_ON_LOT)
 
 #: The fields of a record in the columns that its plat depends on.
 _Fields = Tuple[Any, ...]
@@ -104,9 +109,10 @@ class HeadedAnswers(Answers):
     def _located(self, given: bytes, fields: _Fields) -> Located:
         """Return the answer to a description by the files of its townships. Raise `_Unanswered` if there is none."""
         try:
-            parts = parts_and_lands(given)
+            parts = parts_and_lands(given, lambda township: self._table_of(township, fields))
         except PartRefused as error:
             refused = error.refused
+            self._check_lots_of(given, error, fields)
             raise _Unanswered(_sentence_of(refused), Refusal(refused.number, error.at)) from None
         lands = Lands(land for _, land in parts).by_township()
         by = self._by_township(list(lands), fields)
@@ -119,6 +125,19 @@ class HeadedAnswers(Answers):
             files=_BETWEEN.join(dict.fromkeys(each.file for each in self._found_for(list(lands), fields))),
             figures=_BETWEEN.join(figures),
         )
+
+    def _table_of(self, township: Township, fields: _Fields) -> Optional[Lots]:
+        """Return the lot table of a township, if it says where its lots lie."""
+        by = self._headed.plat_in(township, *fields).by
+        return by if isinstance(by, Lots) and by.has_land else None
+
+    def _check_lots_of(self, given: bytes, error: PartRefused, fields: _Fields) -> None:
+        """Raise `_Unanswered` if a part is refused for lots of a township for which there is no plat: nobody knows them."""
+        if error.refused.number in _FOR_LOTS:
+            found = [self._headed.plat_in(part.township, *fields) for part in split(given) if part.start == error.start]
+            for each in found:
+                if each.by is None:
+                    raise _Unanswered(each.fault, missing=_missing(found)) from None
 
     def _by_township(self, townships: Sequence[Township], fields: _Fields) -> Dict[Township, Basis]:
         """Return what land in each township is measured by. Raise `_Unanswered` if there is nothing for one."""

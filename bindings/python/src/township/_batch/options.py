@@ -28,6 +28,8 @@ class Options(NamedTuple):
     township: str = "township"
     #: If it is `None`, a column `meridian` is used if there is one.
     meridian: Optional[str] = None
+    #: The column of the date of the plat. If it is `None`, the newest lot table of a township is used.
+    date: Optional[str] = None
     #: The sheet of a workbook. If it is `None`, it is the one that is shown when the workbook is opened.
     sheet: Optional[str] = None
     #: What the name of each added column begins with.

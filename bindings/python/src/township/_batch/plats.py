@@ -9,8 +9,9 @@ from .._spelling import township_spelled
 from .._text import shown
 from .._township import Township
 from .cells import text_of
+from .dates import date_in
 from .files import Basis
-from .folder import NO_MERIDIAN, Folder, Townships, meridian_key
+from .folder import NO_MERIDIAN, Folder, NoFile, Townships, meridian_key
 from .stopped import Stopped
 
 #: What the column of files contains if there is no file for a record's township.
@@ -92,6 +93,16 @@ class Key(NamedTuple):
     township: Optional[int]
     #: `None` if the list has no such column.
     meridian: Optional[int]
+    #: The date of its plat. `None` if it is the newest one.
+    date: Optional[int] = None
+
+
+class _Cells(NamedTuple):
+    """What these columns contain. A column that is not used contains nothing."""
+
+    township: str
+    meridian: str
+    date: str
 
 
 class FolderPlats:
@@ -133,29 +144,37 @@ class FolderPlats:
 
     def plat_of(self, *fields: Any) -> Found:
         """Return what a record with these fields in the columns is answered by."""
-        township, meridian = (*fields, "")[:2]
-        return self._remembered(text_of(township).strip(), text_of(meridian).strip())
+        return self._remembered(self._cells_of(fields))
 
-    def _find(self, spelling: str, meridian: str) -> Found:
+    def _cells_of(self, fields: Sequence[Any]) -> _Cells:
+        """Return the texts of these fields in the columns."""
+        given = iter(fields)
+        return _Cells(*("" if index is None else text_of(next(given)).strip() for index in self._key))
+
+    def _find(self, cells: _Cells) -> Found:
         """Return what is in the folder for the township that is spelled so."""
-        townships = self._townships_on(meridian)
+        townships = self._townships_on(cells.meridian)
         if isinstance(townships, Found):
             return townships
         try:
-            township = township_spelled(spelling)
+            township = township_spelled(cells.township)
         except Refused as refused:
             return Found(None, fault=str(refused), refusal=Refusal(refused.number, refused.at))
-        return self._found_in(townships, township)
+        return self._found_in(townships, township, cells.date)
 
-    def _found_in(self, townships: Townships, township: Township) -> Found:
-        """Return what is in the folder for a township."""
+    def _found_in(self, townships: Townships, township: Township, written: str) -> Found:
+        """Return what is in the folder for a township, and for the date that is written so."""
+        try:
+            date = date_in(written)
+        except ValueError as error:
+            return Found(None, fault=str(error))
         files = townships.get(township)
         if files is None:
             fault = f"there are no field notes and no lot table for {township} in {self._shown}"
             return Found(None, MISSING, fault)
-        controlling = files.controlling()
-        if isinstance(controlling, str):
-            return Found(None, fault=controlling)
+        controlling = files.controlling(self._shown, date)
+        if isinstance(controlling, NoFile):
+            return Found(None, MISSING if controlling.is_missing else "", controlling.fault)
         return Found(controlling.by, controlling.name)
 
     def _townships_on(self, meridian: str) -> Union[Townships, Found]:
@@ -184,10 +203,10 @@ class FolderPlats:
 
 
 class HeadedPlats(FolderPlats):
-    """The same for descriptions that begin with their townships. Only the meridian can be in a column."""
+    """The same for descriptions that begin with their townships. Only the meridian and the date can be in columns."""
 
-    def __init__(self, folder: Folder, meridian: Optional[int]) -> None:
-        super().__init__(folder, Key(None, meridian))
+    def __init__(self, folder: Folder, meridian: Optional[int], date: Optional[int] = None) -> None:
+        super().__init__(folder, Key(None, meridian, date))
         self._remembered_in = functools.lru_cache(maxsize=_SPELLINGS)(self._find_township)
 
     def begin(self, first_meridian: str) -> None:
@@ -197,19 +216,14 @@ class HeadedPlats(FolderPlats):
         super().begin(first_meridian)
 
     def plat_of(self, *fields: Any) -> Found:
-        """Return why no record with this meridian is answered, or an empty answer if there are townships on it."""
-        townships = self._townships_on(_meridian_in(fields))
+        """Return why no record with these fields is answered, or an empty answer if some can be."""
+        townships = self._townships_on(self._cells_of(fields).meridian)
         return townships if isinstance(townships, Found) else Found(None)
 
     def plat_in(self, township: Township, *fields: Any) -> Found:
         """Return what land in a township is answered by, in a record with these fields in the columns."""
-        return self._remembered_in(township, _meridian_in(fields))
+        return self._remembered_in(township, self._cells_of(fields))
 
-    def _find_township(self, township: Township, meridian: str) -> Found:
-        townships = self._townships_on(meridian)
-        return townships if isinstance(townships, Found) else self._found_in(townships, township)
-
-
-def _meridian_in(fields: Sequence[Any]) -> str:
-    """Return the meridian in the only column that is used, if there is one."""
-    return text_of(fields[0]).strip() if fields else ""
+    def _find_township(self, township: Township, cells: _Cells) -> Found:
+        townships = self._townships_on(cells.meridian)
+        return townships if isinstance(townships, Found) else self._found_in(townships, township, cells.date)

@@ -94,10 +94,12 @@ class _Plats:
             return OnePlat(self._one)
         if self._folder is None:
             raise ValueError("a batch takes field notes, a lot table, or a folder of them")
+        meridian = _meridian_in(source, options)
+        date = None if options.date is None else column_in(source.heading, options.date, "--date", source.place)
         if options.headings:
-            return HeadedPlats(self._folder, _meridian_in(source, options))
+            return HeadedPlats(self._folder, meridian, date)
         township = column_in(source.heading, options.township, "--township", source.place)
-        return FolderPlats(self._folder, Key(township, _meridian_in(source, options)))
+        return FolderPlats(self._folder, Key(township, meridian, date))
 
 
 def _meridian_in(source: Source, options: Options) -> Optional[int]:

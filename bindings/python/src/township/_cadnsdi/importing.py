@@ -14,6 +14,8 @@ from .._batch.decoding import Counted, Decoded, is_another_format
 from .._batch.lines import Lines
 from .._batch.options import STANDARD
 from .._batch.stopped import Status, Stopped, reading, writing
+from .._lots import Lots
+from .._refused import Refused
 from .._text import shown
 from .._township import Township
 from .columns import Columns, marked_in
@@ -58,6 +60,7 @@ class _Counts:
         self.rows = 0
         self.tables = 0
         self.incomplete = 0
+        self.refused = 0
         self.unused = 0
 
 
@@ -69,7 +72,7 @@ def run_import(asked: Import) -> Status:
         for place in _places(asked.out, gathered, report, counts):
             _write_township(asked, place, report, counts)
     print(_summary(asked, counts), file=sys.stderr)
-    return Status.REFUSED if counts.unused or not counts.tables else Status.ACCEPTED
+    return Status.REFUSED if counts.unused or counts.refused or not counts.tables else Status.ACCEPTED
 
 
 def _summary(asked: Import, counts: _Counts) -> str:
@@ -194,8 +197,10 @@ def _write_township(asked: Import, place: _Place, report: _Report, counts: _Coun
     if not found.sections:
         return
     table = table_of(place.township, found.sections)
-    is_incomplete = bool(found.unused) or place.rows.has_bad_rows
-    path = os.path.join(place.folder, name_of(place.township)) + (INCOMPLETE if is_incomplete else "")
+    path = os.path.join(place.folder, name_of(place.township))
+    refusal = _refusal_of(table, path + INCOMPLETE)
+    is_incomplete = bool(found.unused or refusal) or place.rows.has_bad_rows
+    path += INCOMPLETE if is_incomplete else ""
     if len(table) > _library.LOTS_TEXT_MOST:
         raise Stopped(f"township: {shown(path)}: the lot table would exceed {_library.LOTS_TEXT_MOST:,} bytes")
     with writing(path):
@@ -203,6 +208,20 @@ def _write_township(asked: Import, place: _Place, report: _Report, counts: _Coun
         _write(path, table, asked.replace)
     counts.tables += 1
     counts.incomplete += is_incomplete
+    if refusal:
+        counts.refused += 1
+        print(refusal, end="", file=sys.stderr)
+
+
+def _refusal_of(table: str, name: str) -> str:
+    """Return why the library refuses a table, such as for more lots than it reads, or nothing."""
+    if len(table) > _library.LOTS_TEXT_MOST:
+        return ""
+    try:
+        Lots._read(table.encode(), shown(name).encode("utf-8", "backslashreplace"))
+    except Refused as refused:
+        return refused.explanation
+    return ""
 
 
 def _write(path: str, table: str, replace: bool) -> None:

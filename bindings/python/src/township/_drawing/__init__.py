@@ -3,8 +3,12 @@
 `subject` says what is drawn, and `of_plat` finds it. `layout` says where sections, lots, and lines are; `places`
 turns land into paths, `pieces` into pieces with closed outlines, and `hatching` shades them; `tracts_drawn` outlines
 and names tracts. `township_sheet` and `section_sheet` draw the two kinds of sheets, with the parts in `sheet` that both
-use, and `title_block` the block below. `targets` adds the shapes that the page makes buttons of, and `markup` writes
-the elements.
+use, and `title_block` the block below. `targets` adds the shapes that the page makes buttons of, `frame` says where the
+square of a sheet is, and `markup` writes the elements.
+
+These draw the standard lots. If a lot table says where the lots of its plat are, `plan` has their places, `plan_lines`
+the lines around and between them, and `plan_labels` the places of their numbers; `township_plan` and `section_plan`
+draw them on the two kinds of sheets.
 """
 from __future__ import annotations
 

@@ -10,7 +10,7 @@ from typing import Iterator, List, NamedTuple, Sequence
 from .layout import TOWNSHIP, Box
 from .markup import element, group, number
 from .pieces import pieces_of
-from .places import OUTLINED_MOST, Picture, boxes_of, outline_of, strokes_of
+from .places import OUTLINED_MOST, Picture, boxes_of, outline_of, picture_of_boxes, strokes_of
 
 #: The distance between the lines of a hatching, in millimeters.
 _SPACING = 1.6
@@ -97,12 +97,12 @@ def shaded(picture: Picture, pieces: Pieces, width: int, name: str, place: float
     outlined = len(pieces.large) + sum(map(len, pieces.small)) <= OUTLINED_MOST
     if pieces.large and outlined:
         line = (0.5 if width == TOWNSHIP else 0.9) / place
-        of_large = _picture_of(pieces.large, width) if pieces.small else picture
+        of_large = picture_of_boxes(pieces.large, width) if pieces.small else picture
         parts.append(_outline(of_large, width, line, "outline"))
     small = [box for piece in pieces.small for box in piece]
     fine = list(_strokes(small))
     if small and outlined:
-        fine.append(_outline(_picture_of(small, width), width, 0.1 / place, "outline fine"))
+        fine.append(_outline(picture_of_boxes(small, width), width, 0.1 / place, "outline fine"))
     if len(pieces.small) <= _RINGS_MOST:
         fine.extend(_ring(piece, place) for piece in pieces.small)
     return "\n".join(
@@ -146,13 +146,3 @@ def _ring(piece: Sequence[Box], place: float) -> str:
         stroke_width=0.2 / place,
         **{"class": "ring"},
     )
-
-
-def _picture_of(boxes: Sequence[Box], size: int) -> Picture:
-    """Return the picture of some rectangles."""
-    picture = [0] * size
-    for box in boxes:
-        bits = ((1 << box.width) - 1) << box.x
-        for y in range(box.y, box.y + box.height):
-            picture[y] |= bits
-    return picture

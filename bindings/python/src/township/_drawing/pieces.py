@@ -3,8 +3,9 @@ from __future__ import annotations
 
 from typing import Dict, Iterator, List, Sequence, Tuple
 
+from .._rectangles import runs
 from .layout import Box
-from .places import Picture, runs
+from .places import Picture
 
 Corner = Tuple[int, int]
 #: Where the sides of an outline end, by where they begin. Two begin where two corners of land meet.

@@ -2,8 +2,9 @@
 from __future__ import annotations
 
 from itertools import groupby
-from typing import Dict, Iterable, Iterator, List, Sequence, Tuple
+from typing import Iterable, Iterator, List, Sequence, Tuple
 
+from .._rectangles import rectangles_in, runs
 from .layout import ACROSS, SECTION, Box, box_of
 from .subject import Rows
 
@@ -45,31 +46,17 @@ def boxes_of(picture: Picture) -> List[Box]:
     >>> boxes_of([0b011, 0b011, 0b100])
     [Box(x=0, y=0, width=2, height=2), Box(x=2, y=2, width=1, height=1)]
     """
-    found: List[Box] = []
-    open_runs: Dict[Tuple[int, int], int] = {}
-    for y, row in enumerate([*picture, 0]):
-        # Most rows of a picture are empty.
-        if not row and not open_runs:
-            continue
-        present = set(runs(row))
-        for run in [each for each in open_runs if each not in present]:
-            top = open_runs.pop(run)
-            found.append(Box(run[0], top, run[1], y - top))
-        for run in present:
-            open_runs.setdefault(run, y)
-    return sorted(found, key=lambda box: (box.y, box.x))
+    return [Box(*each) for each in rectangles_in(picture)]
 
 
-def runs(row: int) -> Iterator[Tuple[int, int]]:
-    """Yield the first bit and the length of each run of ones."""
-    start = 0
-    while row:
-        zeros = (row & -row).bit_length() - 1
-        row >>= zeros
-        length = ((row + 1) & -(row + 1)).bit_length() - 1
-        yield start + zeros, length
-        row >>= length
-        start += zeros + length
+def picture_of_boxes(boxes: Iterable[Box], size: int) -> Picture:
+    """Return the picture of some rectangles, with so many rows."""
+    picture = [0] * size
+    for box in boxes:
+        bits = ((1 << box.width) - 1) << box.x
+        for y in range(box.y, box.y + box.height):
+            picture[y] |= bits
+    return picture
 
 
 def strokes_of(boxes: Iterable[Box]) -> Iterator[Tuple[int, str]]:
@@ -97,7 +84,7 @@ def outline_of(picture: Picture, width: int) -> str:
     'M0 0h1M1 1h1M0 2h2M0 0v2M1 0v1M2 1v1'
     """
     sides = [f"M{x} {y}h{length}" for y, x, length in _edges(picture)]
-    sides += [f"M{x} {y}v{length}" for x, y, length in _edges(_turned(picture, width))]
+    sides += [f"M{x} {y}v{length}" for x, y, length in _edges(turned(picture, width))]
     return "".join(sides)
 
 
@@ -114,7 +101,7 @@ def _edges(picture: Picture) -> Iterator[Tuple[int, int, int]]:
                 yield y, x, length
 
 
-def _turned(picture: Picture, width: int) -> Picture:
+def turned(picture: Picture, width: int) -> Picture:
     """Return a picture in which rows and columns have changed places."""
     columns = [0] * width
     for y, row in enumerate(picture):

@@ -4,19 +4,24 @@ from __future__ import annotations
 import functools
 from typing import Callable, Iterator, Optional, Tuple
 
+from .frame import Frame
 from .layout import LOT, SECTION, Box, closing_of, lots_of
 from .markup import element, number
 from .places import Picture, picture_of_section
+from .plan import Plan
+from .section_plan import free_squares, lines_in, no_land_in, numbers_in, taken_in
 from .sheet import WIDTH, Shading, centered, chains, document, halo, heading, north_arrow, weight_of
 from .subject import Figures, Rows, Subject
 from .targets import targets_of
 from .title_block import grouped, title_block
+from .township_plan import NO_LAND_NOTE
 
 #: The side of a place and of the section, in millimeters, and where its northwest corner is.
 PLACE = 5.0
 SIDE = PLACE * SECTION
 LEFT = (WIDTH - SIDE) / 2
 TOP = 31.0
+_FRAME = Frame(LEFT, TOP, PLACE)
 
 #: The lines that divide a section, from the finest: the places between them, their width, and their dashes.
 _DIVISIONS = (
@@ -36,16 +41,18 @@ _NOTE = "Along each closing line: its last quarter mile, in chains (20.00 if reg
 def section_sheet(subject: Subject, section: int, targets: bool) -> str:
     """Return the drawing of a section, with the land in it."""
     shading = Shading(subject, _pictured(section), SECTION, SIDE)
-    tracts = shading.tracts(LEFT, TOP, _taken(section))
+    plan = subject.plan
+    tracts = shading.tracts(LEFT, TOP, _taken(section) if plan is None else taken_in(plan, section))
     parts = [
         heading(f"Section {section}", str(subject.township)),
         north_arrow(WIDTH - 6, TOP + 16),
+        *([] if plan is None else [no_land_in(plan, section, _FRAME)]),
         *shading.land(LEFT, TOP),
-        *(_division(*division, section) for division in _DIVISIONS),
+        *_divisions(section, plan),
         _boundary(),
         *tracts.parts,
-        *_lots(subject.figures, section),
-        halo(list(_aliquot_names(section)), 0.9, 2.7, "aliquot-names"),
+        *(_lots(subject.figures, section) if plan is None else numbers_in(plan, section, subject.figures, _FRAME)),
+        halo(list(_aliquot_names(section, plan)), 0.9, 2.7, "aliquot-names"),
     ]
     total, notes = None, []
     if tracts.left_out:
@@ -57,9 +64,11 @@ def section_sheet(subject: Subject, section: int, targets: bool) -> str:
             closing = list(_closing_quarters(subject.figures, section))
             parts.append(halo(closing, 0.5, 3.4, "closing"))
             notes.append(_NOTE)
+    if plan is not None and plan.has_no_land(section):
+        notes.append(NO_LAND_NOTE)
     parts.append(title_block(subject, shading, (f"Section {section}", total), TOP + SIDE + 6, notes))
     if targets:
-        parts.append(targets_of(LEFT, TOP, PLACE, subject.figures, section))
+        parts.append(targets_of(_FRAME, subject, section))
     name = f"Section {section} of {subject.township}"
     return document(subject, name, _described(subject, section), shading.definitions(), parts, _VIEW)
 
@@ -87,12 +96,11 @@ def _described(subject: Subject, section: int) -> str:
     return " ".join(words)
 
 
-def _x(places: float) -> float:
-    return LEFT + PLACE * places
-
-
-def _y(places: float) -> float:
-    return TOP + PLACE * places
+def _divisions(section: int, plan: Optional[Plan]) -> Iterator[str]:
+    """Return the lines between parts of all sizes."""
+    if plan is not None:
+        return lines_in(plan, section, _DIVISIONS, _FRAME)
+    return (_division(*division, section) for division in _DIVISIONS)
 
 
 def _division(step: int, width: float, dashes: str, section: int) -> str:
@@ -106,9 +114,9 @@ def _division(step: int, width: float, dashes: str, section: int) -> str:
         for along in range(0, SECTION, LOT):
             inside = each % LOT != 0
             if not (inside and (cell, along) in taken):
-                moves.append(f"M{number(_x(each))} {number(_y(along))}v{number(PLACE * LOT)}")
+                moves.append(f"M{number(_FRAME.x(each))} {number(_FRAME.y(along))}v{number(PLACE * LOT)}")
             if not (inside and (along, cell) in taken):
-                moves.append(f"M{number(_x(along))} {number(_y(each))}h{number(PLACE * LOT)}")
+                moves.append(f"M{number(_FRAME.x(along))} {number(_FRAME.y(each))}h{number(PLACE * LOT)}")
     return element(
         "path",
         d="".join(moves),
@@ -129,10 +137,10 @@ def _boundary() -> str:
 def _lots(figures: Optional[Figures], section: int) -> Iterator[str]:
     """Yield the lots: their sides, and their numbers and acreage."""
     lots = list(lots_of(section))
-    moves = "".join(f"M{number(_x(box.x))} {number(_y(box.y))}h40v40h-40z" for _, box in lots)
+    moves = "".join(f"M{number(_FRAME.x(box.x))} {number(_FRAME.y(box.y))}h40v40h-40z" for _, box in lots)
     if lots:
         yield element("path", d=moves, fill="none", stroke="currentColor", stroke_width=0.5, **{"class": "lot-sides"})
-    middles = [(lot, _x(box.x + LOT / 2), _y(box.y + LOT / 2)) for lot, box in lots]
+    middles = [(lot, _FRAME.x(box.x + LOT / 2), _FRAME.y(box.y + LOT / 2)) for lot, box in lots]
     yield halo([centered(f"Lot {lot.number}", x, y, -0.35) for lot, x, y in middles], 0.9, 5.0, "lot-names")
     if figures is not None:
         known = [(figures.lots[lot.section, lot.number], x, y) for lot, x, y in middles]
@@ -140,13 +148,19 @@ def _lots(figures: Optional[Figures], section: int) -> Iterator[str]:
         yield halo(acres, 0.9, 3.6, "lot-acres")
 
 
-def _aliquot_names(section: int) -> Iterator[str]:
+def _aliquot_names(section: int, plan: Optional[Plan]) -> Iterator[str]:
     """Yield the name of each quarter-quarter section that is not a lot."""
+    for x, y in _regular_squares(section) if plan is None else free_squares(plan, section):
+        yield centered(_aliquot_name(x, y), _FRAME.x(x + LOT / 2), _FRAME.y(y + LOT / 2))
+
+
+def _regular_squares(section: int) -> Iterator[Tuple[int, int]]:
+    """Yield the northwest corner of each quarter-quarter section that is not a standard lot."""
     taken = {(box.x, box.y) for _, box in lots_of(section)}
     for x in range(0, SECTION, LOT):
         for y in range(0, SECTION, LOT):
             if (x, y) not in taken:
-                yield centered(_aliquot_name(x, y), _x(x + LOT / 2), _y(y + LOT / 2))
+                yield x, y
 
 
 def _aliquot_name(x: int, y: int) -> str:
@@ -172,9 +186,9 @@ def _closing_quarters(figures: Figures, section: int) -> Iterator[str]:
         quarter = figures.closing_quarters[line.index]
         weight = weight_of(quarter)
         if line.north:
-            x = _x(SECTION) + 1.9 + _APART if side == "E" else _x(0) - _APART
-            turn = f"rotate(-90 {number(x)} {number(_y(LOT / 2))})"
-            yield element("text", chains(quarter), x=x, y=_y(LOT / 2), font_weight=weight, transform=turn)
+            x = _FRAME.x(SECTION) + 1.9 + _APART if side == "E" else _FRAME.x(0) - _APART
+            turn = f"rotate(-90 {number(x)} {number(_FRAME.y(LOT / 2))})"
+            yield element("text", chains(quarter), x=x, y=_FRAME.y(LOT / 2), font_weight=weight, transform=turn)
         else:
-            y = _y(SECTION) + 2.4 + _APART if side == "S" else _y(0) - _APART
-            yield element("text", chains(quarter), x=_x(LOT / 2), y=y, font_weight=weight)
+            y = _FRAME.y(SECTION) + 2.4 + _APART if side == "S" else _FRAME.y(0) - _APART
+            yield element("text", chains(quarter), x=_FRAME.x(LOT / 2), y=y, font_weight=weight)

@@ -101,7 +101,9 @@ def halo(parts: Sequence[str], width: float, size: float, kind: str, **attribute
 
 
 @functools.lru_cache(maxsize=4096)
-def centered(words: str, x: float, y: float, lines_below: float = 0.0, most: float = 0.0) -> str:
+def centered(
+    words: str, x: float, y: float, lines_below: float = 0.0, most: float = 0.0, **attributes: str
+) -> str:
     """Return a text in the middle of a place, or so many of its lines below that. `most` is how wide it may be.
 
     Its size is that of its group, so that a screen can change the size of all texts of a kind.
@@ -110,7 +112,7 @@ def centered(words: str, x: float, y: float, lines_below: float = 0.0, most: flo
     squeezed: Dict[str, str] = {}
     if most and len(words) > 5:
         squeezed = {"textLength": number(most), "lengthAdjust": "spacingAndGlyphs"}
-    return element("text", escaped(words), x=x, y=y, dy=dy, **squeezed)
+    return element("text", escaped(words), x=x, y=y, dy=dy, **squeezed, **attributes)
 
 
 def chains(quarter: int) -> str:

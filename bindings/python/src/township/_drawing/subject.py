@@ -2,9 +2,12 @@
 from __future__ import annotations
 
 from decimal import Decimal
-from typing import Mapping, NamedTuple, Optional, Sequence, Tuple
+from typing import TYPE_CHECKING, Mapping, NamedTuple, Optional, Sequence, Tuple
 
 from .._township import Township
+
+if TYPE_CHECKING:
+    from .plan import Plan
 
 #: Land: for each section that has any, 32 rows from the south. Bit k of a row is the place in column k from the east.
 Rows = Mapping[int, Sequence[int]]
@@ -59,3 +62,5 @@ class Subject(NamedTuple):
     shades: Sequence[Shade] = ()
     #: The tracts that are outlined.
     outlines: Sequence[Outline] = ()
+    #: Where the lots are, and where the plat has no land; or `None` for the standard lots.
+    plan: Optional[Plan] = None

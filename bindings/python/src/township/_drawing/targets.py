@@ -4,25 +4,31 @@ from __future__ import annotations
 import functools
 from typing import List, Optional, Tuple
 
+from .frame import Frame
 from .layout import ACROSS, LOT, SECTION, Line, box_of, lines, lots_of
-from .markup import element, group, number
-from .subject import Figures
+from .markup import element, group
+from .plan import Plan
+from .plan_lines import loops_at
+from .subject import Figures, Subject
 
 #: Half the width of the strip along a line, in places.
 _STRIP = 1.5
 
 
-def targets_of(left: float, top: float, place: float, figures: Optional[Figures], section: Optional[int] = None) -> str:
-    """Return the shapes over a township, or a section, whose northwest corner is at (left, top).
+def targets_of(frame: Frame, subject: Subject, section: Optional[int] = None) -> str:
+    """Return the shapes over a township, or over a section alone.
 
     Each has the attribute `data-section`, `data-lot`, or `data-line`, and those of land `data-acres`, if its acreage is
     known. Lots are above their sections, and lines above both.
     """
-    parts = _sections() + _lots() if section is None else _section_alone(section)
-    shapes = [shape % _acres(figures, named) for shape, named in parts]
+    if section is None:
+        parts = _sections() + (_lots() if subject.plan is None else _lots_on(subject.plan))
+    else:
+        parts = _section_alone(section, subject.plan)
+    shapes = [shape % _acres(subject.figures, named) for shape, named in parts]
     return group(
         [*shapes, *(_lines() if section is None else ())],
-        transform=f"translate({number(left)} {number(top)}) scale({number(place)})",
+        transform=frame.transform(),
         fill="none",
         stroke="none",
         pointer_events="all",
@@ -39,7 +45,7 @@ def _acres(figures: Optional[Figures], named: Tuple[int, Optional[int]]) -> str:
     section, lot = named
     if figures is None:
         return ""
-    acres = figures.sections[section] if lot is None else figures.lots[section, lot]
+    acres = figures.sections[section] if lot is None else figures.lots.get((section, lot))
     return "" if acres is None else f' data-acres="{acres}"'
 
 
@@ -73,8 +79,27 @@ def _lots_at(section: int, x: int, y: int) -> List[Shape]:
     ]
 
 
-def _section_alone(section: int) -> List[Shape]:
-    return [_shape(0, 0, SECTION, f'data-section="{section}"', (section, None)), *_lots_at(section, 0, 0)]
+@functools.lru_cache(maxsize=16)
+def _lots_on(plan: Plan) -> List[Shape]:
+    """Return the lots of a plat with lots of its own."""
+    found: List[Shape] = []
+    for section in range(1, ACROSS * ACROSS + 1):
+        corner = box_of(section)
+        found.extend(_lots_of_plan(plan, section, corner.x, corner.y))
+    return found
+
+
+def _lots_of_plan(plan: Plan, section: int, x: int, y: int) -> List[Shape]:
+    """Return the lots of a section whose northwest corner is at a place, each as the outline of all its land."""
+    return [
+        (f'<path d="{loops_at(picture, x, y)}" data-lot="{section}.{lot.number}"%s/>', (section, lot.number))
+        for lot, picture in plan.sections[section].lots.items()
+    ]
+
+
+def _section_alone(section: int, plan: Optional[Plan]) -> List[Shape]:
+    lots = _lots_at(section, 0, 0) if plan is None else _lots_of_plan(plan, section, 0, 0)
+    return [_shape(0, 0, SECTION, f'data-section="{section}"', (section, None)), *lots]
 
 
 @functools.lru_cache(maxsize=1)

@@ -2,11 +2,13 @@
 from __future__ import annotations
 
 import functools
-from typing import Iterator, Tuple
+from typing import Iterator, List, Optional, Tuple
 
+from .frame import Frame
 from .layout import ACROSS, LOT, SECTION, TOWNSHIP, Box, Line, box_of, lines, lots_of
-from .markup import element, number
+from .markup import element
 from .places import picture_of_township
+from .plan import Plan
 from .sheet import (
     NARROW,
     SMALLEST,
@@ -23,12 +25,14 @@ from .sheet import (
 from .subject import Figures, Subject
 from .targets import targets_of
 from .title_block import grouped, title_block
+from .township_plan import NO_LAND_NOTE, lines_on, no_land_on, no_land_words, numbers_on, small_lots, taken_on
 
 #: The side of a place and of the township, in millimeters, and where its northwest corner is.
 PLACE = 0.86
 SIDE = PLACE * TOWNSHIP
 LEFT = (WIDTH - SIDE) / 2
 TOP = 27.0
+_FRAME = Frame(LEFT, TOP, PLACE)
 
 #: What a screen shows of the sheet: the township, the figures along it, and the north arrow.
 _VIEW = Box(1, 21, 184, 173)
@@ -43,12 +47,14 @@ _APART = 1.0
 def township_sheet(subject: Subject, targets: bool) -> str:
     """Return the drawing of a township, with its land."""
     shading = Shading(subject, picture_of_township, TOWNSHIP, SIDE)
-    tracts = shading.tracts(LEFT, TOP, _taken())
+    plan = subject.plan
+    tracts = shading.tracts(LEFT, TOP, _taken() if plan is None else taken_on(plan))
     parts = [
         heading(_long_name(subject), "Plat of the township, by sections and lots"),
         north_arrow(WIDTH - 7.5, TOP + 20),
+        *([] if plan is None else [no_land_on(plan, _FRAME)]),
         *shading.land(LEFT, TOP),
-        _lines(),
+        _lines() if plan is None else lines_on(plan, _FRAME) + "\n" + _section_lines(),
         *tracts.parts[:1],
         *_numbers(subject),
     ]
@@ -62,11 +68,22 @@ def township_sheet(subject: Subject, targets: bool) -> str:
             closing = list(_closing_quarters(subject.figures))
             parts.append(halo(closing, 0.5, 2.5, "closing"))
             notes.append(_NOTE)
+    notes += _notes_on(subject)
     parts.append(title_block(subject, shading, ("Township", total), TOP + SIDE + 5, notes))
     if targets:
-        parts.append(targets_of(LEFT, TOP, PLACE, subject.figures))
+        parts.append(targets_of(_FRAME, subject))
     name = f"Plat of {subject.township}"
     return document(subject, name, _described(subject), shading.definitions(), parts, _VIEW)
+
+
+def _notes_on(subject: Subject) -> List[str]:
+    """Return the notes on the lots of a plat with lots of its own, and on land that is not there."""
+    plan, notes = subject.plan, []
+    if plan is not None and plan.has_no_land():
+        notes.append(NO_LAND_NOTE)
+    if plan is not None and subject.figures is not None and small_lots(plan):
+        notes.append("The acreage of small lots is on the sheets of their sections.")
+    return notes
 
 
 @functools.lru_cache(maxsize=1)
@@ -91,32 +108,12 @@ def _long_name(subject: Subject) -> str:
 
 def _described(subject: Subject) -> str:
     """Return what the drawing shows, in words."""
-    words = ["Schematic drawing of 36 sections, with the lots along the north and west boundaries."]
+    lots = "with the lots along the north and west boundaries" if subject.plan is None else "with the lots of the plat"
+    words = [f"Schematic drawing of 36 sections, {lots}."]
     for shade in subject.shades:
         figures = ", ".join(f"{grouped(acres)} ({account})" for account, acres in shade.acres)
         words.append(f"{shade.label}: {shade.words[:500]} {figures}".strip())
     return " ".join(words)
-
-
-def _x(places: float) -> float:
-    return LEFT + PLACE * places
-
-
-def _y(places: float) -> float:
-    return TOP + PLACE * places
-
-
-def _path(moves: str, width: float, kind: str, **attributes: str) -> str:
-    """Return lines of this width and kind. Their path is in places."""
-    return element(
-        "path",
-        d=moves,
-        transform=f"translate({number(LEFT)} {number(TOP)}) scale({number(PLACE)})",
-        fill="none",
-        stroke="currentColor",
-        stroke_width=width / PLACE,
-        **{"class": kind, **attributes},
-    )
 
 
 @functools.lru_cache(maxsize=1)
@@ -132,14 +129,14 @@ def _finer_lines() -> Iterator[str]:
     """
     for step, kind in ((8, "sixteenths"), (4, "finer"), (2, "finest")):
         moves = "".join(f"M0 {each}H{TOWNSHIP}M{each} 0V{TOWNSHIP}" for each in range(step, TOWNSHIP, 2 * step))
-        yield _path(moves, 0.1, kind, display="none")
+        yield _FRAME.path(moves, 0.1, kind, display="none")
 
 
 def _quarter_lines() -> str:
     """Return the lines that divide each section into quarters."""
     middles = range(SECTION // 2, TOWNSHIP, SECTION)
     moves = "".join(f"M0 {each}H{TOWNSHIP}M{each} 0V{TOWNSHIP}" for each in middles)
-    return _path(moves, 0.12, "quarters", stroke_dasharray="1.6 1.2")
+    return _FRAME.path(moves, 0.12, "quarters", stroke_dasharray="1.6 1.2")
 
 
 def _lot_lines() -> str:
@@ -150,7 +147,7 @@ def _lot_lines() -> str:
         for _, lot in lots_of(section):
             x, y = corner.x + lot.x, corner.y + lot.y
             moves.append(f"M{x} {y + LOT}h{LOT}v-{LOT}")
-    return _path("".join(moves), 0.15, "lot-sides")
+    return _FRAME.path("".join(moves), 0.15, "lot-sides")
 
 
 def _section_lines() -> str:
@@ -158,31 +155,43 @@ def _section_lines() -> str:
     inner = range(SECTION, TOWNSHIP, SECTION)
     moves = "".join(f"M0 {each}H{TOWNSHIP}M{each} 0V{TOWNSHIP}" for each in inner)
     boundary = f"M0 0H{TOWNSHIP}V{TOWNSHIP}H0Z"
-    return _path(moves, 0.3, "section-lines") + "\n" + _path(boundary, 0.8, "boundary")
+    return _FRAME.path(moves, 0.3, "section-lines") + "\n" + _FRAME.path(boundary, 0.8, "boundary")
 
 
 def _numbers(subject: Subject) -> Iterator[str]:
     """Yield the number and the acreage of each section and of each lot."""
     yield _section_numbers()
-    figures = subject.figures
+    figures, plan = subject.figures, subject.plan
     if figures is None:
-        yield _lot_numbers(0.0)
+        yield _lot_numbers(0.0) if plan is None else "\n".join(_lots_on(plan, None, 0.0))
         return
     # Below them, there is room for the name of a tract.
     above = _APART if subject.outlines else _APART / 2
-    yield _lot_numbers(above)
+    numbers, acres = _lots(figures, above) if plan is None else _lots_on(plan, figures, above)
+    yield numbers
     sections = [
-        centered(grouped(acres), *_middle_of(section), 2.0)
-        for section, acres in figures.sections.items()
-        if acres is not None
+        centered(grouped(each), *_middle_of(section), 2.0)
+        for section, each in figures.sections.items()
+        if each is not None
     ]
     yield halo(sections, 0.9, SMALLEST, "section-acres", font_style="italic")
-    lots = [
-        centered(grouped(acres), *_middle_of(section, lot), _APART - above, LOT * PLACE - 0.6)
-        for (section, lot), acres in figures.lots.items()
-        if acres is not None
+    yield acres
+
+
+def _lots(figures: Figures, above: float) -> Tuple[str, str]:
+    """Return the numbers of the standard lots, so many lines above their middle, and their acreage."""
+    acres = [
+        centered(grouped(each), *_middle_of(section, lot), _APART - above, LOT * PLACE - 0.6)
+        for (section, lot), each in figures.lots.items()
+        if each is not None
     ]
-    yield halo(lots, 0.5, SMALLEST, "lot-acres", font_family=NARROW)
+    return _lot_numbers(above), halo(acres, 0.5, SMALLEST, "lot-acres", font_family=NARROW)
+
+
+def _lots_on(plan: Plan, figures: Optional[Figures], above: float) -> Tuple[str, str]:
+    """Return the same for a plat with lots of its own, and the words on land that is not there."""
+    numbers, acres = numbers_on(plan, figures, above, _APART, _FRAME)
+    return numbers, "\n".join(filter(None, [acres, no_land_words(plan, _FRAME)]))
 
 
 @functools.lru_cache(maxsize=1)
@@ -207,8 +216,8 @@ def _middle_of(section: int, lot: int = 0) -> Tuple[float, float]:
     corner = box_of(section)
     for each, box in lots_of(section):
         if each.number == lot:
-            return _x(corner.x + box.x + LOT / 2), _y(corner.y + box.y + LOT / 2)
-    return _x(corner.x + SECTION / 2), _y(corner.y + SECTION / 2)
+            return _FRAME.x(corner.x + box.x + LOT / 2), _FRAME.y(corner.y + box.y + LOT / 2)
+    return _FRAME.x(corner.x + SECTION / 2), _FRAME.y(corner.y + SECTION / 2)
 
 
 def _closing_quarters(figures: Figures) -> Iterator[str]:
@@ -221,7 +230,7 @@ def _closing_quarters(figures: Figures) -> Iterator[str]:
 @functools.lru_cache(maxsize=1024)
 def _closing_quarter(line: Line, quarter: int) -> str:
     if line.north:
-        x, y, anchor = _x(line.x), _y(0) - 1.8, "middle"
+        x, y, anchor = _FRAME.x(line.x), _FRAME.y(0) - 1.8, "middle"
     else:
-        x, y, anchor = _x(0) - 1.8, _y(line.y) + 0.9, "end"
+        x, y, anchor = _FRAME.x(0) - 1.8, _FRAME.y(line.y) + 0.9, "end"
     return element("text", chains(quarter), x=x, y=y, text_anchor=anchor, font_weight=weight_of(quarter))

@@ -66,11 +66,11 @@ def _shape_of(rows: Tuple[Tuple[int, Sequence[int]], ...], picture_of: Pictured)
         return None
     top, bottom = filled[0], filled[-1] + 1
     cropped = picture[top:bottom]
-    return Shape(top, cropped, _largest(cropped, top), loops_of(cropped, top))
+    return Shape(top, cropped, largest_in(cropped, top), loops_of(cropped, top))
 
 
-def _largest(rows: Picture, top: int) -> Box:
-    """Return the largest rectangle of land whose first row is `top` rows down."""
+def largest_in(rows: Picture, top: int) -> Box:
+    """Return the largest of the rectangles of land whose first row is `top` rows down."""
     boxes = boxes_of(rows)[:_BOXES_MOST]
     best = max(boxes, key=lambda box: (min(box.width, box.height), box.width * box.height))
     return best._replace(y=best.y + top)
@@ -106,7 +106,7 @@ class Room:
         rows = [row & ~self._shared[y] for y, row in enumerate(shape.rows, shape.top)]
         if rows == shape.rows or not any(rows):
             return shape
-        return shape._replace(rows=rows, largest=_largest(rows, shape.top))
+        return shape._replace(rows=rows, largest=largest_in(rows, shape.top))
 
     def find_beside(self, shape: Shape, width: int, height: int) -> Optional[Box]:
         """Return a rectangle of this size that is free of tracts, and touches the largest rectangle of land."""

@@ -2,7 +2,7 @@
 from __future__ import annotations
 
 from decimal import Decimal
-from typing import Dict, Iterable, List, Optional
+from typing import Dict, Iterable, List, Optional, Union
 
 from .._drawing.layout import lines
 from .._drawing.of_plat import subject_of
@@ -16,7 +16,7 @@ from . import drawn
 from .basis import Basis, decimals_of
 from .doubts import doubts_of, doubts_of_many
 from .drawn import drawing, without_figures
-from .given import Given, RefusedBasis
+from .given import Given, Invalid, RefusedBasis
 from .limits import DESCRIPTIONS_MOST, DOUBTS_MOST
 from .refusals import Json, refused_json
 from .sectionlines import line_refused, written
@@ -57,6 +57,7 @@ def plat_answer(body: bytes) -> Json:
     return {
         "township": str(plat.township),
         "basis": basis.name(),
+        **_date_json(basis),
         **_figures_json(basis),
         **lines,
         **found,
@@ -69,12 +70,11 @@ def land_answer(body: bytes) -> Json:
     given = Given(body, BASIS | drawn.FIELDS | {"description"})
     description = given.text("description")
     basis = given.basis()
-    plat = basis.plat
     try:
-        land = plat.land(description)
+        land = basis.reads.land(description)
     except Refused as refused:
         return {"refused": refused_json(refused, "description", description), **drawing(given, basis)}
-    notes = doubts_of(plat, description, land, DOUBTS_MOST).json(description)
+    notes = doubts_of(basis.reads, description, land, DOUBTS_MOST).json(description)
     return {
         **land_json(basis, land),
         "area": basis.area(land),
@@ -92,7 +92,7 @@ def compare_answer(body: bytes) -> Json:
     refused: Json = {}
     for name, text in texts.items():
         try:
-            lands[name] = basis.plat.land(text)
+            lands[name] = basis.reads.land(text)
         except Refused as error:
             refused[name] = refused_json(error, name, text)
     if refused:
@@ -100,7 +100,7 @@ def compare_answer(body: bytes) -> Json:
         return {"refused": refused, **drawing(given, basis, shown)}
     first, second = lands["first"], lands["second"]
     kinds = {"both": first & second, "first_only": first - second, "second_only": second - first}
-    notes = {name: doubts_of(basis.plat, text, lands[name], DOUBTS_MOST).json(text) for name, text in texts.items()}
+    notes = {name: doubts_of(basis.reads, text, lands[name], DOUBTS_MOST).json(text) for name, text in texts.items()}
     labels = {name: words[any(notes.values())] for name, words in _COMPARED.items()}
     return {
         "comparison": comparison_of(first, second),
@@ -117,7 +117,9 @@ def batch_answer(body: bytes) -> Json:
     account = given.account()
     basis = given.basis()
     if account is None and basis.lots is not None:
-        return _batch_by_lots(basis.plat, basis.lots, descriptions)
+        return _batch_by_lots(basis, basis.lots, descriptions)
+    if not isinstance(basis.reads, Plat):
+        raise Invalid("the lot table says where its lots lie, so the field `account` must be `lots`")
     answers = basis.plat._full_answers(descriptions, account or "exact")
     acres: List[object] = [decimals_of(each) for each in answers.hundredths]
     refused: List[Json] = []
@@ -145,7 +147,7 @@ class _Sentences:
         return self._known[description]
 
 
-def _batch_by_lots(plat: Plat, lots: Lots, descriptions: List[str]) -> Json:
+def _batch_by_lots(basis: Basis, lots: Lots, descriptions: List[str]) -> Json:
     """Return the acreage of each description by a lot table, or its refusal."""
     acres: List[Optional[str]] = []
     refused: List[Json] = []
@@ -155,13 +157,13 @@ def _batch_by_lots(plat: Plat, lots: Lots, descriptions: List[str]) -> Json:
         except Refused as error:
             acres.append(None)
             refused.append({"index": index, "number": error.number, "at": error.at, "sentence": error.sentence})
-    noted = plat._full_answers(descriptions, "exact").noted
-    return {"acres": acres, "refused": refused, "notes": _batch_notes(plat, descriptions, noted)}
+    noted = basis.full_answers(descriptions).noted
+    return {"acres": acres, "refused": refused, "notes": _batch_notes(basis.reads, descriptions, noted)}
 
 
-def _batch_notes(plat: Plat, descriptions: List[str], noted: Iterable[int]) -> List[Json]:
+def _batch_notes(by: Union[Plat, Lots], descriptions: List[str], noted: Iterable[int]) -> List[Json]:
     """Return the notes on those of many accepted descriptions that have any."""
-    found = doubts_of_many(plat, ((index, descriptions[index]) for index in noted))
+    found = doubts_of_many(by, ((index, descriptions[index]) for index in noted))
     return [{"index": index, **note} for index, each in found.items() for note in each.json(descriptions[index])]
 
 
@@ -192,8 +194,27 @@ def _figures_json(basis: Basis) -> Json:
     sections: List[Json] = []
     for number, acres in figures.sections.items():
         lots = [_decimals(each) for (section, _), each in figures.lots.items() if section == number]
-        sections.append({"section": number, "total": _decimals(acres), "lots": lots})
+        sections.append({"section": number, "total": _decimals(acres), "lots": lots, **_places_json(basis, number)})
     return {"total": _decimals(figures.total), "sections": sections}
+
+
+def _places_json(basis: Basis, section: int) -> Json:
+    """Return where the lots of a section lie, and the land that is not there, if the lot table says it."""
+    if basis.lots is None or not basis.lots.has_land:
+        return {}
+    found = basis.lots.section(section)
+    lots = [each for each in found if each.lot is not None]
+    missing = [each.land for each in found if each.lot is None]
+    return {
+        "numbers": [each.lot for each in lots],
+        "land": [each.land for each in lots],
+        "no_land": missing[0] if missing else None,
+    }
+
+
+def _date_json(basis: Basis) -> Json:
+    """Return the date of the lot table, if it has one."""
+    return {} if basis.lots is None or basis.lots.date is None else {"date": str(basis.lots.date)}
 
 
 def _decimals(acres: Optional[Decimal]) -> Optional[str]:

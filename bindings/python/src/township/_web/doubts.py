@@ -6,9 +6,10 @@ notes the next one.
 from __future__ import annotations
 
 import re
-from typing import Dict, Iterable, Iterator, List, NamedTuple, Optional, Tuple
+from typing import Dict, Iterable, Iterator, List, NamedTuple, Optional, Tuple, Union
 
 from .._land import Land
+from .._lots import Lots
 from .._note import Note
 from .._plat import Plat
 from .._refused import Refused
@@ -47,18 +48,18 @@ class Doubts(NamedTuple):
         return found
 
 
-def doubts_of(plat: Plat, description: str, land: Land, most: int) -> Doubts:
+def doubts_of(by: Union[Plat, Lots], description: str, land: Land, most: int) -> Doubts:
     """Return the first `most` notes on an accepted description, which is of this land: fewer if it is long."""
     given = encoded(description)
     most = min(most, _BYTES_MOST // (len(given) + 1))
     found: List[Note] = []
     # The text in which the places so far are written without doubt, and how much shorter it is.
     text, shorter = given, 0
-    notes = plat.notes(text)
+    notes = by.notes(text)
     while notes:
         note = notes[0]
         found.append(_moved(note, given, shorter))
-        clear = _without_doubt(plat, text, note, land) if len(found) < most else None
+        clear = _without_doubt(by, text, note, land) if len(found) < most else None
         if clear is None:
             return Doubts(tuple(found), _more_after(note))
         shorter += len(text) - len(clear.text)
@@ -66,7 +67,7 @@ def doubts_of(plat: Plat, description: str, land: Land, most: int) -> Doubts:
     return Doubts(tuple(found))
 
 
-def doubts_of_many(plat: Plat, described: Iterable[Tuple[int, str]]) -> Dict[int, Doubts]:
+def doubts_of_many(by: Union[Plat, Lots], described: Iterable[Tuple[int, str]]) -> Dict[int, Doubts]:
     """Return the notes on many accepted descriptions, by their indexes: all on the first ones, and one on each other.
 
     The same description is looked at only once.
@@ -78,7 +79,7 @@ def doubts_of_many(plat: Plat, described: Iterable[Tuple[int, str]]) -> Dict[int
         length = len(encoded(description)) + 1
         most = max(1, min(places, DOUBTS_MOST))
         if description not in known:
-            doubts = doubts_of(plat, description, plat.land(description), min(most, size // length))
+            doubts = doubts_of(by, description, by.land(description), min(most, size // length))
             known[description] = doubts
             size -= len(doubts.notes) * length
         found[index] = known[description].first(most)
@@ -101,12 +102,12 @@ def _moved(note: Note, given: bytes, by: int) -> Note:
     return note._replace(line=1 + before.count("\n"), column=column, start=start, end=end)
 
 
-def _without_doubt(plat: Plat, text: bytes, note: Note, land: Land) -> Optional[_Clear]:
+def _without_doubt(by: Union[Plat, Lots], text: bytes, note: Note, land: Land) -> Optional[_Clear]:
     """Return a text of the same land in which the place of a note is not doubtful, or `None` if there is none."""
     for clear in _candidates(text, note):
         try:
-            if plat.land(clear) == land:
-                notes = plat.notes(clear)
+            if by.land(clear) == land:
+                notes = by.notes(clear)
                 if _more_after(note) == sum(1 + _more_after(each) for each in notes):
                     return _Clear(clear, notes)
         except Refused:

@@ -5,8 +5,9 @@ from decimal import Decimal
 from typing import Optional, Sequence, Tuple
 
 from .._drawing import Outline, Shade, Subject, svg_of
-from .._drawing.of_plat import shade_of, shown_on, subject_of
+from .._drawing.of_plat import TABLE, shade_of, shown_on, subject_of
 from .._land import Land
+from .._plat import Plat
 from .basis import BY_LOTS, Basis
 from .given import Given
 from .refusals import Json
@@ -40,7 +41,9 @@ def without_figures(given: Given, notes: str) -> Json:
 
 def _shade_of(basis: Basis, label: str, land: Land, section: Optional[int]) -> Shade:
     """Return the shade of land. Its acreage by the lot table comes first, if there is one that has its lots."""
-    shade = shade_of(basis.plat, land, label, section)
+    shade = shade_of(basis.reads, land, label, section)
+    if not isinstance(basis.reads, Plat):
+        return shade
     acres = shade.acres if basis.is_measured else ()
     by_lots = basis.acres(shown_on(land, section)).get(BY_LOTS)
-    return shade._replace(acres=acres if by_lots is None else (("Lot table", Decimal(by_lots)), *acres))
+    return shade._replace(acres=acres if by_lots is None else ((TABLE, Decimal(by_lots)), *acres))

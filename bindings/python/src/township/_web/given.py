@@ -41,7 +41,8 @@ class Given:
     def basis(self) -> Basis:
         """Return the plat of the field notes or the nominal plat of the township, and the lot table if any.
 
-        With a lot table alone, the plat is nominal, and its figures are not shown.
+        With a lot table alone, the plat is nominal, and its figures are not shown. Neither are those of field notes if
+        the table says where its lots lie: field notes make a plat with the standard lots.
 
         Raise `RefusedBasis` if the notes or the table are refused.
         """
@@ -55,7 +56,7 @@ class Given:
         plat = _nominal(township) if township is not None else _read(_plat_of, "notes", notes or "")
         if lots is not None and lots.township != plat.township:
             raise Invalid(f"the lot table is for {lots.township}, and the plat for {plat.township}")
-        return Basis(plat, lots, is_measured)
+        return Basis(plat, lots, is_measured and not (lots is not None and lots.has_land))
 
     def has(self, name: str) -> bool:
         """Return whether there is a field with this name."""

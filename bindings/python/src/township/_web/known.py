@@ -2,11 +2,13 @@
 from __future__ import annotations
 
 import functools
-from typing import NamedTuple, Optional
+from typing import NamedTuple, Optional, Union
 
 from .. import _library
 from .._drawing import Rows
 from .._land import Land
+from .._lots import Lots
+from .._plat import Plat
 from .._township import Township
 
 #: The descriptions whose land is remembered, and the most characters of one, and sections of its land: so that each
@@ -35,13 +37,14 @@ class Known(NamedTuple):
         return self.land.rows if self.few_rows is None else self.few_rows
 
 
-def known(township: Township, description: str) -> Known:
-    """Return the land of a description that was accepted."""
-    return _known(township, description) if len(description) <= _LONG else _known_anew(township, description)
+def known(by: Union[Plat, Lots], description: str) -> Known:
+    """Return the land of a description that was accepted: on any plat of a township, or by a table of its lots."""
+    on: Union[Township, Lots] = by if isinstance(by, Lots) else by.township
+    return _known(on, description) if len(description) <= _LONG else _known_anew(on, description)
 
 
-def _known_anew(township: Township, description: str) -> Known:
-    land = Land.of(township, description)
+def _known_anew(on: Union[Township, Lots], description: str) -> Known:
+    land = on.land(description) if isinstance(on, Lots) else Land.of(on, description)
     rows = bytes(land._parts.rows)
     few_rows = land.rows if len(land) <= _SECTIONS_MOST else None
     return Known(land, int.from_bytes(rows, "little"), _whole_sections(rows), few_rows)

@@ -65,7 +65,7 @@ def _reading_json(basis: Basis, given: bytes, reading: Reading, condition: Optio
         "assumptions": list(reading.assumptions),
     }
     try:
-        land = basis.plat.land(reading.text)
+        land = basis.reads.land(reading.text)
     except Refused as refused:
         return {**found, "refused": refused_json(refused, "reading", reading.text)}
     found.update(land_json(basis, land))
@@ -87,8 +87,9 @@ def _drawing(basis: Basis, land: Land) -> str:
     """Return the drawing of land: of its section, if it is in only one."""
     sections = list(land.sections)
     section = sections[0] if len(sections) == 1 else None
-    shade = shade_of(basis.plat, land, "Land")
-    shown = shade if basis.is_measured else shade._replace(acres=())
+    shade = shade_of(basis.reads, land, "Land")
+    # Of a plat that nobody gave, nothing is shown.
+    shown = shade if basis.is_measured or basis.reads is basis.lots else shade._replace(acres=())
     return svg_of(subject_of(basis.plat, shown, lots=basis.lots, is_measured=basis.is_measured), section)
 
 

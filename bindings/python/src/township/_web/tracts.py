@@ -1,11 +1,12 @@
 """The answer on a list of tracts, of which some may be refused, and some may overlap."""
 from __future__ import annotations
 
-from typing import AbstractSet, Dict, Iterable, Iterator, List, NamedTuple, Optional, Sequence, Tuple
+from typing import AbstractSet, Dict, Iterable, Iterator, List, NamedTuple, Optional, Sequence, Tuple, Union
 
 from .._drawing import Outline
 from .._full import FullAnswers
 from .._land import Land
+from .._lots import Lots
 from .._plat import Plat
 from .._refused import Refused
 from . import drawn
@@ -53,13 +54,12 @@ def report_answer(body: bytes) -> Json:
     listed = _listed(given)
     selected = given.index("selected")
     basis = given.basis()
-    plat = basis.plat
-    answers = plat._full_answers([each.description for each in listed], "exact")
-    tracts = _tracts(plat, listed, answers)
-    whole = plat.land("secs. 1 to 36, all.")
+    answers = basis.full_answers([each.description for each in listed])
+    tracts = _tracts(basis.reads, listed, answers)
+    whole = basis.whole()
     found = overlapping([tract.known for tract in tracts], PAIRS_MOST)
     joined = _joined(tracts, found.tracts, whole - whole)
-    doubts = _doubts(plat, tracts, answers.noted)
+    doubts = _doubts(basis.reads, tracts, answers.noted)
     shown = _tracts_json(basis, tracts, answers.texts(), found.tracts, doubts)
     return {
         "tracts": shown,
@@ -85,9 +85,9 @@ def _listed(given: Given) -> List[Listed]:
     return listed
 
 
-def _tracts(plat: Plat, listed: List[Listed], answers: FullAnswers) -> List[Tract]:
+def _tracts(by: Union[Plat, Lots], listed: List[Listed], answers: FullAnswers) -> List[Tract]:
     """Return the tracts, each with the land of its description, or its refusal."""
-    township, refused = plat.township, set(answers.refused)
+    refused = set(answers.refused)
     found: List[Tract] = []
     for index, each in enumerate(listed):
         if each.fault:
@@ -95,7 +95,7 @@ def _tracts(plat: Plat, listed: List[Listed], answers: FullAnswers) -> List[Trac
         elif index in refused:
             found.append(Tract(each, refused=answers.refused_at(index)))
         else:
-            found.append(Tract(each, known=known(township, each.description)))
+            found.append(Tract(each, known=known(by, each.description)))
     return found
 
 
@@ -152,10 +152,10 @@ def _tracts_json(
     return found
 
 
-def _doubts(plat: Plat, tracts: List[Tract], noted: Iterable[int]) -> Dict[int, Doubts]:
+def _doubts(by: Union[Plat, Lots], tracts: List[Tract], noted: Iterable[int]) -> Dict[int, Doubts]:
     """Return the notes on the tracts that have any, by their indexes."""
     accepted = (index for index in noted if tracts[index].land is not None)
-    return doubts_of_many(plat, ((index, tracts[index].listed.description) for index in accepted))
+    return doubts_of_many(by, ((index, tracts[index].listed.description) for index in accepted))
 
 
 def _outlines(tracts: Sequence[Tract], shown: Sequence[Json]) -> List[Outline]:

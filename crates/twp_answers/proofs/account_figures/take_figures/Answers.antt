@@ -10,6 +10,7 @@ use Rattle.twp_answers.proofs.FigureLines.{next_line}
 use Rattle.twp_answers.proofs.TallyFacts.{next_tally}
 use Rattle.twp_answers.proofs.FirstTractFaults.{refused_next}
 use Rattle.twp_answers.proofs.account_figures.take_figures.Goals as goal
+use Rattle.twp_grid.specs.Lands.{STANDARD_LOTS}
 
 pub records-init : goal.records-init
 records-init g c = record {
@@ -57,7 +58,8 @@ returns-in_err-hundredths-clause-fault g c =
     err_from_is_err_and c.from_residual-in_err-hundredths.result
     c.from_residual-in_err-hundredths.ensures.1 in
     rw (gone.1, gone.2)
-    (refused_next c.args.plat.now.township rows c.records.taken _ c.records.invariant.tally.earlier is.within
+    (refused_next STANDARD_LOTS c.args.plat.now.township rows c.records.taken _
+    c.records.invariant.tally.earlier is.within
     (omega arith) _
     (rw is.is c.in_err-hundredths.ensures.fault))
 

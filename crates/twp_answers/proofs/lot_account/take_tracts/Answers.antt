@@ -4,7 +4,6 @@ use Rattle.std.proofs.Common.{◌≡◌, refl, sym, ◌∙◌, length, subst, ar
 use Rattle.std.proofs.lemmas.Result.{err_from_is_err_and}
 use Rattle.twp_notes.specs.Records.{record_at, records_left}
 use Rattle.twp_notes.proofs.Taking.{next_record_is, no_record_left}
-use Rattle.twp_grid.specs.Places.{PLACE_DIGITS}
 use Rattle.twp_grid.specs.Lands.{no_places}
 use Rattle.twp_plat.specs.LotAreas.{HasFigures}
 use Rattle.twp_answers.specs.EarlierTracts.{earlier_of, AreEarlier}
@@ -15,26 +14,30 @@ use Rattle.twp_answers.specs.LotAccounts.{AreFiguresByLots}
 use Rattle.twp_answers.proofs.FirstLotTractFaults.{refused_next_by}
 use Rattle.twp_answers.proofs.LotFigures.{figure_is, figures_next, figures_of_land, lack_none_next}
 use Rattle.twp_answers.proofs.LotFigures.{no_figures}
+use Rattle.twp_plat.specs.LotTables.{figure_of, lots_of}
 use Rattle.twp_answers.proofs.lot_account.take_tracts.Goals as goal
 
 pub records-init : goal.records-init
 records-init g c =
     let rows = records_left c.args.records.now in
     let empty : g.L.PlaceSet.places c.args.earlier.now.land ≡ no_places =
-    one_land_of_tracts c.args.table.now.township rows 0 (g.L.PlaceSet.places c.args.earlier.now.land)
+    one_land_of_tracts (lots_of c.args.lots.now) c.args.township rows 0
+    (g.L.PlaceSet.places c.args.earlier.now.land)
     no_places
-    c.requires.empty.land (no_land c.args.table.now.township rows) in
+    c.requires.empty.land (no_land (lots_of c.args.lots.now) c.args.township rows) in
     record {
       reading = c.requires.reading;
       rest = refl;
       within = omega arith;
       few = omega arith;
       earlier = c.requires.empty;
-      returned = subst (HasFigures PLACE_DIGITS c.args.table.now) (sym empty) (none_lacking c.args.table.now);
+      returned =
+          subst (HasFigures (lots_of c.args.lots.now) (figure_of c.args.lots.now)) (sym empty)
+          (none_lacking (lots_of c.args.lots.now) (figure_of c.args.lots.now));
       lack = λ index other below. absurd (omega arith);
       figures =
-          subst (AreFiguresByLots c.args.table.now rows 0) (sym c.new-figures.ensures.items)
-          (no_figures c.args.table.now rows);
+          subst (AreFiguresByLots c.args.township c.args.lots.now rows 0) (sym c.new-figures.ensures.items)
+          (no_figures c.args.township c.args.lots.now rows);
     }
 
 pub figure_of-requires : goal.figure_of-requires
@@ -52,19 +55,22 @@ records-preserved g c =
       within = omega (arith, is.within);
       few = omega arith;
       earlier =
-          next_earlier c.args.table.now.township rows c.records.taken _ _ takes.more
+          next_earlier (lots_of c.args.lots.now) c.args.township rows c.records.taken _ _ takes.more
           c.records.invariant.earlier
           takes.takes;
       returned =
-          figures_of_land c.args.table.now rows c.records.taken _ _ _ c.records.invariant.earlier takes
+          figures_of_land c.args.township c.args.lots.now rows c.records.taken _ _ _
+          c.records.invariant.earlier takes
           c.records.invariant.returned;
       lack =
-          lack_none_next c.args.table.now rows c.records.taken _ _ _ c.records.invariant.earlier takes
+          lack_none_next c.args.township c.args.lots.now rows c.records.taken _ _ _
+          c.records.invariant.earlier takes
           c.records.invariant.lack;
       figures =
           rw c.in_ok-push.ensures.items
-          (figures_next c.args.table.now rows c.records.taken _ _ c.records.invariant.figures
-          (figure_is c.args.table.now (record_at rows c.records.taken) _ _ _ c.figure_of.result _ takes
+          (figures_next c.args.township c.args.lots.now rows c.records.taken _ _ c.records.invariant.figures
+          (figure_is c.args.township c.args.lots.now (record_at rows c.records.taken) _ _ _ c.figure_of.result
+          _ takes
           c.hundredths.ensures
           (rw is.is c.figure_of.ensures.name) c.figure_of.ensures.acres));
     }
@@ -77,7 +83,7 @@ returns-in_err-area-clause-fault g c =
     let gone =
     err_from_is_err_and c.from_residual-in_err-area.result c.from_residual-in_err-area.ensures.1 in
     rw (gone.1, gone.2)
-    (refused_next_by c.args.table.now rows c.records.taken _ c.records.invariant.earlier
+    (refused_next_by c.args.township c.args.lots.now rows c.records.taken _ c.records.invariant.earlier
     c.records.invariant.lack is.within (omega arith) _ (rw is.is c.in_err-area.ensures.fault))
 
 pub returns-clause-earlier : goal.returns-clause-earlier
@@ -88,7 +94,8 @@ returns-clause-earlier g c =
     let all : c.records.taken ≡ length rows = omega arith in
     subst
     (λ count.
-    AreEarlier c.args.table.now.township rows count (earlier_of g.L.PlaceSet.places c.records.earlier))
+    AreEarlier (lots_of c.args.lots.now) c.args.township rows count
+    (earlier_of g.L.PlaceSet.places c.records.earlier))
     all c.records.invariant.earlier
 
 pub returns-clause-few : goal.returns-clause-few
@@ -104,5 +111,5 @@ returns-clause-figures g c =
     let none = rw c.if-branch.false at c.in_ok-read.ensures in
     let short = no_record_left rows c.records.taken (sym c.records.invariant.rest ∙ none) in
     let all : c.records.taken ≡ length rows = omega arith in
-    subst (λ count. AreFiguresByLots c.args.table.now rows count c.records.figures.items) all
+    subst (λ count. AreFiguresByLots c.args.township c.args.lots.now rows count c.records.figures.items) all
     c.records.invariant.figures

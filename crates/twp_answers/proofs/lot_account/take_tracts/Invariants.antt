@@ -1,11 +1,11 @@
 use Rattle.std.proofs.Common.{◌≡◌, ◌≤◌, length, drop}
-use Rattle.twp_grid.specs.Places.{PLACE_DIGITS}
 use Rattle.twp_plat.specs.LotAreas.{HasFigures}
 use Rattle.twp_notes.specs.Records.{records_left, IsBetweenRecords}
 use Rattle.twp_answers.specs.EarlierTracts.{earlier_of, AreEarlier}
 use Rattle.twp_answers.specs.Tracts.{TRACTS_MOST}
 use Rattle.twp_answers.specs.LotAccounts.{AreFiguresByLots}
 use Rattle.twp_answers.specs.steps.LotTaking.{LackNoLots}
+use Rattle.twp_plat.specs.LotTables.{figure_of, lots_of}
 use Rattle.twp_answers.proofs.lot_account.take_tracts.Given as goal
 
 -- the tracts so far were added, with their figures, and the other records remain
@@ -15,11 +15,11 @@ invariant-records g l = record {
   rest : records_left l.records ≡ drop l.taken (records_left l.fn.records);
   within : l.taken ≤ length (records_left l.fn.records);
   few : l.taken ≤ TRACTS_MOST;
-  earlier : AreEarlier l.table.township (records_left l.fn.records) l.taken
+  earlier : AreEarlier (lots_of l.lots) l.township (records_left l.fn.records) l.taken
       (earlier_of g.L.PlaceSet.places l.earlier);
-  returned : HasFigures PLACE_DIGITS l.table (g.L.PlaceSet.places l.earlier.land);
-  lack : LackNoLots l.table (records_left l.fn.records) l.taken;
-  figures : AreFiguresByLots l.table (records_left l.fn.records) l.taken l.figures.items;
+  returned : HasFigures (lots_of l.lots) (figure_of l.lots) (g.L.PlaceSet.places l.earlier.land);
+  lack : LackNoLots l.township l.lots (records_left l.fn.records) l.taken;
+  figures : AreFiguresByLots l.township l.lots (records_left l.fn.records) l.taken l.figures.items;
 }
 
 abbrev pub decreases-records : goal.decreases-records

@@ -1,5 +1,6 @@
 -- The area is that of the items' places, or they stop the call.
 use Rattle.std.proofs.lemmas.Result.{err_from_is_err_and}
+use Rattle.twp_grid.specs.Lands.{STANDARD_LOTS}
 use Rattle.twp_answers.proofs.StopsOnPlat.{places_stop_on}
 use Rattle.twp_answers.proofs.on_plat.area_in_all.Goals as goal
 
@@ -7,7 +8,8 @@ pub returns-in_err-resolve_into : goal.returns-in_err-resolve_into
 returns-in_err-resolve_into c = λ text read.
     let gone = err_from_is_err_and c.from_residual.result c.from_residual.ensures.1 in
     rw gone.1
-    (places_stop_on c.args.plat.now.township text c.args.description.now c.in_err-resolve_into.field-0.0 _
+    (places_stop_on STANDARD_LOTS c.args.plat.now.township text c.args.description.now
+    c.in_err-resolve_into.field-0.0 _
     read
     (rw c.township.ensures at c.in_err-resolve_into.ensures.refused) gone.2)
 

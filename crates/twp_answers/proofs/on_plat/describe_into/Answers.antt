@@ -16,5 +16,5 @@ returns-in_err-resolve_into-clause-land g c =
     err_from_is_err_and c.from_residual-in_err-resolve_into.result
     c.from_residual-in_err-resolve_into.ensures.1 in
     rw gone.1
-    (stopped_by_places _ c.args.text.now _ _ _ c.in_ok-noted.ensures.read
+    (stopped_by_places _ _ c.args.text.now _ _ _ c.in_ok-noted.ensures.read
     c.in_err-resolve_into.ensures.refused gone.2)

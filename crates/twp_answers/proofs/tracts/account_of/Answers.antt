@@ -7,6 +7,7 @@ use Rattle.twp_answers.specs.ClearTracts.{AreClearTracts}
 use Rattle.twp_answers.proofs.TallyFacts.{no_tally, accepted}
 use Rattle.twp_answers.proofs.FirstTractFaults.{after_of_word, first_refused}
 use Rattle.twp_answers.proofs.tracts.account_of.Goals as goal
+use Rattle.twp_grid.specs.Lands.{STANDARD_LOTS}
 
 pub returns-in_err-take_tracts-clause-fault : goal.returns-in_err-take_tracts-clause-fault
 returns-in_err-take_tracts-clause-fault c =
@@ -16,8 +17,10 @@ returns-in_err-take_tracts-clause-fault c =
     let gone =
     err_from_is_err_and c.from_residual-in_err-take_tracts.result
     c.from_residual-in_err-take_tracts.ensures.1 in
-    rw (gone.1, gone.2) (first_refused c.args.plat.now.township c.args.bytes.now c.requires heading_is _
-    (subst (λ rows. AreTractsRefused c.args.plat.now.township rows c.in_err-take_tracts.field-0.0)
+    rw (gone.1, gone.2)
+    (first_refused STANDARD_LOTS c.args.plat.now.township c.args.bytes.now c.requires heading_is _
+    (subst
+    (λ rows. AreTractsRefused STANDARD_LOTS c.args.plat.now.township rows c.in_err-take_tracts.field-0.0)
     (sym after.after) c.in_err-take_tracts.ensures.fault))
 
 pub returns-clause-account : goal.returns-clause-account

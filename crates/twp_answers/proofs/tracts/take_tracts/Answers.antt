@@ -9,6 +9,7 @@ use Rattle.twp_answers.proofs.ClearFacts.{one_more_clear}
 use Rattle.twp_answers.proofs.TallyFacts.{next_tally}
 use Rattle.twp_answers.proofs.FirstTractFaults.{refused_next}
 use Rattle.twp_answers.proofs.tracts.take_tracts.Goals as goal
+use Rattle.twp_grid.specs.Lands.{STANDARD_LOTS}
 
 pub records-init : goal.records-init
 records-init g c = record {
@@ -48,7 +49,8 @@ returns-in_err-take-clause-fault g c =
     let is = next_record_is rows c.records.taken _ _ (sym c.records.invariant.rest ∙ next.0) in
     let gone = err_from_is_err_and c.from_residual-in_err-take.result c.from_residual-in_err-take.ensures.1 in
     rw (gone.1, gone.2)
-    (refused_next c.args.plat.now.township rows c.records.taken _ c.records.invariant.tally.earlier is.within
+    (refused_next STANDARD_LOTS c.args.plat.now.township rows c.records.taken _
+    c.records.invariant.tally.earlier is.within
     (omega arith) _
     (rw is.is c.in_err-take.ensures.fault))
 

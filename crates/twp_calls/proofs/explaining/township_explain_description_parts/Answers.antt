@@ -13,6 +13,7 @@ use Rattle.twp_calls.proofs.ExplanationPartFacts.{shown_in_parts}
 use Rattle.twp_calls.proofs.PlaceFacts.{refused_where}
 use Rattle.twp_explain.specs.ExplainedPlaces.{IsExplainedWhereRefused}
 use Rattle.twp_calls.proofs.explaining.township_explain_description_parts.Goals as goal
+use Rattle.twp_grid.specs.Lands.{STANDARD_LOTS}
 
 pub returns-in-Ok-clause-answer : goal.returns-in-Ok-clause-answer
 returns-in-Ok-clause-answer c =
@@ -62,9 +63,11 @@ returns-in-Ok-Some-clause-answer c =
     c.in-Ok-Some.explained
     c.of_refusal-refused.result c.put_explained.result c.in-Err-Refused.field-0-is c.in-Err-Refused.ensures
     c.given-file.ensures.bytes c.given-file.ensures.first_line
-    (subst (λ township. IsNoDescription township c.given-file.result.bytes.now c.in-Ok-Some.explained.refusal)
+    (subst (λ township.
+    IsNoDescription STANDARD_LOTS township c.given-file.result.bytes.now c.in-Ok-Some.explained.refusal)
     c.township.ensures
-    (held_by (λ explained. IsNoDescription c.township.result c.given-file.result.bytes.now explained.refusal)
+    (held_by (λ explained.
+    IsNoDescription STANDARD_LOTS c.township.result c.given-file.result.bytes.now explained.refusal)
     c.in-Ok-Some.field-0 c.in-Ok-Some.explained c.in-Ok-Some.field-0-is c.in-Ok-Some.ensures.refusal))
     (held_by (IsExplainedWhereRefused c.given-file.result) c.in-Ok-Some.field-0 c.in-Ok-Some.explained
     c.in-Ok-Some.field-0-is c.in-Ok-Some.ensures.spot)

@@ -10,6 +10,7 @@ use Rattle.twp_calls.proofs.ExplanationPartFacts.{kept_clear, noted_in_parts, or
 use Rattle.twp_calls.proofs.ExplanationPartFacts.{parts_not_accepted}
 use Rattle.twp_calls.proofs.ExplanationPartFacts.{shown_in_parts}
 use Rattle.twp_calls.proofs.explaining.township_explain_list_parts.Goals as goal
+use Rattle.twp_grid.specs.Lands.{STANDARD_LOTS}
 
 pub returns-in-Ok-clause-answer : goal.returns-in-Ok-clause-answer
 returns-in-Ok-clause-answer c =
@@ -59,10 +60,12 @@ returns-in-Ok-Some-clause-answer c =
       is_such = record {
         fault = c.in-Ok-Some.explained.fault;
         first =
-            subst (λ bytes. IsFirstTractFault c.in-Some.plat.township bytes c.in-Ok-Some.explained.fault)
+            subst (λ bytes.
+            IsFirstTractFault STANDARD_LOTS c.in-Some.plat.township bytes c.in-Ok-Some.explained.fault)
             c.given-file.ensures.bytes
             (held_by (λ explained.
-            IsFirstTractFault c.in-Some.plat.township c.given-file.result.bytes.now explained.fault)
+            IsFirstTractFault STANDARD_LOTS c.in-Some.plat.township c.given-file.result.bytes.now
+            explained.fault)
             c.in-Ok-Some.field-0 c.in-Ok-Some.explained c.in-Ok-Some.field-0-is c.in-Ok-Some.ensures.first);
         refusal_is =
             held_by (λ explained. refusal_of explained.fault ≡ Some explained.explanation.refusal)

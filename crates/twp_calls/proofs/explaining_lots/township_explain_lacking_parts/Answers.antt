@@ -10,7 +10,7 @@ use Rattle.twp_calls.proofs.explaining_lots.township_explain_lacking_parts.Goals
 
 pub returns-in_default-lacking_at-clause-answer : goal.returns-in_default-lacking_at-clause-answer
 returns-in_default-lacking_at-clause-answer c =
-    by_lots c.in-Some.table c.in-Some.ensures
+    by_lots c.in-Some._township c.in-Some.ensures
     (accepted (record {
       none = c.in_default-lacking_at.ensures;
       answer_is = c.bare-in_default-lacking_at.ensures;
@@ -18,8 +18,9 @@ returns-in_default-lacking_at-clause-answer c =
 
 pub returns-in-Ok-clause-answer : goal.returns-in-Ok-clause-answer
 returns-in-Ok-clause-answer c =
-    by_lots c.in-Some.table c.in-Some.ensures
-    (explains_refusal (IsRefusalAt c.in-Some.table c.args.at) (IsOfNoLacking c.in-Some.table c.args.at)
+    by_lots c.in-Some._township c.in-Some.ensures
+    (explains_refusal (IsRefusalAt c.args.lots.now.lots c.args.at)
+    (IsOfNoLacking c.args.lots.now.lots c.args.at)
     c.of_refusal-refused.result c.in-Ok.explained c.args.text.now c.put_explained.new.text
     c.put_explained.new.explanation c.put_explained.result
     (record {
@@ -44,4 +45,4 @@ returns-in-Ok-clause-shows c =
 
 pub returns-in-Err-clause-answer : goal.returns-in-Err-clause-answer
 returns-in-Err-clause-answer c =
-    by_lots c.in-Some.table c.in-Some.ensures (no_memory c.bare-in-Err.ensures)
+    by_lots c.in-Some._township c.in-Some.ensures (no_memory c.bare-in-Err.ensures)

@@ -1,8 +1,8 @@
--- There is no such land, or no such account; or the townships differ; or the parts are those of the area of
--- the land.
+-- There is no such land, or no such account; or the townships differ, or the land is of a plat with other
+-- lots; or the parts are those of the area of the land.
 use Rattle.std.proofs.Common.{sym, ◌∙◌}
 use Rattle.twp_calls.specs.Calls.{by_account, by_none, on_plat}
-use Rattle.twp_calls.specs.LandCalls.{HasLandArea, on_land, on_no_land}
+use Rattle.twp_calls.specs.LandCalls.{of_one, of_two, on_land, on_no_land}
 use Rattle.twp_calls.proofs.LandCallFacts.{agree, differ}
 use Rattle.twp_calls.proofs.land_answers.township_land_area.Goals as goal
 
@@ -22,23 +22,29 @@ returns-then-not-is_same_township-clause-answer c =
     on_plat c.in-Some.plat c.in-Some.ensures
     (on_land c.in-Some-land.land.township _ c.in-Some-land.ensures
     (by_account c.in-Some-account_of.account (sym c.account_of.ensures ∙ c.in-Some-account_of.is)
-    (differ (HasLandArea c.args.area.now c.in-Some.plat c.in-Some-account_of.account _)
-    c.in-Some.plat.township
-    c.in-Some-land.land.township c.township.result c.is_same_township.result _ c.township.ensures
-    c.is_same_township.ensures
+    (differ _ c.in-Some.plat.township c.in-Some-land.land.township c.township.result
+    c.is_same_township.result _ c.township.ensures c.is_same_township.ensures
     c.if-not-is_same_township.true c.bare-then-not-is_same_township.ensures)))
+
+pub returns-then-own_lots-ne0-clause-answer : goal.returns-then-own_lots-ne0-clause-answer
+returns-then-own_lots-ne0-clause-answer c =
+    on_plat c.in-Some.plat c.in-Some.ensures
+    (on_land c.in-Some-land.land.township _ c.in-Some-land.ensures
+    (by_account c.in-Some-account_of.account (sym c.account_of.ensures ∙ c.in-Some-account_of.is)
+    (agree _ c.in-Some.plat.township c.in-Some-land.land.township c.township.result
+    c.is_same_township.result _ c.township.ensures c.is_same_township.ensures
+    c.if-not-is_same_township.false (of_two c.if-own_lots-ne0.true c.bare-then-own_lots-ne0.ensures))))
 
 pub returns-clause-answer : goal.returns-clause-answer
 returns-clause-answer c =
     on_plat c.in-Some.plat c.in-Some.ensures
     (on_land c.in-Some-land.land.township _ c.in-Some-land.ensures
     (by_account c.in-Some-account_of.account (sym c.account_of.ensures ∙ c.in-Some-account_of.is)
-    (agree (HasLandArea _ c.in-Some.plat c.in-Some-account_of.account _) c.in-Some.plat.township
-    c.in-Some-land.land.township c.township.result c.is_same_township.result _ c.township.ensures
-    c.is_same_township.ensures
-    c.if-not-is_same_township.false (record {
+    (agree _ c.in-Some.plat.township c.in-Some-land.land.township c.township.result
+    c.is_same_township.result _ c.township.ensures c.is_same_township.ensures
+    c.if-not-is_same_township.false (of_one c.if-own_lots-ne0.false (record {
       area = c.area_by.result;
       area_is = c.area_by.ensures;
       parts = c.of.ensures;
       answer_is = c.bare-2.ensures;
-    }))))
+    })))))

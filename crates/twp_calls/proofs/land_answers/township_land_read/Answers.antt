@@ -10,7 +10,8 @@ returns-in-Ok-clause-answer c =
     (accepted (record {
       places = _;
       named = c.in-Ok.ensures;
-      given = c.of.ensures;
+      given = c.of.ensures.land;
+      plat_is = c.of.ensures.plat;
       answer_is = c.bare-in-Ok.ensures;
     }))
 

@@ -7,7 +7,7 @@ use Rattle.twp_calls.proofs.lot_answers.township_lots_acres.Goals as goal
 
 pub returns-in-Ok : goal.returns-in-Ok
 returns-in-Ok c =
-    by_lots c.in-Some.table c.in-Some.ensures
+    by_lots c.in-Some.township c.in-Some.ensures
     (accepted (record {
       area = c.in-Ok.area;
       is = c.in-Ok.ensures;
@@ -18,6 +18,8 @@ returns-in-Ok c =
 
 pub returns-in-Err : goal.returns-in-Err
 returns-in-Err c =
-    by_lots c.in-Some.table c.in-Some.ensures
-    (stops_by_lots (AreAcresAnswered (HasLotAreaOf c.in-Some.table c.args.description.now))
-    c.in-Some.table c.args.description.now c.in-Err.stop _ c.of_stop.ensures c.in-Err.ensures)
+    by_lots c.in-Some.township c.in-Some.ensures
+    (stops_by_lots
+    (AreAcresAnswered (HasLotAreaOf c.in-Some.township c.args.lots.now.lots c.args.description.now))
+    c.in-Some.township c.args.lots.now.lots c.args.description.now c.in-Err.stop _ c.of_stop.ensures
+    c.in-Err.ensures)

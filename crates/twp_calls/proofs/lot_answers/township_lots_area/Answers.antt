@@ -7,7 +7,7 @@ use Rattle.twp_calls.proofs.lot_answers.township_lots_area.Goals as goal
 
 pub returns-in-Ok-clause-answer : goal.returns-in-Ok-clause-answer
 returns-in-Ok-clause-answer c =
-    by_lots c.in-Some.table c.in-Some.ensures
+    by_lots c.in-Some.township c.in-Some.ensures
     (accepted (record {
       area = c.in-Ok.exact;
       is = c.in-Ok.ensures;
@@ -17,6 +17,9 @@ returns-in-Ok-clause-answer c =
 
 pub returns-in-Err-clause-answer : goal.returns-in-Err-clause-answer
 returns-in-Err-clause-answer c =
-    by_lots c.in-Some.table c.in-Some.ensures
-    (stops_by_lots (IsAreaAnswered (HasLotAreaOf c.in-Some.table c.args.description.now) c.args.area.now)
-    c.in-Some.table c.args.description.now c.in-Err.stop _ c.of_stop.ensures c.in-Err.ensures)
+    by_lots c.in-Some.township c.in-Some.ensures
+    (stops_by_lots
+    (IsAreaAnswered (HasLotAreaOf c.in-Some.township c.args.lots.now.lots c.args.description.now)
+    c.args.area.now)
+    c.in-Some.township c.args.lots.now.lots c.args.description.now c.in-Err.stop _ c.of_stop.ensures
+    c.in-Err.ensures)

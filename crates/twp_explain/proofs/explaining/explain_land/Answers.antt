@@ -8,6 +8,7 @@ use Rattle.twp_explain.specs.ExplainedPlaces.{IsExplainedWhereRefused}
 use Rattle.twp_explain.proofs.MessageFacts.{shows_notes, shows_text}
 use Rattle.twp_explain.proofs.ShownFacts.{platted_tells_none, tells_where}
 use Rattle.twp_explain.proofs.explaining.explain_land.Goals as goal
+use Rattle.twp_grid.specs.Lands.{STANDARD_LOTS}
 
 pub returns-in-Err-clause-none : goal.returns-in-Err-clause-none
 returns-in-Err-clause-none g c =
@@ -20,7 +21,8 @@ pub returns-in-Ok-describe-clause-none : goal.returns-in-Ok-describe-clause-none
 returns-in-Ok-describe-clause-none g c = λ none.
     land_is_none c.args.notes.now.bytes.now c.args.description.now.bytes.now c.in-Ok.plat c.args.verdict
     c.in-Ok.ensures.plat
-    (subst (λ township. DescribeLand township c.args.description.now.bytes.now) c.township.ensures
+    (subst (λ township. DescribeLand STANDARD_LOTS township c.args.description.now.bytes.now)
+    c.township.ensures
     c.in-Ok-describe.ensures.land)
 
 pub returns-in-Err-describe-clause-none : goal.returns-in-Err-describe-clause-none
@@ -30,7 +32,8 @@ returns-in-Err-describe-clause-none g c =
     (of_description c.args.notes.now.bytes.now c.args.description.now.bytes.now c.in-Ok.plat
     c.in-Err-describe.stop c.in-Ok.ensures.plat
     (subst
-    (λ township. IfFound c.in-Err-describe.stop (IsNoDescription township c.args.description.now.bytes.now))
+    (λ township.
+    IfFound c.in-Err-describe.stop (IsNoDescription STANDARD_LOTS township c.args.description.now.bytes.now))
     c.township.ensures c.in-Err-describe.ensures.found))
     c.explain-in-Err-describe.ensures.none
 
@@ -41,7 +44,7 @@ returns-in-Err-clause-spot g c =
 
 pub returns-in-Err-describe-clause-spot : goal.returns-in-Err-describe-clause-spot
 returns-in-Err-describe-clause-spot g c = λ makes.
-    tells_where c.explain-in-Err-describe.result c.of_file-origin.result c.args.description.now
+    tells_where _ c.explain-in-Err-describe.result c.of_file-origin.result c.args.description.now
     c.township.result c.in-Err-describe.stop c.of_file-origin.ensures.whole c.of_file-origin.ensures.file
     c.in-Err-describe.ensures.shown c.explain-in-Err-describe.ensures.found
     c.explain-in-Err-describe.ensures.spot

@@ -4,7 +4,7 @@ use Rattle.std.proofs.Common.{string_bytes}
 use Rattle.twp_suggest.proofs.only_reading.only.Goals as goal
 
 pub returns-clause-told : goal.returns-clause-told
-returns-clause-told c = record {
+returns-clause-told g c = record {
   reading = c.args.reading.now;
   only = c.requires;
   told =

@@ -1,7 +1,7 @@
 /** The drawing, which the server makes; here its lines, lots, sections, land, and tracts become buttons. */
 
 import { byId, make, save } from "./dom.js";
-import { describe, isIn, LOT, partAt, SECTION } from "./parts.js";
+import { describe, isFree, isIn, LOT, partAt, placesIn, SECTION } from "./parts.js";
 import * as selection from "./selection.js";
 import { visible } from "./shown.js";
 import * as zoom from "./zoom.js";
@@ -13,7 +13,9 @@ const PART_LEAST = 24;
 const KEY_MOST = 60;
 /** The characters of a drawing that takes long to show: one of hundreds of tracts. */
 const LONG = 80_000;
-const TARGETS = ".targets rect, .outlines path, g.land";
+const TARGETS = ".targets rect, .targets path, .outlines path, g.land";
+/** What the key says of land that the plat does not have. */
+const NO_LAND = "No land on the plat";
 let chosen = "section 36";
 /** The drawing as the server made it, and what it is of. */
 let original = null;
@@ -119,6 +121,9 @@ function showKey(svg) {
   const entries = [...svg.querySelectorAll("g.land"), ...tracts].slice(0, KEY_MOST).map(entryOf);
   const left = tracts.length + svg.querySelectorAll("g.land").length - entries.length;
   if (left > 0) entries.push(make("li", {}, `and ${left} more ${left === 1 ? "tract" : "tracts"}`));
+  if (svg.querySelector(".no-land-there") !== null) {
+    entries.push(make("li", { class: "no-land-key" }, make("span", { class: "gray", "aria-hidden": "true" }), NO_LAND));
+  }
   byId("key").replaceChildren(...entries);
 }
 
@@ -172,8 +177,15 @@ function thingsOf(target, event) {
   const place = new DOMPoint(event.clientX, event.clientY).matrixTransform(target.getScreenCTM().inverse());
   const [x, y] = [place.x - target.x.baseVal.value, place.y - target.y.baseVal.value].map(Math.floor);
   if (!(x >= 0 && x < SECTION && y >= 0 && y < SECTION)) return [thing];
-  const lots = lotsOf(target);
   const pixels = target.getBoundingClientRect().width / SECTION;
+  const taken = takenIn(target);
+  if (taken !== null) {
+    // A part with a place of a lot, or of land that is not there, can't be named.
+    const free = [1, 2, 4, 8, 16].map((size) => partAt(thing.section, x, y, size)).filter((part) => isFree(part, taken));
+    const found = free.filter(({ size }) => size * pixels >= PART_LEAST).slice(0, 3);
+    return [...found.map((part) => ({ ...part, description: describe(part, []) })), thing];
+  }
+  const lots = lotsOf(target);
   const isLot = lots.some((lot) => isIn({ x, y }, { ...lot, size: LOT }));
   const sizes = [1, 2, 4, 8, 16].filter((size) => size * pixels >= PART_LEAST && !(isLot && size <= LOT)).slice(0, 3);
   const parts = sizes.map((size) => partAt(thing.section, x, y, size));
@@ -188,6 +200,22 @@ function lotsOf(section) {
     x: lot.x.baseVal.value - left,
     y: lot.y.baseVal.value - top,
   }));
+}
+
+/** Returns the places of a section in lots that a table places, or that are not there; null if it has standard lots. */
+function takenIn(section) {
+  const svg = section.ownerSVGElement;
+  const placed = [...svg.querySelectorAll(".targets path[data-lot]")];
+  const missing = [...svg.querySelectorAll(".no-land-there path")];
+  if (placed.length + missing.length === 0) return null;
+  const number = `${section.dataset.section}.`;
+  const shapes = [...placed.filter(({ dataset }) => dataset.lot.startsWith(number)), ...missing];
+  const [left, top] = [section.x.baseVal.value, section.y.baseVal.value];
+  const taken = new Uint8Array(SECTION * SECTION);
+  for (const shape of shapes) {
+    placesIn(shape.getAttribute("d"), left, top).forEach((is, place) => (taken[place] |= is));
+  }
+  return taken;
 }
 
 function choose(target) {

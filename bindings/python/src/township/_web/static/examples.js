@@ -7,6 +7,16 @@ T,2,N,3,W
 5,3,40.65
 5,4,40.75
 `;
+/** The township with the lake of docs/LOTS-FORMAT.md. */
+const LAKE = `section,lot,acres,land
+T,2,N,3,W,1912-03-04
+5,1,40.45,NE1/4NE1/4
+14,1,38.50,NE1/4NE1/4
+14,2,12.25,N1/2NW1/4NE1/4
+14,3,19.80,S1/2NW1/4NE1/4
+14,4,71.10,E1/2NW1/4
+14,,,NW1/4NW1/4
+`;
 const LIST = `name,description
 Smith,"sec. 14, N1/2."
 Jones,"sec. 14, E1/2."
@@ -26,6 +36,11 @@ export const EXAMPLES = [
     title: "Lot table",
     shows: "The acreage that an approved plat returns, without field notes: two lots of section 5, and 80 acres.",
     values: { notes: "", lots: TABLE, description: "sec. 5, lots 1 and 2, S1/2NE1/4.", panel: "land" },
+  },
+  {
+    title: "Lots around a lake",
+    shows: "A lot table that says where its lots lie: two share a quarter-quarter of section 14, and a lake covers one.",
+    values: { notes: "", lots: LAKE, description: "sec. 14, lots 1 to 3, S1/2NE1/4.", panel: "land", view: "14" },
   },
   {
     title: "Description",

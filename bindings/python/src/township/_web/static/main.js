@@ -190,7 +190,10 @@ async function copyLink() {
 plat.prepare(openNotes, (table) => change("lots", table), replaceText, useLot);
 for (const panel of [land, compare]) panel.prepare(change, replaceText);
 tracts.prepare(change, replaceText, refreshCalmly);
-start.prepare(replaceText, openText);
+start.prepare(replaceText, openText, (designation) => {
+  openPanel("plat");
+  plat.beginTable(designation);
+});
 casebar.prepare();
 drawing.prepare({ use: useLand, section: openSection, line: openLine, picked });
 print.prepare(() => kept.panel);

@@ -41,3 +41,35 @@ export function describe(part, lots) {
 export function isIn(lot, { x, y, size }) {
   return lot.x >= x && lot.x < x + size && lot.y >= y && lot.y < y + size;
 }
+
+/**
+ * Returns which places of a section are inside closed loops, such as the outline of a lot: by row from the north, and in
+ * a row from the west. `left` and `top` are where the section is.
+ */
+export function placesIn(loops, left, top) {
+  const inside = new Uint8Array(SECTION * SECTION);
+  for (const [, startX, startY, moves] of loops.matchAll(/M(\d+) (\d+)([^M]*)/g)) {
+    let [x, y] = [Number(startX) - left, Number(startY) - top];
+    const first = y;
+    const down = (to) => {
+      for (let row = Math.max(0, Math.min(y, to)); row < Math.min(SECTION, Math.max(y, to)); row += 1) {
+        for (let column = Math.max(0, x); column < SECTION; column += 1) inside[SECTION * row + column] ^= 1;
+      }
+      y = to;
+    };
+    for (const [, kind, length] of moves.matchAll(/([hv])(-?\d+)/g)) {
+      if (kind === "h") x += Number(length);
+      else down(y + Number(length));
+    }
+    down(first);
+  }
+  return inside;
+}
+
+/** Returns whether no place of a part is one of these. */
+export function isFree({ x, y, size }, taken) {
+  for (let row = y; row < y + size; row += 1) {
+    for (let column = x; column < x + size; column += 1) if (taken[SECTION * row + column]) return false;
+  }
+  return true;
+}

@@ -6,6 +6,7 @@ import { byId, make, save, say } from "./dom.js";
 import { markLine } from "./drawing.js";
 import { onOpen } from "./files.js";
 import * as lines from "./lines.js";
+import * as lotrows from "./lotrows.js";
 import { follow, mark } from "./marks.js";
 import { basis, kept } from "./store.js";
 
@@ -17,6 +18,7 @@ const NOTE_OF = {
   nominal: "This township is nominal: all section lines are regular. A survey returns other acreages.",
 };
 const ALONE = "There is only a lot table. Open field notes to see the section lines.";
+const PLACED = "The lot table says where the lots lie, so no acreage is that of the field notes.";
 /** The index of the section line for which the field notes are refused, if they are. */
 let lineRefused;
 
@@ -30,10 +32,21 @@ export function prepare(onNotes, onLots, onReplace, onLot) {
   lines.prepare(onNotes);
   follow(byId("notes"));
   follow(byId("lots-text"));
-  byId("lots-text").addEventListener("input", () => onLots(byId("lots-text").value));
+  byId("lots-text").addEventListener("input", () => {
+    onLots(byId("lots-text").value);
+    lotrows.show(byId("lots-text").value);
+  });
+  lotrows.prepare({
+    typed: (table) => {
+      byId("lots-text").value = table;
+      onLots(table);
+    },
+    replaced: (table) => onReplace("lots", table),
+  });
+  byId("new-lots").addEventListener("click", () => lotrows.begin(lines.designation()));
   onOpen("open-lots", (text) => {
-    byId("lot-table").open = true;
     onReplace("lots", text);
+    lotrows.open();
   });
   byId("lots").tBodies[0].addEventListener("click", (event) => {
     if (event.target.dataset.lot !== undefined) onLot(event.target.dataset.lot);
@@ -70,7 +83,11 @@ export function fill() {
   for (const [id, text] of [["notes", kept.notes], ["lots-text", kept.lots]]) {
     if (byId(id) !== document.activeElement && byId(id).value !== text) byId(id).value = text;
   }
+  lotrows.show(kept.lots);
 }
+
+/** Begins a lot table of a township, as in `["2", "N", "3", "W"]`. */
+export const beginTable = (designation) => lotrows.begin(designation);
 
 /** Opens the text of the field notes (`notes`) or of the lot table (`lots`). */
 export function openText(name) {
@@ -114,7 +131,8 @@ function totalOf({ total, basis: name, notes }) {
   const said = total === null
     ? "The lot table lacks lots: there is no total."
     : `The township contains ${grouped(total)} acres${BY[name]}.`;
-  const more = notes === undefined ? ALONE : NOTE_OF[name];
+  const without = kept.notes.trim() === "" ? ALONE : PLACED;
+  const more = notes === undefined ? without : NOTE_OF[name];
   return [make("p", {}, said), ...(more === undefined ? [] : [make("p", { class: "help" }, more)])];
 }
 
@@ -147,15 +165,16 @@ export function open(kind, value) {
 }
 
 function showLots(sections) {
-  const rows = sections.flatMap(({ section, lots }) =>
+  const rows = sections.flatMap(({ section, lots, numbers }) =>
     lots.map((acres, place) => {
-      const lot = `${section}.${place + 1}`;
-      const words = `Use section ${section}, lot ${place + 1} in the description`;
+      const number = numbers?.[place] ?? place + 1;
+      const lot = `${section}.${number}`;
+      const words = `Use section ${section}, lot ${number} in the description`;
       return make(
         "tr",
         { id: `lot-${lot}` },
         make("th", { scope: "row" }, String(section)),
-        make("td", {}, String(place + 1)),
+        make("td", {}, String(number)),
         make("td", { class: "figure" }, acres ?? "lacking"),
         make("td", {}, make("button", { type: "button", "data-lot": lot, "aria-label": words }, "Use")),
       );
@@ -173,6 +192,7 @@ function showRefusal(refused) {
   for (const [id, of] of [["notes", "notes"], ["lots-text", "lots"]]) {
     mark(byId(id), refused?.of === of && typeof refused.start === "number" ? [{ ...refused, kind: "wrong" }] : []);
   }
+  lotrows.mark(refused);
   lineRefused = refused?.section_line ?? undefined;
   markRefused();
   if (lineRefused === undefined) return;

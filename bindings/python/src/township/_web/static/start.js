@@ -7,10 +7,10 @@ import { EXAMPLES } from "./examples.js";
 import { onOpen } from "./files.js";
 
 /**
- * Prepares the choice. `onChoose(name, text)` is called with field notes (`notes`) or a lot table (`lots`), and
- * `onPaste(name)` if they are to be pasted.
+ * Prepares the choice. `onChoose(name, text)` is called with field notes (`notes`) or a lot table (`lots`),
+ * `onPaste(name)` if they are to be pasted, and `onBegin(designation)` if a lot table of a township is to be begun.
  */
-export function prepare(onChoose, onPaste) {
+export function prepare(onChoose, onPaste, onBegin) {
   for (const name of ["notes", "lots"]) {
     onOpen(`start-${name}`, (text) => onChoose(name, text));
     byId(`paste-${name}`).addEventListener("click", () => onPaste(name));
@@ -19,6 +19,10 @@ export function prepare(onChoose, onPaste) {
   byId("start-nominal").addEventListener("submit", (event) => {
     event.preventDefault();
     attempt(async () => onChoose("notes", await nominal(byId("start-township").value)));
+  });
+  byId("start-table").addEventListener("submit", (event) => {
+    event.preventDefault();
+    attempt(async () => onBegin(designationIn(await nominal(byId("table-township").value))));
   });
   byId("examples").replaceChildren(...EXAMPLES.map(item));
 }
@@ -51,6 +55,11 @@ async function sample() {
 async function nominal(township) {
   const { notes } = await post("plat", { township: township.trim() });
   return notes;
+}
+
+/** Returns the designation in field notes, as in `["2", "N", "3", "W"]`. */
+function designationIn(notes) {
+  return notes.split("\n")[1].trim().split(",").slice(1);
 }
 
 async function attempt(call) {

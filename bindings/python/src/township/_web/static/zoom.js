@@ -244,9 +244,24 @@ function showTexts(pixels) {
     // A long figure is squeezed into its lot.
     for (const text of group.querySelectorAll("[textLength]")) {
       const wanted = (text.textContent.length * 0.56 * size) / pixels;
-      text.setAttribute("textLength", String(Math.min(8 * drawn.place - 0.6, wanted)));
+      const [columns] = roomOf(text);
+      const most = columns === undefined ? 8 * drawn.place - 0.6 : columns * drawn.place * 0.9;
+      text.setAttribute("textLength", String(Math.min(most, wanted)));
     }
+    for (const text of group.querySelectorAll("[data-room]")) showIfRoom(text, kind, size, pixels);
   }
+}
+
+/** Returns the columns and rows of the rectangle that a text has, if the drawing says it. */
+const roomOf = (text) => text.dataset.room?.split(" ").map(Number) ?? [];
+
+/** Shows a text in a lot that a table places, or on land that is not there, if its rectangle has room for it. */
+function showIfRoom(text, kind, size, pixels) {
+  const [wide, high] = roomOf(text).map((places) => places * drawn.place * pixels);
+  const isSqueezed = text.hasAttribute("textLength");
+  const width = text.textContent.length * (isSqueezed ? 0.35 : 0.5) * size;
+  const lines = kind === "lot-acres" ? 2 : 1;
+  text.setAttribute("display", wide >= width && high >= lines * size ? "inline" : "none");
 }
 
 /** Shows the names of tracts that have room at this size, those that are first in the list first. */

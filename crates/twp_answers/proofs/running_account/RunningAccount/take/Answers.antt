@@ -6,11 +6,12 @@ use Rattle.twp_answers.specs.steps.TractTaking.{AreTotals}
 use Rattle.twp_answers.proofs.EarlierFacts.{taken_apart, taken_places}
 use Rattle.twp_answers.proofs.TractAreas.{taken_from, totals_next}
 use Rattle.twp_answers.proofs.running_account.RunningAccount.take.Goals as goal
+use Rattle.twp_grid.specs.Lands.{STANDARD_LOTS}
 
 pub take-requires-clause-part : goal.take-requires-clause-part
 take-requires-clause-part g c =
     let more : ℕ → ℕ → ℕ → Bool = g.L.PlaceSet.places c.read.new.self.tract in
-    let takes : TakesLand c.args.plat.now.township (fields_of c.args.row.now)
+    let takes : TakesLand STANDARD_LOTS c.args.plat.now.township (fields_of c.args.row.now)
     (earlier_of g.L.PlaceSet.places c.args.self.now.tracts) (earlier_of g.L.PlaceSet.places c.add.new.self)
     more =
     record {
@@ -19,13 +20,13 @@ take-requires-clause-part g c =
       adds = c.in_ok-add.ensures.added;
     } in
     (taken_from c.args.plat.now (g.L.PlaceSet.places c.args.self.now.tracts.land) more c.area_of-area.result
-    c.args.self.now.totals.remaining (taken_apart _ _ _ _ more takes)
+    c.args.self.now.totals.remaining (taken_apart STANDARD_LOTS _ _ _ _ more takes)
     (rw c.in_ok-add.ensures.tract at c.area_of-area.ensures) c.requires.remaining_is).0
 
 pub returns-clause-taken : goal.returns-clause-taken
 returns-clause-taken g c =
     let more : ℕ → ℕ → ℕ → Bool = g.L.PlaceSet.places c.read.new.self.tract in
-    let takes : TakesLand c.args.plat.now.township (fields_of c.args.row.now)
+    let takes : TakesLand STANDARD_LOTS c.args.plat.now.township (fields_of c.args.row.now)
     (earlier_of g.L.PlaceSet.places c.args.self.now.tracts) (earlier_of g.L.PlaceSet.places c.add.new.self)
     more =
     record {
@@ -44,8 +45,10 @@ returns-clause-taken g c =
         rounded = c.hundredths-hundredths.ensures;
       };
       totals_are =
-          subst (λ p. AreTotals c.args.plat.now p c.take.new.self) (sym (taken_places _ _ _ _ more takes))
-          (totals_next c.args.plat.now _ _ _ _ c.area_of-area.result (taken_apart _ _ _ _ more takes) area_is
+          subst (λ p. AreTotals c.args.plat.now p c.take.new.self)
+          (sym (taken_places STANDARD_LOTS _ _ _ _ more takes))
+          (totals_next c.args.plat.now _ _ _ _ c.area_of-area.result
+          (taken_apart STANDARD_LOTS _ _ _ _ more takes) area_is
           c.requires c.take.ensures);
       text_is = rw c.in_ok-name.ensures.name at c.in_ok-write_tract.ensures.ok;
     }

@@ -8,6 +8,7 @@ use Rattle.twp_answers.proofs.RunFacts.{some_bytes, if_ok}
 use Rattle.twp_answers.specs.declared.tract_fault.TractFault.TheVariants.{TractsTooLarge}
 use Rattle.twp_answers.proofs.FirstTractFaults.{large_first, list_refused}
 use Rattle.twp_answers.proofs.runs.report_answer.report_on.Goals as goal
+use Rattle.twp_grid.specs.Lands.{STANDARD_LOTS}
 
 pub returns-in_err-bytes-clause-answer : goal.returns-in_err-bytes-clause-answer
 returns-in_err-bytes-clause-answer g c =
@@ -23,7 +24,7 @@ returns-in_default-clause-answer g c =
       tells = read.1;
       holds = if_ok c.refuse_list.result _ _ c.refuse_list.ensures.answer (λ answer is.
           list_refused c.args.plat.now read.0 answer.text.items answer.verdict TractsTooLarge
-          (large_first c.args.plat.now.township read.0 read.2) is.0 is.1 is.2);
+          (large_first STANDARD_LOTS c.args.plat.now.township read.0 read.2) is.0 is.1 is.2);
     }
 
 pub returns-in_default-clause-clear : goal.returns-in_default-clause-clear

@@ -1,16 +1,13 @@
--- The rows are those of land, or contain part of a lot.
+-- The places are those of the rows.
 use Rattle.std.proofs.Common.{subst, sym}
-use Rattle.twp_grid.specs.Lands.{HasWholeLots}
-use Rattle.twp_grid.specs.Lands.{STANDARD_LOTS}
+use Rattle.twp_grid.specs.Lands.{HasWholeLots, STANDARD_LOTS}
 use Rattle.twp_calls.proofs.land.TownshipLand.land.Goals as goal
-
-pub returns-in_default : goal.returns-in_default
-returns-in_default c = λ township places is.
-    c.in_default.ensures (subst (HasWholeLots STANDARD_LOTS) is.places_are is.whole)
 
 pub returns : goal.returns
 returns c = record {
-  township_is = c.in_ok-township.ensures;
-  places_are = c.in-Some.ensures.1;
-  whole = subst (HasWholeLots STANDARD_LOTS) (sym c.in-Some.ensures.1) c.in-Some.ensures.0;
+  township_is = c.in_ok-township.ensures.township_is;
+  places_are = c.of_rows-places.ensures;
+  lots_are = c.in_ok-township.ensures.lots_are;
+  whole = λ none.
+      subst (HasWholeLots STANDARD_LOTS) (sym c.of_rows-places.ensures) (c.in_ok-township.ensures.whole none);
 }

@@ -1,19 +1,15 @@
--- The data is land as it stands, or contains part of a lot.
-use Rattle.std.proofs.Common.{refl, subst}
-use Rattle.twp_grid.specs.Lands.{HasWholeLots}
-use Rattle.twp_grid.specs.Lands.{STANDARD_LOTS}
+-- The data is land as it stands, or its lots are not valid.
+use Rattle.twp_calls.proofs.LandCallFacts.{given_land, valid_lots}
 use Rattle.twp_calls.proofs.land.TownshipLand.valid_township.Goals as goal
 
-pub returns-then-not-lots_whole : goal.returns-then-not-lots_whole
-returns-then-not-lots_whole c = λ township places is.
+pub returns-then-not-are_lots_valid : goal.returns-then-not-are_lots_valid
+returns-then-not-are_lots_valid c = λ township places is.
     cc (
-      c.lots_whole.ensures.1 (subst (HasWholeLots STANDARD_LOTS) is.places_are is.whole),
-      c.if-not-lots_whole.true,
+      c.are_lots_valid.ensures.1 (valid_lots c.args.self.now township places is),
+      c.if-not-are_lots_valid.true,
     )
 
 pub returns : goal.returns
-returns c = record {
-  township_is = c.in_ok-township.ensures;
-  places_are = refl;
-  whole = c.lots_whole.ensures.0 c.if-not-lots_whole.false;
-}
+returns c =
+    given_land c.args.self.now c.in_ok-township.township c.in_ok-township.ensures
+    (c.are_lots_valid.ensures.0 c.if-not-are_lots_valid.false)

@@ -1,128 +1,147 @@
--- For each lot in the set, its places are subtracted from the count and its units are added; the
--- remaining places lie off the lots.
-use Rattle.std.proofs.Common.{◌≡◌, ℕ, ◌+◌, ◌*◌, ◌≤◌, sym, arith}
-use Rattle.twp_land.proofs.LotFacts.{few_lots}
-use Rattle.twp_plat.specs.steps.Bounds.{SECTION_PLACES_MOST}
-use Rattle.twp_plat.proofs.SectionSums.{places_where, piece_where, places_held, places_not_held, piece_held}
-use Rattle.twp_plat.proofs.SectionSums.{piece_not_held, of_lots-none, of_lots-next, lots_within, few_places}
-use Rattle.twp_plat.proofs.SectionSums.{sum_of_section}
-use Rattle.twp_plat.proofs.AreaFacts.{lot_at_is, grows}
-use Rattle.twp_plat.specs.steps.SectionUnits.{position_units_by}
-use Rattle.twp_plat.proofs.lots.SumFacts.{units_at, regular_by}
+-- The next lot by number counts if the land contains it; the numbers between are those of no lot.
+use Rattle.std.proofs.Common.{◌≡◌, ◌<◌, ◌+◌, ◌*◌, ℕ, zero, suc, arith, refl, sym, ◌∙◌}
+use Rattle.std.proofs.lemmas.Bool.{false≢true}
+use Rattle.twp_land.specs.LotMaps.{land_off_lots}
+use Rattle.twp_land.specs.steps.PlatLotsLots.{plat_are_lots}
+use Rattle.twp_plat.specs.LotTables.{figure_of, lots_of}
+use Rattle.twp_plat.proofs.SectionSums.{few_places}
+use Rattle.twp_plat.proofs.ContainedLots.{met_contains, next_first, unmet_lacks, units_first, units_if}
+use Rattle.twp_plat.proofs.ContainedLots.{units_last, units_next, units_unless}
 use Rattle.twp_plat.proofs.lots.area.units_in_section.Goals as goal
-use Rattle.twp_plat.proofs.lots.area.units_in_section.Goals.{then-holds, else-holds}
 
-pub overflow_add-lot-end : goal.overflow_add-lot-end
-overflow_add-lot-end g c =
-    let few = few_lots c.args.section c.lot_count-lot-end.ensures.section in omega arith
+none_left : (n : ℕ) → (0 < n → ⊥) → n ≡ 0
+none_left zero none = refl
+none_left (suc n) none = absurd (none (omega arith))
 
-pub loop-lot-init : goal.loop-lot-init
-loop-lot-init g c =
-    let held = g.L.PlaceSet.places c.args.land.now c.args.section in
-    let range = c.lot_count-lot-end.ensures.section in
-    let counted = rw c.whole.ensures at c.count-off_lots.ensures in
-    let none = of_lots-none c.args.section (places_where held) range in
+pub loop-number-init : goal.loop-number-init
+loop-number-init g c =
+    let lots = c.args.lots.now in
     record {
-      taken = omega arith;
-      gained =
-          sym
-          (of_lots-none c.args.section (piece_where held (position_units_by c.args.table.now c.args.section))
-          range);
+      sum =
+          units_first (lots_of lots) (figure_of lots) (g.L.PlaceSet.places c.args.land.now) c.args.section
+          (plat_are_lots lots.plat.mapped lots.plat.map.positions lots.plat.map.divided);
       most = omega arith;
-      first = omega arith;
+      few = omega arith;
     }
 
-pub overflow_sub-off_lots : goal.overflow_sub-off_lots
-overflow_sub-off_lots g c =
-    let held = g.L.PlaceSet.places c.args.land.now c.args.section in
-    let range = c.lot_count-lot-end.ensures.section in
-    let at =
-    lot_at_is c.args.section c.loop-lot.lot _ c.unwrap-column.result c.lot_place.ensures.position
-    c.lot_place.ensures.within c.unwrap-column.ensures in
-    let next =
-    of_lots-next c.args.section c.loop-lot.lot c.unwrap-column.result.0 c.unwrap-column.result.1
-    (places_where held) range (omega arith) at.within at.position in
-    let within = lots_within c.args.section (c.loop-lot.lot + 1) held range (λ lot.
-    c.requires.whole c.args.section lot range) in
-    let there =
-    places_held held c.unwrap-column.result.0 c.unwrap-column.result.1 c.holds.result c.holds.ensures
-    c.if-holds.true in
-    omega (arith, c.loop-lot.invariant.taken)
+pub returns-in_default-figure-clause-lacking : goal.returns-in_default-figure-clause-lacking
+returns-in_default-figure-clause-lacking g c =
+    let lots = c.args.lots.now in
+    let places = g.L.PlaceSet.places c.args.land.now in
+    record {
+      here = refl;
+      lacks = record {
+        section_is = c.requires.section;
+        is_held =
+            met_contains (lots_of lots) places c.args.section c.in-Some.number
+            (c.requires.whole c.args.section c.in-Some.number c.requires.section)
+            (c.if-meets_lot.ensures.0 refl);
+        none = none_left (figure_of lots c.args.section c.in-Some.number) c.in_default-figure.ensures.figure;
+      };
+      first = λ other lacks.
+          next_first (lots_of lots) (figure_of lots) places c.args.section c.loop-number.units
+          c.loop-number.after c.in-Some.number other c.loop-number.invariant.sum c.in-Some.ensures lacks;
+    }
 
-pub loop-lot-preserved : goal.loop-lot-preserved
-loop-lot-preserved g c =
-    let held = g.L.PlaceSet.places c.args.land.now c.args.section in
-    let pieces : ℕ → ℕ → ℕ = position_units_by c.args.table.now c.args.section in
-    let range = c.lot_count-lot-end.ensures.section in
-    let so_far = c.loop-lot.invariant in
-    let column : ℕ = c.unwrap-column.result.0 in
-    let row : ℕ = c.unwrap-column.result.1 in
-    let at =
-    lot_at_is c.args.section c.loop-lot.lot _ c.unwrap-column.result c.lot_place.ensures.position
-    c.lot_place.ensures.within c.unwrap-column.ensures in
-    let places =
-    of_lots-next c.args.section c.loop-lot.lot column row (places_where held) range (omega arith) at.within
-    at.position in
-    let pieces_next =
-    of_lots-next c.args.section c.loop-lot.lot column row (piece_where held pieces) range (omega arith)
-    at.within at.position in
-    elim c.if-holds.branch [
-      | then-holds w ↦
-          let there = places_held held column row c.holds.result c.holds.ensures w.if-holds.true in
-          let within = lots_within c.args.section (c.loop-lot.lot + 1) held range (λ lot.
-          c.requires.whole c.args.section lot range) in
-          let added = w.units_of_lot-units.ensures in
-          let piece =
-          units_at c.args.table.now c.args.section c.loop-lot.lot column row range (omega arith)
-          at.position in
-          let piece_there =
-          piece_held held pieces column row c.holds.result c.holds.ensures w.if-holds.true in
-          record {
-            taken = omega (arith, so_far.taken, w.off_lots-is);
-            gained = omega (arith, so_far.gained, pieces_next, piece, piece_there, added.units, w.units-is);
-            most =
-                rw w.units-is
-                (grows c.loop-lot.lot _ c.loop-lot.units w.units_of_lot-units.result so_far.first so_far.most
-                added.most);
-            first = omega arith;
-          }
-      | else-holds w ↦
-          let there = places_not_held held column row c.holds.result c.holds.ensures w.if-holds.false in
-          let piece_there =
-          piece_not_held held pieces column row c.holds.result c.holds.ensures w.if-holds.false in
-          record {
-            taken = omega (arith, so_far.taken, w.off_lots-is);
-            gained = omega (arith, so_far.gained, pieces_next, piece_there, w.units-is);
-            most =
-                rw w.units-is
-                (rw (← plus_none c.loop-lot.units)
-                (grows c.loop-lot.lot _ c.loop-lot.units 0 so_far.first so_far.most (omega arith)));
-            first = omega arith;
-          }
-    ]
-  where
-    plus_none : (n : ℕ) → n + 0 ≡ n
-    plus_none n = omega arith
+pub loop-number-smaller-in-Some-figure : goal.loop-number-smaller-in-Some-figure
+loop-number-smaller-in-Some-figure g c =
+    let lots = c.args.lots.now in
+    let has = c.in-Some.ensures.has in
+    let few =
+    (plat_are_lots lots.plat.mapped lots.plat.map.positions lots.plat.map.divided).numbered c.args.section
+    c.in-Some.number has.0 has.1 has.2 in
+    omega (arith, few.1, c.in-Some.ensures.after)
 
-pub regular_units-requires : goal.regular_units-requires
-regular_units-requires g c =
-    let few = few_places (g.L.PlaceSet.places c.args.land.now c.args.section) in
-    omega (arith, c.loop-lot.invariant.taken)
+pub loop-number-preserved-in-Some-figure : goal.loop-number-preserved-in-Some-figure
+loop-number-preserved-in-Some-figure g c =
+    let lots = c.args.lots.now in
+    let places = g.L.PlaceSet.places c.args.land.now in
+    let has = c.in-Some.ensures.has in
+    let few =
+    (plat_are_lots lots.plat.mapped lots.plat.map.positions lots.plat.map.divided).numbered c.args.section
+    c.in-Some.number has.0 has.1 has.2 in
+    let figure = c.in-Some-figure.ensures.figure in
+    let contains =
+    met_contains (lots_of lots) places c.args.section c.in-Some.number
+    (c.requires.whole c.args.section c.in-Some.number c.requires.section) (c.if-meets_lot.ensures.0 refl) in
+    record {
+      sum =
+          units_next (lots_of lots) (figure_of lots) places c.args.section c.loop-number.units
+          c.loop-number.after c.in-Some.number (100000 * c.from.result) c.loop-number.invariant.sum
+          c.in-Some.ensures
+          (rw (c.from.ensures, figure.1)
+          (sym (units_if (lots_of lots) (figure_of lots) places c.args.section c.in-Some.number contains)))
+          (λ lacks. absurd (omega (arith, lacks.none, figure.0)));
+      most =
+          omega (
+            arith,
+            c.loop-number.invariant.most,
+            c.in-Some.ensures.after,
+            c.from.ensures,
+            c.in-Some-figure.ensures.most,
+          );
+      few = few.1;
+    }
 
-pub returns-clause-sum : goal.returns-clause-sum
-returns-clause-sum g c =
-    let one : 1 * c.loop-lot.off_lots ≡ c.loop-lot.off_lots = omega arith in
-    let sum =
-    sum_of_section 1 c.args.section c.loop-lot.lot c.loop-lot.off_lots c.loop-lot.units
-    (g.L.PlaceSet.places c.args.land.now c.args.section) (position_units_by c.args.table.now c.args.section)
-    (regular_by c.args.table.now c.args.section) c.lot_count-lot-end.ensures.section
-    (λ lot. c.requires.whole c.args.section lot c.lot_count-lot-end.ensures.section) (omega arith)
-    c.loop-lot.invariant.taken c.loop-lot.invariant.gained in
-    rw c.regular_units.ensures (rw one at sum)
+pub loop-number-smaller : goal.loop-number-smaller
+loop-number-smaller g c =
+    let lots = c.args.lots.now in
+    let has = c.in-Some.ensures.has in
+    let few =
+    (plat_are_lots lots.plat.mapped lots.plat.map.positions lots.plat.map.divided).numbered c.args.section
+    c.in-Some.number has.0 has.1 has.2 in
+    omega (arith, few.1, c.in-Some.ensures.after)
+
+pub loop-number-preserved : goal.loop-number-preserved
+loop-number-preserved g c =
+    let lots = c.args.lots.now in
+    let places = g.L.PlaceSet.places c.args.land.now in
+    let are = plat_are_lots lots.plat.mapped lots.plat.map.positions lots.plat.map.divided in
+    let has = c.in-Some.ensures.has in
+    let few = are.numbered c.args.section c.in-Some.number has.0 has.1 has.2 in
+    let out =
+    unmet_lacks (lots_of lots) places c.args.section c.in-Some.number are
+    (c.requires.whole c.args.section c.in-Some.number c.requires.section) has
+    (λ held. false≢true (c.if-meets_lot.ensures.1 held)) in
+    let same : c.loop-number.units + 0 ≡ c.loop-number.units = omega arith in
+    record {
+      sum =
+          rw same at
+          (units_next (lots_of lots) (figure_of lots) places c.args.section c.loop-number.units
+          c.loop-number.after c.in-Some.number 0 c.loop-number.invariant.sum c.in-Some.ensures
+          (sym (units_unless (lots_of lots) (figure_of lots) places c.args.section c.in-Some.number out))
+          (λ lacks. false≢true (sym out ∙ lacks.is_held)));
+      most = omega (arith, c.loop-number.invariant.most, c.in-Some.ensures.after);
+      few = few.1;
+    }
+
+pub returns-clause-units : goal.returns-clause-units
+returns-clause-units g c =
+    let lots = c.args.lots.now in
+    let last =
+    units_last (lots_of lots) (figure_of lots) (g.L.PlaceSet.places c.args.land.now) c.args.section
+    c.loop-number.units c.loop-number.after c.loop-number.invariant.sum c.loop-number.invariant.few
+    c.in_default.ensures in
+    rw (last.0, c.from-2.ensures, c.off_lots_count.ensures) refl
 
 pub returns-clause-most : goal.returns-clause-most
 returns-clause-most g c =
-    let few = few_places (g.L.PlaceSet.places c.args.land.now c.args.section) in
-    let few' = few_lots c.args.section c.lot_count-lot-end.ensures.section in
-    let places : c.loop-lot.off_lots ≤ SECTION_PLACES_MOST = omega (arith, c.loop-lot.invariant.taken) in
-    omega (arith, c.loop-lot.invariant.most, c.regular_units.ensures, places, few')
+    let lots = c.args.lots.now in
+    let few =
+    few_places
+    (land_off_lots (lots_of lots) c.args.section (g.L.PlaceSet.places c.args.land.now c.args.section)) in
+    omega (
+      arith,
+      c.loop-number.invariant.most,
+      c.loop-number.invariant.few,
+      few,
+      c.from-2.ensures,
+      c.off_lots_count.ensures,
+    )
+
+pub returns-clause-figures : goal.returns-clause-figures
+returns-clause-figures g c =
+    let lots = c.args.lots.now in
+    (units_last (lots_of lots) (figure_of lots) (g.L.PlaceSet.places c.args.land.now) c.args.section
+    c.loop-number.units c.loop-number.after c.loop-number.invariant.sum c.loop-number.invariant.few
+    c.in_default.ensures).1

@@ -1,6 +1,5 @@
 use Rattle.std.proofs.Common.{◌≡◌}
-use Rattle.twp_grid.specs.Lands.{union}
-use Rattle.twp_grid.specs.Lands.{STANDARD_LOTS}
+use Rattle.twp_grid.specs.Lands.{lotting, union}
 use Rattle.twp_grammar.specs.ItemPlaces.{item_of, item_places}
 use Rattle.twp_grammar.specs.declared.item.Item.TheVariants.{Chain, All}
 use Rattle.twp_resolve.specs.steps.ResolvingSteps.{number_of_section}
@@ -17,7 +16,8 @@ returns-in-Chain-clause-added g c =
     (if_ok_at c.chain_named.result (λ at.
     g.L.PlaceSet.places c.chain_named.new.land
     ≡ union (g.L.PlaceSet.places c.args.land.now)
-    (item_places STANDARD_LOTS (item_of (number_of_section c.args.section) (Chain c.in-Chain.steps at))))
+    (item_places (lotting (g.P.Lotting.layout c.args.lots.now))
+    (item_of (number_of_section c.args.section) (Chain c.in-Chain.steps at))))
     c.in-Chain.at c.chain_named.ensures.added)
 
 pub returns-in-All-clause-added : goal.returns-in-All-clause-added
@@ -26,5 +26,6 @@ returns-in-All-clause-added g c =
     (if_ok_at c.all_named.result (λ at.
     g.L.PlaceSet.places c.all_named.new.land
     ≡ union (g.L.PlaceSet.places c.args.land.now)
-    (item_places STANDARD_LOTS (item_of (number_of_section c.args.section) (All at))))
+    (item_places (lotting (g.P.Lotting.layout c.args.lots.now))
+    (item_of (number_of_section c.args.section) (All at))))
     c.in-All.at c.all_named.ensures.added)

@@ -1,5 +1,5 @@
 use Rattle.std.proofs.Common.{◌-◌, ◌≤◌}
-use Rattle.twp_grid.specs.Lands.{STANDARD_LOTS}
+use Rattle.twp_grid.specs.Lands.{lotting}
 use Rattle.twp_resolve.specs.steps.ResolvingSteps.{sections_from, AreAdded}
 use Rattle.twp_suggest.proofs.meaning.named.add_sections.Given as goal
 
@@ -7,6 +7,6 @@ use Rattle.twp_suggest.proofs.meaning.named.add_sections.Given as goal
 abbrev pub invariant-loop-number : goal.invariant-loop-number
 invariant-loop-number g l = record {
   least : l.first ≤ l.number;
-  added : AreAdded (sections_from STANDARD_LOTS l.first (l.number - 1)) (g.L.PlaceSet.places l.initial.land)
-      (g.L.PlaceSet.places l.land);
+  added : AreAdded (sections_from (lotting (g.P.Lotting.layout l.lots)) l.first (l.number - 1))
+      (g.L.PlaceSet.places l.initial.land) (g.L.PlaceSet.places l.land);
 }

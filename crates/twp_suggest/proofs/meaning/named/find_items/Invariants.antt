@@ -1,3 +1,4 @@
+use Rattle.twp_grid.specs.Lands.{lotting}
 use Rattle.twp_resolve.specs.steps.ResolvingSteps.{number_of_section}
 use Rattle.twp_suggest.proofs.meaning.NamedFacts.{AreNamedTo}
 use Rattle.twp_suggest.proofs.meaning.named.find_items.Given as goal
@@ -5,4 +6,5 @@ use Rattle.twp_suggest.proofs.meaning.named.find_items.Given as goal
 -- the items so far are named
 abbrev pub invariant-loop-item : goal.invariant-loop-item
 invariant-loop-item g l =
-    AreNamedTo l.items l.item-index (number_of_section l.section) (g.L.PlaceSet.places l.land)
+    AreNamedTo (lotting (g.P.Lotting.layout l.lots)) l.items l.item-index (number_of_section l.section)
+    (g.L.PlaceSet.places l.land)

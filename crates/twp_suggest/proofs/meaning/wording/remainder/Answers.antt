@@ -1,17 +1,19 @@
+use Rattle.twp_grid.specs.Lands.{lotting}
 use Rattle.twp_suggest.proofs.meaning.LandFacts.{is_land, is_remainder}
 use Rattle.twp_suggest.proofs.meaning.wording.remainder.Goals as goal
 
 pub returns-clause-described : goal.returns-clause-described
-returns-clause-described c =
+returns-clause-described g c =
+    let lots = lotting (g.P.Lotting.layout c.args.lots.now) in
     let read = rw c.in-Some.is at c.in_ok-description.ensures.read in
     let only = rw c.in-Some.is at c.in_ok-description.ensures.only in
     let land =
-    is_land c.in-Some-first_township.township c.args.whole.now _ _ read (c.in-Ok.ensures.land) in
+    is_land lots c.in-Some-first_township.township c.args.whole.now _ _ read (c.in-Ok.ensures.land) in
     let read_less = rw c.in-Some-2.is at c.in_ok-items.ensures.read in
     let less =
-    is_land c.in-Some-first_township.township c.args.excepted.now _ _ read_less
+    is_land lots c.in-Some-first_township.township c.args.excepted.now _ _ read_less
     (c.in-Ok-resolve_into.ensures.land) in
-    is_remainder c.args._made.now c.args.whole.now c.args.excepted.now c.args.at c.in_ok-text.text.items
+    is_remainder lots c.args._made.now c.args.whole.now c.args.excepted.now c.args.at c.in_ok-text.text.items
     c.in_ok-full.full.items _ _ _ _
     only land less (c.is_proper_part.ensures.inside c.if-not-is_proper_part.false)
     (c.is_proper_part.ensures.some_left c.if-not-is_proper_part.false)

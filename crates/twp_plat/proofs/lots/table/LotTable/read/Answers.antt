@@ -3,7 +3,7 @@ use Rattle.std.proofs.Common.{◌≡◌, [], subst, sym}
 use Rattle.std.specs.Prelude.{unwrap_or}
 use Rattle.std.proofs.lemmas.Result.{err_from_is_err_and}
 use Rattle.twp_notes.proofs.DeviceFacts.{tells_some}
-use Rattle.twp_plat.proofs.lots.FirstLotFaults.{answers_reading, too_large_first}
+use Rattle.twp_plat.proofs.lots.FirstPlatFaults.{answers_reading, too_large_first}
 use Rattle.twp_plat.specs.LotsFaults.{IsFirstFault}
 use Rattle.twp_plat.specs.declared.lots.fault.LotsFault.TheVariants.{TooLarge}
 use Rattle.twp_plat.proofs.lots.table.LotTable.read.Goals as goal

@@ -1,0 +1,5 @@
+use Rattle.twp_plat.proofs.lots.sheet.PlainTableLaws as laws
+use Rattle.twp_plat.proofs.laws.plain_tables.plain_tables_stay.Goals as goal
+
+pub returns : goal.returns
+returns c = laws.plain_tables_stay

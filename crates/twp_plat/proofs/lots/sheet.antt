@@ -1,0 +1,12 @@
+pub mod CellFacts
+pub mod RowFacts
+pub mod LineFacts
+pub mod RowReading
+pub mod RowCells
+pub mod PlainFacts
+pub mod PlainTexts
+pub mod PlainCells
+pub mod PlainRows
+pub mod PlainAgain
+pub mod PlainLaws
+pub mod PlainTableLaws

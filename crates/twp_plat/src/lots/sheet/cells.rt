@@ -1,0 +1,127 @@
+//! The cells of a line.
+ghost use Rattle.std.specs.Prelude.{◌≡◌, ◌==◌, IfOk, option_map};
+ghost use Rattle.csv.specs.Records.{fields_of};
+ghost use Rattle.twp_plat.specs.steps.CellCuts.{step_of, bare_step, cells_of};
+
+use csv::ByteRecord;
+use std::alloc::{AllocError, Global};
+
+/// The byte that separates cells in a lot table.
+pub const COMMA: u8 = b',';
+
+/// A byte that may separate cells in a spreadsheet's text.
+pub const SEMICOLON: u8 = b';';
+
+/// Another such byte.
+pub const TAB: u8 = b'\t';
+
+/// The byte before and after a quoted cell.
+pub const QUOTATION_MARK: u8 = b'"';
+
+/// The place of a byte in its cell.
+#[derive(Clone, Copy)]
+pub enum Place {
+    /// At the cell's first byte.
+    Start,
+    /// In a cell without quotation marks.
+    Bare,
+    /// Within quotation marks.
+    Quoted,
+    /// After a quotation mark that ends the cell, unless it is the first of two.
+    AfterQuote,
+}
+
+/// What a byte does to the cell at hand.
+#[derive(Clone, Copy)]
+pub enum Step {
+    /// It is a byte of the cell. The next byte is at this place.
+    Joins(Place),
+    /// It is a quotation mark, and no byte of the cell.
+    Opens(Place),
+    /// It separates the cell from the next.
+    EndsCell,
+    /// It is a quotation mark where none may be, or is after one that ends the cell.
+    Fails,
+}
+
+/// The step of a byte.
+fn step_of(separator: u8, place: Place, byte: u8) -> Step
+    ensures { result ≡ step_of separator place byte }
+{
+    match place {
+        Place::Start => {
+            if byte == QUOTATION_MARK {
+                Step::Opens(Place::Quoted)
+            } else {
+                bare_step(separator, byte)
+            }
+        }
+        Place::Bare => {
+            if byte == QUOTATION_MARK {
+                Step::Fails
+            } else {
+                bare_step(separator, byte)
+            }
+        }
+        Place::Quoted => {
+            if byte == QUOTATION_MARK {
+                Step::Opens(Place::AfterQuote)
+            } else {
+                Step::Joins(Place::Quoted)
+            }
+        }
+        Place::AfterQuote => {
+            if byte == QUOTATION_MARK {
+                Step::Joins(Place::Quoted)
+            } else if byte == separator {
+                Step::EndsCell
+            } else {
+                Step::Fails
+            }
+        }
+    }
+}
+
+/// The step of a byte that is not a quotation mark, outside of quotation marks.
+fn bare_step(separator: u8, byte: u8) -> Step
+    ensures { result ≡ bare_step (byte == separator) }
+{
+    if byte == separator {
+        Step::EndsCell
+    } else {
+        Step::Joins(Place::Bare)
+    }
+}
+
+/// The cells of a line, if it is a row.
+pub fn cells_of(alloc: Global, separator: u8, line: &[u8]) -> Result<Option<ByteRecord>, AllocError>
+    ensures { IfOk result (λ found. option_map fields_of found ≡ cells_of separator line.now) }
+{
+    let mut cells = ByteRecord::new(alloc);
+    let mut cell = Vec::new(alloc);
+    let mut place = Place::Start;
+    for byte in line {
+        match step_of(separator, place, *byte) {
+            Step::Joins(next) => {
+                cell.push(*byte)?;
+                place = next;
+            }
+            Step::Opens(next) => {
+                place = next;
+            }
+            Step::EndsCell => {
+                cells.push_field(cell.as_slice())?;
+                cell.clear();
+                place = Place::Start;
+            }
+            Step::Fails => {
+                return Ok(None);
+            }
+        }
+    }
+    if let Place::Quoted = place {
+        return Ok(None);
+    }
+    cells.push_field(cell.as_slice())?;
+    Ok(Some(cells))
+}
