@@ -7,14 +7,14 @@ import re
 import tracemalloc
 from typing import Any, Dict, List
 
-from township import Township
+from township import Plat
 from township._drawing import tracts_drawn
 from township._web import known
 from township._web.tracts import report_answer
 
 from asking import NOMINAL, NOTES
 
-HERE = Township(2, "N", 3, "W")
+HERE = Plat.read(NOTES)
 CORNERS = ("NE1/4", "NW1/4", "SW1/4", "SE1/4")
 PARTS = ["".join(CORNERS[k >> 2 * step & 3] for step in range(5)) for k in range(1024)]
 
