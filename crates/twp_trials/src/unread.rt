@@ -5,6 +5,7 @@
 use crate::readings::{print_escaped, read_input, without_escapes};
 use bstr::ByteSlice;
 use std::io;
+use twp_land::StandardLots;
 use twp_phrases::{Phrases, unread_in};
 use twp_suggest::{beyond_of, readings_of};
 
@@ -14,7 +15,11 @@ pub fn read_lines(rt: &HostRuntime) -> io::Result<()> {
     for (index, line) in input.as_slice().lines_with_terminator().enumerate() {
         if let [line @ .., b'\n'] = line {
             let text = without_escapes(rt.alloc(), line)?;
-            let readings = readings_of::<Phrases>(rt.alloc(), text.as_slice())?;
+            let readings = readings_of::<Phrases, StandardLots>(
+                rt.alloc(),
+                text.as_slice(),
+                &StandardLots,
+            )?;
             if readings.is_empty() {
                 rt.println(index.saturating_add(1))?;
                 print_unread(rt, text.as_slice())?;
