@@ -75,7 +75,8 @@ compiler=${CC:-cc}
 if has "$compiler"; then
     flags='-Wall -Wextra -Werror -pedantic -O1 -g -Iinclude'
     tests=
-    for part in check given area designations land lists lots lot_lands many explanations readings split threads; do
+    for part in check given area designations land lists lots lot_lands lot_lists lot_readings many explanations readings \
+        split threads; do
         tests="$tests tests/library/c/$part.c"
     done
     try 'the C test compiles' "$compiler" -std=c11 $flags -o "$work/static" tests/library/c/township_test.c $tests \
@@ -153,6 +154,8 @@ fi
 # From Python.
 if [ -n "${PYTHON:-}" ]; then
     count 'lot tables as a slow model reads them' "$PYTHON" -B tests/lots/model.py --count 40000 --against lib/libtownship.so
+    count 'lists by lot tables, against single descriptions' env TOWNSHIP_LIBRARY="$root/lib/libtownship.so" \
+        PYTHONPATH="$root/bindings/python/src" "$PYTHON" -B tests/lots/lists.py --count 400
     count 'the tests of the Python package' sh tests/library/python.sh
     if python=$(python_with 'setuptools, wheel, pip'); then
         try 'pip installs the package' "$python" -m pip install -q --no-build-isolation --no-deps --no-index \
