@@ -2,12 +2,12 @@
 
 use std::fmt;
 
-/// What a change of a reading assumes that the text does not state.
+/// What a reading, or a change of it, assumes that the text does not state.
 #[derive(Clone, Copy, Debug, PartialEq, Eq, Hash)]
 #[cfg_attr(feature = "serde", derive(serde::Serialize, serde::Deserialize))]
 #[non_exhaustive]
 pub enum Assumption {
-    /// The meridian, the state, or the county that is left out is that of the field notes.
+    /// The meridian, the state, or the county that is left out is that of the plat.
     SameMeridian,
     /// The acreage that is left out is right: it is not compared.
     SameAcreage,
@@ -22,10 +22,18 @@ pub enum Assumption {
     NoMissingComma,
     /// A phrase is not land, since the caller says so.
     SetAside,
+    /// The plat has the standard lots, since nothing says which lots it has. No change assumes this, but
+    /// a reading may: see [`Reading::assumes_standard_lots`].
+    ///
+    /// [`Reading::assumes_standard_lots`]: crate::Reading::assumes_standard_lots
+    StandardLots,
 }
 
 /// What the caller says of a phrase that is left out, of which the library knows nothing.
 const SET_ASIDE: &str = "you said that this is not land";
+
+/// What a reading assumes for which no plat is known, of which the library knows nothing, either.
+const STANDARD_LOTS: &str = "the plat has the standard lots";
 
 /// The assumptions of the library, in the order of their numbers, which begin with 1.
 const ASSUMPTIONS: [Assumption; 6] = [
@@ -41,13 +49,14 @@ impl Assumption {
     /// Returns the assumption in words.
     pub fn words(self) -> &'static str {
         match self {
-            Assumption::SameMeridian => "the meridian, state, or county is that of the field notes",
+            Assumption::SameMeridian => "the meridian, state, or county is that of the plat",
             Assumption::SameAcreage => "the acreage is not compared",
             Assumption::NotLand => "this is not land",
             Assumption::SaidBefore => "this repeats what is before it",
             Assumption::WrongLetter => "a letter or digit is wrong",
             Assumption::NoMissingComma => "no comma is missing",
             Assumption::SetAside => SET_ASIDE,
+            Assumption::StandardLots => STANDARD_LOTS,
         }
     }
 
