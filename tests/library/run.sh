@@ -153,9 +153,9 @@ fi
 
 # From Python.
 if [ -n "${PYTHON:-}" ]; then
+    here="env TOWNSHIP_LIBRARY=$root/lib/libtownship.so PYTHONPATH=$root/bindings/python/src PYTHONDONTWRITEBYTECODE=1"
     count 'lot tables as a slow model reads them' "$PYTHON" -B tests/lots/model.py --count 40000 --against lib/libtownship.so
-    count 'lists by lot tables, against single descriptions' env TOWNSHIP_LIBRARY="$root/lib/libtownship.so" \
-        PYTHONPATH="$root/bindings/python/src" "$PYTHON" -B tests/lots/lists.py --count 400
+    count 'lists by lot tables, against single descriptions' $here "$PYTHON" tests/lots/lists.py --count 400
     count 'the tests of the Python package' sh tests/library/python.sh
     if python=$(python_with 'setuptools, wheel, pip'); then
         try 'pip installs the package' "$python" -m pip install -q --no-build-isolation --no-deps --no-index \
@@ -181,7 +181,6 @@ print(township.__file__, township.version())') > "$work/found" 2>&1
     else
         skip 'the wheel: no Python with setuptools, wheel, and pip'
     fi
-    here="env TOWNSHIP_LIBRARY=$root/lib/libtownship.so PYTHONPATH=$root/bindings/python/src PYTHONDONTWRITEBYTECODE=1"
     try '20,000 descriptions on two processes' $here "$PYTHON" examples/all_cores.py --descriptions 20000 --workers 2
     if python=$(python_with distributed); then
         try '20,000 descriptions by Dask' $here "$python" examples/dask_batch.py --descriptions 20000 --workers 2

@@ -1,21 +1,12 @@
 //! Lot tables that say where their lots lie, and land on their plats.
 
+mod samples;
+
+use samples::{lake, LAKE};
 use std::collections::{BTreeMap, HashSet};
 use township::{
     Comparison, Date, Land, Lots, NoLandAcres, OtherPlat, Part, Plats, Refusal, Township,
 };
-
-/// The township of docs/LOTS-FORMAT.md: a lake covers the northwest quarter-quarter of section 14, two
-/// lots share another one, and lot 4 is two of them.
-const LAKE: &str = "section,lot,acres,land
-T,2,N,3,W,1912-03-04
-5,1,40.45,NE1/4NE1/4
-14,1,38.50,NE1/4NE1/4
-14,2,12.25,N1/2NW1/4NE1/4
-14,3,19.80,S1/2NW1/4NE1/4
-14,4,71.10,E1/2NW1/4
-14,,,NW1/4NW1/4
-";
 
 /// Lot 9 lies in two parts, of which one shares a quarter-quarter with land that is not there; and
 /// section 20 is not there at all.
@@ -25,10 +16,6 @@ T,2,N,3,W
 14,,,\"N1/2SW1/4SW1/4, SE1/4SW1/4SW1/4\"
 20,,,\"N1/2, S1/2\"
 ";
-
-fn lake() -> Lots {
-    LAKE.parse().unwrap()
-}
 
 fn parts() -> Lots {
     PARTS.parse().unwrap()

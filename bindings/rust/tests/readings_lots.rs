@@ -2,8 +2,10 @@
 
 mod samples;
 
-use samples::uneven;
-use township::{suggest, suggest_without, Assumption, Lots, Manner, Phrases, Plats, Reading};
+use samples::{lake, uneven};
+use township::{
+    suggest, suggest_without, Assumption, Lots, Manner, PartReadings, Phrases, Plats, Reading,
+};
 
 /// The only lot of section 14 is in its northeast corner.
 const CORNER: &str = "section,lot,acres,land\nT,2,N,3,W\n14,1,38.50,NE1/4NE1/4\n";
@@ -11,23 +13,8 @@ const CORNER: &str = "section,lot,acres,land\nT,2,N,3,W\n14,1,38.50,NE1/4NE1/4\n
 /// The north half of section 14 on that plat.
 const NORTH_HALF: &str = "T. 2 N., R. 3 W.,\nsec. 14, lot 1, NW1/4NE1/4, S1/2NE1/4, NW1/4.\n";
 
-/// Lots 2 and 3 share a quarter-quarter of section 14, and the plat has no land at its northwest corner.
-const LAKE: &str = "section,lot,acres,land
-T,2,N,3,W,1912-03-04
-5,1,40.45,NE1/4NE1/4
-14,1,38.50,NE1/4NE1/4
-14,2,12.25,N1/2NW1/4NE1/4
-14,3,19.80,S1/2NW1/4NE1/4
-14,4,71.10,E1/2NW1/4
-14,,,NW1/4NW1/4
-";
-
 fn corner() -> Lots {
     CORNER.parse().unwrap()
-}
-
-fn lake() -> Lots {
-    LAKE.parse().unwrap()
 }
 
 fn only(readings: Vec<Reading>) -> Reading {
@@ -152,18 +139,22 @@ fn what_assumes_the_standard_lots() {
     );
 }
 
+/// The parts of a text that have these readings.
+fn places_in<'a>(text: &'a str, parts: &[PartReadings]) -> Vec<&'a str> {
+    parts
+        .iter()
+        .map(|part| &text[part.start..part.end])
+        .collect()
+}
+
 #[test]
 fn several_townships() {
     let text = "T2N-R3W Sec 14: N2; T3N-R3W Sec 5: N2; and T4N-R3W Sec 5: N2";
     let north = Lots::new("T. 3 N., R. 3 W.".parse().unwrap());
     let plats = Plats::new([corner(), north]).unwrap();
     let parts = plats.suggest(text).unwrap();
-    let places: Vec<_> = parts
-        .iter()
-        .map(|part| &text[part.start..part.end])
-        .collect();
     assert_eq!(
-        places,
+        places_in(text, &parts),
         [
             "T2N-R3W Sec 14: N2",
             "T3N-R3W Sec 5: N2",
@@ -219,12 +210,8 @@ fn phrases_between_parts() {
     let phrases = Phrases::new(["Kestrel", "Merlin"]).unwrap();
     let text = "T2N R3W Sec 14: N2 Kestrel; Merlin T3N R3W Sec 14: N2";
     let parts = Plats::default().suggest_without(text, &phrases).unwrap();
-    let places: Vec<_> = parts
-        .iter()
-        .map(|part| &text[part.start..part.end])
-        .collect();
     assert_eq!(
-        places,
+        places_in(text, &parts),
         ["T2N R3W Sec 14: N2 Kestrel", "Merlin T3N R3W Sec 14: N2"]
     );
     for part in &parts {
