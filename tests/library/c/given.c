@@ -25,6 +25,17 @@ bytes bytes_of(const char *text) {
     return bytes_from(text, strlen(text));
 }
 
+bytes row_of(const char *const *texts, size_t count, size_t *offsets) {
+    char row[1024] = "";
+
+    offsets[0] = 0;
+    for (size_t i = 0; i < count; i++) {
+        strcat(row, texts[i]);
+        offsets[i + 1] = strlen(row);
+    }
+    return bytes_of(row);
+}
+
 bytes bytes_of_file(const char *folder, const char *name) {
     char path[4096];
     static uint8_t buffer[TOWNSHIP_NOTES_MOST];

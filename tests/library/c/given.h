@@ -18,6 +18,9 @@ typedef struct bytes {
 } bytes;
 
 bytes bytes_of(const char *text);
+
+/* Texts in a row, together at most 1,023 bytes, and the offsets between them, one more than there are texts. */
+bytes row_of(const char *const *texts, size_t count, size_t *offsets);
 bytes bytes_of_file(const char *folder, const char *name);
 void drop(bytes given);
 

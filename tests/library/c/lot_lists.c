@@ -134,15 +134,9 @@ typedef struct row {
 
 static row in_a_row(void) {
     row made;
-    char text[256] = "";
 
     memset(&made, NEVER, sizeof made);
-    made.offsets[0] = 0;
-    for (size_t i = 0; i < TEXTS; i++) {
-        strcat(text, texts[i]);
-        made.offsets[i + 1] = strlen(text);
-    }
-    made.all = bytes_of(text);
+    made.all = row_of(texts, TEXTS, made.offsets);
     return made;
 }
 

@@ -31,15 +31,9 @@ typedef struct given {
 
 static given in_a_row(void) {
     given made;
-    char row[1024] = "";
 
     memset(&made, NEVER, sizeof made);
-    made.offsets[0] = 0;
-    for (size_t i = 0; i < TEXTS; i++) {
-        strcat(row, texts[i]);
-        made.offsets[i + 1] = strlen(row);
-    }
-    made.all = bytes_of(row);
+    made.all = row_of(texts, TEXTS, made.offsets);
     return made;
 }
 
