@@ -834,8 +834,8 @@ township_answer township_suggest(const uint8_t *description, size_t description_
 
 /*
  * The same on the plat of a lot table: where an aliquot part includes lots, the reading names those of this plat. So a
- * text may have other readings than by the standard lots. The township of the table doesn't matter: a text keeps its
- * reading if it names another one. To measure a reading, pass its text to township_lots_acres,
+ * text may have readings other than those with the standard lots. The township of the table doesn't matter: a text that
+ * names another one keeps its reading. To measure a reading, pass its text to township_lots_acres,
  * township_lots_land_read, or township_lots_explain_description.
  */
 township_answer township_lots_suggest(const township_lots *lots, const uint8_t *description,
