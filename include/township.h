@@ -770,7 +770,8 @@ township_answer township_lots_explain_description_parts(const township_lots *lot
  * Suggests how a text would be written as a description, without a plat: writes its readings, in a fixed order, their
  * changes, and their texts. A text that can be read in several ways has several readings. A text has none if its
  * meaning is not clear, or if lots and aliquot parts can't describe the land. An accepted description in which no
- * place can be read in two ways is its own and only reading, without changes.
+ * place can be read in two ways is its own and only reading, without changes. Where an aliquot part includes lots, the
+ * reading names them: the standard lots, which is an assumption, since they may not be those of the approved plat.
  *
  * If one of the three arrays is too small, the verdict is TOWNSHIP_NO_ROOM, and only `suggestion` is written, with the
  * sizes that are needed. With TOWNSHIP_NO_MEMORY, nothing is written. To measure a reading on a plat, pass its text to
@@ -780,6 +781,17 @@ township_answer township_suggest(const uint8_t *description, size_t description_
                                  township_reading *readings, size_t readings_room, township_change *changes,
                                  size_t changes_room, uint8_t *bytes, size_t bytes_room,
                                  township_suggestion *suggestion);
+
+/*
+ * The same on the plat of a lot table: where an aliquot part includes lots, the reading names those of this plat. So a
+ * text may have other readings than by the standard lots. The township of the table doesn't matter: a text keeps its
+ * reading if it names another one. To measure a reading, pass its text to township_lots_acres,
+ * township_lots_land_read, or township_lots_explain_description.
+ */
+township_answer township_lots_suggest(const township_lots *lots, const uint8_t *description,
+                                      size_t description_length, township_reading *readings,
+                                      size_t readings_room, township_change *changes, size_t changes_room,
+                                      uint8_t *bytes, size_t bytes_room, township_suggestion *suggestion);
 
 /*
  * Finds the words of a text without readings that were not understood: writes to `unread` the runs of unread words,

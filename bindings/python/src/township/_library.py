@@ -385,6 +385,10 @@ suggest = _call(
     "township_suggest", c_char_p, c_size_t, POINTER(Reading), c_size_t, POINTER(Change), c_size_t, POINTER(c_char),
     c_size_t, POINTER(Suggestion),
 )
+lots_suggest = _call(
+    "township_lots_suggest", POINTER(Lots), c_char_p, c_size_t, POINTER(Reading), c_size_t, POINTER(Change), c_size_t,
+    POINTER(c_char), c_size_t, POINTER(Suggestion),
+)
 unread = _call("township_unread", c_char_p, c_size_t, POINTER(Stretch), c_size_t)
 set_aside = _call(
     "township_set_aside", c_char_p, c_size_t, c_char_p, c_size_t, POINTER(c_size_t), c_size_t, POINTER(Stretch),

@@ -714,6 +714,11 @@ extern "C" {
         readings_room: usize, changes: *mut Change, changes_room: usize, bytes: *mut u8,
         bytes_room: usize, suggestion: *mut Suggestion,
     ) -> Answer;
+    fn township_lots_suggest(
+        lots: *const Lots, description: *const u8, description_length: usize,
+        readings: *mut Reading, readings_room: usize, changes: *mut Change, changes_room: usize,
+        bytes: *mut u8, bytes_room: usize, suggestion: *mut Suggestion,
+    ) -> Answer;
     fn township_unread(
         description: *const u8, description_length: usize, unread: *mut Stretch, room: usize,
     ) -> Answer;
@@ -1179,6 +1184,22 @@ pub(crate) fn suggest(
     let answer = unsafe {
         township_suggest(
             description.as_ptr(), description.len(), readings.as_mut_ptr(), readings.len(),
+            changes.as_mut_ptr(), changes.len(), bytes.as_mut_ptr(), bytes.len(), &mut suggestion,
+        )
+    };
+    (answer, suggestion)
+}
+
+/// Calls `township_lots_suggest`.
+pub(crate) fn lots_suggest(
+    lots: &Lots, description: &[u8], readings: &mut [Reading], changes: &mut [Change],
+    bytes: &mut [u8],
+) -> (Answer, Suggestion) {
+    let mut suggestion = Suggestion::BLANK;
+    // SAFETY: slices and references meet the library's requirements.
+    let answer = unsafe {
+        township_lots_suggest(
+            lots, description.as_ptr(), description.len(), readings.as_mut_ptr(), readings.len(),
             changes.as_mut_ptr(), changes.len(), bytes.as_mut_ptr(), bytes.len(), &mut suggestion,
         )
     };
