@@ -3,14 +3,13 @@ use Rattle.std.proofs.Common.{◌≡◌, ◌<◌, ℕ, Bool, List, length, slice
 use Rattle.std.proofs.lemmas.List.{get_or_default}
 use Rattle.std.specs.List.{Any}
 use Rattle.twp_grid.specs.Townships.{Designation}
-use Rattle.twp_grid.specs.Lands.{SamePlaces}
+use Rattle.twp_grid.specs.Lands.{Lotting, SamePlaces}
 use Rattle.twp_suggest.specs.Descriptions.{IsLandOfText, IsOnlyLandOfText}
 use Rattle.twp_suggest.specs.Closed.{IsGiven, IsLandGiven, IsLandOf, IsWayGiven, NamesSame}
 use Rattle.twp_suggest.specs.Closed.IsGiven.{by_land, by_text}
 use Rattle.twp_suggest.specs.Ways.{text_by}
 use Rattle.twp_suggest.specs.declared.way.Way.{Way}
 use Rattle.twp_suggest.specs.declared.reading.Reading.{Reading}
-use Rattle.twp_grid.specs.Lands.{STANDARD_LOTS}
 
 -- one of some readings
 pub any_here : (P : Reading → Type 0) (readings : List Reading) (index : ℕ) (reading default : Reading)
@@ -20,34 +19,38 @@ any_here P readings index reading default within is such =
     (index, reading, within, get_or_default readings index reading default within ∙ is, such)
 
 -- the only land of a text is that of one of some readings
-pub land_of_one : (readings : List Reading) (text : List ℕ) (township : Designation)
-    (places : ℕ → ℕ → ℕ → Bool) → IsOnlyLandOfText STANDARD_LOTS text places
-    → Any (NamesSame township places) readings
-    → IsLandOf readings text township
-land_of_one readings text township places only given others is =
-    subst (λ (named : ℕ → ℕ → ℕ → Bool). Any (NamesSame township named) readings)
+pub land_of_one : (lots : Lotting) (readings : List Reading) (text : List ℕ) (township : Designation)
+    (places : ℕ → ℕ → ℕ → Bool) → IsOnlyLandOfText lots text places
+    → Any (NamesSame lots township places) readings
+    → IsLandOf lots readings text township
+land_of_one lots readings text township places only given others is =
+    subst (λ (named : ℕ → ℕ → ℕ → Bool). Any (NamesSame lots township named) readings)
     (sym (only township others is)) given
 
-pub is_same : (township : Designation) (places more : ℕ → ℕ → ℕ → Bool) (reading : Reading)
-    → IsLandOfText STANDARD_LOTS township reading.text.items more → SamePlaces places more
-    → NamesSame township places reading
-is_same township places more reading named same = record { more = more; named = named; same = same }
+pub is_same : (lots : Lotting) (township : Designation) (places more : ℕ → ℕ → ℕ → Bool) (reading : Reading)
+    → IsLandOfText lots township reading.text.items more → SamePlaces places more
+    → NamesSame lots township places reading
+is_same lots township places more reading named same = record { more = more; named = named; same = same }
 
-pub is_land_given : (readings : List Reading) (own : Reading) (text : List ℕ) (township : Designation)
-    (places : ℕ → ℕ → ℕ → Bool) → IsLandOfText STANDARD_LOTS township own.text.items places
-    → IsLandOf readings text township → IsLandGiven readings own text
-is_land_given readings own text township places of_own given =
+pub is_land_given : (lots : Lotting) (readings : List Reading) (own : Reading) (text : List ℕ)
+    (township : Designation)
+    (places : ℕ → ℕ → ℕ → Bool) → IsLandOfText lots township own.text.items places
+    → IsLandOf lots readings text township → IsLandGiven lots readings own text
+is_land_given lots readings own text township places of_own given =
     record { township = township; places = places; of_own = of_own; given = given }
 
 -- another way is given by its text
-pub given_by_text : (readings : List Reading) (own : Reading) (made text : List ℕ) (way : Way)
+pub given_by_text : (lots : Lotting) (readings : List Reading) (own : Reading) (made text : List ℕ)
+    (way : Way)
     → text ≡ text_by made way → Any (λ reading. reading.text.items ≡ text) readings
-    → IsWayGiven readings own made way
-given_by_text readings own made text way is given =
-    subst (IsGiven readings own) is (by_text given)
+    → IsWayGiven lots readings own made way
+given_by_text lots readings own made text way is given =
+    subst (IsGiven lots readings own) is (by_text given)
 
 -- or by its land
-pub given_by_land : (readings : List Reading) (own : Reading) (made text : List ℕ) (way : Way)
-    → text ≡ text_by made way → IsLandGiven readings own text → IsWayGiven readings own made way
-given_by_land readings own made text way is given =
-    subst (IsGiven readings own) is (by_land given)
+pub given_by_land : (lots : Lotting) (readings : List Reading) (own : Reading) (made text : List ℕ)
+    (way : Way)
+    → text ≡ text_by made way → IsLandGiven lots readings own text
+    → IsWayGiven lots readings own made way
+given_by_land lots readings own made text way is given =
+    subst (IsGiven lots readings own) is (by_land given)

@@ -4,6 +4,7 @@ use Rattle.std.proofs.Common.{add-one, arith, drop, length, map, refl, slice_ind
 use Rattle.std.proofs.Common.{sym, ◌∙◌}
 use Rattle.std.proofs.Math.Seq.{drop-cons}
 use Rattle.std.proofs.lemmas.Bool.{false≢true}
+use Rattle.twp_grid.specs.Lands.{Lotting}
 use Rattle.twp_rules.specs.declared.change.Change.{Change as Piece}
 use Rattle.twp_rules.specs.Changes.{AreChangesFrom, Change, seen}
 use Rattle.twp_rules.proofs.ChangeFacts.{begin_within}
@@ -14,29 +15,32 @@ neither true y h = cc h
 neither false y h = (refl, h)
 
 -- no change is by the rule for what is repeated
-pub none_repeated : (text made : List ℕ) (at : ℕ) (changes : List Change) → has_repeated changes ≡ false
-    → AreRepeated text made at changes
-none_repeated text made at [] none = tt
-none_repeated text made at (change ∷ changes) none =
+pub none_repeated : (lots : Lotting) (text made : List ℕ) (at : ℕ) (changes : List Change)
+    → has_repeated changes ≡ false
+    → AreRepeated lots text made at changes
+none_repeated lots text made at [] none = tt
+none_repeated lots text made at (change ∷ changes) none =
     let both = neither (is_for_repeated change.rule) (has_repeated changes) none in (
       λ by. absurd (false≢true (sym both.0 ∙ by)),
-      none_repeated text ((made ++ slice_range text at change.start) ++ change.written) change.end changes
+      none_repeated lots text ((made ++ slice_range text at change.start) ++ change.written) change.end
+          changes
           both.1,
     )
 
 -- a change says again what it repeats, and so do those after it
-pub next_repeated : (text made : List ℕ) (at : ℕ) (changes : List Piece) (index : ℕ) (default : Piece)
+pub next_repeated : (lots : Lotting) (text made : List ℕ) (at : ℕ) (changes : List Piece) (index : ℕ)
+    (default : Piece)
     → index < length changes
-    → SaysAgainBy (slice_index_or changes index default).rule
+    → SaysAgainBy lots (slice_index_or changes index default).rule
     (made ++ slice_range text at (slice_index_or changes index default).start)
     (slice_range text (slice_index_or changes index default).start
     (slice_index_or changes index default).end)
-    → AreRepeated text
+    → AreRepeated lots text
     ((made ++ slice_range text at (slice_index_or changes index default).start)
     ++ (slice_index_or changes index default).written.now)
     (slice_index_or changes index default).end (map seen (drop (index + 1) changes))
-    → AreRepeated text made at (map seen (drop index changes))
-next_repeated text made at changes index default within says rest =
+    → AreRepeated lots text made at (map seen (drop index changes))
+next_repeated lots text made at changes index default within says rest =
     let e = drop-cons changes index default within in
     let f = add-one index in
     rw e (says, rw f at rest)

@@ -3,7 +3,7 @@
 use Rattle.std.specs.Prelude.{◌≡◌, ◌≤◌, ℕ, Bool, true, List, [], ◌∷◌, Option, Some, None, length, map}
 use Rattle.std.specs.Prelude.{All, AllPairs}
 use Rattle.twp_grid.specs.Townships.{Designation}
-use Rattle.twp_grid.specs.Lands.{SamePlaces}
+use Rattle.twp_grid.specs.Lands.{Lotting, SamePlaces}
 use Rattle.twp_suggest.specs.Descriptions.{AreItemsOf, IsAccepted, IsClear, IsDescribed, IsLandOfText}
 use Rattle.twp_suggest.specs.declared.meaning.wording.Excepted.{Excepted}
 use Rattle.twp_grammar.specs.declared.item.Item.{Item}
@@ -14,7 +14,6 @@ use Rattle.twp_rules.specs.Moves.{MayBeMade}
 use Rattle.twp_suggest.specs.Closed.{AreClosed}
 use Rattle.twp_suggest.specs.Repeats.{AreRepeated}
 use Rattle.twp_suggest.specs.declared.reading.Reading.{Reading}
-use Rattle.twp_grid.specs.Lands.{STANDARD_LOTS}
 
 -- the land that is excepted, if any is, lies with its sections
 abbrev pub LiesExcepted : List ℕ → List Change → Option Excepted → Type 0
@@ -29,14 +28,14 @@ pub record LiesWithSections (text : List ℕ) (changes : List Change) : Type 0 w
   pub land : lie_with_sections text changes 0 items ≡ true
   pub other : LiesExcepted text changes excepted
 
--- A READING of a text: the result of its changes, which the reader accepts; steps are copied whole; text left
--- out as repeated repeats what is before it; and land lies with its sections, unless the text is clear and
--- stays as it is
-pub record IsReading (text : List ℕ) (reading : Reading) : Type 0 where
+-- A READING of a text on a plat: the result of its changes, which the reader accepts; steps are copied whole;
+-- text left out as repeated repeats what is before it; and land lies with its sections, unless the text is
+-- clear and stays as it is
+pub record IsReading (lots : Lotting) (text : List ℕ) (reading : Reading) : Type 0 where
   pub made : MayBeMade text (map seen reading.changes.items)
   pub copies : copy_whole text (map seen reading.changes.items) ≡ true
-  pub repeated : AreRepeated text [] 0 (map seen reading.changes.items)
-  pub described : IsDescribed STANDARD_LOTS reading.manner
+  pub repeated : AreRepeated lots text [] 0 (map seen reading.changes.items)
+  pub described : IsDescribed lots reading.manner
       (changed_from 0 text (map seen reading.changes.items))
       reading.text.items
   pub accepted : IsAccepted reading.text.items
@@ -47,16 +46,16 @@ pub record IsReading (text : List ℕ) (reading : Reading) : Type 0 where
 abbrev pub READINGS_MOST : ℕ
 READINGS_MOST = 8
 
--- two texts never name the same places, in any township
-abbrev pub NameOtherLand : List ℕ → List ℕ → Type 0
-NameOtherLand one other = (township : Designation) (places more : ℕ → ℕ → ℕ → Bool)
-    → IsLandOfText STANDARD_LOTS township one places → IsLandOfText STANDARD_LOTS township other more
+-- on a plat with these lots, two texts never name the same places, in any township
+abbrev pub NameOtherLand : Lotting → List ℕ → List ℕ → Type 0
+NameOtherLand lots one other = (township : Designation) (places more : ℕ → ℕ → ℕ → Bool)
+    → IsLandOfText lots township one places → IsLandOfText lots township other more
     → ¬ SamePlaces places more
 
 -- other texts, of other land
-pub record AreOther (one other : Reading) : Type 0 where
+pub record AreOther (lots : Lotting) (one other : Reading) : Type 0 where
   pub texts : one.text.items ≡ other.text.items → ⊥
-  pub land : NameOtherLand one.text.items other.text.items
+  pub land : NameOtherLand lots one.text.items other.text.items
 
 -- the text itself, without a change
 pub record IsItself (text : List ℕ) (readings : List Reading) : Type 0 where
@@ -66,19 +65,19 @@ pub record IsItself (text : List ℕ) (readings : List Reading) : Type 0 where
   pub same : reading.text.items ≡ text
 
 -- some readings of a text, each of other land, and not too many
-pub record AreSomeReadings (text : List ℕ) (readings : List Reading) : Type 0 where
-  pub each : All (IsReading text) readings
-  pub apart : AllPairs AreOther readings
+pub record AreSomeReadings (lots : Lotting) (text : List ℕ) (readings : List Reading) : Type 0 where
+  pub each : All (IsReading lots text) readings
+  pub apart : AllPairs (AreOther lots) readings
   pub few : length readings ≤ READINGS_MOST
 
--- THE READINGS of a text: a clear text has only itself; the readings of any other resolve no ambiguity
--- silently
-pub record AreReadings (text : List ℕ) (readings : List Reading) : Type 0 where
-  pub some : AreSomeReadings text readings
-  pub closed : ¬ IsClear text → AreClosed text readings
+-- THE READINGS of a text on a plat: a clear text has only itself; the readings of any other resolve no
+-- ambiguity silently
+pub record AreReadings (lots : Lotting) (text : List ℕ) (readings : List Reading) : Type 0 where
+  pub some : AreSomeReadings lots text readings
+  pub closed : ¬ IsClear text → AreClosed lots text readings
   pub itself : IsClear text → IsItself text readings
 
 -- a reading is added to some readings of whatever text it is a reading of, or not
-abbrev pub MayBeAdded : Reading → List Reading → List Reading → Type 0
-MayBeAdded new before after =
-    (text : List ℕ) → AreSomeReadings text before → IsReading text new → AreSomeReadings text after
+abbrev pub MayBeAdded : Lotting → Reading → List Reading → List Reading → Type 0
+MayBeAdded lots new before after = (text : List ℕ)
+    → AreSomeReadings lots text before → IsReading lots text new → AreSomeReadings lots text after

@@ -3,7 +3,7 @@
 use Rattle.std.specs.Prelude.{◌≡◌, ◌==◌, ◌||◌, ◌&&◌, ℕ, suc, ◌+◌, Bool, true, false, List, [], ◌∷◌, ◌++◌}
 use Rattle.std.specs.Prelude.{codes, if◌then◌else◌, drop, length, nat_lt, not, slice_index, slice_range, take}
 use Rattle.std.specs.Char.{is_ascii_alphabetic, is_ascii_digit, to_ascii_lowercase}
-use Rattle.twp_grid.specs.Lands.{SamePlaces}
+use Rattle.twp_grid.specs.Lands.{Lotting, SamePlaces}
 use Rattle.twp_grammar.specs.Tokens.{same_bytes, is_white}
 use Rattle.twp_suggest.specs.Descriptions.{AreNamed}
 use Rattle.twp_rules.specs.declared.rule.Rule.{Rule}
@@ -14,7 +14,6 @@ use Rattle.twp_rules.specs.Edges.{begins_with, byte_before, ends_with}
 use Rattle.twp_rules.specs.Moves.{MayBeMade}
 use Rattle.twp_rules.specs.Naming.{digits_of, is_side}
 use Rattle.twp_rules.specs.Sayings.{is_remark}
-use Rattle.twp_grid.specs.Lands.{STANDARD_LOTS}
 
 -- a word begins nowhere in a text
 abbrev pub is_without : List ℕ → List ℕ → Bool
@@ -65,21 +64,22 @@ is_last_land text section at end =
 abbrev pub of_section : List ℕ → List ℕ → List ℕ
 of_section name parts = name ++ codes ", " ++ parts
 
--- the land of a section's parts, up to a place, is the last of a text, and these are its places
-pub record IsLastLand (text : List ℕ) (section : ℕ) (places : ℕ → ℕ → ℕ → Bool) : Type 0 where
+-- the land of a section's parts, up to a place, is the last of a text, and these are its places on a plat
+pub record IsLastLand (lots : Lotting) (text : List ℕ) (section : ℕ) (places : ℕ → ℕ → ℕ → Bool)
+    : Type 0 where
   pub at : ℕ
   pub end : ℕ
   pub last : is_last_land text section at end ≡ true
   pub found : ℕ → ℕ → ℕ → Bool
-  pub named : AreNamed STANDARD_LOTS (of_section (section_name text section) (slice_range text at end)) found
+  pub named : AreNamed lots (of_section (section_name text section) (slice_range text at end)) found
   pub same : SamePlaces found places
 
 -- parts name the same places as the last land before them, in the same section
-pub record NameLastLand (before parts : List ℕ) : Type 0 where
+pub record NameLastLand (lots : Lotting) (before parts : List ℕ) : Type 0 where
   pub section : ℕ
   pub places : ℕ → ℕ → ℕ → Bool
-  pub named : AreNamed STANDARD_LOTS (of_section (section_name before section) parts) places
-  pub last : IsLastLand before section places
+  pub named : AreNamed lots (of_section (section_name before section) parts) places
+  pub last : IsLastLand lots before section places
 
 -- a remark, which names no land and limits none, nor anything that is all of a section
 abbrev pub says_nothing : List ℕ → Bool
@@ -101,7 +101,7 @@ are_in_place (change ∷ changes) = is_in_place change.rule && are_in_place chan
 
 -- REPEATS THE LAND: rules change some bytes of a phrase, in place, into parts that name the last land before
 -- it, and its other bytes name none
-pub record SaysLand (before phrase : List ℕ) : Type 0 where
+pub record SaysLand (lots : Lotting) (before phrase : List ℕ) : Type 0 where
   pub from : ℕ
   pub to : ℕ
   pub nothing_before : says_nothing (take from phrase) ≡ true
@@ -109,7 +109,7 @@ pub record SaysLand (before phrase : List ℕ) : Type 0 where
   pub changes : List Change
   pub in_place : are_in_place changes ≡ true
   pub made : MayBeMade (slice_range phrase from to) changes
-  pub names : NameLastLand before (changed_from 0 (slice_range phrase from to) changes)
+  pub names : NameLastLand lots before (changed_from 0 (slice_range phrase from to) changes)
 
 -- white space, a period, or a parenthesis
 abbrev pub is_loose : ℕ → Bool
@@ -156,9 +156,9 @@ pub record SaysNumber (before phrase : List ℕ) : Type 0 where
   pub is : is_said_from before at (solid phrase) ≡ true
 
 -- what a phrase may say again
-pub data SaysAgain (before phrase : List ℕ) : Type 0 where
-  number : SaysNumber before phrase → SaysAgain before phrase
-  land : SaysLand before phrase → SaysAgain before phrase
+pub data SaysAgain (lots : Lotting) (before phrase : List ℕ) : Type 0 where
+  number : SaysNumber before phrase → SaysAgain lots before phrase
+  land : SaysLand lots before phrase → SaysAgain lots before phrase
 
 -- the rule for what is repeated
 abbrev pub is_for_repeated : Rule → Bool
@@ -166,8 +166,8 @@ is_for_repeated Repeated = true
 is_for_repeated rule = false
 
 -- what is left out by that rule says something again
-abbrev pub SaysAgainBy : Rule → List ℕ → List ℕ → Type 0
-SaysAgainBy rule before phrase = is_for_repeated rule ≡ true → SaysAgain before phrase
+abbrev pub SaysAgainBy : Lotting → Rule → List ℕ → List ℕ → Type 0
+SaysAgainBy lots rule before phrase = is_for_repeated rule ≡ true → SaysAgain lots before phrase
 
 -- some change is by that rule
 abbrev pub has_repeated : List Change → Bool
@@ -175,9 +175,9 @@ has_repeated [] = false
 has_repeated (change ∷ changes) = is_for_repeated change.rule || has_repeated changes
 
 -- REPETITIONS REPEAT what is before them, from a change on, after the changed text so far
-abbrev pub AreRepeated : List ℕ → List ℕ → ℕ → List Change → Type 0
-AreRepeated text made at [] = Unit {0}
-AreRepeated text made at (change ∷ changes) =
-    SaysAgainBy change.rule (made ++ slice_range text at change.start)
+abbrev pub AreRepeated : Lotting → List ℕ → List ℕ → ℕ → List Change → Type 0
+AreRepeated lots text made at [] = Unit {0}
+AreRepeated lots text made at (change ∷ changes) =
+    SaysAgainBy lots change.rule (made ++ slice_range text at change.start)
     (slice_range text change.start change.end)
-    × AreRepeated text ((made ++ slice_range text at change.start) ++ change.written) change.end changes
+    × AreRepeated lots text ((made ++ slice_range text at change.start) ++ change.written) change.end changes

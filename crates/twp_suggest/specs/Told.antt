@@ -1,5 +1,6 @@
 -- How the assumptions of a suggested reading are stated.
 use Rattle.std.specs.Prelude.{◌≡◌, ⊤, ℕ, ◌++◌, List, [], ◌∷◌, All, Some, string_bytes}
+use Rattle.twp_grid.specs.Lands.{Lotting}
 use Rattle.twp_diagnose.specs.declared.suggests.Suggestion.{Suggestion}
 use Rattle.twp_diagnose.specs.declared.suggests.Suggestion.TheVariants.{Nothing, Beyond, Several, Only}
 use Rattle.twp_rules.specs.Changes.{seen}
@@ -33,15 +34,15 @@ abbrev pub AreSaid : List ℕ → List Change → List ℕ → Type 0
 AreSaid text changes said =
     All (λ change. (assumption : Assumption) → IsSaid text said assumption change) changes
 
--- a suggested reading is the only one of its text, and its assumptions are stated with it
-pub record IsTold (text said : List ℕ) : Type 0 where
+-- a suggested reading is the only one of its text on a plat, and its assumptions are stated with it
+pub record IsTold (lots : Lotting) (text said : List ℕ) : Type 0 where
   pub reading : Reading
-  pub only : AreReadings text (reading ∷ [])
+  pub only : AreReadings lots text (reading ∷ [])
   pub told : AreSaid text reading.changes.items said
 
 -- the same of whatever is suggested
-abbrev pub IsToldIn : List ℕ → Suggestion → Type 0
-IsToldIn text Nothing = ⊤
-IsToldIn text (Beyond reason) = ⊤
-IsToldIn text Several = ⊤
-IsToldIn text (Only suggested) = IsTold text (string_bytes suggested.assumptions)
+abbrev pub IsToldIn : Lotting → List ℕ → Suggestion → Type 0
+IsToldIn lots text Nothing = ⊤
+IsToldIn lots text (Beyond reason) = ⊤
+IsToldIn lots text Several = ⊤
+IsToldIn lots text (Only suggested) = IsTold lots text (string_bytes suggested.assumptions)

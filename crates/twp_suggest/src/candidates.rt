@@ -6,6 +6,7 @@ use crate::writer::ChangeWriter;
 use std::alloc::{AllocError, Global};
 use std::mem;
 use twp_draft::{FindsPhrases, Placed};
+use twp_land::Lotting;
 use twp_read::TEXT_LIMIT;
 use twp_rules::{Change, Rule};
 
@@ -13,24 +14,26 @@ use twp_rules::{Change, Rule};
 pub(crate) const CANDIDATES_MOST: usize = 8;
 
 /// The changes of a text, and its joints, by the phrases that are found in it. None where nothing is sure.
-pub(crate) fn outline_of<'a, F: FindsPhrases>(
+pub(crate) fn outline_of<'a, F: FindsPhrases, P: Lotting>(
     alloc: Global,
     text: &'a [u8],
+    lots: &P,
 ) -> Result<Option<Outline<'a>>, AllocError> {
     if text.len() > TEXT_LIMIT {
         return Ok(None);
     }
     let mut plan = Plan::new(alloc, text);
     let mut writer = ChangeWriter { plan: &mut plan };
-    writer.outline_by::<F>(alloc)
+    writer.outline_by::<F, P>(alloc, lots)
 }
 
 impl<'p, 'a> ChangeWriter<'p, 'a> {
     /// The changes by the phrases that are found. This only borrows the plan, which has many vectors: a function that
     /// owned it would need code to drop each of them, at each of its ends.
-    fn outline_by<F: FindsPhrases>(
+    fn outline_by<F: FindsPhrases, P: Lotting>(
         &mut self,
         alloc: Global,
+        lots: &P,
     ) -> Result<Option<Outline<'a>>, AllocError> {
         F::add_phrases(&mut self.plan.draft)?;
         self.plan.count_phrases();
@@ -38,18 +41,19 @@ impl<'p, 'a> ChangeWriter<'p, 'a> {
             return Ok(None);
         }
         let arranged = self.plan.arranged(alloc)?;
-        self.sure_outline(alloc, arranged.as_slice())
+        self.sure_outline(alloc, arranged.as_slice(), lots)
     }
 
     /// The changes by phrases that are arranged.
-    fn sure_outline(
+    fn sure_outline<P: Lotting>(
         &mut self,
         alloc: Global,
         list: &[Placed],
+        lots: &P,
     ) -> Result<Option<Outline<'a>>, AllocError> {
         if self.plan.draft.is_unsure
             || !self.plan.acreage_fits(list)
-            || !self.fractional_fit(alloc, list)?
+            || !self.fractional_fit(alloc, list, lots)?
         {
             return Ok(None);
         }

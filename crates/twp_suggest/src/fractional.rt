@@ -5,7 +5,7 @@ use crate::writer::ChangeWriter;
 use std::alloc::{AllocError, Global};
 use twp_asides::plus;
 use twp_draft::{IndexRange, Names, Phrase, Placed, Role};
-use twp_land::{Land, Lanes, StandardLots};
+use twp_land::{Land, Lanes, Lotting};
 
 /// The land before a place, which moves from one place to the next.
 #[derive(Clone, Copy)]
@@ -45,10 +45,11 @@ impl LandBefore {
 
 impl<'p, 'a> ChangeWriter<'p, 'a> {
     /// Whether each part that is called fractional includes lots.
-    pub(crate) fn fractional_fit(
+    pub(crate) fn fractional_fit<P: Lotting>(
         &self,
         alloc: Global,
         list: &[Placed],
+        lots: &P,
     ) -> Result<bool, AllocError> {
         let mut before = LandBefore {
             count: 0,
@@ -58,7 +59,7 @@ impl<'p, 'a> ChangeWriter<'p, 'a> {
         for place in &self.plan.draft.fractional {
             before = before.moved_to(*place, list);
             let group = list.get(before.group..).unwrap_or(&[]);
-            if !self.has_lots(alloc, before.last, group)? {
+            if !self.has_lots(alloc, before.last, group, lots)? {
                 return Ok(false);
             }
         }
@@ -66,11 +67,12 @@ impl<'p, 'a> ChangeWriter<'p, 'a> {
     }
 
     /// Whether the last land before a place includes lots. The phrases begin with those of its section.
-    fn has_lots(
+    fn has_lots<P: Lotting>(
         &self,
         alloc: Global,
         last: Option<Placed>,
         group: &[Placed],
+        lots: &P,
     ) -> Result<bool, AllocError> {
         let Some(last) = last else {
             return Ok(false);
@@ -79,7 +81,7 @@ impl<'p, 'a> ChangeWriter<'p, 'a> {
             return Ok(false);
         };
         let text = self.text_of(alloc, section, last.phrase)?;
-        includes_lots(alloc, text.as_slice())
+        includes_lots(alloc, text.as_slice(), lots)
     }
 
     /// The text of a section and a phrase of it.
@@ -158,14 +160,14 @@ fn section_text(alloc: Global, number: u16) -> Result<Vec<u8>, AllocError> {
 /// Whether the land of a text that names no township is on the plat only with its lots named. Not inlined, since its set
 /// of land would be cleared for each text.
 #[inline(never)]
-fn includes_lots(alloc: Global, text: &[u8]) -> Result<bool, AllocError> {
+fn includes_lots<P: Lotting>(alloc: Global, text: &[u8], lots: &P) -> Result<bool, AllocError> {
     let mut land = Lanes::empty();
-    if !find_named_land(alloc, text, &mut land, &StandardLots)? {
+    if !find_named_land(alloc, text, &mut land, lots)? {
         return Ok(false);
     }
     let Some(township) = first_township(&[]) else {
         return Ok(false);
     };
-    let is_on_plat = find_land(alloc, text, township, &mut land, &StandardLots)?;
+    let is_on_plat = find_land(alloc, text, township, &mut land, lots)?;
     Ok(!is_on_plat)
 }

@@ -1,12 +1,13 @@
 //! The land that is named last in a text, and whether parts name the same.
 ghost use Rattle.std.specs.Prelude.{◌≡◌, ◌≤◌, ◌+◌, true, IfOk, length, drop};
+ghost use Rattle.twp_grid.specs.Lands.{lotting};
 ghost use Rattle.twp_suggest.specs.Repeats.{IsLastLand, NameLastLand, are_marks, begins_parts, is_before_part, is_last_land, is_last_section, is_mark};
 ghost use Rattle.twp_suggest.specs.Repeats.{is_without, name_end, of_section, section_name};
 
 use crate::bytes::{after, between, front};
 use crate::meaning::find_named_land;
 use std::alloc::{AllocError, Global};
-use twp_land::{Land, Lanes, PlaceSet, StandardLots};
+use twp_land::{Land, Lanes, Lotting, PlaceSet};
 use twp_rules::{begins_with, digits_of, ends_with};
 
 /// The most places from the right at which the last land is looked for: a list of all lots of a section has no more.
@@ -21,12 +22,14 @@ const ROOM: usize = 64;
 /// Whether parts name the same places as the last land before them, in the same section. Not inlined, since
 /// its set of land would be cleared for each text.
 #[inline(never)]
-pub(crate) fn names_last_land(
+pub(crate) fn names_last_land<P: Lotting>(
     alloc: Global,
     before: &[u8],
     parts: &[u8],
+    lots: &P,
 ) -> Result<bool, AllocError>
-    ensures { IfOk result (λ it. it ≡ true → NameLastLand before.now parts.now) }
+    ensures { IfOk result (λ it. it ≡ true →
+        NameLastLand (lotting (P.layout lots.now)) before.now parts.now) }
 {
     let end = end_of_land(before);
     let section = section_before(before, end);
@@ -35,27 +38,29 @@ pub(crate) fn names_last_land(
     }
     let again = of_section(alloc, section_name(before, section), parts)?;
     let mut land = Lanes::empty();
-    let is_named = find_named_land(alloc, again.as_slice(), &mut land, &StandardLots)?;
+    let is_named = find_named_land(alloc, again.as_slice(), &mut land, lots)?;
     if !is_named {
         return Ok(false);
     }
-    let is_last = is_last_land(alloc, before, section, end, &land)?;
+    let is_last = is_last_land(alloc, before, section, end, &land, lots)?;
     Ok(is_last)
 }
 
 /// Whether land is the last of a text, in the section that begins at a place, up to another: its last parts, or all of
 /// them. Not inlined, since its sets of land would be cleared for each text.
 #[inline(never)]
-fn is_last_land(
+fn is_last_land<P: Lotting>(
     alloc: Global,
     text: &[u8],
     section: usize,
     end: usize,
     land: &Lanes,
+    lots: &P,
 ) -> Result<bool, AllocError>
     requires end { end ≤ length text.now }
     requires last { is_last_section text.now section ≡ true }
-    ensures { IfOk result (λ it. it ≡ true → IsLastLand text.now section (⟦<Lanes as PlaceSet>⟧.places land.now)) }
+    ensures { IfOk result (λ it. it ≡ true →
+        IsLastLand (lotting (P.layout lots.now)) text.now section (⟦<Lanes as PlaceSet>⟧.places land.now)) }
 {
     let first = first_of_parts(text, section);
     let mut tried = 0;
@@ -66,26 +71,28 @@ fn is_last_land(
         }
         if begins_parts(text, first, at) {
             tried += 1;
-            let is_it = is_land_at(alloc, text, section, at, end, land)?;
+            let is_it = is_land_at(alloc, text, section, at, end, land, lots)?;
             if is_it {
                 return Ok(true);
             }
         }
     }
-    are_all_parts(alloc, text, section, end, land)
+    are_all_parts(alloc, text, section, end, land, lots)
 }
 
 /// Whether land is all parts of a section before a place.
-fn are_all_parts(
+fn are_all_parts<P: Lotting>(
     alloc: Global,
     text: &[u8],
     section: usize,
     end: usize,
     land: &Lanes,
+    lots: &P,
 ) -> Result<bool, AllocError>
     requires end { end ≤ length text.now }
     requires last { is_last_section text.now section ≡ true }
-    ensures { IfOk result (λ it. it ≡ true → IsLastLand text.now section (⟦<Lanes as PlaceSet>⟧.places land.now)) }
+    ensures { IfOk result (λ it. it ≡ true →
+        IsLastLand (lotting (P.layout lots.now)) text.now section (⟦<Lanes as PlaceSet>⟧.places land.now)) }
 {
     let first = first_of_parts(text, section);
     let mut tried = 0;
@@ -95,7 +102,7 @@ fn are_all_parts(
         }
         if begins_parts(text, first, at) {
             tried += 1;
-            let is_it = is_land_at(alloc, text, section, at, end, land)?;
+            let is_it = is_land_at(alloc, text, section, at, end, land, lots)?;
             if is_it {
                 return Ok(true);
             }
@@ -107,24 +114,26 @@ fn are_all_parts(
 /// Whether land is the last of a text, from one place up to another. Not inlined, since its set of land would
 /// be cleared for places where there can be none.
 #[inline(never)]
-fn is_land_at(
+fn is_land_at<P: Lotting>(
     alloc: Global,
     text: &[u8],
     section: usize,
     at: usize,
     end: usize,
     land: &Lanes,
+    lots: &P,
 ) -> Result<bool, AllocError>
     requires order { at ≤ end }
     requires end { end ≤ length text.now }
-    ensures { IfOk result (λ it. it ≡ true → IsLastLand text.now section (⟦<Lanes as PlaceSet>⟧.places land.now)) }
+    ensures { IfOk result (λ it. it ≡ true →
+        IsLastLand (lotting (P.layout lots.now)) text.now section (⟦<Lanes as PlaceSet>⟧.places land.now)) }
 {
     if !is_last_land_at(text, section, at, end) {
         return Ok(false);
     }
     let parts = of_section(alloc, section_name(text, section), between(text, at, end))?;
     let mut found = Lanes::empty();
-    let is_named = find_named_land(alloc, parts.as_slice(), &mut found, &StandardLots)?;
+    let is_named = find_named_land(alloc, parts.as_slice(), &mut found, lots)?;
     if !is_named {
         return Ok(false);
     }

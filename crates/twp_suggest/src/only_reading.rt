@@ -36,12 +36,12 @@ impl<F: FindsPhrases> Suggests for OnlyReading<F> {
         lots: &P,
     ) -> Result<Suggestion, AllocError>
         ensures on_plat { IfOk result (IsOfTownship (lotting (P.layout lots.now)) township) }
-        ensures told { IfOk result (IsToldIn text.now) }
+        ensures told { IfOk result (IsToldIn (lotting (P.layout lots.now)) text.now) }
     {
         if text.len() > SHORT {
             return Ok(Suggestion::Nothing);
         }
-        let readings = readings_of::<F>(alloc, text)?;
+        let readings = readings_of::<F, P>(alloc, text, lots)?;
         match readings.as_slice() {
             [] => reason(alloc, text),
             [reading] => only(alloc, text, reading, township, lots),
@@ -54,7 +54,7 @@ impl<F: FindsPhrases> Suggests for OnlyReading<F> {
 fn reason(alloc: Global, text: &[u8]) -> Result<Suggestion, AllocError>
     ensures on_plat { IfOk result (λ it. (lots : Lotting) (township : Designation)
         → IsOfTownship lots township it) }
-    ensures told { IfOk result (IsToldIn text.now) }
+    ensures told { IfOk result (λ it. (lots : Lotting) → IsToldIn lots text.now it) }
 {
     match beyond_of(alloc, text)? {
         Some(beyond) => Ok(Suggestion::Beyond(beyond.reason)),
@@ -70,9 +70,9 @@ fn only<P: Lotting>(
     township: Township,
     lots: &P,
 ) -> Result<Suggestion, AllocError>
-    requires { AreReadings text.now (reading.now ∷ []) }
+    requires { AreReadings (lotting (P.layout lots.now)) text.now (reading.now ∷ []) }
     ensures on_plat { IfOk result (IsOfTownship (lotting (P.layout lots.now)) township) }
-    ensures told { IfOk result (IsToldIn text.now) }
+    ensures told { IfOk result (IsToldIn (lotting (P.layout lots.now)) text.now) }
 {
     let shown = on_one_line(alloc, reading.text.as_slice().trim_ascii())?;
     let Some(shown) = if_on_plat(alloc, shown, township, lots)? else {

@@ -1,6 +1,7 @@
 //! Text that is left out because it repeats something, as in parentheses: it has to repeat what is written just before
 //! it.
 ghost use Rattle.std.specs.Prelude.{◌≡◌, ◌≤◌, ◌++◌, true, [], IfOk, length, drop, map, slice_range, take};
+ghost use Rattle.twp_grid.specs.Lands.{lotting};
 ghost use Rattle.twp_rules.specs.Changes.{AreChangesFrom, seen};
 ghost use Rattle.twp_suggest.specs.Repeats.{AreRepeated, SaysAgain, SaysAgainBy, SaysLand, SaysNumber, has_repeated};
 ghost use Rattle.twp_suggest.specs.Repeats.{are_in_place, is_for_repeated, is_in_place, is_said_from, says_nothing};
@@ -12,23 +13,26 @@ use crate::said::{
 };
 use std::alloc::{AllocError, Global};
 use twp_draft::Again;
+use twp_land::Lotting;
 use twp_rules::{Change, Rule, are_changes, are_same, byte_before, changed, is_remark};
 
 /// Whether each phrase that is left out since it repeats something says what is written just before it.
 #[tactic(auto, using(crate::proofs::RepeatFacts::none_repeated))]
-pub(crate) fn are_repeated(
+pub(crate) fn are_repeated<P: Lotting>(
     alloc: Global,
     text: &[u8],
     changes: &[Change<'_>],
     again: &Again<'_>,
+    lots: &P,
 ) -> Result<bool, AllocError>
     requires { AreChangesFrom 0 text.now (map seen changes.now) }
-    ensures { IfOk result (λ it. it ≡ true → AreRepeated text.now [] 0 (map seen changes.now)) }
+    ensures { IfOk result (λ it. it ≡ true →
+        AreRepeated (lotting (P.layout lots.now)) text.now [] 0 (map seen changes.now)) }
 {
     if !has_repeated(changes) {
         return Ok(true);
     }
-    all_say_again(alloc, text, changes, again)
+    all_say_again(alloc, text, changes, again, lots)
 }
 
 /// Whether some change is by the rule for what is repeated.
@@ -56,21 +60,23 @@ fn is_for_repeated(rule: Rule) -> bool
 /// The same, for changes of which some are by that rule. Not inlined, since few texts say something again.
 #[inline(never)]
 #[tactic(auto, using(crate::proofs::RepeatFacts::next_repeated, crate::proofs::RepeatFacts::end_within))]
-fn all_say_again(
+fn all_say_again<P: Lotting>(
     alloc: Global,
     text: &[u8],
     changes: &[Change<'_>],
     again: &Again<'_>,
+    lots: &P,
 ) -> Result<bool, AllocError>
     requires { AreChangesFrom 0 text.now (map seen changes.now) }
-    ensures { IfOk result (λ it. it ≡ true → AreRepeated text.now [] 0 (map seen changes.now)) }
+    ensures { IfOk result (λ it. it ≡ true →
+        AreRepeated (lotting (P.layout lots.now)) text.now [] 0 (map seen changes.now)) }
 {
     let mut made = Vec::with_capacity(alloc, text.len())?;
     let mut at = 0;
     for change in changes {
         made.extend_from_slice(between(text, at, change.start))?;
         let phrase = between(text, change.start, change.end);
-        let is_said = says_again_by(alloc, made.as_slice(), phrase, change, again)?;
+        let is_said = says_again_by(alloc, made.as_slice(), phrase, change, again, lots)?;
         if !is_said {
             return Ok(false);
         }
@@ -81,30 +87,34 @@ fn all_say_again(
 }
 
 /// Whether a phrase says again what is before it, if it is left out by the rule for that.
-fn says_again_by(
+fn says_again_by<P: Lotting>(
     alloc: Global,
     before: &[u8],
     phrase: &[u8],
     change: &Change<'_>,
     again: &Again<'_>,
+    lots: &P,
 ) -> Result<bool, AllocError>
-    ensures { IfOk result (λ it. it ≡ true → SaysAgainBy change.now.rule before.now phrase.now) }
+    ensures { IfOk result (λ it. it ≡ true →
+        SaysAgainBy (lotting (P.layout lots.now)) change.now.rule before.now phrase.now) }
 {
     if !is_for_repeated(change.rule) {
         return Ok(true);
     }
-    says_again(alloc, before, phrase, change.start, again)
+    says_again(alloc, before, phrase, change.start, again, lots)
 }
 
 /// Whether a phrase that begins at a place says again what is before it.
-fn says_again(
+fn says_again<P: Lotting>(
     alloc: Global,
     before: &[u8],
     phrase: &[u8],
     start: usize,
     again: &Again<'_>,
+    lots: &P,
 ) -> Result<bool, AllocError>
-    ensures { IfOk result (λ it. it ≡ true → SaysAgain before.now phrase.now) }
+    ensures { IfOk result (λ it. it ≡ true →
+        SaysAgain (lotting (P.layout lots.now)) before.now phrase.now) }
 {
     let is_number = says_number(alloc, before, phrase)?;
     if is_number {
@@ -118,7 +128,7 @@ fn says_again(
         let Some(changes) = again.changes.get(said.changes.first..said.changes.end) else {
             continue;
         };
-        let is_land = says_land(alloc, before, phrase, from, to, changes)?;
+        let is_land = says_land(alloc, before, phrase, from, to, changes, lots)?;
         if is_land {
             return Ok(true);
         }
@@ -168,17 +178,19 @@ fn is_said_from(alloc: Global, text: &[u8], at: usize, bytes: &[u8]) -> Result<b
 }
 
 /// Whether a phrase says land again, by the bytes from one place up to another, with changes.
-fn says_land(
+fn says_land<P: Lotting>(
     alloc: Global,
     before: &[u8],
     phrase: &[u8],
     from: usize,
     to: usize,
     changes: &[Change<'_>],
+    lots: &P,
 ) -> Result<bool, AllocError>
     requires order { from ≤ to }
     requires within { to ≤ length phrase.now }
-    ensures { IfOk result (λ it. it ≡ true → SaysLand before.now phrase.now) }
+    ensures { IfOk result (λ it. it ≡ true →
+        SaysLand (lotting (P.layout lots.now)) before.now phrase.now) }
 {
     let land = between(phrase, from, to);
     let is_alone = says_nothing(front(phrase, from)) && says_nothing(after(phrase, to));
@@ -186,7 +198,7 @@ fn says_land(
         return Ok(false);
     }
     let made = changed(alloc, land, changes)?;
-    let is_last = names_last_land(alloc, before, made.as_slice())?;
+    let is_last = names_last_land(alloc, before, made.as_slice(), lots)?;
     Ok(is_last)
 }
 

@@ -1,4 +1,4 @@
 use Rattle.twp_suggest.proofs.closed.have_land.Given as goal
 
 abbrev pub invariant-loop-reading : goal.invariant-loop-reading
-invariant-loop-reading l = Unit {0}
+invariant-loop-reading g l = Unit {0}
