@@ -1,13 +1,14 @@
-//! The calls for readings, for what is unread, and for phrases that aren't land, as C calls them.
+//! The calls for readings, also by a lot table, for what is unread, and for phrases that aren't land, as C calls them.
 ghost use Rattle.std.specs.Prelude.{◌≡◌, ◌≢◌};
-ghost use Rattle.twp_calls.specs.Answers.{ACCEPTED, NO_MEMORY};
+ghost use Rattle.twp_calls.specs.Answers.{ACCEPTED, NO_LOTS, NO_MEMORY};
 ghost use Rattle.twp_calls.specs.SetAsides.{IsSetAsideCall};
-ghost use Rattle.twp_calls.specs.Suggestions.{IsSuggestCall, rooms};
+ghost use Rattle.twp_calls.specs.Suggestions.{IsLotsSuggestCall, IsSuggestCall, rooms};
 ghost use Rattle.twp_calls.specs.UnreadCalls.{IsUnreadCall};
 
 use std::alloc::Global;
 use twp_calls::{
-    TownshipAnswer, TownshipChange, TownshipReading, TownshipStretch, TownshipSuggestion,
+    TownshipAnswer, TownshipChange, TownshipLots, TownshipReading, TownshipStretch,
+    TownshipSuggestion,
 };
 
 /// The readings of a text as descriptions: where the text of each is, and its changes.
@@ -27,6 +28,36 @@ pub extern "C" fn township_suggest(
     ensures unknown { result.verdict ≡ NO_MEMORY → suggestion.new ≡ suggestion.old }
 {
     twp_calls::township_suggest(alloc, description, readings, changes, bytes, suggestion)
+}
+
+/// The readings of a text as descriptions on the plat of a lot table: where the text of each is, and its changes.
+#[unsafe(no_mangle)]
+pub extern "C" fn township_lots_suggest(
+    alloc: Global,
+    lots: &TownshipLots,
+    description: &[u8],
+    readings: &mut [TownshipReading],
+    changes: &mut [TownshipChange],
+    bytes: &mut [u8],
+    suggestion: &mut TownshipSuggestion,
+) -> TownshipAnswer
+    ensures answer { IsLotsSuggestCall lots.now description.now
+        (rooms readings.old changes.old bytes.old)
+        (rooms readings.new changes.new bytes.new) suggestion.new result }
+    ensures kept { result.verdict ≢ ACCEPTED → (readings.new ≡ readings.old)
+        × (changes.new ≡ changes.old) × (bytes.new ≡ bytes.old) }
+    ensures unknown { result.verdict ≡ NO_MEMORY → suggestion.new ≡ suggestion.old }
+    ensures no_lots { result.verdict ≡ NO_LOTS → suggestion.new ≡ suggestion.old }
+{
+    twp_calls::township_lots_suggest(
+        alloc,
+        lots,
+        description,
+        readings,
+        changes,
+        bytes,
+        suggestion,
+    )
 }
 
 /// What is unread of a text: its unread runs, and then the phrases that can be read in two ways.

@@ -6,6 +6,7 @@ use Rattle.std.proofs.Common.{Result, Ok, Err, IfOk}
 use Rattle.std.proofs.lemmas.List.{take_more}
 use Rattle.std.proofs.lemmas.Slice.Zip.{AllZip-long}
 use Rattle.std.specs.List.{AllZip}
+use Rattle.twp_grid.specs.Lands.{Lotting}
 use Rattle.twp_rules.specs.declared.change.Change.{Change}
 use Rattle.twp_suggest.specs.declared.reading.Reading.{Reading}
 use Rattle.twp_calls.specs.Suggestions.{IsChangeData, IsPiece, IsReadingData, IsReasonPut, Rooms, manner_of}
@@ -256,12 +257,12 @@ reason_found found empty first long = record {
 }
 
 -- there are no readings
-pub none_found : (text : List ℕ) (readings : List Reading) (found : FoundReadings) → AreReadings text readings
-    → readings ≡ [] → HasNoReadings found → AreFoundReadings text found
-none_found text readings found are empty without = record {
+pub none_found : (lots : Lotting) (text : List ℕ) (readings : List Reading) (found : FoundReadings)
+    → AreReadings lots text readings → readings ≡ [] → HasNoReadings found → AreFoundReadings lots text found
+none_found lots text readings found are empty without = record {
   readings = record {
     readings = [];
-    are = subst (AreReadings text) empty are;
+    are = subst (AreReadings lots text) empty are;
     each =
         subst (λ l. AllZip (IsReadingData text found.changes.items found.bytes.items) [] l)
         (sym without.empty) tt;
@@ -281,9 +282,10 @@ empty_when [] is = refl
 empty_when (x ∷ list) is = absurd (omega arith)
 
 -- it is said how much was found
-pub said : (text : List ℕ) (found : FoundReadings) (suggestion : TownshipSuggestion)
-    → suggestion ≡ suggestion_of found → AreFoundReadings text found → IsReasonPut (shown found) suggestion
-said text found suggestion is in_text =
+pub said : (lots : Lotting) (text : List ℕ) (found : FoundReadings) (suggestion : TownshipSuggestion)
+    → suggestion ≡ suggestion_of found → AreFoundReadings lots text found
+    → IsReasonPut (shown found) suggestion
+said lots text found suggestion is in_text =
     subst (IsReasonPut (shown found)) (sym is) (record {
       sizes = record { readings = refl; changes = refl; bytes = refl };
       reason = in_text.reason;

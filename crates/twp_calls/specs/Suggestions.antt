@@ -1,6 +1,8 @@
 -- The readings of a text as plain data: where the text of each is, its changes, and what each change writes.
 use Rattle.std.specs.Prelude.{◌≡◌, ℕ, ◌<◌, ◌≤◌, ◌++◌, ◌⊎◌, List, [], length, drop, Option, Some, None}
 use Rattle.std.specs.List.{AllZip}
+use Rattle.twp_grid.specs.Lands.{Lotting, STANDARD_LOTS}
+use Rattle.twp_plat.specs.LotTables.{lots_of}
 use Rattle.twp_suggest.specs.Assumptions.{assumed}
 use Rattle.twp_suggest.specs.Readings.{AreReadings}
 use Rattle.twp_suggest.specs.declared.assumptions.Assumption.{Assumption}
@@ -20,7 +22,9 @@ use Rattle.twp_rules.specs.declared.rule.Rule.TheVariants.{LotWord, Through, And
 use Rattle.twp_rules.specs.declared.rule.Rule.TheVariants.{OnePart, Mark, Word, Repeated, MovedSection}
 use Rattle.twp_rules.specs.declared.rule.Rule.TheVariants.{MovedHeading, Meridian, Acreage, Label}
 use Rattle.twp_calls.specs.Answers.{ACCEPTED, NO_MEMORY, NO_ROOM, bare}
+use Rattle.twp_calls.specs.LotCalls.{ByLots}
 use Rattle.twp_calls.specs.declared.answer.TownshipAnswer.{TownshipAnswer}
+use Rattle.twp_calls.specs.declared.lots.TownshipLots.{TownshipLots as GivenLots}
 use Rattle.twp_calls.specs.declared.suggestion.TownshipChange.{TownshipChange}
 use Rattle.twp_calls.specs.declared.suggestion.TownshipReading.{TownshipReading}
 use Rattle.twp_calls.specs.declared.suggestion.TownshipSuggestion.{TownshipSuggestion}
@@ -124,10 +128,10 @@ pub record Rooms : Type 0 where
 abbrev pub rooms : List TownshipReading → List TownshipChange → List ℕ → Rooms
 rooms readings changes bytes = record { readings = readings; changes = changes; bytes = bytes }
 
--- THE READINGS of a text, in their order, as data
-pub record AreSuggested (text : List ℕ) (made : Rooms) : Type 0 where
+-- THE READINGS of a text on a plat with these lots, in their order, as data
+pub record AreSuggested (lots : Lotting) (text : List ℕ) (made : Rooms) : Type 0 where
   pub readings : List Reading
-  pub are : AreReadings text readings
+  pub are : AreReadings lots text readings
   pub each : AllZip (IsReadingData text made.changes made.bytes) readings made.readings
 
 -- a list was put at the front of the room for it, of which the rest is as it was
@@ -171,10 +175,20 @@ pub data ArePut (made old new : Rooms) (answer : TownshipAnswer) : Type 0 where
   put : ArePutAtFront made old new → answer ≡ bare ACCEPTED → ArePut made old new answer
   no_room : IsTooMuch made old → answer ≡ bare NO_ROOM → ArePut made old new answer
 
--- `township_suggest`: the readings of the text, and how much there is; or memory ran out.
-pub data IsSuggestCall (text : List ℕ) (old new : Rooms) (suggestion : TownshipSuggestion)
+-- The readings of the text on a plat with these lots, and how much there is; or memory ran out.
+pub data IsSuggestedOn (lots : Lotting) (text : List ℕ) (old new : Rooms) (suggestion : TownshipSuggestion)
     (answer : TownshipAnswer) : Type 0 where
-  suggested : (made : Rooms) → AreSuggested text made → IsReasonPut made suggestion
+  suggested : (made : Rooms) → AreSuggested lots text made → IsReasonPut made suggestion
       → ArePut made old new answer
-      → IsSuggestCall text old new suggestion answer
-  no_memory : answer ≡ bare NO_MEMORY → IsSuggestCall text old new suggestion answer
+      → IsSuggestedOn lots text old new suggestion answer
+  no_memory : answer ≡ bare NO_MEMORY → IsSuggestedOn lots text old new suggestion answer
+
+-- `township_suggest`: the readings on the plat of a regular township, with the standard lots
+abbrev pub IsSuggestCall : List ℕ → Rooms → Rooms → TownshipSuggestion → TownshipAnswer → Type 0
+IsSuggestCall text old new suggestion = IsSuggestedOn STANDARD_LOTS text old new suggestion
+
+-- `township_lots_suggest`: the readings on the table's plat
+abbrev pub IsLotsSuggestCall : GivenLots → List ℕ → Rooms → Rooms → TownshipSuggestion → TownshipAnswer
+    → Type 0
+IsLotsSuggestCall given text old new suggestion =
+    ByLots given (λ township. IsSuggestedOn (lots_of given.lots) text old new suggestion)

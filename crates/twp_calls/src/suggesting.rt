@@ -1,7 +1,9 @@
-//! The readings of a text that isn't a description, or can be read in several ways.
+//! The readings of a text that isn't a description, or can be read in several ways, on a plat with the standard lots, or
+//! with any others.
 ghost use Rattle.std.specs.Prelude.{◌≡◌, ◌≢◌, ◌≤◌, IfOk, length};
-ghost use Rattle.twp_calls.specs.Answers.{ACCEPTED, NO_MEMORY};
-ghost use Rattle.twp_calls.specs.Suggestions.{ArePut, IsPutAtFront, IsSuggestCall, rooms};
+ghost use Rattle.twp_grid.specs.Lands.{lotting};
+ghost use Rattle.twp_calls.specs.Answers.{ACCEPTED, NO_LOTS, NO_MEMORY};
+ghost use Rattle.twp_calls.specs.Suggestions.{ArePut, IsPutAtFront, IsSuggestCall, IsSuggestedOn, rooms};
 ghost use Rattle.twp_calls.specs.Suggestions.{assumes_of, copied_from, copied_to, manner_of, number_of};
 ghost use Rattle.twp_calls.specs.Suggestions.{number_of_assumption};
 ghost use Rattle.twp_calls.specs.steps.Suggesting.{AreChangesAdded, AreFoundFor, HasNoReadings, AreFoundReadings};
@@ -11,6 +13,7 @@ use crate::answer::TownshipAnswer;
 use crate::suggestion::{TownshipChange, TownshipReading, TownshipSuggestion};
 use crate::verdict::{ACCEPTED, NO_MEMORY, NO_ROOM};
 use std::alloc::{AllocError, Global};
+use twp_land::{Lotting, StandardLots};
 use twp_phrases::Phrases;
 use twp_suggest::{
     Assumption, Beyond, Change, Manner, Reading, Rule, assumption_of, beyond_of, readings_of,
@@ -58,7 +61,28 @@ pub fn township_suggest(
         × (changes.new ≡ changes.old) × (bytes.new ≡ bytes.old) }
     ensures unknown { result.verdict ≡ NO_MEMORY → suggestion.new ≡ suggestion.old }
 {
-    let found = match found_in(alloc, description) {
+    suggest_on(alloc, &StandardLots, description, readings, changes, bytes, suggestion)
+}
+
+/// The same on a plat with any lots.
+pub(crate) fn suggest_on<P: Lotting>(
+    alloc: Global,
+    lots: &P,
+    description: &[u8],
+    readings: &mut [TownshipReading],
+    changes: &mut [TownshipChange],
+    bytes: &mut [u8],
+    suggestion: &mut TownshipSuggestion,
+) -> TownshipAnswer
+    ensures answer { IsSuggestedOn (lotting (P.layout lots.now)) description.now
+        (rooms readings.old changes.old bytes.old)
+        (rooms readings.new changes.new bytes.new) suggestion.new result }
+    ensures kept { result.verdict ≢ ACCEPTED → (readings.new ≡ readings.old)
+        × (changes.new ≡ changes.old) × (bytes.new ≡ bytes.old) }
+    ensures unknown { result.verdict ≡ NO_MEMORY → suggestion.new ≡ suggestion.old }
+    ensures on_plat { result.verdict ≢ NO_LOTS }
+{
+    let found = match found_in(alloc, description, lots) {
         Ok(found) => found,
         Err(_) => return TownshipAnswer::bare(NO_MEMORY),
     };
@@ -78,6 +102,7 @@ fn put_found(
     ensures kept { result.verdict ≢ ACCEPTED → (readings.new ≡ readings.old)
         × (changes.new ≡ changes.old) × (bytes.new ≡ bytes.old) }
     ensures answered { result.verdict ≢ NO_MEMORY }
+    ensures on_plat { result.verdict ≢ NO_LOTS }
 {
     if readings.len() < found.readings.len() {
         return TownshipAnswer::bare(NO_ROOM);
@@ -95,10 +120,14 @@ fn put_found(
 }
 
 /// The readings of a text, as data, or why there are none.
-fn found_in(alloc: Global, description: &[u8]) -> Result<FoundReadings, AllocError>
-    ensures { IfOk result (AreFoundReadings description.now) }
+fn found_in<P: Lotting>(
+    alloc: Global,
+    description: &[u8],
+    lots: &P,
+) -> Result<FoundReadings, AllocError>
+    ensures { IfOk result (AreFoundReadings (lotting (P.layout lots.now)) description.now) }
 {
-    let readings = readings_of::<Phrases>(alloc, description)?;
+    let readings = readings_of::<Phrases, P>(alloc, description, lots)?;
     if readings.is_empty() {
         return no_readings(alloc, description);
     }

@@ -6,6 +6,7 @@ use bstr::ByteSlice;
 use std::alloc::{AllocError, Global};
 use std::io::{self, Read};
 use twp_excerpt::write_escaped;
+use twp_land::StandardLots;
 use twp_phrases::Phrases;
 use twp_suggest::{Assumption, Change, Reading, assumption_of, phrase_of, readings_of};
 
@@ -69,7 +70,7 @@ pub fn read_input(rt: &HostRuntime) -> io::Result<Vec<u8>> {
 /// The readings of a description: a function of its own, so that bench/readings.sh can count what it takes.
 #[inline(never)]
 fn read_text(alloc: Global, text: &[u8]) -> Result<Vec<Reading<'_>>, AllocError> {
-    readings_of::<Phrases>(alloc, text)
+    readings_of::<Phrases, StandardLots>(alloc, text, &StandardLots)
 }
 
 /// Prints the readings of a description.

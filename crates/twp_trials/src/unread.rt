@@ -14,7 +14,11 @@ pub fn read_lines(rt: &HostRuntime) -> io::Result<()> {
     for (index, line) in input.as_slice().lines_with_terminator().enumerate() {
         if let [line @ .., b'\n'] = line {
             let text = without_escapes(rt.alloc(), line)?;
-            let readings = readings_of::<Phrases>(rt.alloc(), text.as_slice())?;
+            let readings = readings_of::<Phrases, StandardLots>(
+                rt.alloc(),
+                text.as_slice(),
+                &StandardLots,
+            )?;
             if readings.is_empty() {
                 rt.println(index.saturating_add(1))?;
                 print_unread(rt, text.as_slice())?;

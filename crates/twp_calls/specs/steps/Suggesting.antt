@@ -1,6 +1,7 @@
 -- What the functions that make the data of readings promise one another.
 use Rattle.std.specs.Prelude.{◌≡◌, ℕ, ◌++◌, List, [], ◌∷◌, length}
 use Rattle.std.specs.List.{AllZip}
+use Rattle.twp_grid.specs.Lands.{Lotting}
 use Rattle.twp_rules.specs.declared.change.Change.{Change}
 use Rattle.twp_suggest.specs.declared.reading.Reading.{Reading}
 use Rattle.twp_calls.specs.Suggestions.{AreSuggested, IsChangeData, IsReadingData, IsReason, Rooms, rooms}
@@ -79,7 +80,7 @@ pub record HasNoReadings (found : FoundReadings) : Type 0 where
   pub empty : found.readings.items ≡ []
   pub reason : IsReason (shown found) (suggestion_of found)
 
--- the readings of a text were found, or why there are none
-pub record AreFoundReadings (text : List ℕ) (found : FoundReadings) : Type 0 where
-  pub readings : AreSuggested text (shown found)
+-- the readings of a text on a plat were found, or why there are none
+pub record AreFoundReadings (lots : Lotting) (text : List ℕ) (found : FoundReadings) : Type 0 where
+  pub readings : AreSuggested lots text (shown found)
   pub reason : IsReason (shown found) (suggestion_of found)
