@@ -11,6 +11,7 @@ mod corners;
 mod distances;
 mod exceptions;
 mod joining;
+mod larger_part;
 mod parcels;
 mod placed;
 mod plan;

@@ -5,6 +5,7 @@
 use crate::readings::{print_escaped, read_input, without_escapes};
 use bstr::ByteSlice;
 use std::io;
+use twp_land::StandardLots;
 use twp_phrases::{Phrases, unread_in};
 use twp_suggest::{beyond_of, readings_of};
 

@@ -1,5 +1,6 @@
 //! Acreage that a text states. It may differ from that of the land, which counts; but with a quarter of it, or less, or
-//! nine tenths where a figure in acres follows an aliquot part, the text may mean a part of this land, or other land.
+//! nine tenths where a figure in acres follows an aliquot part, the text may mean a part of this land, or other land; and
+//! with twice of it, or four times, the part that contains this land (`larger_part`).
 
 use crate::arranged::plan::Plan;
 use twp_asides::{is_acres, is_of_count, plus, value_of_count};
@@ -53,7 +54,10 @@ impl<'a> Plan<'a> {
                 };
                 self.acreage = Some(acreage);
                 let all = self.land_before(placed.phrase, before);
-                if acreage <= least || acreage <= all / 4 {
+                if acreage <= least
+                    || acreage <= all / 4
+                    || self.is_of_larger_part(acreage, list, index)
+                {
                     return false;
                 }
                 self.has_exact_acreage = acreage == all;
@@ -177,7 +181,7 @@ impl<'a> Plan<'a> {
     }
 
     /// The area of a phrase in land of an area: that of its steps, if it is an aliquot part.
-    fn share_of(&self, phrase: Phrase, whole: u64) -> u64 {
+    pub(crate) fn share_of(&self, phrase: Phrase, whole: u64) -> u64 {
         let mut area = whole;
         if phrase.names == Names::Part {
             for step in self.draft.steps_of(phrase) {
