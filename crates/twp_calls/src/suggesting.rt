@@ -61,7 +61,15 @@ pub fn township_suggest(
         × (changes.new ≡ changes.old) × (bytes.new ≡ bytes.old) }
     ensures unknown { result.verdict ≡ NO_MEMORY → suggestion.new ≡ suggestion.old }
 {
-    suggest_on(alloc, &StandardLots, description, readings, changes, bytes, suggestion)
+    suggest_on(
+        alloc,
+        &StandardLots,
+        description,
+        readings,
+        changes,
+        bytes,
+        suggestion,
+    )
 }
 
 /// The same on a plat with any lots.

@@ -33,5 +33,13 @@ pub fn township_lots_suggest(
         return TownshipAnswer::bare(NO_LOTS);
     };
     let plat = &lots.lots.plat;
-    suggest_on(alloc, plat, description, readings, changes, bytes, suggestion)
+    suggest_on(
+        alloc,
+        plat,
+        description,
+        readings,
+        changes,
+        bytes,
+        suggestion,
+    )
 }
