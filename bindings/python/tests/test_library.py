@@ -169,6 +169,12 @@ class Orders(unittest.TestCase):
             found = self.verdict(_library.account, by, given, len(given), tracts, 0, _library.Totals())
             self.assertEqual(found, verdict)
 
+    def test_readings_by_a_table(self):
+        rooms = (_library.Reading * 1)(), 0, (_library.Change * 1)(), 0, ctypes.create_string_buffer(1), 0
+        for lots, verdict in ((self.NO_LOTS, _library.NO_LOTS), (LOTS._parts, _library.NO_ROOM)):
+            found = self.verdict(_library.lots_suggest, lots, b"sec. 14.", 8, *rooms, _library.Suggestion())
+            self.assertEqual(found, verdict)
+
     def test_the_two_exceptions(self):
         plat, no_text = uneven()._parts, ctypes.create_string_buffer(1)
         asked = (b"sec.", 4, b"x", 1, no_text, 0)

@@ -378,6 +378,11 @@ static township_answer call_suggest(void) {
                             room_text(texts), MOST_TEXT, &suggestion);
 }
 
+static township_answer call_lots_suggest(void) {
+    return township_lots_suggest(&lake, BYTES("sec. 14: NE1/4NE1/4 SW1/4SW1/4"), readings, TOWNSHIP_READINGS_MOST,
+                                 changes, 8, room_text(texts), MOST_TEXT, &suggestion);
+}
+
 static township_answer call_suggest_itself(void) {
     return township_suggest(BYTES("sec. 14, NE1/4."), readings, TOWNSHIP_READINGS_MOST, changes, 8, room_text(texts),
                             MOST_TEXT, &suggestion);
@@ -452,6 +457,7 @@ static const struct {
     {"township_lots_report, refused", call_lots_report_refused},
     {"township_suggest", call_suggest},
     {"township_suggest, a description", call_suggest_itself},
+    {"township_lots_suggest", call_lots_suggest},
     {"township_unread", call_unread},
     {"township_set_aside", call_set_aside},
     {"township_split", call_split},

@@ -23,6 +23,9 @@ void answers_lot_lands(void);
 /* Tries the call for readings, with the plat of samples/b1.csv. */
 void answers_readings(const township_plat *plat);
 
+/* Tries the call for readings on the plat of a lot table. */
+void answers_lot_readings(void);
+
 /* Land of T. 2 N., R. 3 W., which the description names in a township with the standard lots. */
 township_land land_of(const char *text);
 

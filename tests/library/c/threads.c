@@ -7,7 +7,7 @@
 #include "check.h"
 
 #define THREADS 4
-#define CALLS 52
+#define CALLS 53
 
 /* The stack that the library requires, and room for the thread's own calls. */
 #define STACK ((256 + 64) * 1024)
@@ -38,6 +38,9 @@ typedef struct round_answers {
     township_reading readings[2];
     township_change changes[2];
     township_suggestion suggestion;
+    township_reading readings_by_lots[2];
+    township_change changes_by_lots[2];
+    township_suggestion suggestion_by_lots;
     township_stretch unread[2];
     township_stretch aside[2];
     township_stretch split[2];
@@ -172,6 +175,9 @@ static void call_all(bytes notes, const township_plat *plat, round_answers *to) 
     call_explaining(plat, to);
     answer[34] = township_suggest(BYTES("sec. 14: NE1/4NE1/4 SW1/4SW1/4"), to->readings, 2, to->changes, 2,
                                   to->texts[34], sizeof to->texts[34], &to->suggestion);
+    answer[52] = township_lots_suggest(&to->lake, BYTES("sec. 14: NE1/4NE1/4 SW1/4SW1/4"), to->readings_by_lots, 2,
+                                       to->changes_by_lots, 2, to->texts[52], sizeof to->texts[52],
+                                       &to->suggestion_by_lots);
     answer[39] = township_unread(BYTES("blip Sec. 14 blop"), to->unread, 2);
     answer[45] = township_set_aside(BYTES("blip Sec. 14 blop"), BYTES("blipblop"), phrases, 3, to->aside, 2);
     answer[40] = township_split(BYTES("T2N R3W sec. 5; T3N R3W sec. 31."), to->split, 2);
@@ -194,6 +200,9 @@ static bool same_readings(const round_answers *a, const round_answers *b) {
     return memcmp(a->readings, b->readings, sizeof a->readings) == 0 &&
            memcmp(a->changes, b->changes, sizeof a->changes) == 0 &&
            memcmp(&a->suggestion, &b->suggestion, sizeof a->suggestion) == 0 &&
+           memcmp(a->readings_by_lots, b->readings_by_lots, sizeof a->readings_by_lots) == 0 &&
+           memcmp(a->changes_by_lots, b->changes_by_lots, sizeof a->changes_by_lots) == 0 &&
+           memcmp(&a->suggestion_by_lots, &b->suggestion_by_lots, sizeof a->suggestion_by_lots) == 0 &&
            memcmp(a->unread, b->unread, sizeof a->unread) == 0 &&
            memcmp(a->aside, b->aside, sizeof a->aside) == 0 &&
            memcmp(a->split, b->split, sizeof a->split) == 0;

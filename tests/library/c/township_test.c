@@ -677,6 +677,7 @@ int main(int count, char **words) {
     answers_lots();
     answers_lot_lands();
     answers_readings(&plat);
+    answers_lot_readings();
     call_from_threads(notes, rounds);
     drop(notes);
     return checked();
