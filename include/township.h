@@ -392,7 +392,7 @@ typedef struct township_part {
 
 /* The assumptions of a change, which the text does not state. "The words around the change" extend to white space, a
    comma, a semicolon, a colon, or a vertical bar. */
-#define TOWNSHIP_ASSUMES_SAME_MERIDIAN 1u    /* the text left out is the field notes' meridian, state, or county */
+#define TOWNSHIP_ASSUMES_SAME_MERIDIAN 1u    /* the text left out is the plat's meridian, state, or county */
 #define TOWNSHIP_ASSUMES_SAME_ACREAGE 2u     /* the acreage left out is correct; it is not checked */
 #define TOWNSHIP_ASSUMES_NOT_LAND 3u         /* the text left out is not land */
 #define TOWNSHIP_ASSUMES_SAID_BEFORE 4u      /* the text left out repeats the text before it */

@@ -37,7 +37,7 @@ static const struct {
     uint32_t assumes;
     const char *words;
 } assumptions[] = {
-    {TOWNSHIP_ASSUMES_SAME_MERIDIAN, "the meridian, state, or county is that of the field notes"},
+    {TOWNSHIP_ASSUMES_SAME_MERIDIAN, "the meridian, state, or county is that of the plat"},
     {TOWNSHIP_ASSUMES_SAME_ACREAGE, "the acreage is not compared"},
     {TOWNSHIP_ASSUMES_NOT_LAND, "this is not land"},
     {TOWNSHIP_ASSUMES_SAID_BEFORE, "this repeats what is before it"},

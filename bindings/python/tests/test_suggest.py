@@ -67,14 +67,14 @@ class Suggested(unittest.TestCase):
         reading, = PLAT.suggest("TRACT 1: NE/4 Sec 14, T2N R3W, Boise Meridian, containing 160.00 acres")
         self.assertEqual(reading.assumptions, (
             "without `TRACT 1:`: this is not land",
-            "without `Boise Meridian`: the meridian, state, or county is that of the field notes",
+            "without `Boise Meridian`: the meridian, state, or county is that of the plat",
             "without `containing 160.00 acres`: the acreage is not compared",
         ))
 
     def test_assumptions_of_each_kind(self):
         for text, assumes, phrase, said in (
             ("Sec. 14: NE/4, Boise Meridian", "same meridian", " Boise Meridian",
-             "without `Boise Meridian`: the meridian, state, or county is that of the field notes"),
+             "without `Boise Meridian`: the meridian, state, or county is that of the plat"),
             ("Sec. 5: Lot 1 (40.21)", "same acreage", "(40.21)", "without `(40.21)`: the acreage is not compared"),
             ("TRACT 1: sec. 14, NE1/4.", "not land", "TRACT 1:", "without `TRACT 1:`: this is not land"),
             ("Section Fourteen (14): NE/4", "said before", "(14)", "without `(14)`: this repeats what is before it"),
@@ -252,7 +252,7 @@ class Command(BatchCase):
             "1. sec. 14, NE1/4.    160.00 acres",
             "     NE/4      is NE1/4",
             "     without `TRACT 1:`: this is not land",
-            "     without `Boise Meridian`: the meridian, state, or county is that of the field notes",
+            "     without `Boise Meridian`: the meridian, state, or county is that of the plat",
         )
 
     def test_refused_by_the_plat(self):

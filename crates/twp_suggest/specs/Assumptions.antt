@@ -77,7 +77,7 @@ assumed text change =
 
 -- an assumption in words
 abbrev pub words_of : Assumption → List ℕ
-words_of SameMeridian = codes "the meridian, state, or county is that of the field notes"
+words_of SameMeridian = codes "the meridian, state, or county is that of the plat"
 words_of SameAcreage = codes "the acreage is not compared"
 words_of NotLand = codes "this is not land"
 words_of SaidBefore = codes "this repeats what is before it"

@@ -14,7 +14,7 @@ use twp_rules::{Change, Rule, is_side, is_worn, word_of};
 /// What a change of a reading assumes that the text doesn't say.
 #[derive(Clone, Copy, PartialEq, Eq)]
 pub enum Assumption {
-    /// The meridian, the state, or the county that is left out is that of the field notes.
+    /// The meridian, the state, or the county that is left out is that of the plat.
     SameMeridian,
     /// The acreage that is left out is that of the land: it isn't compared.
     SameAcreage,
@@ -39,7 +39,7 @@ impl Assumption {
         ensures { result.now ≡ words_of self }
     {
         match self {
-            Assumption::SameMeridian => "the meridian, state, or county is that of the field notes",
+            Assumption::SameMeridian => "the meridian, state, or county is that of the plat",
             Assumption::SameAcreage => "the acreage is not compared",
             Assumption::NotLand => "this is not land",
             Assumption::SaidBefore => "this repeats what is before it",

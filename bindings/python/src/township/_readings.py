@@ -21,7 +21,7 @@ RULES = (
 #: The assumptions of changes that the text does not state, by their names, in the order of their numbers, which begin
 #: with 1.
 ASSUMED = {
-    "same meridian": "the meridian, state, or county is that of the field notes",
+    "same meridian": "the meridian, state, or county is that of the plat",
     "same acreage": "the acreage is not compared",
     "not land": "this is not land",
     "said before": "this repeats what is before it",
@@ -116,7 +116,7 @@ class Reading(NamedTuple):
     ...     print(assumption)
     `NENE`: no comma is missing
     `S2NE4`: no comma is missing
-    without `Boise Meridian`: the meridian, state, or county is that of the field notes
+    without `Boise Meridian`: the meridian, state, or county is that of the plat
     """
 
     #: The description.

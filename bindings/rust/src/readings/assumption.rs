@@ -7,7 +7,7 @@ use std::fmt;
 #[cfg_attr(feature = "serde", derive(serde::Serialize, serde::Deserialize))]
 #[non_exhaustive]
 pub enum Assumption {
-    /// The meridian, the state, or the county that is left out is that of the field notes.
+    /// The meridian, the state, or the county that is left out is that of the plat.
     SameMeridian,
     /// The acreage that is left out is right: it is not compared.
     SameAcreage,
@@ -41,7 +41,7 @@ impl Assumption {
     /// Returns the assumption in words.
     pub fn words(self) -> &'static str {
         match self {
-            Assumption::SameMeridian => "the meridian, state, or county is that of the field notes",
+            Assumption::SameMeridian => "the meridian, state, or county is that of the plat",
             Assumption::SameAcreage => "the acreage is not compared",
             Assumption::NotLand => "this is not land",
             Assumption::SaidBefore => "this repeats what is before it",
