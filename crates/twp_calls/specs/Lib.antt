@@ -15,6 +15,8 @@ pub mod DesignationTexts
 pub mod DesignationCalls
 pub mod LandParts
 pub mod LotCalls
+pub mod LotEachCalls
+pub mod LotOverlapCalls
 pub mod LotLandCalls
 pub mod LotExplanations
 pub mod LotReports

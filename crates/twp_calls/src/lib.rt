@@ -33,6 +33,8 @@ pub mod laws;
 mod lot_answers;
 mod lot_lands;
 mod lots;
+mod lots_each_call;
+mod lots_overlaps_call;
 mod lots_plain;
 mod lots_report_call;
 mod many;
@@ -91,6 +93,8 @@ pub use lot_lands::{
     township_lots_land_text,
 };
 pub use lots::TownshipLots;
+pub use lots_each_call::township_lots_report_each;
+pub use lots_overlaps_call::{TownshipLotsOverlap, township_lots_overlaps};
 pub use lots_plain::township_lots_plain;
 pub use lots_report_call::township_lots_report;
 pub use many::township_acres_many;

@@ -16,7 +16,7 @@ use twp_plat::{LackingLot, ReturnedLots};
 use twp_sentences::find_lacking;
 
 /// The number of the refusal of land with a lot that a lot table lacks.
-const LACKING: u16 = 94;
+const LACKING: u8 = 94;
 
 /// The explanation of a list of tracts that has no account by a lot table.
 pub fn explain_tracts_by_lots<S: Suggests>(
