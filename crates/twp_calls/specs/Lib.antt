@@ -22,6 +22,7 @@ pub mod LotExplanations
 pub mod LotReports
 pub mod LotsPlainCalls
 pub mod ManyAnswers
+pub mod LotManyAnswers
 pub mod Suggestions
 pub mod UnreadCalls
 pub mod SetAsides
@@ -30,6 +31,8 @@ pub mod Names
 pub mod ShownTexts
 pub mod ExplanationParts
 pub mod Explanations
+pub mod LotListExplanations
 pub mod WrittenNotes
 pub mod FullAnswers
+pub mod LotFullAnswers
 pub mod steps
