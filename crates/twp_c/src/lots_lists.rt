@@ -52,7 +52,8 @@ pub extern "C" fn township_lots_acres_many(
     offsets: &[usize],
     answers: &mut [TownshipAnswer],
 ) -> TownshipAnswer
-    ensures answer { IsLotsManyCall lots.now descriptions.now offsets.now answers.old answers.new result }
+    ensures answer { IsLotsManyCall lots.now descriptions.now offsets.now
+        answers.old answers.new result }
     ensures kept { result.verdict ≢ ACCEPTED → answers.new ≡ answers.old }
 {
     twp_calls::township_lots_acres_many(alloc, lots, descriptions, offsets, answers)
@@ -67,7 +68,8 @@ pub extern "C" fn township_lots_answer_many(
     offsets: &[usize],
     answers: &mut [TownshipFullAnswer],
 ) -> TownshipAnswer
-    ensures answer { IsLotsFullCall lots.now descriptions.now offsets.now answers.old answers.new result }
+    ensures answer { IsLotsFullCall lots.now descriptions.now offsets.now
+        answers.old answers.new result }
     ensures kept { result.verdict ≢ ACCEPTED → answers.new ≡ answers.old }
 {
     twp_calls::township_lots_answer_many(alloc, lots, descriptions, offsets, answers)

@@ -36,8 +36,8 @@ mod lot_lands;
 mod lots;
 mod lots_answer_many;
 mod lots_each_call;
-mod lots_overlaps_call;
 mod lots_many;
+mod lots_overlaps_call;
 mod lots_plain;
 mod lots_report_call;
 mod many;
@@ -74,9 +74,7 @@ pub use explaining::{
 pub use explaining_by_lots::{
     township_lots_explain_description, township_lots_explain_description_parts,
 };
-pub use explaining_lists_by_lots::{
-    township_lots_explain_list, township_lots_explain_list_parts,
-};
+pub use explaining_lists_by_lots::{township_lots_explain_list, township_lots_explain_list_parts};
 pub use explaining_lots::{
     township_explain_lacking, township_explain_lacking_parts, township_explain_lots,
     township_explain_lots_parts,

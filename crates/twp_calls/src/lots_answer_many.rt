@@ -26,7 +26,8 @@ pub fn township_lots_answer_many(
     offsets: &[usize],
     answers: &mut [TownshipFullAnswer],
 ) -> TownshipAnswer
-    ensures answer { IsLotsFullCall lots.now descriptions.now offsets.now answers.old answers.new result }
+    ensures answer { IsLotsFullCall lots.now descriptions.now offsets.now
+        answers.old answers.new result }
     ensures kept { result.verdict ≢ ACCEPTED → answers.new ≡ answers.old }
 {
     let count = offsets.len().saturating_sub(1);

@@ -21,7 +21,8 @@ pub fn township_lots_acres_many(
     offsets: &[usize],
     answers: &mut [TownshipAnswer],
 ) -> TownshipAnswer
-    ensures answer { IsLotsManyCall lots.now descriptions.now offsets.now answers.old answers.new result }
+    ensures answer { IsLotsManyCall lots.now descriptions.now offsets.now
+        answers.old answers.new result }
     ensures kept { result.verdict ≢ ACCEPTED → answers.new ≡ answers.old }
 {
     let Some(_township) = lots.township.township() else {

@@ -31,7 +31,8 @@ pub(crate) fn first_sharing_record<'a, L: Land, P: Lotting>(
     common: &mut L,
 ) -> Result<Option<Listed<'a>>, AllocError>
     ensures { IfOk result (λ found. IfSome found (λ earlier.
-        IsFirstSharingRecord (lotting (P.layout lots.now)) township listed.now earlier (L.places common.new))) }
+        IsFirstSharingRecord (lotting (P.layout lots.now)) township listed.now earlier
+        (L.places common.new))) }
 {
     let index = listed.number().saturating_sub(FIRST_TRACT);
     let found = first_sharing_tract(alloc, listed.file.bytes, township, lots, index, common)?;
@@ -52,7 +53,8 @@ fn first_sharing_tract<L: Land, P: Lotting>(
     index: u32,
     common: &mut L,
 ) -> Result<Option<u32>, AllocError>
-    ensures { IfOk result (λ found. IfSome found (λ earlier. IsFirstOverlapping (lotting (P.layout lots.now)) township
+    ensures { IfOk result (λ found. IfSome found (λ earlier.
+        IsFirstOverlapping (lotting (P.layout lots.now)) township
         (tract_records bytes.now) index earlier (L.places common.new))) }
 {
     let mut land = L::empty();
@@ -93,9 +95,10 @@ fn first_before<L: Land, P: Lotting>(
     land: &L,
     common: &mut L,
 ) -> Result<Option<u32>, AllocError>
-    requires { Describe (lotting (P.layout lots.now)) township (description_in (record_at (tract_records bytes.now) index))
-        (L.places land.now) }
-    ensures { IfOk result (λ found. IfSome found (λ earlier. IsFirstOverlapping (lotting (P.layout lots.now)) township
+    requires { Describe (lotting (P.layout lots.now)) township
+        (description_in (record_at (tract_records bytes.now) index)) (L.places land.now) }
+    ensures { IfOk result (λ found. IfSome found (λ earlier.
+        IsFirstOverlapping (lotting (P.layout lots.now)) township
         (tract_records bytes.now) index earlier (L.places common.new))) }
 {
     let mut records = Records::new(alloc, bytes);
@@ -129,7 +132,8 @@ fn first_left<L: Land, P: Lotting>(
     requires reading { IsBetweenRecords records.old }
     requires land { Describe (lotting (P.layout lots.now)) township
         (description_in (record_at (records_left records.old) index)) (L.places land.now) }
-    ensures { IfOk result (λ found. IfSome found (λ earlier. IsFirstOverlapping (lotting (P.layout lots.now)) township
+    ensures { IfOk result (λ found. IfSome found (λ earlier.
+        IsFirstOverlapping (lotting (P.layout lots.now)) township
         (records_left records.old) index earlier (L.places common.new))) }
 {
     'records: for earlier in 0..index {
@@ -157,7 +161,8 @@ fn land_into<L: Land, P: Lotting>(
     land: &mut L,
 ) -> Result<bool, AllocError>
     ensures { IfOk result (λ found. IsTrue found
-        → Describe (lotting (P.layout lots.now)) township (description_in (fields_of row.now)) (L.places land.new)) }
+        → Describe (lotting (P.layout lots.now)) township (description_in (fields_of row.now))
+        (L.places land.new)) }
 {
     if row.len() < 2 {
         return Ok(false);

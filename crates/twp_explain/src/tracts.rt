@@ -42,10 +42,10 @@ pub(crate) fn find<S: Suggests, P: Lotting>(
     refusal: Refusal,
 ) -> Result<Finding, AllocError>
     ensures refusal { IfOk result (λ finding. finding.refusal ≡ refusal) }
-    ensures place { 1 ≤ refusal.at → IfOk result (λ finding.
-        ShowsTractFault tracts.now (lotting (P.layout lots.now)) township fault refusal.at finding.place) }
-    ensures other { 1 ≤ refusal.at → IfOk result (λ finding.
-        IsOtherTract tracts.now (lotting (P.layout lots.now)) township fault refusal.at finding.other) }
+    ensures place { 1 ≤ refusal.at → IfOk result (λ finding. ShowsTractFault tracts.now
+        (lotting (P.layout lots.now)) township fault refusal.at finding.place) }
+    ensures other { 1 ≤ refusal.at → IfOk result (λ finding. IsOtherTract tracts.now
+        (lotting (P.layout lots.now)) township fault refusal.at finding.other) }
 {
     let Some(listed) = Listed::numbered(alloc, *tracts, refusal.at)? else {
         return find_none(alloc, fault, refusal);
@@ -73,18 +73,20 @@ fn explain<S: Suggests, P: Lotting>(
 ) -> Result<(), AllocError>
     ensures refusal { finding.new.refusal ≡ finding.old.refusal }
     ensures place { finding.old.place ≡ Line (start_listed listed.now) → finding.old.other ≡ None
-        → OnOk result (IsShownInRecord (lotting (P.layout lots.now)) township listed.now fault finding.new.place) }
+        → OnOk result (IsShownInRecord (lotting (P.layout lots.now)) township listed.now fault
+        finding.new.place) }
     ensures other { finding.old.other ≡ None → finding.old.place ≡ Line (start_listed listed.now)
         → 1 ≤ number_listed listed.now
         → IsListedAt listed.now.file (number_listed listed.now) listed.now
-        → OnOk result (IsOtherInRecord (lotting (P.layout lots.now)) township listed.now fault finding.new.other) }
+        → OnOk result (IsOtherInRecord (lotting (P.layout lots.now)) township listed.now fault
+        finding.new.other) }
 {
     match fault {
         TractFault::TractRow(_) => rows::explain(alloc, listed, finding),
         TractFault::NameRepeated(_) => explain_name(alloc, listed, finding),
         TractFault::TractRefused { .. } => {
             explain_tract::<S, P>(alloc, listed, township, lots, finding)
-        },
+        }
         TractFault::TractsOverlap(_) => explain_overlap(alloc, listed, township, lots, finding),
         _ => explain_many(listed, finding),
     }
@@ -203,7 +205,8 @@ fn explain_tract<S: Suggests, P: Lotting>(
 ) -> Result<(), AllocError>
     ensures refusal { finding.new.refusal ≡ finding.old.refusal }
     ensures shows { finding.old.place ≡ Line (start_listed listed.now) → finding.old.other ≡ None
-        → OnOk result (ShowsTract (lotting (P.layout lots.now)) township listed.now finding.new.place finding.new.other) }
+        → OnOk result (ShowsTract (lotting (P.layout lots.now)) township listed.now finding.new.place
+        finding.new.other) }
 {
     write_tract(listed, &mut finding.sentence)?;
     let inner = match describe_tract::<S, P>(alloc, listed, township, lots) {
@@ -246,8 +249,10 @@ fn describe_tract<S: Suggests, P: Lotting>(
     township: Township,
     lots: &P,
 ) -> Result<(), SearchStop>
-    ensures land { IfOk result (λ _. DescribeLand (lotting (P.layout lots.now)) township (description_listed listed.now)) }
-    ensures shown { IfErr result (λ stop. IfFinds stop (IsRefusedTract (lotting (P.layout lots.now)) township listed.now)) }
+    ensures land { IfOk result (λ _. DescribeLand (lotting (P.layout lots.now)) township
+        (description_listed listed.now)) }
+    ensures shown { IfErr result (λ stop. IfFinds stop
+        (IsRefusedTract (lotting (P.layout lots.now)) township listed.now)) }
 {
     let origin = Origin::of_field(listed.file, listed.span(1).start);
     describe::<S, P>(alloc, &origin, listed.field(1), township, lots)
@@ -265,7 +270,8 @@ fn explain_overlap<P: Lotting>(
     ensures refusal { finding.new.refusal ≡ finding.old.refusal }
     ensures place { finding.new.place ≡ finding.old.place }
     ensures other { finding.old.other ≡ None
-        → OnOk result (IfSome finding.new.other (IsSharedBefore (lotting (P.layout lots.now)) township listed.now)) }
+        → OnOk result (IfSome finding.new.other
+        (IsSharedBefore (lotting (P.layout lots.now)) township listed.now)) }
 {
     write_tract(listed, &mut finding.sentence)?;
     let mut common = Lanes::empty();
