@@ -69,11 +69,7 @@ pub fn each_by_lots(
 }
 
 /// The answer to each tract of a list by what answers its descriptions.
-fn each_by<M: Answering>(
-    alloc: Global,
-    by: &M,
-    list: &[u8],
-) -> Result<Vec<TractAnswer>, TractFault>
+fn each_by<M: Answering>(alloc: Global, by: &M, list: &[u8]) -> Result<Vec<TractAnswer>, TractFault>
     ensures list { IfOk result (λ _. IsListOfRecords list.now) }
     ensures answers { IfOk result (λ answers. AreAnswersTo (M.answers by.now)
         (tract_records list.now) (length (tract_records list.now)) answers.items) }

@@ -20,11 +20,7 @@ pub(crate) trait Answering {
     ghost answers: { Self → DescriptionAnswers };
 
     /// The hundredths of an acre of the land of a description, or its refusal.
-    fn answer(
-        &self,
-        alloc: Global,
-        description: &[u8],
-    ) -> Result<Result<u64, Refusal>, AllocError>
+    fn answer(&self, alloc: Global, description: &[u8]) -> Result<Result<u64, Refusal>, AllocError>
         ensures { IfOk result (answers self.now description.now) };
 }
 
@@ -38,12 +34,7 @@ pub(crate) trait Measuring {
     ghost measure: { Self → Measure Self.Acres };
 
     /// Sets `land` to that of a description, as `describe_into` does.
-    fn describe<L: Land>(
-        &self,
-        alloc: Global,
-        land: &mut L,
-        text: &[u8],
-    ) -> Result<Clarity, Stop>
+    fn describe<L: Land>(&self, alloc: Global, land: &mut L, text: &[u8]) -> Result<Clarity, Stop>
         ensures memory { IfErr result (λ stop. IfFailed stop (λ fault. fault ≡ RunFault.Memory)) }
         ensures land { IsLandOrRefusal (λ _. L.places land.new) (measure self.now).lots
             (measure self.now).township text.now result }
@@ -76,12 +67,7 @@ impl Measuring for Plat {
 
     ghost measure = { measure_of_plat };
 
-    fn describe<L: Land>(
-        &self,
-        alloc: Global,
-        land: &mut L,
-        text: &[u8],
-    ) -> Result<Clarity, Stop> {
+    fn describe<L: Land>(&self, alloc: Global, land: &mut L, text: &[u8]) -> Result<Clarity, Stop> {
         describe_into(alloc, land, self.township(), text, &StandardLots)
     }
 
@@ -122,12 +108,7 @@ impl Measuring for ByTable<'_> {
 
     ghost measure = { λ by. measure_of_table by.township by.lots.now };
 
-    fn describe<L: Land>(
-        &self,
-        alloc: Global,
-        land: &mut L,
-        text: &[u8],
-    ) -> Result<Clarity, Stop> {
+    fn describe<L: Land>(&self, alloc: Global, land: &mut L, text: &[u8]) -> Result<Clarity, Stop> {
         describe_into(alloc, land, self.township, text, &self.lots.plat)
     }
 
