@@ -79,7 +79,7 @@ fn normal_by_lots(
     description: &[u8],
     text: &mut [u8],
 ) -> TownshipAnswer
-    ensures answer { IsNormalByLots lots.now description.now text.old text.new result }
+    ensures { IsNormalByLots lots.now description.now text.old text.new result }
 {
     let Some(township) = lots.township.township() else {
         return TownshipAnswer::bare(NO_LOTS);

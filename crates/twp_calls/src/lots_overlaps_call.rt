@@ -69,15 +69,21 @@ fn put_overlaps(
 fn plain(found: &TractOverlap<Result<u64, Refusal>>) -> TownshipLotsOverlap
     ensures { IsPlainOverlap found.now result }
 {
-    let (hundredths, lacking) = match found.acres {
-        Ok(hundredths) => (hundredths, 0),
-        Err(refusal) => (0, refusal.at),
-    };
-    TownshipLotsOverlap {
+    let without_acres = TownshipLotsOverlap {
         first: found.first,
         second: found.second,
-        hundredths,
-        lacking,
+        hundredths: 0,
+        lacking: 0,
         reserved: 0,
+    };
+    match found.acres {
+        Ok(hundredths) => TownshipLotsOverlap {
+            hundredths,
+            ..without_acres
+        },
+        Err(refusal) => TownshipLotsOverlap {
+            lacking: refusal.at,
+            ..without_acres
+        },
     }
 }
