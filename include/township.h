@@ -136,11 +136,11 @@ extern "C" {
 #define TOWNSHIP_NO_MEMORY 6u     /* memory ran out, and nothing was written. Every function may return this
                                      except township_version, township_figures, township_designation_read,
                                      and those that take land and write neither text nor parts;
-                                     township_acres_many and township_answer_many report it in their
-                                     answers */
-#define TOWNSHIP_NO_RANGE 7u      /* township_acres_many, township_answer_many: the two offsets of this
-                                     description are not a range of the bytes given; township_set_aside: two
-                                     offsets are not */
+                                     township_acres_many, township_answer_many, and the same by lot
+                                     tables report it in their answers */
+#define TOWNSHIP_NO_RANGE 7u      /* township_acres_many, township_answer_many, and the same by lot tables: the
+                                     two offsets of this description are not a range of the bytes given;
+                                     township_set_aside: two offsets are not */
 #define TOWNSHIP_NO_LAND 8u       /* the land you passed is not valid: it has no township, or contains part of a
                                      lot; or `own_lots` is neither 0 nor 1 */
 #define TOWNSHIP_NO_LOTS 9u       /* the township of the lot table you passed is not valid */
@@ -157,8 +157,8 @@ extern "C" {
  * TOWNSHIP_OTHER_PLAT; TOWNSHIP_REFUSED or TOWNSHIP_TRACT_REFUSED; TOWNSHIP_NO_ROOM. There are three exceptions: a
  * function that takes land and a lot table checks last whether the land contains part of a lot of the table
  * (TOWNSHIP_NO_LAND); a function that explains returns TOWNSHIP_NO_ROOM for a refused input if its buffer is too small
- * for the text; and township_answer_many checks its buffer first. TOWNSHIP_NO_MEMORY is returned only if the arguments
- * are valid, in place of a refusal, TOWNSHIP_NO_ROOM, or TOWNSHIP_ACCEPTED.
+ * for the text; and township_answer_many and township_lots_answer_many check their buffers first. TOWNSHIP_NO_MEMORY is
+ * returned only if the arguments are valid, in place of a refusal, TOWNSHIP_NO_ROOM, or TOWNSHIP_ACCEPTED.
  */
 
 /* Accounts: how whole lots count. */
@@ -205,14 +205,15 @@ typedef struct township_answer {
 /* The size of the array for the canonical text of each description, in bytes. */
 #define TOWNSHIP_TEXT_ROOM 256
 
-/* The answers of township_answer_many to one description. Bytes of `text` after the canonical text are
-   unchanged. */
+/* The answers of township_answer_many, or of township_lots_answer_many, to one description. Bytes of `text` after the
+   canonical text are unchanged. */
 typedef struct township_full_answer {
-    township_answer acres;  /* the answer of township_acres */
-    township_answer normal; /* the answer of township_normal, with a buffer of TOWNSHIP_TEXT_ROOM bytes */
-    township_answer note;   /* if `acres` accepts the description, the answer of township_explain_description
-                               with an empty buffer: its verdict is TOWNSHIP_NO_ROOM if there is a note. Otherwise,
-                               it is the same as `acres` */
+    township_answer acres;  /* the answer of township_acres, or of township_lots_acres */
+    township_answer normal; /* the answer of township_normal, with a buffer of TOWNSHIP_TEXT_ROOM bytes; or of
+                               township_lots_land_text for the land described */
+    township_answer note;   /* if `acres` accepts the description, the answer of township_explain_description, or of
+                               township_lots_explain_description, with an empty buffer: its verdict is
+                               TOWNSHIP_NO_ROOM if there is a note. Otherwise, it is the same as `acres` */
     uint8_t text[TOWNSHIP_TEXT_ROOM]; /* the canonical text */
 } township_full_answer;
 
@@ -277,6 +278,16 @@ typedef struct township_overlap {
     uint32_t second;     /* the record of the later tract */
     uint64_t hundredths; /* of an acre: the land in both, rounded once, half up */
 } township_overlap;
+
+/* Two tracts of a list that overlap on the plat of a lot table. */
+typedef struct township_lots_overlap {
+    uint32_t first;      /* the record of the earlier tract */
+    uint32_t second;     /* the record of the later one */
+    uint64_t hundredths; /* of an acre of the land in both, by the table: rounded once, half up */
+    uint32_t lacking;    /* the first lot of that land that the table lacks: 100 times its section's number, plus its
+                            own number; 0 if it lacks none */
+    uint32_t reserved;   /* 0 */
+} township_lots_overlap;
 
 /* The number of places along a side of a section. */
 #define TOWNSHIP_PLACES_ACROSS 32
@@ -674,6 +685,37 @@ township_answer township_lots_report(const township_lots *lots, const uint8_t *l
                                      township_tract *tracts, size_t room);
 
 /*
+ * Answers each tract of a list by a lot table, as township_report_each does on a plat. If the table lacks a lot of a
+ * tract, that answer is TOWNSHIP_TRACT_REFUSED, as in township_lots_report.
+ */
+township_answer township_lots_report_each(const township_lots *lots, const uint8_t *list, size_t list_length,
+                                          township_tract_answer *answers, size_t room);
+
+/*
+ * Finds all overlaps in a list of tracts on the plat of a lot table, as township_overlaps does on a plat of field
+ * notes. Tracts overlap even if the table lacks a lot of the land that is in both: `lacking` is then the first such
+ * lot, and `hundredths` is 0.
+ */
+township_answer township_lots_overlaps(const township_lots *lots, const uint8_t *list, size_t list_length,
+                                       township_lots_overlap *overlaps, size_t room);
+
+/* Answers many descriptions by a lot table, each as township_lots_acres would answer it. The descriptions, `length`,
+   and `room` are as in township_acres_many. */
+township_answer township_lots_acres_many(const township_lots *lots, const uint8_t *descriptions,
+                                         size_t descriptions_length, const size_t *offsets,
+                                         size_t offsets_length, township_answer *answers, size_t room);
+
+/*
+ * Answers many descriptions as township_lots_acres_many does, each with its canonical text on the table's plat, and
+ * says whether there is a note on it. Call township_lots_land_text for a text that is longer than TOWNSHIP_TEXT_ROOM
+ * bytes, and township_lots_explain_description for the text of a note or of an explanation. If the table is not valid,
+ * each answer says so.
+ */
+township_answer township_lots_answer_many(const township_lots *lots, const uint8_t *descriptions,
+                                          size_t descriptions_length, const size_t *offsets,
+                                          size_t offsets_length, township_full_answer *answers, size_t room);
+
+/*
  * Explain why field notes, a description, or a list is refused. Each function returns the verdict of township_read,
  * township_acres, or township_report, with the line and column of the fault, and writes the lines of text that the
  * program would show; or the verdict is TOWNSHIP_NO_ROOM. `name` is the file name that the text shows, in UTF-8; if it
@@ -709,6 +751,11 @@ township_answer township_explain_lacking(const township_lots *lots, uint32_t at,
 township_answer township_lots_explain_description(const township_lots *lots, const uint8_t *description,
                                                   size_t description_length, const uint8_t *name,
                                                   size_t name_length, uint8_t *text, size_t room);
+
+/* The same for a list by a lot table, as township_lots_report answers it. If the table lacks a lot of a tract, the
+   text shows the tract's line. Notes give no acres. */
+township_answer township_lots_explain_list(const township_lots *lots, const uint8_t *list, size_t list_length,
+                                           const uint8_t *name, size_t name_length, uint8_t *text, size_t room);
 
 /* The part of the input that an explanation shows. */
 #define TOWNSHIP_SHOWN_NOTHING 0u /* nothing: the fault is not at one place */
@@ -765,6 +812,9 @@ township_answer township_lots_explain_description_parts(const township_lots *lot
                                                         size_t description_length, const uint8_t *name,
                                                         size_t name_length, uint8_t *text, size_t room,
                                                         township_explanation *explanation);
+township_answer township_lots_explain_list_parts(const township_lots *lots, const uint8_t *list, size_t list_length,
+                                                 const uint8_t *name, size_t name_length, uint8_t *text, size_t room,
+                                                 township_explanation *explanation);
 
 /*
  * Suggests how a text would be written as a description, without a plat: writes its readings, in a fixed order, their

@@ -75,8 +75,8 @@ compiler=${CC:-cc}
 if has "$compiler"; then
     flags='-Wall -Wextra -Werror -pedantic -O1 -g -Iinclude'
     tests=
-    for part in check given area designations land lists lots lot_lands lot_readings many explanations readings split \
-        threads; do
+    for part in check given area designations land lists lots lot_lands lot_lists lot_readings many explanations readings \
+        split threads; do
         tests="$tests tests/library/c/$part.c"
     done
     try 'the C test compiles' "$compiler" -std=c11 $flags -o "$work/static" tests/library/c/township_test.c $tests \

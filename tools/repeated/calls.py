@@ -12,8 +12,9 @@ NAMED = (
     "crates/*/src/lib.rt",
     "packaging/libtownship.map",
     "tests/library/c/township_test.c tests/library/c/land.c tests/library/c/lots.c tests/library/c/lot_lands.c "
-    "tests/library/c/lists.c tests/library/c/many.c tests/library/c/explanations.c tests/library/c/readings.c "
-    "tests/library/c/lot_readings.c tests/library/c/designations.c tests/library/c/split.c",
+    "tests/library/c/lot_lists.c tests/library/c/lists.c tests/library/c/many.c tests/library/c/explanations.c "
+    "tests/library/c/readings.c tests/library/c/lot_readings.c tests/library/c/designations.c "
+    "tests/library/c/split.c",
     "tests/library/c/threads.c",
     "tests/library/c/growth_test.c",
     "tools/reading_list/promises.txt",

@@ -19,7 +19,8 @@ HEADER = (TOP / "include" / "township.h").read_text()
 
 LAND = township.Land.of((2, "N", 3, "W"), "sec. 14.")
 LOTS = township.Lots.read("section,lot,acres\nT,2,N,3,W\n")
-LAND_OF_LOTS = township.Lots.read("section,lot,acres,land\nT,2,N,3,W\n14,1,38.50,NE1/4NE1/4\n").land("sec. 14, lot 1.")
+LAKE = township.Lots.read("section,lot,acres,land\nT,2,N,3,W\n14,1,38.50,NE1/4NE1/4\n")
+LAND_OF_LOTS = LAKE.land("sec. 14, lot 1.")
 
 
 class Found(unittest.TestCase):
@@ -245,14 +246,17 @@ class Verdicts(unittest.TestCase):
         "lots_land_acres": lambda: LOTS.acres(LAND),
         "lots_land_area": lambda: LOTS.area(LAND),
         "lots_report": lambda: LOTS.report([]),
+        "lots_report_each": lambda: LOTS.report_each([]),
+        "lots_overlaps": lambda: LOTS.overlaps([]),
+        "lots_acres_many": lambda: LOTS.acres_many(["sec. 14."]),
+        "lots_answer_many": lambda: LAKE._full_answers(["sec. 14."]),
+        "lots_explain_list_parts": lambda: LOTS.report_csv(b""),
     }
 
     #: The calls that answer one of many in turn.
     CALLS_FOR_MANY = {
-        "lots_acres": lambda: list(LOTS.acres_many(["sec. 14."])),
-        "lots_land_acres": lambda: LOTS.overlaps([("A", "sec. 14."), ("B", LAND)]),
-        "report_each": lambda: LOTS.report_each([]),
-        "overlaps": lambda: LOTS.overlaps([]),
+        "lots_acres": lambda: list(LOTS.acres_of(["sec. 14."])),
+        "lots_acres_many": lambda: LOTS._full_answers(["sec. 14."]),
         "answer_many": lambda: LOTS.normal_many(["sec. 14."]),
     }
 
@@ -263,11 +267,9 @@ class Verdicts(unittest.TestCase):
                 with mock.patch.object(_library, name, lambda *_: answer), self.assertRaises(exception) as caught:
                     call()
                 self.assertNotIsInstance(caught.exception, township.Refused)
-        for call in (lambda: LOTS._full_answers(["sec. 14."]), lambda: LOTS.report_each([("A", "sec. 14.")]),
-                     lambda: list(LOTS.acres_of(["sec. 14."]))):
-            answer = _library.Answer(verdict=_library.NO_MEMORY)
-            with mock.patch.object(_library, "lots_acres", lambda *_: answer), self.assertRaises(MemoryError):
-                call()
+        answer = _library.Answer(verdict=_library.NO_MEMORY)
+        with mock.patch.object(_library, "lots_acres", lambda *_: answer), self.assertRaises(MemoryError):
+            list(LOTS.acres_of(["sec. 14."]))
 
     def test_notes(self):
         calls = {"explain_description": "sec. 14.", "explain_description_parts": "sec. 14, NE1/4 SE1/4."}
@@ -296,6 +298,7 @@ class Verdicts(unittest.TestCase):
             ((ctypes.byref(LOTS._parts), 503), _library.explain_lacking, _library.explain_lacking_parts),
             ((ctypes.byref(LOTS._parts), b"sec. 14, NE1/4 SE1/4.", 21), _library.lots_explain_description,
              _library.lots_explain_description_parts),
+            ((ctypes.byref(LOTS._parts), b"name\n", 5), _library.lots_explain_list, _library.lots_explain_list_parts),
         ):
             parts = _library.Explanation()
             with_parts_of = functools.partial(self.call_with, with_parts, ctypes.byref(parts))

@@ -148,10 +148,10 @@ class Refusals(RefusalCase):
     def test_lot_that_a_tract_has_and_the_table_lacks(self):
         refused = self.refused(table().report, [("A", "sec. 5, lot 1."), ("B", "sec. 5, lots 2 and 3.")])
         self.assertEqual((refused.number, refused.at, refused.inner), (83, 3, (94, 503)))
-        self.assertEqual(refused.sentence, "record 3: the lot table has no record for lot 3 of section 5")
+        self.assertEqual(refused.sentence, "tract `B`: the lot table has no record for lot 3 of section 5")
         self.assertEqual(
             refused.explanation,
-            "township: tracts: record 3: the lot table has no record for lot 3 of section 5\n"
+            "township: tracts:3: tract `B`: the lot table has no record for lot 3 of section 5\n"
             "  of section 5, it has these lots: 1, 2\n",
         )
 

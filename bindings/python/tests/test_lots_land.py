@@ -341,9 +341,12 @@ class Tracts(RefusalCase):
     def test_refusals_of_lists(self):
         refused = self.refused(lake().report, [("A", "sec. 14, lot 1."), ("B", "sec. 14, NE1/4.")])
         self.assertEqual((refused.number, refused.at, refused.inner), (83, 3, Refusal(66, 9)))
-        self.assertTrue(refused.sentence.endswith("66 at 9"), refused)
+        self.assertEqual(refused.sentence, "tract `B`: this part includes lots; name the lots instead")
+        self.assertEqual(refused.hints, ("write sec. 14, lots 1, 2 and 3, S1/2NE1/4",))
+        self.assertEqual(str(refused)[:14], "tracts:3:14: t")
         refused = self.refused(lake().report, [("A", "sec. 14, lot 1."), ("B", "sec. 14.")])
         self.assertEqual((refused.number, refused.at, refused.inner), (84, 3, None))
+        self.assertEqual(refused.sentence, "tract `B` overlaps tract `A` (record 2); both include sec. 14, lot 1.")
         refused = self.refused(lake().report, [("A", "sec. 14, lot 5."), ("A", "sec. 14.")])
         self.assertEqual((refused.number, refused.at, refused.inner), (83, 2, Refusal(64, 13)))
         refused = self.refused(lake().report, [("A", "sec. 14, lot 4."), ("A", "sec. 13.")])

@@ -28,38 +28,31 @@ pub(crate) fn refused_on_plat(
     })
 }
 
-/// Returns the refusal of land, a description, or a list with a lot that the table lacks, with its
-/// explanation. `source` is the name of what is refused.
+/// Returns the refusal of land, or of a description, with a lot that the table lacks, with its explanation.
+/// `source` is the name of what is refused.
 pub(crate) fn refused_lacking(fault: Fault, lots: &ffi::Lots, source: &str) -> Refused {
-    let at = fault.inner.unwrap_or(fault.refusal).at;
-    let (answer, mut explained) =
+    let at = fault.refusal.at;
+    let (answer, explained) =
         explained_by(|room| ffi::explain_lacking_parts(lots, at, source.as_bytes(), room));
     let explains = answer.accepted().err().map(|told| told.refusal);
     assert_eq!(
         explains,
-        Some(fault.inner.unwrap_or(fault.refusal)),
+        Some(fault.refusal),
         "the library explains what it refused"
     );
-    if fault.inner.is_some() {
-        // The library explains the refusal of the land, and does not know its record.
-        let record = format!("record {}: ", fault.refusal.at);
-        let head = format!("{}: ", explained.location);
-        explained.text = explained
-            .text
-            .replacen(&head, &format!("{head}{record}"), 1);
-        explained.sentence.insert_str(0, &record);
-    }
     Refused::new(fault, explained)
 }
 
 #[cfg(test)]
 mod tests {
     use super::*;
+    use crate::lots::Lots;
     use crate::refused::Refusal;
 
+    const TABLE: &[u8] = b"section,lot,acres\nT,2,N,3,W\n6,1,36.86\n6,3,36.90\n";
+
     fn lots() -> ffi::Lots {
-        let (answer, lots) =
-            ffi::lots_read(b"section,lot,acres\nT,2,N,3,W\n6,1,36.86\n6,3,36.90\n");
+        let (answer, lots) = ffi::lots_read(TABLE);
         assert!(answer.accepted().is_ok());
         lots
     }
@@ -89,20 +82,18 @@ mod tests {
 
     #[test]
     fn lot_that_a_tract_has_and_the_table_lacks() {
-        let fault = Fault {
-            refusal: Refusal { number: 83, at: 2 },
-            inner: Some(LOT),
-        };
-        let refused = refused_lacking(fault, &lots(), "tracts");
+        let lots = Lots::read(TABLE).unwrap();
+        let refused = lots.report_of([("A", "sec. 6, lot 7.")]).unwrap_err();
         assert_eq!((refused.number, refused.at), (83, 2));
+        assert_eq!(refused.inner, Some(LOT));
         assert_eq!(
             refused.explanation,
-            "township: tracts: record 2: the lot table has no record for lot 7 of section 6\n  \
+            "township: tracts:2: tract `A`: the lot table has no record for lot 7 of section 6\n  \
              of section 6, it has these lots: 1, 3\n"
         );
         assert_eq!(
             refused.to_string(),
-            "tracts: record 2: the lot table has no record for lot 7 of section 6"
+            "tracts:2: tract `A`: the lot table has no record for lot 7 of section 6"
         );
     }
 

@@ -193,10 +193,7 @@ impl Lots {
     /// section's number, plus the lot's number.
     pub fn acres(&self, description: impl AsRef<[u8]>) -> Result<Acres, Refused> {
         let description = description.as_ref();
-        match ffi::lots_acres(&self.data, description).accepted() {
-            Ok(answer) => Ok(Acres::from_hundredths(answer.hundredths)),
-            Err(fault) => Err(self.description_refused(fault, description)),
-        }
+        self.acres_in(ffi::lots_acres(&self.data, description), description)
     }
 
     /// Returns the exact area of the land described, in acres. [`Lots::acres`] returns it rounded.
@@ -310,6 +307,14 @@ impl Lots {
         self.report(list_of(tracts))
     }
 
+    /// Returns the acreage in the answer to a description, or its refusal.
+    fn acres_in(&self, answer: ffi::Answer, description: &[u8]) -> Result<Acres, Refused> {
+        match answer.accepted() {
+            Ok(answer) => Ok(Acres::from_hundredths(answer.hundredths)),
+            Err(fault) => Err(self.description_refused(fault, description)),
+        }
+    }
+
     /// Returns the error for land with a lot that the table lacks.
     fn land_refused(&self, fault: Fault) -> NoLandAcres {
         NoLandAcres::Lacking(refused_lacking(fault, &self.data, LAND))
@@ -317,15 +322,8 @@ impl Lots {
 
     /// Returns the refusal of a list of tracts, with its explanation.
     fn list_refused(&self, fault: Fault, list: &[u8]) -> Refused {
-        if fault.inner.is_some_and(|inner| inner.number == LACKING) {
-            return refused_lacking(fault, &self.data, LIST);
-        }
-        if self.has_land() && OF_LAND.contains(&fault.refusal.number) {
-            return refused_for_land(fault);
-        }
-        let plat = self.township().nominal_plat();
-        Refused::explained_if_same(fault, |room| {
-            ffi::explain_list_parts(&plat, list, LIST.as_bytes(), room)
+        Refused::explained(fault, |room| {
+            ffi::lots_explain_list_parts(&self.data, list, LIST.as_bytes(), room)
         })
     }
 
@@ -336,23 +334,6 @@ impl Lots {
         }
         refused_on_plat(fault, &self.data, description, DESCRIPTION)
     }
-}
-
-/// The refusals of a list that depend on which lots a plat has. The library does not explain them by a
-/// lot table.
-const OF_LAND: [u32; 2] = [ffi::REFUSAL_TRACT_REFUSED, ffi::REFUSAL_TRACTS_OVERLAP];
-
-/// Returns the refusal of a list for the land of a tract, without words of the library.
-fn refused_for_land(fault: Fault) -> Refused {
-    let sentence = match fault.inner {
-        Some(inner) => format!(
-            "the description of this tract is refused on the plat of the lot table: {} at {}",
-            inner.number, inner.at
-        ),
-        None => "the land of this tract overlaps that of an earlier one".to_owned(),
-    };
-    let record = usize::try_from(fault.refusal.at).expect("a list has few records");
-    Refused::of_record(fault, LIST, record, sentence)
 }
 
 impl From<OtherPlat> for NoLandAcres {

@@ -13,6 +13,9 @@ mod answers;
 mod land;
 mod lists;
 
+pub(crate) use self::answers::in_a_row;
+pub(crate) use self::lists::USUAL_OVERLAPS;
+
 /// The number of section lines in a township.
 pub const LINES: usize = ffi::LINES;
 

@@ -116,6 +116,17 @@ impl Overlap {
     }
 }
 
+impl LotsOverlap {
+    pub(crate) fn from_data(overlap: &ffi::LotsOverlap) -> LotsOverlap {
+        let acres = Acres::from_hundredths(overlap.hundredths);
+        LotsOverlap {
+            first: overlap.first as usize - FIRST_TRACT,
+            second: overlap.second as usize - FIRST_TRACT,
+            acres: (overlap.lacking == 0).then_some(acres),
+        }
+    }
+}
+
 impl TractAnswer {
     /// Returns the answer to a tract. Panics if memory ran out.
     pub(crate) fn from_data(given: &ffi::TractAnswer) -> TractAnswer {

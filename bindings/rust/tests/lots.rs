@@ -292,10 +292,10 @@ fn report() {
 #[test]
 fn refused_lists() {
     // Of section 5, the table has lots 1 and 2. The lot comes before what is wrong with later tracts.
-    for (list, at, lot) in [
-        ("A,\"sec. 5, lots 1 to 4.\"\n", 2, 503),
-        ("A,sec. 14.\nB,\"sec. 14; sec. 5, lot 4.\"\n", 3, 504),
-        ("A,sec. 14.\nB,\"sec. 7, lot 1.\"\nA,sec. 15.\n", 3, 701),
+    for (list, name, at, lot) in [
+        ("A,\"sec. 5, lots 1 to 4.\"\n", "A", 2, 503),
+        ("A,sec. 14.\nB,\"sec. 14; sec. 5, lot 4.\"\n", "B", 3, 504),
+        ("A,sec. 14.\nB,\"sec. 7, lot 1.\"\nA,sec. 15.\n", "B", 3, 701),
     ] {
         let list = "name,description\n".to_owned() + list;
         let refused = table().report(&list).unwrap_err();
@@ -309,7 +309,7 @@ fn refused_lists() {
         assert_eq!(
             refused.to_string(),
             format!(
-                "tracts: record {at}: the lot table has no record for lot {lot} of section {section}"
+                "tracts:{at}: tract `{name}`: the lot table has no record for lot {lot} of section {section}"
             )
         );
     }

@@ -7,29 +7,26 @@ use Rattle.std.proofs.lemmas.Slice.Eq.{bytes_eq-Decides}
 use Rattle.std.proofs.lemmas.List.{length_push}
 use Rattle.std.proofs.Math.ListN.{get_or-append}
 use Rattle.std.proofs.Math.Seq.{get_or-append_seam}
-use Rattle.twp_grid.specs.Townships.{Designation}
 use Rattle.twp_grid.specs.declared.refusal.Refusal.{Refusal}
 use Rattle.twp_notes.specs.Records.{Fields, record_at}
-use Rattle.twp_plat.specs.Plats.{TownshipPlat}
-use Rattle.twp_answers.specs.EachTract.{AreAnswersTo, HasOwnFault, IsAnswerAt, IsOfTract}
+use Rattle.twp_answers.specs.EachTract.{AreAnswersTo, DescriptionAnswers, HasAlone, HasOwnFault, IsAnswerAt}
+use Rattle.twp_answers.specs.EachTract.{IsOfTract}
 use Rattle.twp_answers.specs.steps.EachTaking.{AnswersLand, AreNamesOf, TakesName, TakesRecord}
 use Rattle.std.specs.Prelude.{Result, Ok, Err}
 use Rattle.twp_answers.specs.Names.{has_name}
 use Rattle.twp_answers.specs.Tracts.{name_in, description_in, IsTractName, IsTractRecord}
-use Rattle.twp_answers.specs.TractFaults.{HasAt, IsNameRepeated, turn_of}
-use Rattle.twp_answers.specs.Answers.{IsNoDescription}
+use Rattle.twp_answers.specs.TractFaults.{IsNameRepeated, turn_of}
 use Rattle.twp_answers.specs.declared.each_tract.TractAnswer.{TractAnswer}
 use Rattle.twp_answers.specs.declared.names.NamesSoFar.{NamesSoFar}
 use Rattle.twp_answers.specs.declared.tract_fault.TractFault.{TractFault}
 use Rattle.twp_answers.specs.declared.tract_fault.TractFault.TheVariants as fault
 use Rattle.twp_answers.proofs.TractLands.{earlier_or_last, either_way, with_left, with_right}
-use Rattle.twp_grid.specs.Lands.{STANDARD_LOTS}
 
 -- one more answer
-pub answers_next : (plat : TownshipPlat) (rows : List Fields) (count : ℕ) (answers : List TractAnswer)
-    (answer : TractAnswer) → AreAnswersTo plat rows count answers → IsAnswerAt plat rows count answer
-    → AreAnswersTo plat rows (count + 1) (answers ++ answer ∷ [])
-answers_next plat rows count answers answer before here = record {
+pub answers_next : (Has : DescriptionAnswers) (rows : List Fields) (count : ℕ) (answers : List TractAnswer)
+    (answer : TractAnswer) → AreAnswersTo Has rows count answers → IsAnswerAt Has rows count answer
+    → AreAnswersTo Has rows (count + 1) (answers ++ answer ∷ [])
+answers_next Has rows count answers answer before here = record {
   count_is = rw (length_push answers answer) (omega (arith, before.count_is));
   each = λ index default below. elim (earlier_or_last count index below) [
     | inl earlier ↦
@@ -101,46 +98,46 @@ names_kept rows index names before none = record {
       (found.0, omega arith, found.2);
 }
 
-module _ (township : Designation) (rows : List Fields) (index : ℕ) where
+module _ (Has : DescriptionAnswers) (rows : List Fields) (index : ℕ) where
   -- the record is not a tract's
   pub no_record : ¬ IsTractRecord (record_at rows index)
-      → HasOwnFault township rows index (fault.TractRow (index + 2))
-  no_record bad = record { has = (refl, bad); own = omega arith; first = least }
+      → HasOwnFault Has rows index (fault.TractRow (index + 2))
+  no_record bad = record { has = (refl, bad); first = least }
     where
-      least : (other : TractFault) → HasAt STANDARD_LOTS township rows index other → 1 ≤ turn_of other
+      least : (other : TractFault) → HasAlone Has rows index other → 1 ≤ turn_of other
       least (fault.TractRow n) has = omega arith
       least (fault.NameRepeated n) has = omega arith
       least (fault.TractRefused n inner) has = omega arith
-      least (fault.TractsOverlap n) has = omega arith
+      least (fault.TractsOverlap n) has = absurd has
       least fault.TractsTooLarge has = absurd has
       least fault.TooManyTracts has = absurd has
       least fault.Memory has = absurd has
 
   -- it is, but an earlier one has its name
   pub repeated : IsTractRecord (record_at rows index) → IsNameRepeated rows index
-      → HasOwnFault township rows index (fault.NameRepeated (index + 2))
-  repeated is again = record { has = (refl, again); own = omega arith; first = least }
+      → HasOwnFault Has rows index (fault.NameRepeated (index + 2))
+  repeated is again = record { has = (refl, again); first = least }
     where
-      least : (other : TractFault) → HasAt STANDARD_LOTS township rows index other → 2 ≤ turn_of other
+      least : (other : TractFault) → HasAlone Has rows index other → 2 ≤ turn_of other
       least (fault.TractRow n) (e, bad) = absurd (bad is)
       least (fault.NameRepeated n) has = omega arith
       least (fault.TractRefused n inner) has = omega arith
-      least (fault.TractsOverlap n) has = omega arith
+      least (fault.TractsOverlap n) has = absurd has
       least fault.TractsTooLarge has = absurd has
       least fault.TooManyTracts has = absurd has
       least fault.Memory has = absurd has
 
   -- its name is new, but its description is refused
   pub refused : IsTractRecord (record_at rows index) → ¬ IsNameRepeated rows index → (inner : Refusal)
-      → IsNoDescription STANDARD_LOTS township (description_in (record_at rows index)) inner
-      → HasOwnFault township rows index (fault.TractRefused (index + 2) inner)
-  refused is anew inner none = record { has = (refl, none); own = omega arith; first = least }
+      → Has (description_in (record_at rows index)) (Err inner)
+      → HasOwnFault Has rows index (fault.TractRefused (index + 2) inner)
+  refused is anew inner none = record { has = (refl, none); first = least }
     where
-      least : (other : TractFault) → HasAt STANDARD_LOTS township rows index other → 3 ≤ turn_of other
+      least : (other : TractFault) → HasAlone Has rows index other → 3 ≤ turn_of other
       least (fault.TractRow n) (e, bad) = absurd (bad is)
       least (fault.NameRepeated n) (e, again) = absurd (anew again)
       least (fault.TractRefused n inner) has = omega arith
-      least (fault.TractsOverlap n) has = omega arith
+      least (fault.TractsOverlap n) has = absurd has
       least fault.TractsTooLarge has = absurd has
       least fault.TooManyTracts has = absurd has
       least fault.Memory has = absurd has
@@ -153,9 +150,9 @@ no_names rows names none = record {
   only = λ name is. cc (sym is ∙ none name);
 }
 
-pub no_answers : (plat : TownshipPlat) (rows : List Fields) (answers : List TractAnswer) → answers ≡ []
-    → AreAnswersTo plat rows 0 answers
-no_answers plat rows answers none = rw none (record {
+pub no_answers : (Has : DescriptionAnswers) (rows : List Fields) (answers : List TractAnswer) → answers ≡ []
+    → AreAnswersTo Has rows 0 answers
+no_answers Has rows answers none = rw none (record {
   count_is = refl;
   each = λ index default below. absurd (omega arith);
 })
@@ -194,33 +191,33 @@ no_name_taken fields names said none = record {
 }
 
 -- the answer for the land of a tract with a new name
-of_land : (plat : TownshipPlat) (rows : List Fields) (index number : ℕ) (answer : Result ℕ TractFault)
+of_land : (Has : DescriptionAnswers) (rows : List Fields) (index number : ℕ) (answer : Result ℕ TractFault)
     → IsTractRecord (record_at rows index) → ¬ IsNameRepeated rows index → number ≡ index + 2
-    → AnswersLand plat (description_in (record_at rows index)) number answer
-    → IsOfTract plat rows index answer
-of_land plat rows index number (Ok hundredths) is anew at_record has =
+    → AnswersLand Has (description_in (record_at rows index)) number answer
+    → IsOfTract Has rows index answer
+of_land Has rows index number (Ok hundredths) is anew at_record has =
     record { is_record = is; is_new = anew; acres = has }
-of_land plat rows index number (Err (fault.TractRefused n inner)) is anew at_record (same, none) =
-    rw (same ∙ at_record) (refused plat.township rows index is anew inner none)
-of_land plat rows index number (Err (fault.TractRow n)) is anew at_record has = absurd has
-of_land plat rows index number (Err (fault.NameRepeated n)) is anew at_record has = absurd has
-of_land plat rows index number (Err (fault.TractsOverlap n)) is anew at_record has = absurd has
-of_land plat rows index number (Err fault.TractsTooLarge) is anew at_record has = absurd has
-of_land plat rows index number (Err fault.TooManyTracts) is anew at_record has = absurd has
-of_land plat rows index number (Err fault.Memory) is anew at_record has = absurd has
+of_land Has rows index number (Err (fault.TractRefused n inner)) is anew at_record (same, none) =
+    rw (same ∙ at_record) (refused Has rows index is anew inner none)
+of_land Has rows index number (Err (fault.TractRow n)) is anew at_record has = absurd has
+of_land Has rows index number (Err (fault.NameRepeated n)) is anew at_record has = absurd has
+of_land Has rows index number (Err (fault.TractsOverlap n)) is anew at_record has = absurd has
+of_land Has rows index number (Err fault.TractsTooLarge) is anew at_record has = absurd has
+of_land Has rows index number (Err fault.TooManyTracts) is anew at_record has = absurd has
+of_land Has rows index number (Err fault.Memory) is anew at_record has = absurd has
 
-module _ (plat : TownshipPlat) (fields : Fields) (number : ℕ) (old new : NamesSoFar) (said : Bool)
+module _ (Has : DescriptionAnswers) (fields : Fields) (number : ℕ) (old new : NamesSoFar) (said : Bool)
     (given : TractAnswer) (takes : TakesName fields old new said) where
   -- a record that is not a tract's
   pub takes_no_tract : ¬ IsTractRecord fields → given.name.bytes ≡ []
-      → given.answer ≡ Err (fault.TractRow number) → TakesRecord plat fields number old new given
+      → given.answer ≡ Err (fault.TractRow number) → TakesRecord Has fields number old new given
   takes_no_tract bad none same = record {
     names = takes.names;
     answer = λ rows index here before at_record.
         let no = subst (λ f. ¬ IsTractRecord f) (sym here) bad in
         record {
           answer_is =
-              rw (same, at_record) (no_record plat.township rows index no);
+              rw (same, at_record) (no_record Has rows index no);
           name_is = λ is. absurd (no is);
           no_name = λ _. none;
         };
@@ -228,14 +225,14 @@ module _ (plat : TownshipPlat) (fields : Fields) (number : ℕ) (old new : Names
 
   -- a tract with the name of an earlier one
   pub takes_repeated : IsTractRecord fields → given.name.bytes ≡ name_in fields → said ≡ false
-      → given.answer ≡ Err (fault.NameRepeated number) → TakesRecord plat fields number old new given
+      → given.answer ≡ Err (fault.NameRepeated number) → TakesRecord Has fields number old new given
   takes_repeated is name known same = record {
     names = takes.names;
     answer = λ rows index here before at_record.
         let there = subst IsTractRecord (sym here) is in
         let again = rw known at takes.is_new rows index here before is.name_is in
         record {
-          answer_is = rw (same, at_record) (repeated plat.township rows index there again);
+          answer_is = rw (same, at_record) (repeated Has rows index there again);
           name_is = λ _. name ∙ ap name_in (sym here);
           no_name = λ no. absurd (no there);
         };
@@ -243,8 +240,8 @@ module _ (plat : TownshipPlat) (fields : Fields) (number : ℕ) (old new : Names
 
   -- a tract with a new name
   pub takes_land : IsTractRecord fields → given.name.bytes ≡ name_in fields → said ≡ true
-      → AnswersLand plat (description_in fields) number given.answer
-      → TakesRecord plat fields number old new given
+      → AnswersLand Has (description_in fields) number given.answer
+      → TakesRecord Has fields number old new given
   takes_land is name anew land = record {
     names = takes.names;
     answer = λ rows index here before at_record.
@@ -252,8 +249,8 @@ module _ (plat : TownshipPlat) (fields : Fields) (number : ℕ) (old new : Names
         let first = rw anew at takes.is_new rows index here before is.name_is in
         record {
           answer_is =
-              of_land plat rows index number given.answer there first at_record
-              (subst (λ f. AnswersLand plat (description_in f) number given.answer) (sym here) land);
+              of_land Has rows index number given.answer there first at_record
+              (subst (λ f. AnswersLand Has (description_in f) number given.answer) (sym here) land);
           name_is = λ _. name ∙ ap name_in (sym here);
           no_name = λ no. absurd (no there);
         };

@@ -1,7 +1,6 @@
 -- The same two texts have only one plat, one land, and one refusal.
 use Rattle.std.proofs.Common.{◌≡◌, ℕ, Bool, List, Some, Result, Ok, Err, subst, sym, ◌∙◌}
 use Rattle.std.proofs.Common.{inl, inr}
-use Rattle.twp_grid.specs.Places.{PLACE_DIGITS}
 use Rattle.twp_grid.specs.Townships.{Designation}
 use Rattle.twp_grid.specs.declared.refusal.Refusal.{Refusal}
 use Rattle.twp_notes.specs.FieldNotes.{FieldNotes, AreNotes}

@@ -5,15 +5,12 @@ use Rattle.std.proofs.Common.{ap, refl, sym, ◌∙◌, inl, inr, subst, arith, 
 use Rattle.std.proofs.lemmas.List.{length_push}
 use Rattle.std.proofs.Math.ListN.{get_or-append}
 use Rattle.std.proofs.Math.Seq.{get_or-append_seam}
-use Rattle.twp_grid.specs.Places.{PLACE_DIGITS}
 use Rattle.twp_grid.specs.Townships.{Designation}
-use Rattle.twp_grid.specs.Lands.{HasWholeLots, SharePlace, intersection}
-use Rattle.twp_grid.specs.Lands.{STANDARD_LOTS}
+use Rattle.twp_grid.specs.Lands.{HasWholeLots, Lotting, SharePlace, intersection}
 use Rattle.twp_notes.specs.Records.{Fields, record_at}
-use Rattle.twp_plat.specs.Plats.{TownshipPlat}
-use Rattle.twp_answers.specs.Answers.{AreHundredthsOf, IsNoDescription}
+use Rattle.twp_answers.specs.Answers.{IsNoDescription}
 use Rattle.twp_answers.specs.Overlaps.{AreOverlapping, AreOverlaps, IsOverlapBefore, IsBetween, IsListed}
-use Rattle.twp_answers.specs.Overlaps.{IsSharedAcres}
+use Rattle.twp_answers.specs.Overlaps.{IsSharedAcres, Measure}
 use Rattle.twp_answers.specs.Tracts.{IsTract, description_in}
 use Rattle.twp_answers.specs.declared.overlaps.TractOverlap.{TractOverlap}
 use Rattle.twp_answers.specs.steps.OverlapTaking.{AreFoundTo, AreLandsTo, IsEarlier, IsFoundBefore}
@@ -27,11 +24,12 @@ use Rattle.twp_answers.proofs.OneAnswer.{not_described, one_land}
 use Rattle.twp_answers.proofs.TractLands.{earlier_or_last}
 
 -- one more land
-pub lands_next : {L : Type 0} (places : L → ℕ → ℕ → ℕ → Bool) (township : Designation) (rows : List Fields)
-    (count : ℕ) (lands : List (Option L)) (land : Option L) → AreLandsTo places township rows count lands
-    → IsLandOfRecord places township (record_at rows count) land
-    → AreLandsTo places township rows (count + 1) (lands ++ land ∷ [])
-lands_next places township rows count lands land before here = record {
+pub lands_next : {L : Type 0} (places : L → ℕ → ℕ → ℕ → Bool) (lots : Lotting) (township : Designation)
+    (rows : List Fields)
+    (count : ℕ) (lands : List (Option L)) (land : Option L) → AreLandsTo places lots township rows count lands
+    → IsLandOfRecord places lots township (record_at rows count) land
+    → AreLandsTo places lots township rows (count + 1) (lands ++ land ∷ [])
+lands_next places lots township rows count lands land before here = record {
   count_is = rw (length_push lands land) (omega (arith, before.count_is));
   each = λ index default below. elim (earlier_or_last count index below) [
     | inl earlier ↦
@@ -46,20 +44,22 @@ lands_next places township rows count lands land before here = record {
 }
 
 -- the places in both of two lands with whole lots
-pub whole_in_both : (places more : ℕ → ℕ → ℕ → Bool) → HasWholeLots STANDARD_LOTS places
-    → HasWholeLots STANDARD_LOTS more → HasWholeLots STANDARD_LOTS (intersection places more)
-whole_in_both places more whole other = λ section lot range. record {
+pub whole_in_both : (lots : Lotting) (places more : ℕ → ℕ → ℕ → Bool) → HasWholeLots lots places
+    → HasWholeLots lots more → HasWholeLots lots (intersection places more)
+whole_in_both lots places more whole other = λ section lot range. record {
   alike = λ column row column' row' lies lies' i.
       (whole section lot range).alike column row column' row' lies lies' i
       && (other section lot range).alike column row column' row' lies lies' i;
 }
 
 -- two tracts that share a place, and the acres of the places in both
-pub shared_acres : (plat : TownshipPlat) (fields other : Fields) (places more : ℕ → ℕ → ℕ → Bool)
-    (hundredths : ℕ) → IsTractLand plat.township fields places → IsTractLand plat.township other more
-    → SharePlace places more → AreHundredthsOf plat (intersection places more) hundredths
-    → IsSharedAcres plat fields other hundredths
-shared_acres plat fields other places more hundredths one two shared acres = record {
+pub shared_acres : {Acres : Type 0} (by : Measure Acres) (fields other : Fields)
+    (places more : ℕ → ℕ → ℕ → Bool)
+    (acres : Acres) → IsTractLand by.lots by.township fields places
+    → IsTractLand by.lots by.township other more
+    → SharePlace places more → by.are_acres (intersection places more) acres
+    → IsSharedAcres by fields other acres
+shared_acres by fields other places more acres one two shared are = record {
   are = record {
     is_first = one.is_record;
     is_second = two.is_record;
@@ -71,67 +71,76 @@ shared_acres plat fields other places more hundredths one two shared acres = rec
       shared = shared;
     };
   };
-  acres = acres;
+  acres_are = are;
 }
 
 -- two tracts whose land shares no place
-pub apart : (township : Designation) (fields other : Fields) (places more : ℕ → ℕ → ℕ → Bool)
-    → IsTractLand township fields places → IsTractLand township other more → ¬ SharePlace places more
-    → AreOverlapping township fields other → ⊥
-apart township fields other places more one two none are =
+pub apart : (lots : Lotting) (township : Designation) (fields other : Fields) (places more : ℕ → ℕ → ℕ → Bool)
+    → IsTractLand lots township fields places → IsTractLand lots township other more
+    → ¬ SharePlace places more
+    → AreOverlapping lots township fields other → ⊥
+apart lots township fields other places more one two none are =
     let first =
-    one_land STANDARD_LOTS township (description_in fields) are.overlap.places places are.overlap.land
+    one_land lots township (description_in fields) are.overlap.places places are.overlap.land
     one.land in
     let second =
-    one_land STANDARD_LOTS township (description_in other) are.overlap.more more are.overlap.other_land
+    one_land lots township (description_in other) are.overlap.more more are.overlap.other_land
     two.land in
     none (subst (λ p. SharePlace p more) first
     (subst (λ m. SharePlace are.overlap.places m) second are.overlap.shared))
 
 -- a record that is no tract overlaps none
-pub no_first : (township : Designation) (fields other : Fields) → ¬ IsTract STANDARD_LOTS township fields
-    → AreOverlapping township fields other → ⊥
-no_first township fields other none are =
+pub no_first : (lots : Lotting) (township : Designation) (fields other : Fields)
+    → ¬ IsTract lots township fields
+    → AreOverlapping lots township fields other → ⊥
+no_first lots township fields other none are =
     none (record { is_record = are.is_first; places = are.overlap.places; land = are.overlap.land })
 
-pub no_second : (township : Designation) (fields other : Fields) → ¬ IsTract STANDARD_LOTS township other
-    → AreOverlapping township fields other → ⊥
-no_second township fields other none are =
+pub no_second : (lots : Lotting) (township : Designation) (fields other : Fields)
+    → ¬ IsTract lots township other
+    → AreOverlapping lots township fields other → ⊥
+no_second lots township fields other none are =
     none (record { is_record = are.is_second; places = are.overlap.more; land = are.overlap.other_land })
 
-whole_land : {L : Type 0} (places : L → ℕ → ℕ → ℕ → Bool) (township : Designation) (fields : Fields)
-    (land : Option L) → IsLandOfRecord places township fields land → HasWholeLand places land
-whole_land places township fields None is = tt
-whole_land places township fields (Some land) is = is.whole
+whole_land : {L : Type 0} (places : L → ℕ → ℕ → ℕ → Bool) (lots : Lotting) (township : Designation)
+    (fields : Fields)
+    (land : Option L) → IsLandOfRecord places lots township fields land → HasWholeLand lots places land
+whole_land places lots township fields None is = tt
+whole_land places lots township fields (Some land) is = is.whole
 
 -- the places in both of two lands, as the overlap of their tracts
-pub as_overlap : (plat : TownshipPlat) (fields other : Fields) (places more : ℕ → ℕ → ℕ → Bool)
-    (found : Option ℕ) → IsTractLand plat.township fields places → IsTractLand plat.township other more
-    → MatchOption found (¬ SharePlace places more) (HasSharedPlaces plat places more)
-    → MatchOption found (¬ AreOverlapping plat.township fields other) (IsSharedAcres plat fields other)
-as_overlap plat fields other places more None one two none =
-    apart plat.township fields other places more one two none
-as_overlap plat fields other places more (Some hundredths) one two has =
-    shared_acres plat fields other places more hundredths one two has.shared has.acres
+pub as_overlap : {Acres : Type 0} (by : Measure Acres) (fields other : Fields)
+    (places more : ℕ → ℕ → ℕ → Bool)
+    (found : Option Acres) → IsTractLand by.lots by.township fields places
+    → IsTractLand by.lots by.township other more
+    → MatchOption found (¬ SharePlace places more) (HasSharedPlaces by places more)
+    → MatchOption found (¬ AreOverlapping by.lots by.township fields other) (IsSharedAcres by fields other)
+as_overlap by fields other places more None one two none =
+    apart by.lots by.township fields other places more one two none
+as_overlap by fields other places more (Some acres) one two has =
+    shared_acres by fields other places more acres one two has.shared has.acres_are
 
 -- a tract's description that is refused names no land
-pub no_tract : (township : Designation) (fields : Fields) (description : List ℕ) (inner : Refusal)
-    → description ≡ description_in fields → IsNoDescription STANDARD_LOTS township description inner
-    → ¬ IsTract STANDARD_LOTS township fields
-no_tract township fields description inner same none = λ is.
-    not_described STANDARD_LOTS township (description_in fields) inner is.places
-    (subst (λ d. IsNoDescription STANDARD_LOTS township d inner) same none) is.land
+pub no_tract : (lots : Lotting) (township : Designation) (fields : Fields) (description : List ℕ)
+    (inner : Refusal)
+    → description ≡ description_in fields → IsNoDescription lots township description inner
+    → ¬ IsTract lots township fields
+no_tract lots township fields description inner same none = λ is.
+    not_described lots township (description_in fields) inner is.places
+    (subst (λ d. IsNoDescription lots township d inner) same none) is.land
 
 -- each land has whole lots
-pub whole_lands : {L : Type 0} (places : L → ℕ → ℕ → ℕ → Bool) (township : Designation) (rows : List Fields)
-    (lands : List (Option L)) → AreLandsTo places township rows (length rows) lands
-    → All (HasWholeLand places) lands
-whole_lands places township rows lands are = λ k d below.
-    whole_land places township (record_at rows k) (get_or lands k d)
+pub whole_lands : {L : Type 0} (places : L → ℕ → ℕ → ℕ → Bool) (lots : Lotting) (township : Designation)
+    (rows : List Fields)
+    (lands : List (Option L)) → AreLandsTo places lots township rows (length rows) lands
+    → All (HasWholeLand lots places) lands
+whole_lands places lots township rows lands are = λ k d below.
+    whole_land places lots township (record_at rows k) (get_or lands k d)
     (are.each k d (omega (arith, are.count_is, below)))
 
 -- what is listed stays listed
-listed_still : (first second : ℕ) (overlaps : List TractOverlap) (one : TractOverlap)
+listed_still : {Acres : Type 0} (first second : ℕ) (overlaps : List (TractOverlap Acres))
+    (one : TractOverlap Acres)
     → IsListed first second overlaps → IsListed first second (overlaps ++ one ∷ [])
 listed_still first second overlaps one listed = record {
   index = listed.index;
@@ -140,7 +149,8 @@ listed_still first second overlaps one listed = record {
       rw (get_or-append overlaps (one ∷ []) default listed.index listed.within) (listed.between default);
 }
 
-listed_last : (first second : ℕ) (overlaps : List TractOverlap) (one : TractOverlap)
+listed_last : {Acres : Type 0} (first second : ℕ) (overlaps : List (TractOverlap Acres))
+    (one : TractOverlap Acres)
     → IsBetween first second one
     → IsListed first second (overlaps ++ one ∷ [])
 listed_last first second overlaps one between = record {
@@ -162,9 +172,10 @@ earlier_or_these f s first second (inr (same, less)) = elim (earlier_or_last fir
   | inr here ↦ inr (here, same)
 ]
 
-found_still : (plat : TownshipPlat) (rows : List Fields) (first second : ℕ) (given : TractOverlap)
-    → IsFoundBefore plat rows first second given → IsFoundBefore plat rows (first + 1) second given
-found_still plat rows first second given found = record {
+found_still : {Acres : Type 0} (by : Measure Acres) (rows : List Fields) (first second : ℕ)
+    (given : TractOverlap Acres)
+    → IsFoundBefore by rows first second given → IsFoundBefore by rows (first + 1) second given
+found_still by rows first second given found = record {
   first = found.first;
   second = found.second;
   order = found.order;
@@ -174,9 +185,11 @@ found_still plat rows first second given found = record {
 }
 
 -- before any pair
-pub none_found : (plat : TownshipPlat) (rows : List Fields) (overlaps : List TractOverlap) → overlaps ≡ []
-    → AreFoundTo plat rows 0 0 overlaps
-none_found plat rows overlaps none = rw none (record {
+pub none_found : {Acres : Type 0} (by : Measure Acres) (rows : List Fields)
+    (overlaps : List (TractOverlap Acres))
+    → overlaps ≡ []
+    → AreFoundTo by rows 0 0 overlaps
+none_found by rows overlaps none = rw none (record {
   each = λ k d below. absurd (omega arith);
   all = λ first second order earlier are. absurd (before first second earlier);
   order = λ index later default less below. absurd (omega arith);
@@ -186,13 +199,14 @@ none_found plat rows overlaps none = rw none (record {
     before first second (inl less) = omega arith
     before first second (inr (same, less)) = omega arith
 
-module _ (plat : TownshipPlat) (rows : List Fields) (first second : ℕ) (overlaps : List TractOverlap)
-    (before : AreFoundTo plat rows first second overlaps) where
+module _ {Acres : Type 0} (by : Measure Acres) (rows : List Fields) (first second : ℕ)
+    (overlaps : List (TractOverlap Acres))
+    (before : AreFoundTo by rows first second overlaps) where
   -- these two don't overlap
-  pub skipped : (AreOverlapping plat.township (record_at rows first) (record_at rows second) → ⊥)
-      → AreFoundTo plat rows (first + 1) second overlaps
+  pub skipped : (AreOverlapping by.lots by.township (record_at rows first) (record_at rows second) → ⊥)
+      → AreFoundTo by rows (first + 1) second overlaps
   skipped none = record {
-    each = λ k d below. found_still plat rows first second (get_or overlaps k d) (before.each k d below);
+    each = λ k d below. found_still by rows first second (get_or overlaps k d) (before.each k d below);
     all = λ f s order earlier are. elim (earlier_or_these f s first second earlier) [
       | inl known ↦ before.all f s order known are
       | inr here ↦ absurd (none (rw (← here.0, ← here.1) are))
@@ -201,7 +215,7 @@ module _ (plat : TownshipPlat) (rows : List Fields) (first second : ℕ) (overla
   }
 
   -- the one of them that was found last comes after the others
-  comes_last : (given one : TractOverlap) → IsFoundBefore plat rows first second given
+  comes_last : (given one : TractOverlap Acres) → IsFoundBefore by rows first second given
       → IsBetween first second one → IsOverlapBefore given one
   comes_last given one found between = elim found.earlier [
     | inl less ↦ inl (omega (arith, found.between.second_is, between.second_is, less))
@@ -213,14 +227,14 @@ module _ (plat : TownshipPlat) (rows : List Fields) (first second : ℕ) (overla
   ]
 
   -- these two overlap
-  pub added : (one : TractOverlap) → first < second → IsBetween first second one
-      → IsSharedAcres plat (record_at rows first) (record_at rows second) one.hundredths
-      → AreFoundTo plat rows (first + 1) second (overlaps ++ one ∷ [])
+  pub added : (one : TractOverlap Acres) → first < second → IsBetween first second one
+      → IsSharedAcres by (record_at rows first) (record_at rows second) one.acres
+      → AreFoundTo by rows (first + 1) second (overlaps ++ one ∷ [])
   added one less between shared = record {
     each = λ k d below. elim (in_longer k below) [
       | inl earlier ↦
           rw (get_or-append overlaps (one ∷ []) d k earlier)
-          (found_still plat rows first second (get_or overlaps k d) (before.each k d earlier))
+          (found_still by rows first second (get_or overlaps k d) (before.each k d earlier))
       | inr last ↦
           rw (last, get_or-append_seam overlaps one [] d) (record {
             first = first;
@@ -257,21 +271,23 @@ module _ (plat : TownshipPlat) (rows : List Fields) (first second : ℕ) (overla
       in_longer k below = earlier_or_last (length overlaps) k (rw (← length_push overlaps one) below)
 
 -- these two were compared
-pub compared : (plat : TownshipPlat) (rows : List Fields) (first second : ℕ) (old new : List TractOverlap)
-    (found : Option ℕ) → AreFoundTo plat rows first second old → first < second
-    → MatchOption found (¬ AreOverlapping plat.township (record_at rows first) (record_at rows second))
-    (IsSharedAcres plat (record_at rows first) (record_at rows second))
-    → NotesOverlap first second found old new → AreFoundTo plat rows (first + 1) second new
-compared plat rows first second old new None before less none same =
-    rw same (skipped plat rows first second old before none)
-compared plat rows first second old new (Some hundredths) before less shared same =
-    rw same (added plat rows first second old before (overlap_of first second hundredths) less
+pub compared : {Acres : Type 0} (by : Measure Acres) (rows : List Fields) (first second : ℕ)
+    (old new : List (TractOverlap Acres))
+    (found : Option Acres) → AreFoundTo by rows first second old → first < second
+    → MatchOption found (¬ AreOverlapping by.lots by.township (record_at rows first) (record_at rows second))
+    (IsSharedAcres by (record_at rows first) (record_at rows second))
+    → NotesOverlap first second found old new → AreFoundTo by rows (first + 1) second new
+compared by rows first second old new None before less none same =
+    rw same (skipped by rows first second old before none)
+compared by rows first second old new (Some acres) before less shared same =
+    rw same (added by rows first second old before (overlap_of first second acres) less
     (record { first_is = refl; second_is = refl }) shared)
 
 -- all pairs with this later tract were compared
-pub next_second : (plat : TownshipPlat) (rows : List Fields) (second : ℕ) (overlaps : List TractOverlap)
-    → AreFoundTo plat rows second second overlaps → AreFoundTo plat rows 0 (second + 1) overlaps
-next_second plat rows second overlaps before = record {
+pub next_second : {Acres : Type 0} (by : Measure Acres) (rows : List Fields) (second : ℕ)
+    (overlaps : List (TractOverlap Acres))
+    → AreFoundTo by rows second second overlaps → AreFoundTo by rows 0 (second + 1) overlaps
+next_second by rows second overlaps before = record {
   each = λ k d below.
       let found = before.each k d below in
       record {
@@ -298,9 +314,10 @@ next_second plat rows second overlaps before = record {
     back f s order (inr (same, less)) = absurd (omega arith)
 
 -- all pairs were compared
-pub all_found : (plat : TownshipPlat) (rows : List Fields) (count : ℕ) (overlaps : List TractOverlap)
-    → count ≡ length rows → AreFoundTo plat rows 0 count overlaps → AreOverlaps plat rows overlaps
-all_found plat rows count overlaps all found = record {
+pub all_found : {Acres : Type 0} (by : Measure Acres) (rows : List Fields) (count : ℕ)
+    (overlaps : List (TractOverlap Acres))
+    → count ≡ length rows → AreFoundTo by rows 0 count overlaps → AreOverlaps by rows overlaps
+all_found by rows count overlaps all found = record {
   each = λ k d below.
       let one = found.each k d below in
       record {

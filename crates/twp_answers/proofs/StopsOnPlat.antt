@@ -1,7 +1,6 @@
 -- Why a description stops an answer on a plat, over plain values.
 use Rattle.std.proofs.Common.{ℕ, List, inl, inr, refl}
 use Rattle.std.specs.Prelude.{IfSome}
-use Rattle.twp_grid.specs.Places.{PLACE_DIGITS}
 use Rattle.twp_grid.specs.Townships.{Designation}
 use Rattle.twp_grammar.specs.declared.item.Item.{Item}
 use Rattle.twp_read.specs.TextFaults.{IsReadAs}

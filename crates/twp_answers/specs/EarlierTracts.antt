@@ -2,7 +2,6 @@
 -- land of each tract.
 use Rattle.std.specs.Prelude.{◌≡◌, ℕ, ◌<◌, ◌||◌, Bool, true, false, List, ⊤}
 use Rattle.std.specs.Str.{bytes_eq}
-use Rattle.twp_grid.specs.Places.{PLACE_DIGITS}
 use Rattle.twp_grid.specs.Townships.{Designation}
 use Rattle.twp_grid.specs.Lands.{union, HasWholeLots, SharePlace}
 use Rattle.twp_grid.specs.Lands.{Lotting}

@@ -2,21 +2,18 @@
 -- half up, in hundredths of an acre.
 use Rattle.std.specs.Prelude.{◌≡◌, ℕ, ◌<◌, Bool, List, length, slice_index_or}
 use Rattle.twp_measure.specs.Areas.{Fraction, IsRounded}
-use Rattle.twp_plat.specs.LotTables.{figure_of, lots_of}
+use Rattle.twp_plat.specs.LotTables.{lots_of}
 use Rattle.twp_plat.specs.declared.lots.returned.ReturnedLots.{ReturnedLots}
 use Rattle.twp_grid.specs.Townships.{Designation}
 use Rattle.twp_notes.specs.Records.{Fields, record_at}
 use Rattle.twp_answers.specs.Tracts.{name_in, description_in, tract_records, IsTractList, IsLandOfTracts}
 use Rattle.twp_answers.specs.declared.account_figures.TractFigure.{TractFigure}
-use Rattle.twp_answers.specs.LotLands.{HasLotArea, HasLotAreaOf}
+use Rattle.twp_answers.specs.LotLands.{HasLotArea, HasLotAcresOf}
 
--- these are the hundredths of an acre of the land of a record's tract by the table: its area, rounded once,
--- half up
-pub record AreTractAcres (township : Designation) (lots : ReturnedLots) (fields : Fields) (hundredths : ℕ)
-    : Type 0 where
-  pub area : Fraction
-  pub area_is : HasLotAreaOf township lots (description_in fields) area
-  pub rounded : IsRounded area hundredths
+-- these are the hundredths of an acre of the land of a record's tract by the table
+abbrev pub AreTractAcres : Designation → ReturnedLots → Fields → ℕ → Type 0
+AreTractAcres township lots fields hundredths =
+    HasLotAcresOf township lots (description_in fields) hundredths
 
 -- the figure is that of the record's tract: its name, and its hundredths of an acre
 pub record IsFigureByLots (township : Designation) (lots : ReturnedLots) (fields : Fields)

@@ -1,7 +1,7 @@
 -- What can be wrong with a list of tracts by a lot table: what is wrong with it in the table's township, or
 -- that the table lacks a lot of a tract, which is reported as the refusal of the tract's description.
 use Rattle.std.specs.Prelude.{◌≡◌, ◌⊎◌, ℕ, ◌+◌, ◌<◌, List, length, IfSome}
-use Rattle.twp_plat.specs.LotTables.{figure_of, lots_of}
+use Rattle.twp_plat.specs.LotTables.{lots_of}
 use Rattle.twp_plat.specs.declared.lots.returned.ReturnedLots.{ReturnedLots}
 use Rattle.twp_grid.specs.Townships.{Designation}
 use Rattle.twp_notes.specs.Records.{Fields, record_at}

@@ -1,6 +1,5 @@
 -- The answer of the spelling run: the canonical text of the land described, or the refusal.
 use Rattle.std.specs.Prelude.{ℕ, List, Bool}
-use Rattle.twp_grid.specs.Places.{PLACE_DIGITS}
 use Rattle.twp_plat.specs.Plats.{TownshipPlat}
 use Rattle.twp_spell.specs.CanonicalText.{IsCanonicalText}
 use Rattle.twp_answers.specs.Answers.{AnswersRefusal, IsLandOnPlat, IsRefusal}

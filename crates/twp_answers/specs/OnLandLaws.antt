@@ -1,6 +1,5 @@
 -- Laws of land that callers keep.
 use Rattle.std.specs.Prelude.{◌≢◌, ◌≤◌, ◌↔◌, ℕ, List, Bool, length}
-use Rattle.twp_grid.specs.Places.{PLACE_DIGITS}
 use Rattle.twp_grid.specs.Townships.{Designation}
 use Rattle.twp_grid.specs.Lands.{no_places}
 use Rattle.twp_grid.specs.Lands.{STANDARD_LOTS}

@@ -2,23 +2,24 @@
 ghost use Rattle.std.specs.Prelude.{◌≡◌, ◌≤◌, ◌∷◌, length, IfOk, IfErr, MatchOption};
 ghost use Rattle.csv.specs.Records.{fields_of};
 ghost use Rattle.twp_notes.specs.Records.{records_left, IsBetweenRecords};
-ghost use Rattle.twp_answers.specs.EachTract.{AreAnswersTo, IsListFault, IsListOfRecords};
+ghost use Rattle.twp_answers.specs.EachTract.{AnswersByTable, AnswersOnPlat, AreAnswersTo};
+ghost use Rattle.twp_answers.specs.EachTract.{IsListFault, IsListOfRecords};
 ghost use Rattle.twp_answers.specs.Tracts.{TRACTS_LIMIT, TRACTS_MOST, name_in, tract_records};
 ghost use Rattle.twp_answers.specs.Tracts.{tracts_heading};
 ghost use Rattle.twp_answers.specs.Tracts.{IsTractName};
 ghost use Rattle.twp_answers.specs.steps.EachTaking.{AnswersLand, HasNoHeadingIn, StopsTaking, TakesName, TakesRecord};
 
+use crate::measuring::{Answering, ByTable};
 use crate::names::NamesSoFar;
-use crate::on_plat::acres_on;
-use crate::stop::Stop;
 use crate::tract::{NAME_MOST, is_heading, name_of, tract_of};
 use crate::tract_fault::{TRACTS_LIMIT, TRACTS_MOST, TractFault};
 use crate::tracts::FIRST_TRACT;
 use arrayvec::ArrayString;
 use csv::ByteRecord;
 use std::alloc::{AllocError, Global};
+use twp_grid::Township;
 use twp_notes::{Records, field};
-use twp_plat::{Account, Plat};
+use twp_plat::{Plat, ReturnedLots};
 
 /// The answer to a tract of a list.
 #[derive(Clone, Copy)]
@@ -41,11 +42,37 @@ impl TractAnswer {
     }
 }
 
-/// The answer to each tract of a list, or why the list has no tracts to answer.
+/// The answer to each tract of a list on a plat, or why the list has no tracts to answer.
 pub fn each_on(alloc: Global, plat: &Plat, list: &[u8]) -> Result<Vec<TractAnswer>, TractFault>
     ensures list { IfOk result (λ _. IsListOfRecords list.now) }
-    ensures answers { IfOk result (λ answers. AreAnswersTo plat.now (tract_records list.now)
-        (length (tract_records list.now)) answers.items) }
+    ensures answers { IfOk result (λ answers. AreAnswersTo (AnswersOnPlat plat.now)
+        (tract_records list.now) (length (tract_records list.now)) answers.items) }
+    ensures fault { IfErr result (IsListFault list.now) }
+{
+    each_by(alloc, plat, list)
+}
+
+/// The same by a lot table. If the table lacks a lot of a tract, the tract's fault is
+/// `TractFault::TractRefused`, and the refusal inside it is 94, at the lot.
+pub fn each_by_lots(
+    alloc: Global,
+    township: Township,
+    lots: &ReturnedLots,
+    list: &[u8],
+) -> Result<Vec<TractAnswer>, TractFault>
+    ensures list { IfOk result (λ _. IsListOfRecords list.now) }
+    ensures answers { IfOk result (λ answers. AreAnswersTo (AnswersByTable township lots.now)
+        (tract_records list.now) (length (tract_records list.now)) answers.items) }
+    ensures fault { IfErr result (IsListFault list.now) }
+{
+    each_by(alloc, &ByTable { township, lots }, list)
+}
+
+/// The answer to each tract of a list by what answers its descriptions.
+fn each_by<M: Answering>(alloc: Global, by: &M, list: &[u8]) -> Result<Vec<TractAnswer>, TractFault>
+    ensures list { IfOk result (λ _. IsListOfRecords list.now) }
+    ensures answers { IfOk result (λ answers. AreAnswersTo (M.answers by.now)
+        (tract_records list.now) (length (tract_records list.now)) answers.items) }
     ensures fault { IfErr result (IsListFault list.now) }
 {
     if list.len() > TRACTS_LIMIT as usize {
@@ -54,7 +81,7 @@ pub fn each_on(alloc: Global, plat: &Plat, list: &[u8]) -> Result<Vec<TractAnswe
     let records = &mut Records::new(alloc, list);
     let mut row = ByteRecord::new(alloc);
     pass_heading(records, &mut row)?;
-    take_records(alloc, plat, records, &mut row)
+    take_records(alloc, by, records, &mut row)
 }
 
 /// Reads the heading, which is the first record.
@@ -77,15 +104,15 @@ pub(crate) fn pass_heading(
 }
 
 /// The answers to the remaining records, which come after the heading.
-fn take_records(
+fn take_records<M: Answering>(
     alloc: Global,
-    plat: &Plat,
+    by: &M,
     records: &mut Records<'_>,
     row: &mut ByteRecord,
 ) -> Result<Vec<TractAnswer>, TractFault>
     requires { IsBetweenRecords records.old }
     ensures few { IfOk result (λ _. length (records_left records.old) ≤ TRACTS_MOST) }
-    ensures answers { IfOk result (λ answers. AreAnswersTo plat.now (records_left records.old)
+    ensures answers { IfOk result (λ answers. AreAnswersTo (M.answers by.now) (records_left records.old)
         (length (records_left records.old)) answers.items) }
     ensures fault { IfErr result (StopsTaking (records_left records.old)) }
 {
@@ -96,7 +123,7 @@ fn take_records(
         if taken == TRACTS_MOST {
             return Err(TractFault::TooManyTracts);
         }
-        let answer = answer_to(alloc, plat, row, taken + FIRST_TRACT, &mut names)?;
+        let answer = answer_to(alloc, by, row, taken + FIRST_TRACT, &mut names)?;
         answers.push(answer)?;
         taken += 1;
     }
@@ -105,15 +132,15 @@ fn take_records(
 
 /// The answer to the record with this number, after others with these names.
 #[tactic(auto, using(crate::proofs::EachFacts::takes_no_tract, crate::proofs::EachFacts::takes_repeated, crate::proofs::EachFacts::takes_land))]
-fn answer_to(
+fn answer_to<M: Answering>(
     alloc: Global,
-    plat: &Plat,
+    by: &M,
     row: &ByteRecord,
     number: u32,
     names: &mut NamesSoFar,
 ) -> Result<TractAnswer, AllocError>
     ensures { IfOk result (λ given.
-        TakesRecord plat.now (fields_of row.now) number names.old names.new given) }
+        TakesRecord (M.answers by.now) (fields_of row.now) number names.old names.new given) }
 {
     let is_new = add_name(row, names)?;
     let Some(tract) = tract_of(row) else {
@@ -129,7 +156,7 @@ fn answer_to(
         let answer = Err(TractFault::NameRepeated(number));
         return Ok(TractAnswer { name, answer });
     }
-    let answer = land_answer(alloc, plat, tract.description, number)?;
+    let answer = land_answer(alloc, by, tract.description, number)?;
     Ok(TractAnswer { name, answer })
 }
 
@@ -156,17 +183,16 @@ fn name_of_record(row: &ByteRecord) -> Option<&str>
 }
 
 /// The acres of the land of the tract with this number, or the refusal of its description.
-fn land_answer(
+fn land_answer<M: Answering>(
     alloc: Global,
-    plat: &Plat,
+    by: &M,
     description: &[u8],
     number: u32,
 ) -> Result<Result<u64, TractFault>, AllocError>
-    ensures { IfOk result (AnswersLand plat.now description.now number) }
+    ensures { IfOk result (AnswersLand (M.answers by.now) description.now number) }
 {
-    match acres_on(alloc, plat, description, Account::Exact) {
+    match by.answer(alloc, description)? {
         Ok(hundredths) => Ok(Ok(hundredths)),
-        Err(Stop::Refused(inner)) => Ok(Err(TractFault::TractRefused { at: number, inner })),
-        Err(Stop::Failed(_)) => Err(AllocError),
+        Err(inner) => Ok(Err(TractFault::TractRefused { at: number, inner })),
     }
 }

@@ -8,6 +8,7 @@ mod each_tract;
 mod earlier_tracts;
 pub mod laws;
 mod lot_account;
+mod measuring;
 mod names;
 mod on_plat;
 mod overlaps;
@@ -21,14 +22,14 @@ mod tract_fault;
 mod tracts;
 
 pub use account_figures::{AccountFigures, TractFigure, figure_of, figures_on};
-pub use each_tract::{TractAnswer, each_on};
+pub use each_tract::{TractAnswer, each_by_lots, each_on};
 pub use earlier_tracts::EarlierTracts;
 pub use lot_account::account_by_lots;
 pub use on_plat::{
     account_on, acres_of, acres_on, area_described, area_on, land_of, normal_described, normal_on,
     read_noting, read_plat, write_acres_line,
 };
-pub use overlaps::{TractOverlap, overlaps_on};
+pub use overlaps::{TractOverlap, overlaps_by_lots, overlaps_on};
 pub use plat_text::print_plat;
 pub use runs::{
     Ran, run_acres, run_acres_as, run_acres_noting, run_normal, run_normal_noting, run_plat,

@@ -11,5 +11,6 @@ mod figures;
 mod land;
 mod lists;
 mod lots;
+mod lots_lists;
 mod splitting;
 mod suggesting;

@@ -123,7 +123,7 @@ held_by Holds None it is holds = absurd (cc is)
 held_by Holds (Some other) it is holds = subst Holds (cc is) holds
 
 -- a fault of a list that is a refusal has a verdict, which is one of a refusal
-refused_by : (is : TractFault) (refusal : Refusal) → refusal_of is ≡ Some refusal
+pub refused_by : (is : TractFault) (refusal : Refusal) → refusal_of is ≡ Some refusal
     → (verdict : Verdict) × (verdict_of is ≡ Some verdict) × IsRefused (verdict_answer verdict).verdict
 refused_by fault.TractsTooLarge refusal same = (_, refl, inl refl)
 refused_by (fault.TractRow number) refusal same = (_, refl, inl refl)

@@ -5,8 +5,8 @@ use Rattle.std.specs.List.{SameFrom}
 use Rattle.twp_answers.proofs.TractLands.{earlier_or_last}
 use Rattle.std.proofs.lemmas.List.{get_or-set_same, get_or-set_other, get_or_read}
 use Rattle.twp_notes.specs.Records.{Fields}
-use Rattle.twp_plat.specs.Plats.{TownshipPlat}
-use Rattle.twp_answers.specs.EachTract.{AreAnswersTo, IsAnswerAt, IsListFault, IsListOfRecords}
+use Rattle.twp_answers.specs.EachTract.{AreAnswersTo, DescriptionAnswers, IsAnswerAt, IsListFault}
+use Rattle.twp_answers.specs.EachTract.{IsListOfRecords}
 use Rattle.twp_answers.specs.TractFaults.{verdict_of}
 use Rattle.twp_answers.specs.Tracts.{TRACTS_LIMIT, TRACTS_MOST, tract_records}
 use Rattle.twp_answers.specs.declared.stop.Verdict.TheVariants.{Refused}
@@ -19,40 +19,42 @@ use Rattle.twp_calls.specs.Accounts.{tract_count}
 use Rattle.twp_calls.specs.Answers.{ACCEPTED, NO_ROOM, answer_of_fault, answer_of_verdict, bare, with_text}
 use Rattle.twp_calls.specs.Calls.{Answers, no_memory, refused_for}
 use Rattle.twp_calls.specs.EachCalls.{HasAnswers, IsAnsweredAt, IsWholeListRefused}
-use Rattle.twp_calls.specs.steps.Plain.{ArePlainTo, IsPlainAnswer}
+use Rattle.twp_calls.specs.steps.Plain.{AreAnswersPut, ArePlainTo, IsPlainAnswer, answers_put, no_answer_room}
 use Rattle.twp_calls.specs.declared.answer.TownshipAnswer.{TownshipAnswer}
 use Rattle.twp_calls.specs.declared.each_call.TownshipTractAnswer.{TownshipTractAnswer}
 
--- one more answer
-pub plain_next : (count : ℕ) (given : List TractAnswer) (one : TractAnswer)
-    (answers : List TownshipTractAnswer)
-    (plain : TownshipTractAnswer) → count < length answers → count < length given
-    → one ≡ get_or given count one → IsPlainAnswer one plain → ArePlainTo count given answers
-    → ArePlainTo (count + 1) given (set answers count plain)
-plain_next count given one answers plain room within is here before index default other below =
+-- one more value as plain data
+pub plain_next : {Value Data : Type 0} (IsPlain : Value → Data → Type 0) (count : ℕ) (values : List Value)
+    (one : Value) (all : List Data) (plain : Data) → count < length all → count < length values
+    → one ≡ get_or values count one → IsPlain one plain
+    → ((index : ℕ) (default : Value) (other : Data) → index < count
+    → IsPlain (get_or values index default) (get_or all index other))
+    → (index : ℕ) (default : Value) (other : Data) → index < count + 1
+    → IsPlain (get_or values index default) (get_or (set all count plain) index other)
+plain_next IsPlain count values one all plain room within is here before index default other below =
     elim (earlier_or_last count index below) [
       | inl earlier ↦
-          rw (get_or-set_other answers count index plain other (λ same. absurd (omega arith)))
+          rw (get_or-set_other all count index plain other (λ same. absurd (omega arith)))
           (before index default other earlier)
       | inr next ↦
           rw (
             next,
-            get_or-set_same answers count plain other room,
-            sym (get_or_read given count one within is default),
+            get_or-set_same all count plain other room,
+            sym (get_or_read values count one within is default),
           ) here
     ]
 
--- the answers after it are kept
-pub kept_next : (count : ℕ) (old answers : List TownshipTractAnswer) (answer : TownshipTractAnswer)
-    → SameFrom old answers count → SameFrom old (set answers count answer) (count + 1)
-kept_next count old answers answer before k d above =
-    rw (get_or-set_other answers count k answer d (λ same. absurd (omega arith))) (before k d (omega arith))
+-- what comes after it is kept
+pub kept_next : {Data : Type 0} (count : ℕ) (old all : List Data) (one : Data)
+    → SameFrom old all count → SameFrom old (set all count one) (count + 1)
+kept_next count old all one before k d above =
+    rw (get_or-set_other all count k one d (λ same. absurd (omega arith))) (before k d (omega arith))
 
 -- what is answered to a tract is answered as plain data
-answered : (plat : TownshipPlat) (rows : List Fields) (index : ℕ) (given : TractAnswer)
-    (plain : TownshipTractAnswer) → IsAnswerAt plat rows index given → IsPlainAnswer given plain
-    → IsAnsweredAt plat rows index plain
-answered plat rows index given plain is same = record {
+answered : (Has : DescriptionAnswers) (rows : List Fields) (index : ℕ) (given : TractAnswer)
+    (plain : TownshipTractAnswer) → IsAnswerAt Has rows index given → IsPlainAnswer given plain
+    → IsAnsweredAt Has rows index plain
+answered Has rows index given plain is same = record {
   own = given.answer;
   own_is = is.answer_is;
   answer_is = same.answer_is;
@@ -61,52 +63,40 @@ answered plat rows index given plain is same = record {
   ended = same.ended;
 }
 
-each_answered : (plat : TownshipPlat) (rows : List Fields) (given : List TractAnswer)
-    (answers : List TownshipTractAnswer) (count : ℕ) → AreAnswersTo plat rows count given
+each_answered : (Has : DescriptionAnswers) (rows : List Fields) (given : List TractAnswer)
+    (answers : List TownshipTractAnswer) (count : ℕ) → AreAnswersTo Has rows count given
     → ArePlainTo count given answers
     → (index : ℕ) (default : TownshipTractAnswer) → index < count
-    → IsAnsweredAt plat rows index (get_or answers index default)
-each_answered plat rows [] answers count are plain index default below =
+    → IsAnsweredAt Has rows index (get_or answers index default)
+each_answered Has rows [] answers count are plain index default below =
     absurd (omega (arith, are.count_is))
-each_answered plat rows (one ∷ more) answers count are plain index default below =
-    answered plat rows index _ _ (are.each index one below) (plain index one default below)
+each_answered Has rows (one ∷ more) answers count are plain index default below =
+    answered Has rows index _ _ (are.each index one below) (plain index one default below)
 
--- all were put there
-pub all_put : (plat : TownshipPlat) (list : List ℕ) (given : List TractAnswer)
-    (old new : List TownshipTractAnswer) (answer : TownshipAnswer) (count : ℕ) → count ≡ length given
-    → count ≤ length old → length new ≡ length old → ArePlainTo count given new → SameFrom old new count
-    → answer ≡ with_text (bare ACCEPTED) count → IsListOfRecords list
-    → AreAnswersTo plat (tract_records list) (tract_count list) given
-    → HasAnswers plat list old new answer
-all_put plat list given old new answer count all room long plain kept is list_is are =
-    let number : count ≡ tract_count list = all ∙ are.count_is in
+-- the answers to a list's tracts were put there, or there is less room than it has tracts
+pub has_answers : (Has : DescriptionAnswers) (list : List ℕ) (given : List TractAnswer)
+    (old new : List TownshipTractAnswer) (answer : TownshipAnswer) → IsListOfRecords list
+    → AreAnswersTo Has (tract_records list) (tract_count list) given → AreAnswersPut given old new answer
+    → HasAnswers Has list old new answer
+has_answers Has list given old new answer list_is are (answers_put room long plain kept is) =
     record {
       list_is = list_is;
       put = inl (record {
-        room = subst (λ n. n ≤ length old) number room;
+        room = subst (λ n. n ≤ length old) are.count_is room;
         length_is = long;
         each =
-            each_answered plat (tract_records list) given new (tract_count list) are
-            (subst (λ n. ArePlainTo n given new) number plain);
-        kept = subst (SameFrom old new) number kept;
-        answer_is = subst (λ n. answer ≡ with_text (bare ACCEPTED) n) number is;
+            each_answered Has (tract_records list) given new (tract_count list) are
+            (subst (λ n. ArePlainTo n given new) are.count_is plain);
+        kept = subst (SameFrom old new) are.count_is kept;
+        answer_is = subst (λ n. answer ≡ with_text (bare ACCEPTED) n) are.count_is is;
       });
     }
-
--- there is less room than there are tracts
-pub too_many : (plat : TownshipPlat) (list : List ℕ) (given : List TractAnswer)
-    (old : List TownshipTractAnswer)
-    (answer : TownshipAnswer) (count : ℕ) → count ≡ length given → length old < count
-    → answer ≡ with_text (bare NO_ROOM) count → IsListOfRecords list
-    → AreAnswersTo plat (tract_records list) (tract_count list) given
-    → HasAnswers plat list old old answer
-too_many plat list given old answer count all short is list_is are =
-    let number : count ≡ tract_count list = all ∙ are.count_is in
+has_answers Has list given old new answer list_is are (no_answer_room short is) =
     record {
       list_is = list_is;
       put = inr (record {
-        short = subst (λ n. length old < n) number short;
-        answer_is = subst (λ n. answer ≡ with_text (bare NO_ROOM) n) number is;
+        short = subst (λ n. length old < n) are.count_is short;
+        answer_is = subst (λ n. answer ≡ with_text (bare NO_ROOM) n) are.count_is is;
       });
     }
 

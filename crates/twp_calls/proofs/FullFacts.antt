@@ -8,20 +8,19 @@ use Rattle.std.proofs.lemmas.List.{get_or-set_same, get_or-set_other, get_or_def
 use Rattle.twp_calls.specs.Answers.{ACCEPTED, NO_ROOM, bare, with_text}
 use Rattle.twp_calls.specs.ManyAnswers.{IsRange}
 use Rattle.twp_calls.specs.declared.answer.TownshipAnswer.{TownshipAnswer}
-use Rattle.twp_calls.specs.declared.plat.TownshipPlat.{TownshipPlat as GivenPlat}
-use Rattle.twp_calls.specs.FullAnswers.{AreBetween, AreFullAnswersTo, AreOfDescription, IsFullCall, answered}
-use Rattle.twp_calls.specs.FullAnswers.{inside, no_room}
+use Rattle.twp_calls.specs.FullAnswers.{AreBetween, AreFullAnswersTo, AreOfDescription, DescriptionCalls}
+use Rattle.twp_calls.specs.FullAnswers.{IsFullAnswer, answered, inside, no_room}
 use Rattle.twp_calls.specs.declared.full_answer.TownshipFullAnswer.{TownshipFullAnswer}
 
 -- one more description is answered
-pub answers_next : (given : GivenPlat) (bytes offsets : List ℕ) (code count : ℕ)
+pub answers_next : (calls : DescriptionCalls) (bytes offsets : List ℕ) (count : ℕ)
     (old answers : List TownshipFullAnswer)
     (blank after : TownshipFullAnswer) → count < length answers → SameFrom old answers count
-    → AreFullAnswersTo given bytes offsets code count old answers
-    → AreBetween given bytes (get_or offsets count 0) (get_or offsets (count + 1) 0) code
+    → AreFullAnswersTo calls bytes offsets count old answers
+    → AreBetween calls bytes (get_or offsets count 0) (get_or offsets (count + 1) 0)
     (get_or answers count blank) after
-    → AreFullAnswersTo given bytes offsets code (count + 1) old (set answers count after)
-answers_next given bytes offsets code count old answers blank after within kept done here =
+    → AreFullAnswersTo calls bytes offsets (count + 1) old (set answers count after)
+answers_next calls bytes offsets count old answers blank after within kept done here =
     below_more _ _
     (λ i below default.
     rw (get_or-set_other answers count i after default (λ same. absurd (omega arith)))
@@ -29,7 +28,7 @@ answers_next given bytes offsets code count old answers blank after within kept 
     (λ default.
     rw (get_or-set_same answers count after default within)
     (subst
-    (λ one. AreBetween given bytes (get_or offsets count 0) (get_or offsets (count + 1) 0) code one after)
+    (λ one. AreBetween calls bytes (get_or offsets count 0) (get_or offsets (count + 1) 0) one after)
     (get_or_default answers count blank default within ∙ kept count default (omega arith)) here))
 
 -- the answers after it are kept
@@ -47,31 +46,31 @@ range_of now bytes start end (Some other) part is ((first, last, same, long), so
     ((first, last), subst (λ p. now p ≡ slice_range bytes start end) (cc is) same)
 
 -- the answers about the description in the range
-pub in_range : (given : GivenPlat) (bytes description : List ℕ) (start end code : ℕ)
+pub in_range : (calls : DescriptionCalls) (bytes description : List ℕ) (start end : ℕ)
     (old new : TownshipFullAnswer) → IsRange bytes start end × (description ≡ slice_range bytes start end)
-    → AreOfDescription given description code old new → AreBetween given bytes start end code old new
-in_range given bytes description start end code old new (range, same) are =
-    inside range (subst (λ d. AreOfDescription given d code old new) same are)
+    → AreOfDescription calls description old new → AreBetween calls bytes start end old new
+in_range calls bytes description start end old new (range, same) are =
+    inside range (subst (λ d. AreOfDescription calls d old new) same are)
 
 -- there is less room than there are descriptions
-pub too_many : (given : GivenPlat) (bytes offsets : List ℕ) (code : ℕ) (old : List TownshipFullAnswer)
+pub too_many : (calls : DescriptionCalls) (bytes offsets : List ℕ) (old : List TownshipFullAnswer)
     (answer : TownshipAnswer) (count : ℕ) → count ≡ length offsets - 1 → length old < count
-    → answer ≡ with_text (bare NO_ROOM) count → IsFullCall given bytes offsets code old old answer
-too_many given bytes offsets code old answer count same short is =
+    → answer ≡ with_text (bare NO_ROOM) count → IsFullAnswer calls bytes offsets old old answer
+too_many calls bytes offsets old answer count same short is =
     no_room (subst (λ n. length old < n) same short)
     (subst (λ n. answer ≡ with_text (bare NO_ROOM) n) same is)
 
 -- each description is answered
-pub all_answered : (given : GivenPlat) (bytes offsets : List ℕ) (code : ℕ) (old new : List TownshipFullAnswer)
+pub all_answered : (calls : DescriptionCalls) (bytes offsets : List ℕ) (old new : List TownshipFullAnswer)
     (answer : TownshipAnswer) (count : ℕ) → count ≡ length offsets - 1 → count ≤ length old
-    → length new ≡ length old → AreFullAnswersTo given bytes offsets code count old new
+    → length new ≡ length old → AreFullAnswersTo calls bytes offsets count old new
     → SameFrom old new count
-    → answer ≡ with_text (bare ACCEPTED) count → IsFullCall given bytes offsets code old new answer
-all_answered given bytes offsets code old new answer count same room long answers kept is =
+    → answer ≡ with_text (bare ACCEPTED) count → IsFullAnswer calls bytes offsets old new answer
+all_answered calls bytes offsets old new answer count same room long answers kept is =
     answered (record {
       room = subst (λ n. n ≤ length old) same room;
       length_is = long;
-      answers = subst (λ n. AreFullAnswersTo given bytes offsets code n old new) same answers;
+      answers = subst (λ n. AreFullAnswersTo calls bytes offsets n old new) same answers;
       kept = subst (SameFrom old new) same kept;
       answer_is = subst (λ n. answer ≡ with_text (bare ACCEPTED) n) same is;
     })

@@ -8,6 +8,7 @@ pub mod LandCallFacts
 pub mod LotCallFacts
 pub mod LotLandFacts
 pub mod LotReportFacts
+pub mod LotListFacts
 pub mod ManyFacts
 pub mod NoteFacts
 pub mod OverlapFacts

@@ -10,9 +10,10 @@ use Rattle.twp_plat.specs.declared.land_area.Account.{Account}
 use Rattle.twp_answers.specs.OnPlats.{HasAcresOn, StopsOn}
 use Rattle.twp_answers.specs.declared.stop.Stop.{Stop}
 use Rattle.twp_calls.specs.Answers.{ACCEPTED, NO_ROOM, accepted_acres, bare, stopped, with_text}
-use Rattle.twp_calls.specs.Calls.{AnswersAcres, accepted, account_of, by_account, on_plat}
+use Rattle.twp_calls.specs.Calls.{AnswersAcres, IsAcresCall, accepted, account_of, by_account, on_plat}
 use Rattle.twp_calls.specs.GivenPlats.{IsGivenPlat}
-use Rattle.twp_calls.specs.ManyAnswers.{AreManyAnswersTo, IsAnswerBetween, IsManyAnswer, IsRange, answered}
+use Rattle.twp_calls.specs.ManyAnswers.{AreManyAnswersTo, DescriptionCall, IsAnswerBetween, IsManyAnswer}
+use Rattle.twp_calls.specs.ManyAnswers.{IsRange, answered}
 use Rattle.twp_calls.specs.ManyAnswers.{inside, no_room}
 use Rattle.twp_calls.specs.declared.answer.TownshipAnswer.{TownshipAnswer}
 use Rattle.twp_calls.specs.declared.plat.TownshipPlat.{TownshipPlat as GivenPlat}
@@ -20,13 +21,13 @@ use Rattle.twp_calls.proofs.CallFacts.{stops_by}
 use Rattle.twp_grid.specs.Lands.{STANDARD_LOTS}
 
 -- one more description is answered
-pub answers_next : (given : GivenPlat) (bytes offsets : List ℕ) (code count : ℕ)
+pub answers_next : (Call : DescriptionCall) (bytes offsets : List ℕ) (count : ℕ)
     (answers : List TownshipAnswer)
     (answer : TownshipAnswer) → count < length answers
-    → AreManyAnswersTo given bytes offsets code count answers
-    → IsAnswerBetween given bytes (get_or offsets count 0) (get_or offsets (count + 1) 0) code answer
-    → AreManyAnswersTo given bytes offsets code (count + 1) (set answers count answer)
-answers_next given bytes offsets code count answers answer within before here =
+    → AreManyAnswersTo Call bytes offsets count answers
+    → IsAnswerBetween Call bytes (get_or offsets count 0) (get_or offsets (count + 1) 0) answer
+    → AreManyAnswersTo Call bytes offsets (count + 1) (set answers count answer)
+answers_next Call bytes offsets count answers answer within before here =
     below_more _ _
     (λ i below.
     rw (get_or-set_other answers count i answer (bare ACCEPTED) (λ same. absurd (omega arith)))
@@ -44,7 +45,8 @@ pub accepted_between : (given : GivenPlat) (plat : TownshipPlat) (bytes descript
     (start end code : ℕ) (account : Account) (hundredths : ℕ) (answer : TownshipAnswer)
     → IsGivenPlat given plat → account_of code ≡ Some account → IsRange bytes start end
     → description ≡ slice_range bytes start end → HasAcresOn plat description account hundredths
-    → answer ≡ accepted_acres hundredths → IsAnswerBetween given bytes start end code answer
+    → answer ≡ accepted_acres hundredths
+    → IsAnswerBetween (λ text. IsAcresCall given text code) bytes start end answer
 accepted_between given plat bytes description start end code account hundredths answer is account_is range
     same
     has answer_is =
@@ -59,7 +61,7 @@ pub stopped_between : (given : GivenPlat) (plat : TownshipPlat) (bytes descripti
     (start end code : ℕ) (account : Account) (stopping : Stop) (answer : TownshipAnswer)
     → IsGivenPlat given plat → account_of code ≡ Some account → IsRange bytes start end
     → description ≡ slice_range bytes start end → StopsOn STANDARD_LOTS plat.township description stopping
-    → answer ≡ stopped stopping → IsAnswerBetween given bytes start end code answer
+    → answer ≡ stopped stopping → IsAnswerBetween (λ text. IsAcresCall given text code) bytes start end answer
 stopped_between given plat bytes description start end code account stopping answer is account_is range same
     stops answer_is =
     inside range
@@ -77,23 +79,30 @@ range_of now bytes start end (Some other) part is ((first, last, same, long), so
     ((first, last), subst (λ p. now p ≡ slice_range bytes start end) (cc is) same)
 
 -- there is less room than there are descriptions
-pub too_many : (given : GivenPlat) (bytes offsets : List ℕ) (code : ℕ) (old : List TownshipAnswer)
+pub too_many : (Call : DescriptionCall) (bytes offsets : List ℕ) (old : List TownshipAnswer)
     (answer : TownshipAnswer) (count : ℕ) → count ≡ length offsets - 1 → length old < count
-    → answer ≡ with_text (bare NO_ROOM) count → IsManyAnswer given bytes offsets code old old answer
-too_many given bytes offsets code old answer count same short is =
+    → answer ≡ with_text (bare NO_ROOM) count → IsManyAnswer Call bytes offsets old old answer
+too_many Call bytes offsets old answer count same short is =
     no_room (subst (λ n. length old < n) same short)
     (subst (λ n. answer ≡ with_text (bare NO_ROOM) n) same is)
 
 -- each description is answered
-pub all_answered : (given : GivenPlat) (bytes offsets : List ℕ) (code : ℕ) (old new : List TownshipAnswer)
+pub all_answered : (Call : DescriptionCall) (bytes offsets : List ℕ) (old new : List TownshipAnswer)
     (answer : TownshipAnswer) (count : ℕ) → count ≡ length offsets - 1 → count ≤ length old
-    → length new ≡ length old → AreManyAnswersTo given bytes offsets code count new → SameFrom old new count
-    → answer ≡ with_text (bare ACCEPTED) count → IsManyAnswer given bytes offsets code old new answer
-all_answered given bytes offsets code old new answer count same room long answers kept is =
+    → length new ≡ length old → AreManyAnswersTo Call bytes offsets count new → SameFrom old new count
+    → answer ≡ with_text (bare ACCEPTED) count → IsManyAnswer Call bytes offsets old new answer
+all_answered Call bytes offsets old new answer count same room long answers kept is =
     answered (record {
       room = subst (λ n. n ≤ length old) same room;
       length_is = long;
-      answers = subst (λ n. AreManyAnswersTo given bytes offsets code n new) same answers;
+      answers = subst (λ n. AreManyAnswersTo Call bytes offsets n new) same answers;
       kept = subst (SameFrom old new) same kept;
       answer_is = subst (λ n. answer ≡ with_text (bare ACCEPTED) n) same is;
     })
+
+-- a description in the range is answered by the call
+pub in_range : (Call : DescriptionCall) (bytes description : List ℕ) (start end : ℕ)
+    (answer : TownshipAnswer) → IsRange bytes start end × (description ≡ slice_range bytes start end)
+    → Call description answer → IsAnswerBetween Call bytes start end answer
+in_range Call bytes description start end answer (range, same) is =
+    inside range (subst (λ d. Call d answer) same is)

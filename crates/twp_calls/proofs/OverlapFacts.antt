@@ -15,13 +15,13 @@ taken_next : (count : ℕ) (overlaps : List TownshipOverlap) (one : TownshipOver
     → take (count + 1) (set overlaps count one) ≡ take count overlaps ++ one ∷ []
 taken_next count overlaps one within = grind (arith, common_steps)
 
-found_next : (count : ℕ) (found : List TractOverlap) (one : TractOverlap) → count < length found
+found_next : (count : ℕ) (found : List (TractOverlap ℕ)) (one : TractOverlap ℕ) → count < length found
     → take (count + 1) found ≡ take count found ++ get_or found count one ∷ []
 found_next count found one within = grind (arith, common_steps)
 
 -- one more overlap
 pub plain_next : (count : ℕ) (overlaps : List TownshipOverlap) (plain : TownshipOverlap)
-    (found : List TractOverlap) (one : TractOverlap) → count < length overlaps → count < length found
+    (found : List (TractOverlap ℕ)) (one : TractOverlap ℕ) → count < length overlaps → count < length found
     → overlap_of plain ≡ get_or found count one
     → map overlap_of (take count overlaps) ≡ take count found
     → map overlap_of (take (count + 1) (set overlaps count plain)) ≡ take (count + 1) found
@@ -39,7 +39,7 @@ kept_next count old overlaps one before k d above =
     rw (get_or-set_other overlaps count k one d (λ same. absurd (omega arith))) (before k d (omega arith))
 
 -- all were put there
-pub all_put : (found : List TractOverlap) (old new : List TownshipOverlap) (answer : TownshipAnswer)
+pub all_put : (found : List (TractOverlap ℕ)) (old new : List TownshipOverlap) (answer : TownshipAnswer)
     (count : ℕ)
     → count ≡ length found → count ≤ length old → length new ≡ length old
     → map overlap_of (take count new) ≡ take count found → SameFrom old new count
@@ -51,7 +51,8 @@ all_put found old new answer count all room long plain kept is =
     (subst (SameFrom old new) all kept) (subst (λ n. answer ≡ with_text (bare ACCEPTED) n) all is)
 
 -- there is less room than there are overlaps
-pub too_many : (found : List TractOverlap) (old : List TownshipOverlap) (answer : TownshipAnswer) (count : ℕ)
+pub too_many : (found : List (TractOverlap ℕ)) (old : List TownshipOverlap) (answer : TownshipAnswer)
+    (count : ℕ)
     → count ≡ length found → length old < count → answer ≡ with_text (bare NO_ROOM) count
     → AreOverlapsPut found old old answer
 too_many found old answer count all short is =

@@ -3,8 +3,8 @@ use Rattle.std.specs.Prelude.{◌≡◌, ◌⊎◌, ℕ, ◌<◌, ◌≤◌, Lis
 use Rattle.std.specs.Prelude.{Err}
 use Rattle.std.specs.List.{SameFrom}
 use Rattle.twp_notes.specs.Records.{Fields, record_at}
-use Rattle.twp_plat.specs.Plats.{TownshipPlat}
-use Rattle.twp_answers.specs.EachTract.{IsListFault, IsListOfRecords, IsOfTract}
+use Rattle.twp_answers.specs.EachTract.{AnswersOnPlat, DescriptionAnswers, IsListFault, IsListOfRecords}
+use Rattle.twp_answers.specs.EachTract.{IsOfTract}
 use Rattle.twp_answers.specs.TractFaults.{verdict_of}
 use Rattle.twp_answers.specs.Tracts.{IsTractRecord, name_in, tract_records}
 use Rattle.twp_answers.specs.declared.tract_fault.TractFault.{TractFault}
@@ -23,11 +23,13 @@ abbrev pub answer_of_tract : Result ℕ TractFault → TownshipAnswer
 answer_of_tract (Ok hundredths) = accepted_acres hundredths
 answer_of_tract (Err tract_fault) = answer_of_fault tract_fault
 
--- The answer to the tract at the index, with its name; the name is empty if the record is not a tract's.
-pub record IsAnsweredAt (plat : TownshipPlat) (rows : List Fields) (index : ℕ) (given : TownshipTractAnswer)
+-- The answer to the tract at the index, whose description has such an answer, with its name; the name is
+-- empty if the record is not a tract's.
+pub record IsAnsweredAt (Has : DescriptionAnswers) (rows : List Fields) (index : ℕ)
+    (given : TownshipTractAnswer)
     : Type 0 where
   pub own : Result ℕ TractFault
-  pub own_is : IsOfTract plat rows index own
+  pub own_is : IsOfTract Has rows index own
   pub answer_is : given.answer ≡ answer_of_tract own
   pub name_is : IsTractRecord (record_at rows index)
       → take given.name_length given.name ≡ name_in (record_at rows index)
@@ -35,12 +37,12 @@ pub record IsAnsweredAt (plat : TownshipPlat) (rows : List Fields) (index : ℕ)
   pub ended : IsEnded given.name_length given.name
 
 -- Each tract of the list was answered at the front of the room, and nothing else was written.
-pub record AreTractsAnswered (plat : TownshipPlat) (list : List ℕ) (old new : List TownshipTractAnswer)
+pub record AreTractsAnswered (Has : DescriptionAnswers) (list : List ℕ) (old new : List TownshipTractAnswer)
     (answer : TownshipAnswer) : Type 0 where
   pub room : tract_count list ≤ length old
   pub length_is : length new ≡ length old
   pub each : (index : ℕ) (default : TownshipTractAnswer) → index < tract_count list
-      → IsAnsweredAt plat (tract_records list) index (slice_index_or new index default)
+      → IsAnsweredAt Has (tract_records list) index (slice_index_or new index default)
   pub kept : SameFrom old new (tract_count list)
   pub answer_is : answer ≡ with_text (bare ACCEPTED) (tract_count list)
 
@@ -51,10 +53,10 @@ pub record IsShortOfRoom (list : List ℕ) (old : List TownshipTractAnswer) (ans
   pub answer_is : answer ≡ with_text (bare NO_ROOM) (tract_count list)
 
 -- the list consists of a heading and records, which were answered, or for which there is no room
-pub record HasAnswers (plat : TownshipPlat) (list : List ℕ) (old new : List TownshipTractAnswer)
+pub record HasAnswers (Has : DescriptionAnswers) (list : List ℕ) (old new : List TownshipTractAnswer)
     (answer : TownshipAnswer) : Type 0 where
   pub list_is : IsListOfRecords list
-  pub put : AreTractsAnswered plat list old new answer ⊎ IsShortOfRoom list old answer
+  pub put : AreTractsAnswered Has list old new answer ⊎ IsShortOfRoom list old answer
 
 -- the answer is the verdict on the list as a whole
 pub record IsWholeListRefused (list : List ℕ) (answer : TownshipAnswer) : Type 0 where
@@ -68,4 +70,4 @@ pub record IsWholeListRefused (list : List ℕ) (answer : TownshipAnswer) : Type
 abbrev pub IsEachCall : GivenPlat → List ℕ → List TownshipTractAnswer → List TownshipTractAnswer
     → TownshipAnswer → Type 0
 IsEachCall given list old new = OnPlat given (λ plat.
-    Answers (HasAnswers plat list old new) (IsWholeListRefused list))
+    Answers (HasAnswers (AnswersOnPlat plat) list old new) (IsWholeListRefused list))

@@ -10,19 +10,34 @@ use Rattle.twp_calls.specs.declared.answer.TownshipAnswer.{TownshipAnswer}
 use Rattle.twp_calls.specs.declared.plat.TownshipPlat.{TownshipPlat as GivenPlat}
 use Rattle.twp_calls.specs.declared.full_answer.TownshipFullAnswer.{TownshipFullAnswer}
 
--- the answer of `township_explain_description`, which has no room to write in
-pub record ExplainsWithoutRoom (given : GivenPlat) (description : List ℕ) (answer : TownshipAnswer)
+-- What the calls for one description answer: its acres; its canonical text, which is put over an old one; and
+-- its explanation, or the note on it, which is put over another.
+pub record DescriptionCalls : Type 1 where
+  pub acres : List ℕ → TownshipAnswer → Type 0
+  pub normal : List ℕ → List ℕ → List ℕ → TownshipAnswer → Type 0
+  pub explains : List ℕ → List ℕ → List ℕ → TownshipAnswer → Type 0
+
+-- `township_acres`, `township_normal`, and `township_explain_description`
+abbrev pub calls_on : GivenPlat → ℕ → DescriptionCalls
+calls_on given code = record {
+  acres = λ description. IsAcresCall given description code;
+  normal = λ description. IsNormalCall given description;
+  explains = λ description. ExplainsDescription given description;
+}
+
+-- the answer of the call that explains, which has no room to write in
+pub record ExplainsWithoutRoom (calls : DescriptionCalls) (description : List ℕ) (answer : TownshipAnswer)
     : Type 0 where
   pub rest : List ℕ
-  pub explains : ExplainsDescription given description [] rest answer
+  pub explains : calls.explains description [] rest answer
 
 -- The answers about a description are those of the calls for one description. If it is not accepted, it has
 -- no note.
-pub record AreOfDescription (given : GivenPlat) (description : List ℕ) (code : ℕ)
+pub record AreOfDescription (calls : DescriptionCalls) (description : List ℕ)
     (old new : TownshipFullAnswer) : Type 0 where
-  pub acres : IsAcresCall given description code new.acres
-  pub normal : IsNormalCall given description old.text new.text new.normal
-  pub note : new.acres.verdict ≡ ACCEPTED → ExplainsWithoutRoom given description new.note
+  pub acres : calls.acres description new.acres
+  pub normal : calls.normal description old.text new.text new.normal
+  pub note : new.acres.verdict ≡ ACCEPTED → ExplainsWithoutRoom calls description new.note
   pub no_note : new.acres.verdict ≢ ACCEPTED → new.note ≡ new.acres
 
 -- each answer is that no bytes are between the offsets
@@ -33,36 +48,41 @@ pub record AreOfNoRange (old new : TownshipFullAnswer) : Type 0 where
   pub text : new.text ≡ old.text
 
 -- The answers are about the description between two offsets; or no bytes are between them.
-pub data AreBetween (given : GivenPlat) (bytes : List ℕ) (start end code : ℕ)
+pub data AreBetween (calls : DescriptionCalls) (bytes : List ℕ) (start end : ℕ)
     (old new : TownshipFullAnswer) : Type 0 where
   inside : IsRange bytes start end
-      → AreOfDescription given (slice_range bytes start end) code old new
-      → AreBetween given bytes start end code old new
+      → AreOfDescription calls (slice_range bytes start end) old new
+      → AreBetween calls bytes start end old new
   outside : ¬ IsRange bytes start end → AreOfNoRange old new
-      → AreBetween given bytes start end code old new
+      → AreBetween calls bytes start end old new
 
 -- the first descriptions, up to this number, have these answers
-abbrev pub AreFullAnswersTo : GivenPlat → List ℕ → List ℕ → ℕ → ℕ → List TownshipFullAnswer
+abbrev pub AreFullAnswersTo : DescriptionCalls → List ℕ → List ℕ → ℕ → List TownshipFullAnswer
     → List TownshipFullAnswer → Type 0
-AreFullAnswersTo given bytes offsets code count old new = (index : ℕ) → index < count
+AreFullAnswersTo calls bytes offsets count old new = (index : ℕ) → index < count
     → (default : TownshipFullAnswer)
-    → AreBetween given bytes (slice_index_or offsets index 0) (slice_index_or offsets (index + 1) 0) code
+    → AreBetween calls bytes (slice_index_or offsets index 0) (slice_index_or offsets (index + 1) 0)
     (slice_index_or old index default) (slice_index_or new index default)
 
 -- each description was answered, and nothing else was written
-pub record AreFullAnswers (given : GivenPlat) (bytes offsets : List ℕ) (code : ℕ)
+pub record AreFullAnswers (calls : DescriptionCalls) (bytes offsets : List ℕ)
     (old new : List TownshipFullAnswer) (answer : TownshipAnswer) : Type 0 where
   pub room : count_between offsets ≤ length old
   pub length_is : length new ≡ length old
-  pub answers : AreFullAnswersTo given bytes offsets code (count_between offsets) old new
+  pub answers : AreFullAnswersTo calls bytes offsets (count_between offsets) old new
   pub kept : SameFrom old new (count_between offsets)
   pub answer_is : answer ≡ with_text (bare ACCEPTED) (count_between offsets)
 
--- `township_answer_many`: each description is answered, or there is less room than there are descriptions.
-pub data IsFullCall (given : GivenPlat) (bytes offsets : List ℕ) (code : ℕ)
+-- Each description is answered, or there is less room than there are descriptions.
+pub data IsFullAnswer (calls : DescriptionCalls) (bytes offsets : List ℕ)
     (old new : List TownshipFullAnswer) (answer : TownshipAnswer) : Type 0 where
-  answered : AreFullAnswers given bytes offsets code old new answer
-      → IsFullCall given bytes offsets code old new answer
+  answered : AreFullAnswers calls bytes offsets old new answer
+      → IsFullAnswer calls bytes offsets old new answer
   no_room : length old < count_between offsets
       → answer ≡ with_text (bare NO_ROOM) (count_between offsets)
-      → IsFullCall given bytes offsets code old new answer
+      → IsFullAnswer calls bytes offsets old new answer
+
+-- `township_answer_many`
+abbrev pub IsFullCall : GivenPlat → List ℕ → List ℕ → ℕ → List TownshipFullAnswer → List TownshipFullAnswer
+    → TownshipAnswer → Type 0
+IsFullCall given bytes offsets code old new = IsFullAnswer (calls_on given code) bytes offsets old new

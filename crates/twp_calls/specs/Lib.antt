@@ -15,11 +15,14 @@ pub mod DesignationTexts
 pub mod DesignationCalls
 pub mod LandParts
 pub mod LotCalls
+pub mod LotEachCalls
+pub mod LotOverlapCalls
 pub mod LotLandCalls
 pub mod LotExplanations
 pub mod LotReports
 pub mod LotsPlainCalls
 pub mod ManyAnswers
+pub mod LotManyAnswers
 pub mod Suggestions
 pub mod UnreadCalls
 pub mod SetAsides
@@ -28,6 +31,8 @@ pub mod Names
 pub mod ShownTexts
 pub mod ExplanationParts
 pub mod Explanations
+pub mod LotListExplanations
 pub mod WrittenNotes
 pub mod FullAnswers
+pub mod LotFullAnswers
 pub mod steps

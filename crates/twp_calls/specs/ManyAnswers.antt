@@ -10,45 +10,50 @@ use Rattle.twp_calls.specs.declared.plat.TownshipPlat.{TownshipPlat as GivenPlat
 abbrev pub IsRange : List ℕ → ℕ → ℕ → Type 0
 IsRange bytes start end = (start ≤ end) × (end ≤ length bytes)
 
--- The answer to the description between two offsets is that of `township_acres`; or it is that no bytes are
--- between them.
-pub data IsAnswerBetween (given : GivenPlat) (bytes : List ℕ) (start end code : ℕ)
+-- what a call answers to a description
+abbrev pub DescriptionCall : Type 1
+DescriptionCall = List ℕ → TownshipAnswer → Type 0
+
+-- The answer to the description between two offsets is that of a call; or it is that no bytes are between
+-- them.
+pub data IsAnswerBetween (Call : DescriptionCall) (bytes : List ℕ) (start end : ℕ)
     (answer : TownshipAnswer) : Type 0 where
-  inside : IsRange bytes start end → IsAcresCall given (slice_range bytes start end) code answer
-      → IsAnswerBetween given bytes start end code answer
+  inside : IsRange bytes start end → Call (slice_range bytes start end) answer
+      → IsAnswerBetween Call bytes start end answer
   outside : ¬ IsRange bytes start end → answer ≡ bare NO_RANGE
-      → IsAnswerBetween given bytes start end code answer
+      → IsAnswerBetween Call bytes start end answer
 
 -- the number of descriptions between offsets
 abbrev pub count_between : List ℕ → ℕ
 count_between offsets = length offsets - 1
 
 -- the first descriptions, up to this number, have these answers
-abbrev pub AreManyAnswersTo : GivenPlat → List ℕ → List ℕ → ℕ → ℕ → List TownshipAnswer → Type 0
-AreManyAnswersTo given bytes offsets code count answers = (index : ℕ) → index < count
-    → IsAnswerBetween given bytes (slice_index_or offsets index 0) (slice_index_or offsets (index + 1) 0) code
+abbrev pub AreManyAnswersTo : (List ℕ → TownshipAnswer → Type 0) → List ℕ → List ℕ → ℕ → List TownshipAnswer
+    → Type 0
+AreManyAnswersTo Call bytes offsets count answers = (index : ℕ) → index < count
+    → IsAnswerBetween Call bytes (slice_index_or offsets index 0) (slice_index_or offsets (index + 1) 0)
     (slice_index_or answers index (bare ACCEPTED))
 
 -- each description was answered, and nothing else was written
-pub record AreAnswered (given : GivenPlat) (bytes offsets : List ℕ) (code : ℕ)
+pub record AreAnswered (Call : DescriptionCall) (bytes offsets : List ℕ)
     (old new : List TownshipAnswer) (answer : TownshipAnswer) : Type 0 where
   pub room : count_between offsets ≤ length old
   pub length_is : length new ≡ length old
-  pub answers : AreManyAnswersTo given bytes offsets code (count_between offsets) new
+  pub answers : AreManyAnswersTo Call bytes offsets (count_between offsets) new
   pub kept : SameFrom old new (count_between offsets)
   pub answer_is : answer ≡ with_text (bare ACCEPTED) (count_between offsets)
 
--- On a plat, by an account: each description is answered, or there is less room than there are descriptions.
-pub data IsManyAnswer (given : GivenPlat) (bytes offsets : List ℕ) (code : ℕ)
+-- Each description is answered, or there is less room than there are descriptions.
+pub data IsManyAnswer (Call : DescriptionCall) (bytes offsets : List ℕ)
     (old new : List TownshipAnswer) (answer : TownshipAnswer) : Type 0 where
-  answered : AreAnswered given bytes offsets code old new answer
-      → IsManyAnswer given bytes offsets code old new answer
+  answered : AreAnswered Call bytes offsets old new answer
+      → IsManyAnswer Call bytes offsets old new answer
   no_room : length old < count_between offsets
       → answer ≡ with_text (bare NO_ROOM) (count_between offsets)
-      → IsManyAnswer given bytes offsets code old new answer
+      → IsManyAnswer Call bytes offsets old new answer
 
--- `township_acres_many`
+-- `township_acres_many`: on a plat, by an account
 abbrev pub IsManyCall : GivenPlat → List ℕ → List ℕ → ℕ → List TownshipAnswer → List TownshipAnswer
     → TownshipAnswer → Type 0
 IsManyCall given bytes offsets code old new = OnPlat given (λ plat. ByAccount code (λ account.
-    IsManyAnswer given bytes offsets code old new))
+    IsManyAnswer (λ description. IsAcresCall given description code) bytes offsets old new))

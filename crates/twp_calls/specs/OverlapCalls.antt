@@ -3,7 +3,7 @@ use Rattle.std.specs.Prelude.{◌≡◌, ℕ, ◌<◌, ◌≤◌, List, length, 
 use Rattle.std.specs.List.{SameFrom}
 use Rattle.twp_plat.specs.Plats.{TownshipPlat}
 use Rattle.twp_answers.specs.EachTract.{IsListOfRecords}
-use Rattle.twp_answers.specs.Overlaps.{AreOverlaps}
+use Rattle.twp_answers.specs.Overlaps.{AreOverlaps, measure_of_plat}
 use Rattle.twp_answers.specs.Tracts.{tract_records}
 use Rattle.twp_answers.specs.declared.overlaps.TractOverlap.{TractOverlap}
 use Rattle.twp_calls.specs.Answers.{ACCEPTED, NO_ROOM, bare, with_text}
@@ -14,11 +14,11 @@ use Rattle.twp_calls.specs.declared.overlaps_call.TownshipOverlap.{TownshipOverl
 use Rattle.twp_calls.specs.declared.plat.TownshipPlat.{TownshipPlat as GivenPlat}
 
 -- the overlap that plain data stands for
-abbrev pub overlap_of : TownshipOverlap → TractOverlap
-overlap_of plain = record { first = plain.first; second = plain.second; hundredths = plain.hundredths }
+abbrev pub overlap_of : TownshipOverlap → TractOverlap ℕ
+overlap_of plain = record { first = plain.first; second = plain.second; acres = plain.hundredths }
 
 -- These overlaps were written at the front of the room, and nothing else; or there is less room for them.
-pub data AreOverlapsPut (overlaps : List TractOverlap) (old new : List TownshipOverlap)
+pub data AreOverlapsPut (overlaps : List (TractOverlap ℕ)) (old new : List TownshipOverlap)
     (answer : TownshipAnswer)
     : Type 0 where
   overlaps_put : length overlaps ≤ length old → length new ≡ length old
@@ -31,8 +31,8 @@ pub data AreOverlapsPut (overlaps : List TractOverlap) (old new : List TownshipO
 pub record HasOverlaps (plat : TownshipPlat) (list : List ℕ) (old new : List TownshipOverlap)
     (answer : TownshipAnswer) : Type 0 where
   pub list_is : IsListOfRecords list
-  pub overlaps : List TractOverlap
-  pub are : AreOverlaps plat (tract_records list) overlaps
+  pub overlaps : List (TractOverlap ℕ)
+  pub are : AreOverlaps (measure_of_plat plat) (tract_records list) overlaps
   pub put : AreOverlapsPut overlaps old new answer
 
 -- `township_overlaps`: each pair of tracts of the list that overlap

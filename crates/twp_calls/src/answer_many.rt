@@ -1,8 +1,8 @@
 //! Many descriptions, answered by one call: the acres of each, its canonical text, and whether there is a
 //! note on it.
-ghost use Rattle.std.specs.Prelude.{◌≡◌, ◌≢◌};
+ghost use Rattle.std.specs.Prelude.{◌≡◌, ◌≢◌, ℕ};
 ghost use Rattle.twp_calls.specs.Answers.{ACCEPTED};
-ghost use Rattle.twp_calls.specs.FullAnswers.{AreBetween, ExplainsWithoutRoom, IsFullCall};
+ghost use Rattle.twp_calls.specs.FullAnswers.{AreBetween, ExplainsWithoutRoom, IsFullCall, calls_on};
 
 use crate::answer::TownshipAnswer;
 use crate::answering::{township_acres, township_normal};
@@ -56,7 +56,7 @@ fn answer_between(
     account: u32,
     old: TownshipFullAnswer,
 ) -> TownshipFullAnswer
-    ensures { AreBetween plat.now descriptions.now start end account old result }
+    ensures { AreBetween (calls_on plat.now account) descriptions.now start end old result }
 {
     let mut text = old.text;
     let Some(description) = descriptions.get(start..end) else {
@@ -85,8 +85,8 @@ fn note_on(
     description: &[u8],
     acres: TownshipAnswer,
 ) -> TownshipAnswer
-    ensures noted { acres.verdict ≡ ACCEPTED
-        → ExplainsWithoutRoom plat.now description.now result }
+    ensures noted { (account : ℕ) → acres.verdict ≡ ACCEPTED
+        → ExplainsWithoutRoom (calls_on plat.now account) description.now result }
     ensures unnoted { acres.verdict ≢ ACCEPTED → result ≡ acres }
 {
     if acres.verdict != ACCEPTED {

@@ -1,12 +1,8 @@
 //! The answer to each tract of a list.
-ghost use Rattle.std.specs.Prelude.{◌≡◌, ◌≢◌, List, ℕ};
-ghost use Rattle.twp_plat.specs.Plats.{TownshipPlat as PlatMade};
-ghost use Rattle.twp_answers.specs.EachTract.{AreAnswersTo, IsListOfRecords};
-ghost use Rattle.twp_answers.specs.Tracts.{tract_records};
-ghost use Rattle.twp_calls.specs.Accounts.{tract_count};
+ghost use Rattle.std.specs.Prelude.{◌≡◌, ◌≢◌};
 ghost use Rattle.twp_calls.specs.Answers.{ACCEPTED};
-ghost use Rattle.twp_calls.specs.EachCalls.{HasAnswers, IsEachCall, answer_of_tract};
-ghost use Rattle.twp_calls.specs.steps.Plain.{IsPlainAnswer};
+ghost use Rattle.twp_calls.specs.EachCalls.{IsEachCall, answer_of_tract};
+ghost use Rattle.twp_calls.specs.steps.Plain.{AreAnswersPut, IsPlainAnswer};
 
 use crate::answer::TownshipAnswer;
 use crate::many::counted;
@@ -48,10 +44,11 @@ pub fn township_report_each(
 }
 
 /// Puts the answers to tracts at the front of the room for them; or nothing if there is too little.
-fn put_answers(given: &[TractAnswer], answers: &mut [TownshipTractAnswer]) -> TownshipAnswer
-    ensures has { (plat : PlatMade) (list : List ℕ) → IsListOfRecords list
-        → AreAnswersTo plat (tract_records list) (tract_count list) given.now
-        → HasAnswers plat list answers.old answers.new result }
+pub(crate) fn put_answers(
+    given: &[TractAnswer],
+    answers: &mut [TownshipTractAnswer],
+) -> TownshipAnswer
+    ensures put { AreAnswersPut given.now answers.old answers.new result }
     ensures kept { result.verdict ≢ ACCEPTED → answers.new ≡ answers.old }
 {
     let count = given.len();

@@ -19,6 +19,7 @@ mod designation_text;
 mod each_call;
 mod explaining;
 mod explaining_by_lots;
+mod explaining_lists_by_lots;
 mod explaining_lots;
 mod explaining_texts;
 mod explanation;
@@ -33,6 +34,10 @@ pub mod laws;
 mod lot_answers;
 mod lot_lands;
 mod lots;
+mod lots_answer_many;
+mod lots_each_call;
+mod lots_many;
+mod lots_overlaps_call;
 mod lots_plain;
 mod lots_report_call;
 mod many;
@@ -70,6 +75,7 @@ pub use explaining::{
 pub use explaining_by_lots::{
     township_lots_explain_description, township_lots_explain_description_parts,
 };
+pub use explaining_lists_by_lots::{township_lots_explain_list, township_lots_explain_list_parts};
 pub use explaining_lots::{
     township_explain_lacking, township_explain_lacking_parts, township_explain_lots,
     township_explain_lots_parts,
@@ -92,6 +98,10 @@ pub use lot_lands::{
     township_lots_land_text,
 };
 pub use lots::TownshipLots;
+pub use lots_answer_many::township_lots_answer_many;
+pub use lots_each_call::township_lots_report_each;
+pub use lots_many::township_lots_acres_many;
+pub use lots_overlaps_call::{TownshipLotsOverlap, township_lots_overlaps};
 pub use lots_plain::township_lots_plain;
 pub use lots_report_call::township_lots_report;
 pub use many::township_acres_many;

@@ -1,7 +1,7 @@
 //! The acres of many descriptions, answered by one call.
 ghost use Rattle.std.specs.Prelude.{◌≡◌, ◌≢◌, ℕ, ◌<◌, ◌≤◌, length, Some};
 ghost use Rattle.twp_calls.specs.Answers.{ACCEPTED, bare, with_text};
-ghost use Rattle.twp_calls.specs.Calls.{account_of};
+ghost use Rattle.twp_calls.specs.Calls.{IsAcresCall, account_of};
 ghost use Rattle.twp_calls.specs.GivenPlats.{IsGivenPlat};
 ghost use Rattle.twp_calls.specs.ManyAnswers.{IsAnswerBetween, IsManyCall};
 ghost use Rattle.twp_calls.specs.declared.plat.TownshipPlat.{TownshipPlat as GivenPlat};
@@ -66,7 +66,8 @@ fn answer_between(
 ) -> TownshipAnswer
     ensures { (given : GivenPlat) (code : ℕ) → IsGivenPlat given plat.now
         → account_of code ≡ Some account
-        → IsAnswerBetween given descriptions.now start end code result }
+        → IsAnswerBetween (λ text. IsAcresCall given text code) descriptions.now start end
+        result }
 {
     let Some(description) = descriptions.get(start..end) else {
         return TownshipAnswer::bare(NO_RANGE);

@@ -42,7 +42,7 @@ pub fn township_overlaps(
 }
 
 /// Puts overlaps at the front of the room for them; or nothing if there is too little.
-fn put_overlaps(found: &[TractOverlap], overlaps: &mut [TownshipOverlap]) -> TownshipAnswer
+fn put_overlaps(found: &[TractOverlap<u64>], overlaps: &mut [TownshipOverlap]) -> TownshipAnswer
     ensures put { AreOverlapsPut found.now overlaps.old overlaps.new result }
     ensures kept { result.verdict ≢ ACCEPTED → overlaps.new ≡ overlaps.old }
 {
@@ -57,12 +57,12 @@ fn put_overlaps(found: &[TractOverlap], overlaps: &mut [TownshipOverlap]) -> Tow
 }
 
 /// An overlap as plain data.
-fn plain(found: &TractOverlap) -> TownshipOverlap
+fn plain(found: &TractOverlap<u64>) -> TownshipOverlap
     ensures { overlap_of result ≡ found.now }
 {
     TownshipOverlap {
         first: found.first,
         second: found.second,
-        hundredths: found.hundredths,
+        hundredths: found.acres,
     }
 }

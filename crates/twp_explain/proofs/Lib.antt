@@ -1,6 +1,7 @@
 pub mod FindingFacts
 pub mod LotFindings
 pub mod ListFacts
+pub mod LotListFacts
 pub mod MessageFacts
 pub mod ShownFacts
 pub mod SharingFacts

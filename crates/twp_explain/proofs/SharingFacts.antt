@@ -12,18 +12,19 @@ use Rattle.twp_answers.proofs.TractLands.{earlier_or_last}
 use Rattle.twp_diagnose.specs.RecordFields.{number_listed, IsListedAt}
 use Rattle.twp_diagnose.specs.declared.listed.Listed.{Listed}
 use Rattle.twp_explain.specs.steps.Sharing.{IsFirstOverlapping, IsFirstSharingRecord}
-use Rattle.twp_grid.specs.Lands.{STANDARD_LOTS}
+use Rattle.twp_grid.specs.Lands.{Lotting}
 
 -- two tracts whose lands have no place in common don't overlap
-pub no_overlap : (township : Designation) (fields next : Fields) (places more : ℕ → ℕ → ℕ → Bool)
-    → Describe STANDARD_LOTS township (description_in fields) places
-    → Describe STANDARD_LOTS township (description_in next) more
-    → (SharePlace places more → ⊥) → Overlap STANDARD_LOTS township fields next → ⊥
-no_overlap township fields next places more is is' apart overlap =
+pub no_overlap : (lots : Lotting) (township : Designation) (fields next : Fields)
+    (places more : ℕ → ℕ → ℕ → Bool)
+    → Describe lots township (description_in fields) places
+    → Describe lots township (description_in next) more
+    → (SharePlace places more → ⊥) → Overlap lots township fields next → ⊥
+no_overlap lots township fields next places more is is' apart overlap =
     let same : overlap.places ≡ places =
-    one_land STANDARD_LOTS township (description_in fields) overlap.places places overlap.land is in
+    one_land lots township (description_in fields) overlap.places places overlap.land is in
     let same' : overlap.more ≡ more =
-    one_land STANDARD_LOTS township (description_in next) overlap.more more overlap.other_land is' in
+    one_land lots township (description_in next) overlap.more more overlap.other_land is' in
     apart (record {
       section = overlap.shared.section;
       column = overlap.shared.column;
@@ -37,31 +38,33 @@ no_overlap township fields next places more is is' apart overlap =
     })
 
 -- one more tract that doesn't overlap the one at the index
-pub none_more : (township : Designation) (rows : List Fields) (index count : ℕ)
+pub none_more : (lots : Lotting) (township : Designation) (rows : List Fields) (index count : ℕ)
     → ((tract : ℕ) → tract < count
-    → Overlap STANDARD_LOTS township (record_at rows tract) (record_at rows index) → ⊥)
-    → (Overlap STANDARD_LOTS township (record_at rows count) (record_at rows index) → ⊥)
+    → Overlap lots township (record_at rows tract) (record_at rows index) → ⊥)
+    → (Overlap lots township (record_at rows count) (record_at rows index) → ⊥)
     → (tract : ℕ) → tract < count + 1
-    → Overlap STANDARD_LOTS township (record_at rows tract) (record_at rows index) → ⊥
-none_more township rows index count before next tract below overlap =
+    → Overlap lots township (record_at rows tract) (record_at rows index) → ⊥
+none_more lots township rows index count before next tract below overlap =
     elim (earlier_or_last count tract below) [
       | inl earlier ↦ before tract earlier overlap
       | inr last ↦
           next
-          (subst (λ t. Overlap STANDARD_LOTS township (record_at rows t) (record_at rows index)) last overlap)
+          (subst (λ t. Overlap lots township (record_at rows t) (record_at rows index)) last overlap)
     ]
 
 -- the record of the first tract that shares land
-pub sharing_record : {E : Type 0} (township : Designation) (listed : Listed) (index earlier number : ℕ)
+pub sharing_record : {E : Type 0} (lots : Lotting) (township : Designation) (listed : Listed)
+    (index earlier number : ℕ)
     (common : ℕ → ℕ → ℕ → Bool) (r : Result (Option Listed) E)
-    → IsFirstOverlapping township (tract_records listed.file.bytes.now) index earlier common
+    → IsFirstOverlapping lots township (tract_records listed.file.bytes.now) index earlier common
     → index ≡ number_listed listed - 2 → number ≡ earlier + 2
     → (1 ≤ number → IfOk r (λ found. MatchOption found (length (records_of listed.file.bytes.now) < number)
     (IsListedAt listed.file number)))
-    → IfOk r (λ found. IfSome found (λ other. IsFirstSharingRecord township listed other common))
-sharing_record township listed index earlier number common (Err fault) first index_is number_is is = tt
-sharing_record township listed index earlier number common (Ok None) first index_is number_is is = tt
-sharing_record township listed index earlier number common (Ok (Some other)) first index_is number_is is =
+    → IfOk r (λ found. IfSome found (λ other. IsFirstSharingRecord lots township listed other common))
+sharing_record lots township listed index earlier number common (Err fault) first index_is number_is is = tt
+sharing_record lots township listed index earlier number common (Ok None) first index_is number_is is = tt
+sharing_record lots township listed index earlier number common (Ok (Some other)) first index_is number_is
+    is =
     let at : IsListedAt listed.file number other = is (omega (arith, number_is)) in
     let numbered : number_listed other ≡ number = at.record_is.number_is in
     let earlier_is : earlier ≡ number_listed other - 2 = omega (arith, number_is, numbered) in
@@ -69,8 +72,9 @@ sharing_record township listed index earlier number common (Ok (Some other)) fir
       listed_is = subst (λ n. IsListedAt listed.file n other) (sym numbered) at;
       after_heading = omega (arith, number_is, numbered);
       first =
-          subst (λ n. IsFirstOverlapping township (tract_records listed.file.bytes.now)
+          subst (λ n. IsFirstOverlapping lots township (tract_records listed.file.bytes.now)
           (number_listed listed - 2) n common) earlier_is
-          (subst (λ n. IsFirstOverlapping township (tract_records listed.file.bytes.now) n earlier common)
+          (subst
+          (λ n. IsFirstOverlapping lots township (tract_records listed.file.bytes.now) n earlier common)
           index_is first);
     }

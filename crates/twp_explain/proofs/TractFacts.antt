@@ -2,7 +2,7 @@
 use Rattle.std.proofs.Common.{◌≡◌, ℕ, ◌≤◌, List, Result, Ok, Err}
 use Rattle.std.proofs.Common.{sym, subst, inl, inr, arith}
 use Rattle.std.specs.Prelude.{IfErr, OnOk}
-use Rattle.twp_grid.specs.Lands.{STANDARD_LOTS}
+use Rattle.twp_grid.specs.Lands.{Lotting}
 use Rattle.twp_grid.specs.Townships.{Designation}
 use Rattle.twp_notes.specs.Records.{Fields, records_of}
 use Rattle.twp_answers.specs.Tracts.{name_in}
@@ -26,17 +26,17 @@ holds_on_ok (Err error) holds = tt
 
 -- the description of a record is refused where it is in the list
 pub refused_tract : {Value : Type 0} (result : Result Value SearchStop) (origin : Origin)
-    (township : Designation)
+    (lots : Lotting) (township : Designation)
     (listed : Listed) (bytes : List ℕ) → IsDescriptionOf listed origin → bytes ≡ description_listed listed
-    → IfErr result (λ stopped. IfFinds stopped (ShowsFound STANDARD_LOTS origin township bytes))
-    → IfErr result (λ stopped. IfFinds stopped (IsRefusedTract township listed))
-refused_tract (Ok value) origin township listed bytes of_record same shown = tt
-refused_tract (Err (stop.Found finding)) origin township listed bytes of_record same shown = record {
+    → IfErr result (λ stopped. IfFinds stopped (ShowsFound lots origin township bytes))
+    → IfErr result (λ stopped. IfFinds stopped (IsRefusedTract lots township listed))
+refused_tract (Ok value) origin lots township listed bytes of_record same shown = tt
+refused_tract (Err (stop.Found finding)) origin lots township listed bytes of_record same shown = record {
   origin = origin;
   origin_is = of_record;
-  shows = subst (λ (text : List ℕ). ShowsFound STANDARD_LOTS origin township text finding) same shown;
+  shows = subst (λ (text : List ℕ). ShowsFound lots origin township text finding) same shown;
 }
-refused_tract (Err stop.Memory) origin township listed bytes of_record same shown = tt
+refused_tract (Err stop.Memory) origin lots township listed bytes of_record same shown = tt
 
 -- a record of a list is the one of its own number
 pub listed_itself : (tracts : Given) (number : ℕ) (listed : Listed) → IsListedAt tracts number listed

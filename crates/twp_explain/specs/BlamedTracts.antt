@@ -2,7 +2,7 @@
 use Rattle.std.specs.Prelude.{◌≡◌, ◌≢◌, ℕ, zero, suc, ◌≤◌, ◌<◌, min, List, length, codes}
 use Rattle.std.specs.Prelude.{Option, None}
 use Rattle.twp_notes.specs.Records.{Fields, field, record_numbered, records_of}
-use Rattle.twp_grid.specs.Lands.{STANDARD_LOTS}
+use Rattle.twp_grid.specs.Lands.{Lotting}
 use Rattle.twp_grid.specs.Townships.{Designation}
 use Rattle.twp_answers.specs.Tracts.{description_in, name_in}
 use Rattle.twp_answers.specs.declared.tract_fault.TractFault.{TractFault}
@@ -74,46 +74,51 @@ pub record IsDescriptionOf (listed : Listed) (origin : Origin) : Type 0 where
   pub in_its_field : IsFieldAt (listed_span listed 1).start origin
 
 -- a tract's description is refused, and what was found is its own first fault, where it is in the list
-pub record IsRefusedTract (township : Designation) (listed : Listed) (finding : Finding) : Type 0 where
+pub record IsRefusedTract (lots : Lotting) (township : Designation) (listed : Listed) (finding : Finding)
+    : Type 0 where
   pub origin : Origin
   pub origin_is : IsDescriptionOf listed origin
-  pub shows : ShowsFound STANDARD_LOTS origin township (description_listed listed) finding
+  pub shows : ShowsFound lots origin township (description_listed listed) finding
 
 -- that is shown in the list
-pub record ShowsRefusedTract (township : Designation) (listed : Listed) (location : Location)
+pub record ShowsRefusedTract (lots : Lotting) (township : Designation) (listed : Listed) (location : Location)
     (other : Option OtherPlace) : Type 0 where
   pub finding : Finding
-  pub is : IsRefusedTract township listed finding
+  pub is : IsRefusedTract lots township listed finding
   pub location_is : location ≡ place_in_list finding.place listed
   pub other_is : other ≡ finding.other
 
 -- so it is; of a description that names land on the plat, the tract's line is shown
-pub data ShowsTract (township : Designation) (listed : Listed) (location : Location)
+pub data ShowsTract (lots : Lotting) (township : Designation) (listed : Listed) (location : Location)
     (other : Option OtherPlace) : Type 0 where
-  refused : ShowsRefusedTract township listed location other → ShowsTract township listed location other
-  described : DescribeLand STANDARD_LOTS township (description_listed listed)
+  refused : ShowsRefusedTract lots township listed location other
+      → ShowsTract lots township listed location other
+  described : DescribeLand lots township (description_listed listed)
       → location ≡ Line (start_listed listed)
-      → other ≡ None → ShowsTract township listed location other
+      → other ≡ None → ShowsTract lots township listed location other
 
 -- where a fault of a record is shown in it: a bad heading or tract at the field to blame, a repeated name at
 -- the name, a refused description where it is refused, and one tract too many, or one that overlaps, at the
 -- record's line
-abbrev pub IsShownInRecord : Designation → Listed → TractFault → Location → Type 0
-IsShownInRecord township listed (fault.TractRow number) location = ShowsRow listed location
-IsShownInRecord township listed (fault.NameRepeated number) location =
+abbrev pub IsShownInRecord : Lotting → Designation → Listed → TractFault → Location → Type 0
+IsShownInRecord lots township listed (fault.TractRow number) location = ShowsRow listed location
+IsShownInRecord lots township listed (fault.NameRepeated number) location =
     location ≡ Field (listed_span listed 0)
-IsShownInRecord township listed (fault.TractRefused number inner) location =
-    (other : Option OtherPlace) × ShowsTract township listed location other
-IsShownInRecord township listed (fault.TractsOverlap number) location = location ≡ Line (start_listed listed)
-IsShownInRecord township listed fault.TooManyTracts location = location ≡ Line (start_listed listed)
-IsShownInRecord township listed fault.TractsTooLarge location = location ≡ Line (start_listed listed)
-IsShownInRecord township listed fault.Memory location = location ≡ Line (start_listed listed)
+IsShownInRecord lots township listed (fault.TractRefused number inner) location =
+    (other : Option OtherPlace) × ShowsTract lots township listed location other
+IsShownInRecord lots township listed (fault.TractsOverlap number) location =
+    location ≡ Line (start_listed listed)
+IsShownInRecord lots township listed fault.TooManyTracts location = location ≡ Line (start_listed listed)
+IsShownInRecord lots township listed fault.TractsTooLarge location = location ≡ Line (start_listed listed)
+IsShownInRecord lots township listed fault.Memory location = location ≡ Line (start_listed listed)
 
 -- a fault of a list is shown in the record of this number; the list is shown as a whole where there is no
 -- such record
-pub data ShowsTractFault (tracts : Given) (township : Designation) (is : TractFault) (number : ℕ)
+pub data ShowsTractFault (tracts : Given) (lots : Lotting) (township : Designation) (is : TractFault)
+    (number : ℕ)
     (location : Location) : Type 0 where
   as_a_whole : length (records_of tracts.bytes.now) < number → location ≡ Whole
-      → ShowsTractFault tracts township is number location
+      → ShowsTractFault tracts lots township is number location
   in_its_record : (listed : Listed) → IsListedAt tracts number listed
-      → IsShownInRecord township listed is location → ShowsTractFault tracts township is number location
+      → IsShownInRecord lots township listed is location
+      → ShowsTractFault tracts lots township is number location

@@ -1,5 +1,6 @@
 pub mod Refusals
 pub mod LotRefusals
+pub mod LotListRefusals
 pub mod ShownFaults
 pub mod ExplainedPlaces
 pub mod FoundFaults

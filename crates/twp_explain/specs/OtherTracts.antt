@@ -1,5 +1,6 @@
 -- The other place that an explanation of a list names: the tract that had the name, or the land, before.
 use Rattle.std.specs.Prelude.{◌≡◌, ℕ, Bool, Option, None, IfSome, length, ◌<◌}
+use Rattle.twp_grid.specs.Lands.{Lotting}
 use Rattle.twp_grid.specs.Townships.{Designation}
 use Rattle.twp_notes.specs.Records.{records_of}
 use Rattle.twp_answers.specs.Tracts.{name_in}
@@ -27,29 +28,31 @@ pub record IsNamedBefore (listed : Listed) (other : OtherPlace) : Type 0 where
       (number_listed listed) other.number
 
 -- the other place is the description of the first tract that shares land with a record's
-pub record IsSharedBefore (township : Designation) (listed : Listed) (other : OtherPlace) : Type 0 where
+pub record IsSharedBefore (lots : Lotting) (township : Designation) (listed : Listed) (other : OtherPlace)
+    : Type 0 where
   pub earlier : Listed
   pub common : ℕ → ℕ → ℕ → Bool
-  pub first : IsFirstSharingRecord township listed earlier common
+  pub first : IsFirstSharingRecord lots township listed earlier common
   pub field_is : IsFieldOf earlier 1 other
 
 -- the other place of a fault of a record: of a repeated name and of an overlap, that of the earlier tract; of
 -- a description that is refused, its own; and no other fault has one
-abbrev pub IsOtherInRecord : Designation → Listed → TractFault → Option OtherPlace → Type 0
-IsOtherInRecord township listed (fault.NameRepeated number) other = IfSome other (IsNamedBefore listed)
-IsOtherInRecord township listed (fault.TractsOverlap number) other =
-    IfSome other (IsSharedBefore township listed)
-IsOtherInRecord township listed (fault.TractRefused number inner) other =
-    (location : Location) × ShowsTract township listed location other
-IsOtherInRecord township listed (fault.TractRow number) other = other ≡ None
-IsOtherInRecord township listed fault.TooManyTracts other = other ≡ None
-IsOtherInRecord township listed fault.TractsTooLarge other = other ≡ None
-IsOtherInRecord township listed fault.Memory other = other ≡ None
+abbrev pub IsOtherInRecord : Lotting → Designation → Listed → TractFault → Option OtherPlace → Type 0
+IsOtherInRecord lots township listed (fault.NameRepeated number) other = IfSome other (IsNamedBefore listed)
+IsOtherInRecord lots township listed (fault.TractsOverlap number) other =
+    IfSome other (IsSharedBefore lots township listed)
+IsOtherInRecord lots township listed (fault.TractRefused number inner) other =
+    (location : Location) × ShowsTract lots township listed location other
+IsOtherInRecord lots township listed (fault.TractRow number) other = other ≡ None
+IsOtherInRecord lots township listed fault.TooManyTracts other = other ≡ None
+IsOtherInRecord lots township listed fault.TractsTooLarge other = other ≡ None
+IsOtherInRecord lots township listed fault.Memory other = other ≡ None
 
 -- the other place of a fault of a list is that of the fault of the record of this number
-pub data IsOtherTract (tracts : Given) (township : Designation) (is : TractFault) (number : ℕ)
+pub data IsOtherTract (tracts : Given) (lots : Lotting) (township : Designation) (is : TractFault)
+    (number : ℕ)
     (other : Option OtherPlace) : Type 0 where
   of_none : length (records_of tracts.bytes.now) < number → other ≡ None
-      → IsOtherTract tracts township is number other
+      → IsOtherTract tracts lots township is number other
   of_its_record : (listed : Listed) → IsListedAt tracts number listed
-      → IsOtherInRecord township listed is other → IsOtherTract tracts township is number other
+      → IsOtherInRecord lots township listed is other → IsOtherTract tracts lots township is number other

@@ -7,6 +7,7 @@
 
 mod explaining;
 mod list;
+mod lot_lists;
 mod note;
 mod on_lots;
 mod on_plat;
@@ -16,8 +17,10 @@ mod tracts;
 
 pub use explaining::{explain_land, explain_plat};
 pub use list::explain_list;
+pub use lot_lists::explain_tracts_by_lots;
 pub use note::{
-    Note, note_description, note_land, note_list, note_tracts, note_without_acres, without_mark,
+    Note, note_description, note_land, note_list, note_tracts, note_tracts_without_acres,
+    note_without_acres, without_mark,
 };
 pub use on_lots::{explain_lacking, explain_lots};
 pub use on_plat::{ExplainedFault, explain_description, explain_notes, explain_tracts};

@@ -12,6 +12,7 @@ use std::alloc::{AllocError, Global};
 use twp_answers::{TRACTS_LIMIT, TractFault, Verdict, account_of_tracts};
 use twp_diagnose::{Explanation, Given, Suggests};
 use twp_grid::{Refusal, Township};
+use twp_land::{Lotting, StandardLots};
 use twp_plat::Plat;
 
 /// The explanation of field notes and a list of tracts that a run refused. None where they don't have
@@ -39,7 +40,14 @@ pub fn explain_list<S: Suggests>(
     let Some(refusal) = refusal_by(fault, verdict) else {
         return Ok(None);
     };
-    let explanation = explain_fault::<S>(alloc, tracts, plat.township(), fault, refusal)?;
+    let explanation = explain_fault::<S, StandardLots>(
+        alloc,
+        tracts,
+        plat.township(),
+        &StandardLots,
+        fault,
+        refusal,
+    )?;
     Ok(Some(explanation))
 }
 
@@ -54,19 +62,20 @@ fn refusal_by(fault: TractFault, verdict: Verdict) -> Option<Refusal>
     fault.refusal()
 }
 
-/// The message of a list's fault.
+/// The message of the fault of a list on the plat of a township with these lots.
 #[inline(never)]
-pub(crate) fn explain_fault<S: Suggests>(
+pub(crate) fn explain_fault<S: Suggests, P: Lotting>(
     alloc: Global,
     tracts: &Given<'_>,
     township: Township,
+    lots: &P,
     fault: TractFault,
     refusal: Refusal,
 ) -> Result<Explanation, AllocError>
     ensures refusal { IfOk result (λ explanation. explanation.refusal ≡ refusal) }
     ensures shows { IfOk result (ShowsIn tracts.now) }
 {
-    let finding = tracts::find::<S>(alloc, tracts, township, fault, refusal)?;
+    let finding = tracts::find::<S, P>(alloc, tracts, township, lots, fault, refusal)?;
     finding.explain(alloc, tracts)
 }
 

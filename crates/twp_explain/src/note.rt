@@ -163,6 +163,20 @@ pub fn note_tracts(
     note_tract(alloc, Some(plat), tracts, found)
 }
 
+/// The same without acres, for a list that was accepted on the plat of a lot table.
+pub fn note_tracts_without_acres(
+    alloc: Global,
+    tracts: &Given<'_>,
+) -> Result<Option<Note>, AllocError>
+    ensures note { IfOk result (IsNoteOfList tracts.now) }
+    ensures shows { IfOk result (λ explained. IfSome explained (ShowsNoteIn tracts.now)) }
+{
+    let Some(found) = doubts_of_list(alloc, tracts.bytes)? else {
+        return Ok(None);
+    };
+    note_tract(alloc, None, tracts, found)
+}
+
 /// The plat of field notes, if they make one and there is memory for it.
 fn plat_of(alloc: Global, notes: &Given<'_>) -> Option<Plat> {
     read_plat(alloc, &mut Bytes::new(notes.bytes)).ok()

@@ -16,7 +16,7 @@ use std::alloc::{AllocError, Global};
 use twp_answers::TractFault;
 use twp_diagnose::{Explanation, Given, Origin, SearchStop, Suggests};
 use twp_grid::Township;
-use twp_land::Lotting;
+use twp_land::{Lotting, StandardLots};
 use twp_plat::Plat;
 
 /// The explanation of field notes that make no plat.
@@ -84,7 +84,14 @@ pub fn explain_tracts<S: Suggests>(
     let Some(refusal) = fault.refusal() else {
         return Err(AllocError);
     };
-    let explanation = explain_fault::<S>(alloc, tracts, plat.township(), fault, refusal)?;
+    let explanation = explain_fault::<S, StandardLots>(
+        alloc,
+        tracts,
+        plat.township(),
+        &StandardLots,
+        fault,
+        refusal,
+    )?;
     Ok(Some(ExplainedFault { fault, explanation }))
 }
 

@@ -13,7 +13,7 @@ ghost use Rattle.twp_explain.specs.BlamedTracts.{place_in_list};
 ghost use Rattle.twp_explain.specs.OtherTracts.{IsFieldOf, IsNamedBefore, IsOtherInRecord};
 ghost use Rattle.twp_explain.specs.OtherTracts.{IsOtherTract, IsSharedBefore};
 ghost use Rattle.twp_explain.specs.Refusals.{DescribeLand};
-ghost use Rattle.twp_grid.specs.Lands.{STANDARD_LOTS};
+ghost use Rattle.twp_grid.specs.Lands.{lotting};
 
 use crate::explaining::describe;
 use crate::rows;
@@ -26,25 +26,26 @@ use twp_diagnose::{
 };
 use twp_excerpt::write_escaped;
 use twp_grid::{Refusal, Township};
-use twp_land::{Land, Lanes, StandardLots};
+use twp_land::{Land, Lanes, Lotting};
 use twp_notes::Records;
 use twp_sentences::write_land;
 use twp_spell::spell;
 
 /// The explanation of a list of tracts that has a fault, on the plat of a township.
 #[inline(never)]
-pub(crate) fn find<S: Suggests>(
+pub(crate) fn find<S: Suggests, P: Lotting>(
     alloc: Global,
     tracts: &Given<'_>,
     township: Township,
+    lots: &P,
     fault: TractFault,
     refusal: Refusal,
 ) -> Result<Finding, AllocError>
     ensures refusal { IfOk result (λ finding. finding.refusal ≡ refusal) }
-    ensures place { 1 ≤ refusal.at → IfOk result (λ finding.
-        ShowsTractFault tracts.now township fault refusal.at finding.place) }
-    ensures other { 1 ≤ refusal.at → IfOk result (λ finding.
-        IsOtherTract tracts.now township fault refusal.at finding.other) }
+    ensures place { 1 ≤ refusal.at → IfOk result (λ finding. ShowsTractFault tracts.now
+        (lotting (P.layout lots.now)) township fault refusal.at finding.place) }
+    ensures other { 1 ≤ refusal.at → IfOk result (λ finding. IsOtherTract tracts.now
+        (lotting (P.layout lots.now)) township fault refusal.at finding.other) }
 {
     let Some(listed) = Listed::numbered(alloc, *tracts, refusal.at)? else {
         return find_none(alloc, fault, refusal);
@@ -57,37 +58,42 @@ pub(crate) fn find<S: Suggests>(
         other: None,
         reading: None,
     };
-    explain::<S>(alloc, &listed, township, fault, &mut finding)?;
+    explain::<S, P>(alloc, &listed, township, lots, fault, &mut finding)?;
     Ok(finding)
 }
 
 /// Tells of the fault of a record, which is shown as a line where nothing else is said.
-fn explain<S: Suggests>(
+fn explain<S: Suggests, P: Lotting>(
     alloc: Global,
     listed: &Listed<'_>,
     township: Township,
+    lots: &P,
     fault: TractFault,
     finding: &mut Finding,
 ) -> Result<(), AllocError>
     ensures refusal { finding.new.refusal ≡ finding.old.refusal }
     ensures place { finding.old.place ≡ Line (start_listed listed.now) → finding.old.other ≡ None
-        → OnOk result (IsShownInRecord township listed.now fault finding.new.place) }
+        → OnOk result (IsShownInRecord (lotting (P.layout lots.now)) township listed.now fault
+        finding.new.place) }
     ensures other { finding.old.other ≡ None → finding.old.place ≡ Line (start_listed listed.now)
         → 1 ≤ number_listed listed.now
         → IsListedAt listed.now.file (number_listed listed.now) listed.now
-        → OnOk result (IsOtherInRecord township listed.now fault finding.new.other) }
+        → OnOk result (IsOtherInRecord (lotting (P.layout lots.now)) township listed.now fault
+        finding.new.other) }
 {
     match fault {
         TractFault::TractRow(_) => rows::explain(alloc, listed, finding),
         TractFault::NameRepeated(_) => explain_name(alloc, listed, finding),
-        TractFault::TractRefused { .. } => explain_tract::<S>(alloc, listed, township, finding),
-        TractFault::TractsOverlap(_) => explain_overlap(alloc, listed, township, finding),
+        TractFault::TractRefused { .. } => {
+            explain_tract::<S, P>(alloc, listed, township, lots, finding)
+        }
+        TractFault::TractsOverlap(_) => explain_overlap(alloc, listed, township, lots, finding),
         _ => explain_many(listed, finding),
     }
 }
 
 /// The explanation of a list of too many bytes, or without a heading.
-fn find_none(alloc: Global, fault: TractFault, refusal: Refusal) -> Result<Finding, AllocError>
+pub(crate) fn find_none(alloc: Global, fault: TractFault, refusal: Refusal) -> Result<Finding, AllocError>
     ensures refusal { IfOk result (λ finding. finding.refusal ≡ refusal) }
     ensures place { IfOk result (λ finding. finding.place ≡ Whole) }
     ensures other { IfOk result (λ finding. finding.other ≡ None) }
@@ -190,18 +196,20 @@ fn are_same(first: &[u8], second: &[u8]) -> bool
 
 /// Tells of a tract whose description is refused.
 #[inline(never)]
-fn explain_tract<S: Suggests>(
+fn explain_tract<S: Suggests, P: Lotting>(
     alloc: Global,
     listed: &Listed<'_>,
     township: Township,
+    lots: &P,
     finding: &mut Finding,
 ) -> Result<(), AllocError>
     ensures refusal { finding.new.refusal ≡ finding.old.refusal }
     ensures shows { finding.old.place ≡ Line (start_listed listed.now) → finding.old.other ≡ None
-        → OnOk result (ShowsTract township listed.now finding.new.place finding.new.other) }
+        → OnOk result (ShowsTract (lotting (P.layout lots.now)) township listed.now finding.new.place
+        finding.new.other) }
 {
     write_tract(listed, &mut finding.sentence)?;
-    let inner = match describe_tract::<S>(alloc, listed, township) {
+    let inner = match describe_tract::<S, P>(alloc, listed, township, lots) {
         Err(SearchStop::Found(inner)) => inner,
         Err(SearchStop::Memory) => return Err(AllocError),
         Ok(()) => return finding.sentence.push_str(" has an invalid description"),
@@ -235,34 +243,39 @@ fn is_quoted(inner: &Finding, listed: &Listed<'_>) -> bool {
 }
 
 /// Goes through the description of a tract, or gives what is wrong with it.
-fn describe_tract<S: Suggests>(
+fn describe_tract<S: Suggests, P: Lotting>(
     alloc: Global,
     listed: &Listed<'_>,
     township: Township,
+    lots: &P,
 ) -> Result<(), SearchStop>
-    ensures land { IfOk result (λ _. DescribeLand STANDARD_LOTS township (description_listed listed.now)) }
-    ensures shown { IfErr result (λ stop. IfFinds stop (IsRefusedTract township listed.now)) }
+    ensures land { IfOk result (λ _. DescribeLand (lotting (P.layout lots.now)) township
+        (description_listed listed.now)) }
+    ensures shown { IfErr result (λ stop. IfFinds stop
+        (IsRefusedTract (lotting (P.layout lots.now)) township listed.now)) }
 {
     let origin = Origin::of_field(listed.file, listed.span(1).start);
-    describe::<S, StandardLots>(alloc, &origin, listed.field(1), township, &StandardLots)
+    describe::<S, P>(alloc, &origin, listed.field(1), township, lots)
 }
 
 /// Tells of a tract that shares land with an earlier one.
 #[inline(never)]
-fn explain_overlap(
+fn explain_overlap<P: Lotting>(
     alloc: Global,
     listed: &Listed<'_>,
     township: Township,
+    lots: &P,
     finding: &mut Finding,
 ) -> Result<(), AllocError>
     ensures refusal { finding.new.refusal ≡ finding.old.refusal }
     ensures place { finding.new.place ≡ finding.old.place }
     ensures other { finding.old.other ≡ None
-        → OnOk result (IfSome finding.new.other (IsSharedBefore township listed.now)) }
+        → OnOk result (IfSome finding.new.other
+        (IsSharedBefore (lotting (P.layout lots.now)) township listed.now)) }
 {
     write_tract(listed, &mut finding.sentence)?;
     let mut common = Lanes::empty();
-    let Some(earlier) = first_sharing_record(alloc, listed, township, &mut common)? else {
+    let Some(earlier) = first_sharing_record(alloc, listed, township, lots, &mut common)? else {
         return finding.sentence.push_str(" overlaps an earlier tract");
     };
     finding.sentence.push_str(" overlaps ")?;
@@ -270,12 +283,12 @@ fn explain_overlap(
     finding.other = Some(other_place(&earlier, 1));
     let number = earlier.number();
     write!(finding.sentence, " (record {number}); both include ")?;
-    let land = spell(alloc, &common, township, &StandardLots)?;
+    let land = spell(alloc, &common, township, lots)?;
     write_land(land.as_slice(), &mut finding.sentence)
 }
 
 /// Appends the name of a tract, as in tract `A`.
-fn write_tract(listed: &Listed<'_>, text: &mut String) -> Result<(), AllocError> {
+pub(crate) fn write_tract(listed: &Listed<'_>, text: &mut String) -> Result<(), AllocError> {
     text.push_str("tract `")?;
     write_escaped(listed.field(0), text)?;
     text.push_str("`")

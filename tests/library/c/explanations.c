@@ -167,9 +167,25 @@ static township_answer by_lots_parts(const township_plat *plat, bytes input, uin
     return township_lots_explain_description_parts(&lots, input.at, input.length, NAME, text, size, parts);
 }
 
+static township_answer list_by_lots_alone(const township_plat *plat, bytes input, uint8_t *text, size_t size) {
+    township_lots lots = lake();
+
+    (void)plat;
+    return township_lots_explain_list(&lots, input.at, input.length, NAME, text, size);
+}
+
+static township_answer list_by_lots_parts(const township_plat *plat, bytes input, uint8_t *text, size_t size,
+                                          township_explanation *parts) {
+    township_lots lots = lake();
+
+    (void)plat;
+    return township_lots_explain_list_parts(&lots, input.at, input.length, NAME, text, size, parts);
+}
+
 static const kind TABLE = {table_alone, table_parts};
 static const kind LACKED = {lacking_alone, lacking_parts};
 static const kind BY_LOTS = {by_lots_alone, by_lots_parts};
+static const kind LIST_BY_LOTS = {list_by_lots_alone, list_by_lots_parts};
 
 /* The same answer and text as without the parts; and neither a text nor parts if the room is a byte too small. */
 static void explains(kind it, const township_plat *plat, const char *given, said wanted) {
@@ -294,22 +310,58 @@ static void explains_by_lots(void) {
                     "  1 | sec. 14, NE/4.\n    |            ^\n", "  write NE1/4\n", ""});
 }
 
+/* So it is for the tracts of a list. A lot that the table lacks is not at one place of a description, so the tract's
+   line is shown; and so it is if a tract overlaps another on the table's plat. */
+static void explains_lists_by_lots(void) {
+    bytes lacking = bytes_of("name,description\nA,\"sec. 14, lots 1 to 3.\"\n");
+    room *r = room_new();
+    township_answer answer = list_by_lots_alone(NULL, lacking, room_text(r), MOST_TEXT);
+
+    CHECK(answer.verdict == TOWNSHIP_TRACT_REFUSED && answer.number == 83 && answer.at == 2);
+    CHECK(answer.inner_number == TOWNSHIP_REFUSAL_LOTS_LACKING && answer.inner_at == 1402);
+    drop(lacking);
+    free(r);
+    explains(LIST_BY_LOTS, NULL, "name,description\nA,\"sec. 14, lots 1 to 3.\"\n",
+             (said){LINE, NULL, 0, "tract `A`: the lot table has no record for lot 2 of section 14", "",
+                    "  of section 14, it has these lots: 1, 3, 4\n", ""});
+    explains(LIST_BY_LOTS, NULL, "name,description\nA,\"sec. 14, lot 5.\"\n",
+             (said){"5", NULL, 0, "tract `A`: section 14 has lots 1 to 4",
+                    "  2 | A,\"sec. 14, lot 5.\"\n    |                 ^\n", "", ""});
+    explains(LIST_BY_LOTS, NULL, "name,description\nA,sec. 20.\nB,\"sec. 14, lots 1 and 4.\"\nC,\"sec. 14, lot 1.\"\n",
+             (said){LINE, "\"sec. 14, lots 1 and 4.\"", 3,
+                    "tract `C` overlaps tract `B` (record 3); both include sec. 14, lot 1.", "", "", ""});
+    explains(LIST_BY_LOTS, NULL, "name,description\nA,sec. 13.\nA,sec. 14.\n",
+             (said){"A", "A", 2, "tract `A` has the same name as an earlier tract, record 2 on line 2",
+                    "  3 | A,sec. 14.\n    | ^\n", "", ""});
+    explains(LIST_BY_LOTS, NULL, "name,description\nA,\"sec. 14, lot 1 and 3.\"\n",
+             (said){"lot 1 and 3", NULL, 0,
+                    "tract A: lot 1 and 3 is read as lots 1 and 3; if lot 1 and sec. 3 were\n"
+                    "  meant, write sec. 14, lot 1; sec. 3",
+                    "  2 | A,\"sec. 14, lot 1 and 3.\"\n    |             ^^^^^^^^^^^\n", "", ""});
+}
+
 /* Of accepted land without a doubtful place, nothing is explained; nor by a table of no township. */
 static void explains_nothing_by_lots(void) {
     township_explanation parts = other_parts();
     township_lots lots = lake();
     bytes land = bytes_of("sec. 14, lots 1 and 3.");
+    bytes list = bytes_of("name,description\nA,\"sec. 14, lots 1 and 3.\"\n");
     room *r = room_new();
 
     CHECK_ANSWER(township_lots_explain_description_parts(&lots, land.at, land.length, NAME, room_text(r), MOST_TEXT,
                                                          &parts),
                  bare(TOWNSHIP_ACCEPTED));
+    CHECK_ANSWER(township_lots_explain_list_parts(&lots, list.at, list.length, NAME, room_text(r), MOST_TEXT, &parts),
+                 bare(TOWNSHIP_ACCEPTED));
     lots.township.range = 0;
     CHECK_ANSWER(township_lots_explain_description_parts(&lots, land.at, land.length, NAME, room_text(r), MOST_TEXT,
                                                          &parts),
                  bare(TOWNSHIP_NO_LOTS));
+    CHECK_ANSWER(township_lots_explain_list_parts(&lots, list.at, list.length, NAME, room_text(r), MOST_TEXT, &parts),
+                 bare(TOWNSHIP_NO_LOTS));
     CHECK(is_kept(&parts) && room_holds(r, "", 0));
     drop(land);
+    drop(list);
     free(r);
 }
 
@@ -363,6 +415,7 @@ void gives_parts(const township_plat *plat) {
              (said){NULL, NULL, 0, "the lot table has no record for lot 3 of section 5", "",
                     "  it has no record for any lot of section 5\n", ""});
     explains_by_lots();
+    explains_lists_by_lots();
     explains_nothing_by_lots();
     explains(NOTES, plat, "",
              (said){NULL, NULL, 0,

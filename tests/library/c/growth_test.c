@@ -115,6 +115,7 @@ static township_tract tracts[2];
 static township_totals totals;
 static township_tract_answer each[2];
 static township_overlap overlaps[2];
+static township_lots_overlap overlaps_by_lots[2];
 static township_answer answers[2];
 static township_full_answer full[2];
 static township_land land;
@@ -373,6 +374,49 @@ static township_answer call_lots_report_refused(void) {
     return township_lots_report(&table, BYTES("name,description\nA,sec. 14.\nB,\"sec. 5, lot 3.\"\n"), tracts, 2);
 }
 
+static township_answer call_lots_report_each(void) {
+    return township_lots_report_each(&table, BYTES("name,description\nA,\"sec. 5, lot 1.\"\nB,\"sec. 5, lot 3.\"\n"), each,
+                                     2);
+}
+
+static township_answer call_lots_overlaps(void) {
+    return township_lots_overlaps(&lake, BYTES("name,description\nA,sec. 14.\nB,\"sec. 14, lot 2.\"\n"),
+                                  overlaps_by_lots, 2);
+}
+
+static township_answer call_lots_acres_many(void) {
+    static const size_t offsets[] = {0, 8, 22};
+
+    return township_lots_acres_many(&table, BYTES("sec. 20.sec. 5, lot 1."), offsets, 3, answers, 2);
+}
+
+static township_answer call_lots_answer_many(void) {
+    static const size_t offsets[] = {0, 8, 22};
+
+    return township_lots_answer_many(&table, BYTES("sec. 20.sec. 5, lot 1."), offsets, 3, full, 2);
+}
+
+/* A tract that is refused on the plat, one with a lot that the table lacks, and a note. */
+static township_answer call_lots_explain_list(void) {
+    return township_lots_explain_list(&lake, BYTES("name,description\nA,\"sec. 14, lot 5.\"\n"), BYTES("tracts.csv"),
+                                      room_text(texts), MOST_TEXT);
+}
+
+static township_answer call_lots_explain_lacking_tract(void) {
+    return township_lots_explain_list(&table, BYTES("name,description\nA,\"sec. 5, lot 3.\"\n"), BYTES("tracts.csv"),
+                                      room_text(texts), MOST_TEXT);
+}
+
+static township_answer call_lots_note_list(void) {
+    return township_lots_explain_list(&lake, BYTES("name,description\nA,\"sec. 14, lot 1 and 2.\"\n"),
+                                      BYTES("tracts.csv"), room_text(texts), MOST_TEXT);
+}
+
+static township_answer call_lots_explain_list_parts(void) {
+    return township_lots_explain_list_parts(&lake, BYTES("name,description\nA,sec. 14.\nB,\"sec. 14, lot 2.\"\n"),
+                                            BYTES("tracts.csv"), room_text(texts), MOST_TEXT, &explanation);
+}
+
 static township_answer call_suggest(void) {
     return township_suggest(BYTES("sec. 14: NE1/4NE1/4 SW1/4SW1/4"), readings, TOWNSHIP_READINGS_MOST, changes, 8,
                             room_text(texts), MOST_TEXT, &suggestion);
@@ -455,6 +499,12 @@ static const struct {
     {"township_lots_explain_description_parts", call_lots_explain_description_parts},
     {"township_lots_report", call_lots_report},
     {"township_lots_report, refused", call_lots_report_refused},
+    {"township_lots_report_each", call_lots_report_each},
+    {"township_lots_overlaps", call_lots_overlaps},
+    {"township_lots_explain_list", call_lots_explain_list},
+    {"township_lots_explain_list, a lot that the table lacks", call_lots_explain_lacking_tract},
+    {"township_lots_explain_list, accepted with a note", call_lots_note_list},
+    {"township_lots_explain_list_parts", call_lots_explain_list_parts},
     {"township_suggest", call_suggest},
     {"township_suggest, a description", call_suggest_itself},
     {"township_lots_suggest", call_lots_suggest},
@@ -476,6 +526,7 @@ typedef struct written {
     township_part parts[8];
     township_tract_answer each[2];
     township_overlap overlaps[2];
+    township_lots_overlap overlaps_by_lots[2];
     township_reading readings[TOWNSHIP_READINGS_MOST];
     township_change changes[8];
     township_suggestion suggestion;
@@ -493,6 +544,7 @@ static void clear(void) {
     memset(&totals, 0, sizeof totals);
     memset(each, 0, sizeof each);
     memset(overlaps, 0, sizeof overlaps);
+    memset(overlaps_by_lots, 0, sizeof overlaps_by_lots);
     memset(answers, 0, sizeof answers);
     memset(full, 0, sizeof full);
     memset(&land, 0, sizeof land);
@@ -518,6 +570,7 @@ static void keep(written *in) {
     memcpy(in->parts, parts, sizeof parts);
     memcpy(in->each, each, sizeof each);
     memcpy(in->overlaps, overlaps, sizeof overlaps);
+    memcpy(in->overlaps_by_lots, overlaps_by_lots, sizeof overlaps_by_lots);
     memcpy(in->readings, readings, sizeof readings);
     memcpy(in->changes, changes, sizeof changes);
     in->suggestion = suggestion;
@@ -566,39 +619,39 @@ static void refuse_in_turn(const char *name, township_answer (*call)(void)) {
     printf("%s: %ld growths refused, %ld of them done without\n", name, growth - 1, without);
 }
 
-/* Of many descriptions, each is answered as usual, or that memory ran out. */
-static void refuse_many_in_turn(void) {
-    township_answer wanted[2];
-    long growth = 0;
-
-    CHECK_ANSWER(make(call_many, 0, &after), with_length(TOWNSHIP_ACCEPTED, 2));
-    memcpy(wanted, answers, sizeof wanted);
-    CHECK(wanted[0].hundredths == 64000 && wanted[1].hundredths == 3918);
-    do {
-        CHECK_ANSWER(make(call_many, ++growth, &found), with_length(TOWNSHIP_ACCEPTED, 2));
-        for (int i = 0; i < 2; i++) {
-            CHECK(same_answer(answers[i], wanted[i]) || same_answer(answers[i], bare(TOWNSHIP_NO_MEMORY)));
-        }
-    } while (was_refused && growth < 100000);
-    CHECK(!was_refused);
-    printf("township_acres_many: %ld growths refused\n", growth - 1);
-}
-
 /* Whether an answer is the usual one, or that memory ran out. */
 static bool is_usual(township_answer answer, township_answer wanted) {
     return same_answer(answer, wanted) || same_answer(answer, bare(TOWNSHIP_NO_MEMORY));
 }
 
+/* Of many descriptions, each is answered as usual, or that memory ran out. */
+static void refuse_many_in_turn(const char *name, township_answer (*call)(void), uint64_t second_acres) {
+    township_answer wanted[2];
+    long growth = 0;
+
+    CHECK_ANSWER(make(call, 0, &after), with_length(TOWNSHIP_ACCEPTED, 2));
+    memcpy(wanted, answers, sizeof wanted);
+    CHECK(wanted[0].hundredths == 64000 && wanted[1].hundredths == second_acres);
+    do {
+        CHECK_ANSWER(make(call, ++growth, &found), with_length(TOWNSHIP_ACCEPTED, 2));
+        for (int i = 0; i < 2; i++) {
+            CHECK(is_usual(answers[i], wanted[i]));
+        }
+    } while (was_refused && growth < 100000);
+    CHECK(!was_refused);
+    printf("%s: %ld growths refused\n", name, growth - 1);
+}
+
 /* The same of each of the answers in full. */
-static void refuse_full_in_turn(void) {
+static void refuse_full_in_turn(const char *name, township_answer (*call)(void)) {
     township_full_answer wanted[2];
     long growth = 0;
 
-    CHECK_ANSWER(make(call_answer_many, 0, &after), with_length(TOWNSHIP_ACCEPTED, 2));
+    CHECK_ANSWER(make(call, 0, &after), with_length(TOWNSHIP_ACCEPTED, 2));
     memcpy(wanted, full, sizeof wanted);
     CHECK(wanted[0].acres.hundredths == 64000 && wanted[1].normal.length == 33);
     do {
-        CHECK_ANSWER(make(call_answer_many, ++growth, &found), with_length(TOWNSHIP_ACCEPTED, 2));
+        CHECK_ANSWER(make(call, ++growth, &found), with_length(TOWNSHIP_ACCEPTED, 2));
         for (int i = 0; i < 2; i++) {
             CHECK(is_usual(full[i].acres, wanted[i].acres) && is_usual(full[i].normal, wanted[i].normal) &&
                   is_usual(full[i].note, wanted[i].note));
@@ -607,7 +660,7 @@ static void refuse_full_in_turn(void) {
         }
     } while (was_refused && growth < 100000);
     CHECK(!was_refused);
-    printf("township_answer_many: %ld growths refused\n", growth - 1);
+    printf("%s: %ld growths refused\n", name, growth - 1);
 }
 
 int main(int count, char **words) {
@@ -622,8 +675,10 @@ int main(int count, char **words) {
     for (size_t i = 0; i < sizeof calls / sizeof *calls; i++) {
         refuse_in_turn(calls[i].name, calls[i].call);
     }
-    refuse_many_in_turn();
-    refuse_full_in_turn();
+    refuse_many_in_turn("township_acres_many", call_many, 3918);
+    refuse_many_in_turn("township_lots_acres_many", call_lots_acres_many, 4045);
+    refuse_full_in_turn("township_answer_many", call_answer_many);
+    refuse_full_in_turn("township_lots_answer_many", call_lots_answer_many);
     drop(notes);
     free(texts);
     return checked();

@@ -20,6 +20,9 @@ void answers_lots(void);
 /* Tries the calls on land on the plat of a lot table. */
 void answers_lot_lands(void);
 
+/* Tries the calls that answer lists of tracts, and many descriptions, by a lot table. */
+void answers_lot_lists(void);
+
 /* Tries the call for readings, with the plat of samples/b1.csv. */
 void answers_readings(const township_plat *plat);
 

@@ -7,7 +7,7 @@
 #include "check.h"
 
 #define THREADS 4
-#define CALLS 53
+#define CALLS 59
 
 /* The stack that the library requires, and room for the thread's own calls. */
 #define STACK ((256 + 64) * 1024)
@@ -25,6 +25,10 @@ typedef struct round_answers {
     township_totals totals;
     township_tract_answer each[2];
     township_overlap overlaps[2];
+    township_tract_answer each_by_lots[2];
+    township_lots_overlap overlaps_by_lots[2];
+    township_answer many_by_lots[2];
+    township_full_answer full_by_lots[2];
     township_land land;
     township_land combined;
     uint32_t comparison;
@@ -34,7 +38,7 @@ typedef struct round_answers {
     township_land by_the_lake;
     township_fraction areas[3];
     township_part parts[16];
-    township_explanation explanations[6];
+    township_explanation explanations[7];
     township_reading readings[2];
     township_change changes[2];
     township_suggestion suggestion;
@@ -107,6 +111,24 @@ static void call_on_own_lots(const township_plat *plat, round_answers *to) {
                                                          to->texts[51], sizeof to->texts[51], &to->explanations[5]);
 }
 
+/* Calls the functions that answer lists, and many descriptions, by the same table. */
+static void call_lists_by_lots(const township_lots *lake, round_answers *to) {
+    static const size_t offsets[] = {0, 15, 22};
+    township_answer *answer = to->answers;
+
+    answer[52] = township_lots_report_each(lake, BYTES("name,description\nA,\"sec. 14, lot 2.\"\nA,sec. 7.\n"),
+                                           to->each_by_lots, 2);
+    answer[53] = township_lots_overlaps(lake, BYTES("name,description\nA,sec. 14.\nB,\"sec. 14, lot 2.\"\n"),
+                                        to->overlaps_by_lots, 2);
+    answer[54] = township_lots_acres_many(lake, BYTES("sec. 14, lot 2.sec. 7."), offsets, 3, to->many_by_lots, 2);
+    answer[55] = township_lots_answer_many(lake, BYTES("sec. 14, lot 2.sec. 7."), offsets, 3, to->full_by_lots, 2);
+    answer[56] = township_lots_explain_list(lake, BYTES("name,description\nA,\"sec. 14, lot 1 and 2.\"\n"),
+                                            BYTES("tracts.csv"), to->texts[56], sizeof to->texts[56]);
+    answer[57] = township_lots_explain_list_parts(lake, BYTES("name,description\nA,\"sec. 14, lot 3.\"\n"),
+                                                  BYTES("tracts.csv"), to->texts[57], sizeof to->texts[57],
+                                                  &to->explanations[6]);
+}
+
 /* Calls each function on the name of a township. */
 static void call_on_township(const township_plat *plat, round_answers *to) {
     const township_designation township = {plat->number, plat->north_south, plat->range, plat->east_west};
@@ -171,12 +193,13 @@ static void call_all(bytes notes, const township_plat *plat, round_answers *to) 
     answer[30] = township_overlaps(plat, BYTES("name,description\nA,sec. 6.\nA,sec. 6.\n"), to->overlaps, 2);
     call_on_land(plat, to);
     call_on_own_lots(plat, to);
+    call_lists_by_lots(&to->lake, to);
     call_on_township(plat, to);
     call_explaining(plat, to);
     answer[34] = township_suggest(BYTES("sec. 14: NE1/4NE1/4 SW1/4SW1/4"), to->readings, 2, to->changes, 2,
                                   to->texts[34], sizeof to->texts[34], &to->suggestion);
-    answer[52] = township_lots_suggest(&to->lake, BYTES("sec. 14: NE1/4NE1/4 SW1/4SW1/4"), to->readings_by_lots, 2,
-                                       to->changes_by_lots, 2, to->texts[52], sizeof to->texts[52],
+    answer[58] = township_lots_suggest(&to->lake, BYTES("sec. 14: NE1/4NE1/4 SW1/4SW1/4"), to->readings_by_lots, 2,
+                                       to->changes_by_lots, 2, to->texts[58], sizeof to->texts[58],
                                        &to->suggestion_by_lots);
     answer[39] = township_unread(BYTES("blip Sec. 14 blop"), to->unread, 2);
     answer[45] = township_set_aside(BYTES("blip Sec. 14 blop"), BYTES("blipblop"), phrases, 3, to->aside, 2);
@@ -215,6 +238,10 @@ static bool same_figures(const round_answers *a, const round_answers *b) {
            memcmp(&a->totals, &b->totals, sizeof a->totals) == 0 &&
            memcmp(a->each, b->each, sizeof a->each) == 0 &&
            memcmp(a->overlaps, b->overlaps, sizeof a->overlaps) == 0 &&
+           memcmp(a->each_by_lots, b->each_by_lots, sizeof a->each_by_lots) == 0 &&
+           memcmp(a->overlaps_by_lots, b->overlaps_by_lots, sizeof a->overlaps_by_lots) == 0 &&
+           memcmp(a->many_by_lots, b->many_by_lots, sizeof a->many_by_lots) == 0 &&
+           memcmp(a->full_by_lots, b->full_by_lots, sizeof a->full_by_lots) == 0 &&
            same_answer(a->many[0], b->many[0]) && same_answer(a->many[1], b->many[1]) &&
            memcmp(a->full, b->full, sizeof a->full) == 0;
 }

@@ -676,6 +676,7 @@ int main(int count, char **words) {
     answers_split();
     answers_lots();
     answers_lot_lands();
+    answers_lot_lists();
     answers_readings(&plat);
     answers_lot_readings();
     call_from_threads(notes, rounds);

@@ -26,15 +26,18 @@ _LENGTH = _NORMAL + _library.Answer.length.offset // 8
 class FullAnswers:
     """The answers to many descriptions on a plat, each with its canonical text, and with a note if there is one."""
 
+    #: The call that explains a refused description, or notes a place in an accepted one.
+    _explain = staticmethod(_library.explain_description_parts)
+
     def __init__(self, parts: object, descriptions: Sequence[Text], code: int, refuse: Refuse) -> None:
         self._parts = parts
+        self._code = code
         self._refuse = refuse
         self._bytes, self._offsets = in_a_row(descriptions)
         self._answers = (_library.FullAnswer * len(descriptions))()
         self._words = memoryview(self._answers).cast("B").cast("Q")
         places = (ctypes.c_size_t * len(self._offsets)).from_buffer(self._offsets)
-        given = (self._bytes, len(self._bytes), places, len(self._offsets))
-        answer = _library.answer_many(parts, *given, code, self._answers, len(descriptions))
+        answer = self._answer_many(self._bytes, len(self._bytes), places, len(self._offsets))
         if answer.verdict != _library.ACCEPTED:
             raise failure_of(answer.verdict)
         #: The hundredths of an acre of each description: 0 if it is refused.
@@ -43,6 +46,10 @@ class FullAnswers:
         self.refused = [index for index, word in enumerate(self._column(_ACRES)) if word]
         #: The indexes of those on which there is a note.
         self.noted = self._noted()
+
+    def _answer_many(self, *given: object) -> _library.Answer:
+        """Let the library answer all descriptions."""
+        return _library.answer_many(self._parts, *given, self._code, self._answers, len(self._answers))
 
     def refusal(self, index: int) -> Refusal:
         """Return the number and location of the refusal of a description."""
@@ -55,7 +62,7 @@ class FullAnswers:
         """Return the sentence of the refusal of a description, or of the note on it."""
         given = self._description(index)
         asked = (self._parts, given, len(given), DESCRIPTION, len(DESCRIPTION))
-        answer, sentence = sentence_by(_library.explain_description_parts, *asked)
+        answer, sentence = sentence_by(self._explain, *asked)
         if answer.verdict not in (_library.ACCEPTED, _library.REFUSED):
             raise failure_of(answer.verdict)
         return sentence

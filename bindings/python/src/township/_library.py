@@ -218,6 +218,15 @@ class Overlap(ctypes.Structure):
     _fields_ = [("first", c_uint32), ("second", c_uint32), ("hundredths", c_uint64)]
 
 
+class LotsOverlap(ctypes.Structure):
+    """`township_lots_overlap`: 24 bytes."""
+
+    _fields_ = [
+        ("first", c_uint32), ("second", c_uint32), ("hundredths", c_uint64), ("lacking", c_uint32),
+        ("reserved", c_uint32),
+    ]
+
+
 class Designation(ctypes.Structure):
     """`township_designation`: 4 bytes."""
 
@@ -342,6 +351,16 @@ lots_area = _call("township_lots_area", POINTER(Lots), c_char_p, c_size_t, POINT
 lots_land_acres = _call("township_lots_land_acres", POINTER(Lots), POINTER(Land))
 lots_land_area = _call("township_lots_land_area", POINTER(Lots), POINTER(Land), POINTER(Fraction))
 lots_report = _call("township_lots_report", POINTER(Lots), c_char_p, c_size_t, POINTER(Tract), c_size_t)
+lots_report_each = _call("township_lots_report_each", POINTER(Lots), c_char_p, c_size_t, POINTER(TractAnswer), c_size_t)
+lots_overlaps = _call("township_lots_overlaps", POINTER(Lots), c_char_p, c_size_t, POINTER(LotsOverlap), c_size_t)
+lots_acres_many = _call(
+    "township_lots_acres_many", POINTER(Lots), c_char_p, c_size_t, POINTER(c_size_t), c_size_t, POINTER(Answer),
+    c_size_t,
+)
+lots_answer_many = _call(
+    "township_lots_answer_many", POINTER(Lots), c_char_p, c_size_t, POINTER(c_size_t), c_size_t, POINTER(FullAnswer),
+    c_size_t,
+)
 explain_notes = _call("township_explain_notes", c_char_p, c_size_t, c_char_p, c_size_t, POINTER(c_char), c_size_t)
 explain_description = _call(
     "township_explain_description", POINTER(Plat), c_char_p, c_size_t, c_char_p, c_size_t, POINTER(c_char), c_size_t,
@@ -356,6 +375,9 @@ explain_lacking = _call(
 lots_explain_description = _call(
     "township_lots_explain_description", POINTER(Lots), c_char_p, c_size_t, c_char_p, c_size_t, POINTER(c_char),
     c_size_t,
+)
+lots_explain_list = _call(
+    "township_lots_explain_list", POINTER(Lots), c_char_p, c_size_t, c_char_p, c_size_t, POINTER(c_char), c_size_t,
 )
 explain_notes_parts = _call(
     "township_explain_notes_parts", c_char_p, c_size_t, c_char_p, c_size_t, POINTER(c_char), c_size_t,
@@ -379,6 +401,10 @@ explain_lacking_parts = _call(
 )
 lots_explain_description_parts = _call(
     "township_lots_explain_description_parts", POINTER(Lots), c_char_p, c_size_t, c_char_p, c_size_t, POINTER(c_char),
+    c_size_t, POINTER(Explanation),
+)
+lots_explain_list_parts = _call(
+    "township_lots_explain_list_parts", POINTER(Lots), c_char_p, c_size_t, c_char_p, c_size_t, POINTER(c_char),
     c_size_t, POINTER(Explanation),
 )
 suggest = _call(

@@ -7,7 +7,7 @@ from typing import List
 from . import _library
 from ._explanation import explained_by
 from ._note import Note, notes_of
-from ._refused import Refused, exception_of, failure_of, inner_refusal, without_bytes
+from ._refused import Refused, exception_of, failure_of, without_bytes
 
 #: The number of the refusal of land with a lot that the table lacks.
 LACKING = _library.REFUSAL_LOTS_LACKING
@@ -45,15 +45,9 @@ def table_notes(lots: _library.Lots, given: bytes, source: bytes) -> List[Note]:
 
 
 def lacking_exception(answer: _library.Answer, lots: _library.Lots, source: bytes) -> Exception:
-    """Return the exception for land, a description, or a list with a lot that the table lacks."""
-    inner = inner_refusal(answer)
-    at = inner.at if inner else answer.at
-    shown, text, explained = explained_by(_library.explain_lacking_parts, byref(lots), at, source, len(source))
+    """Return the exception for land, or a description, with a lot that the table lacks."""
+    asked = (byref(lots), answer.at, source, len(source))
+    shown, text, explained = explained_by(_library.explain_lacking_parts, *asked)
     if shown.verdict != _library.REFUSED:
         return failure_of(shown.verdict)
-    if inner:
-        # The library explains the refusal of the land, and does not know its record.
-        record = f"record {answer.at}: "
-        text = text.replace(f"{explained.location}: ", f"{explained.location}: {record}", 1)
-        explained = explained._replace(sentence=f"{record}{explained.sentence}")
-    return Refused(answer.number, answer.at, None, None, text, inner, source.decode(), explained)
+    return Refused(answer.number, answer.at, None, None, text, None, source.decode(), explained)

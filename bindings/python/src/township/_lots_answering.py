@@ -135,15 +135,14 @@ class LotsAnswering(LotsReporting, LotsDrawing, Describing):
         >>> answers[0], answers[1].number, answers[2]
         (Decimal('40.45'), 94, Decimal('640.00'))
         """
-        many = self._listed(descriptions, "acres")
-        self._nominal_plat()
-        return answers_by(self._asking(), many, self._exception_of)
+        return answers_by(byref(self._parts), self._listed(descriptions, "acres"), self._exception_of)
 
     def _full_answers(self, descriptions: Sequence[Text]) -> FullAnswers:
         """Return everything that the library answers about many descriptions."""
+        lots = byref(self._parts)
         if self.has_land:
-            return TableAnswers(self._parts, descriptions, self._asking(), self._exception_of)
-        return LotsFullAnswers(self._nominal_plat(), descriptions, self._asking(), self._exception_of)
+            return TableAnswers(lots, descriptions, _library.EXACT, self._exception_of)
+        return LotsFullAnswers(lots, byref(self._plat_struct()), descriptions, self._exception_of)
 
     def _normal_or_refused(self, description: Text) -> Union[str, Refused]:
         try:

@@ -2,40 +2,25 @@
 from __future__ import annotations
 
 from ctypes import byref
-from decimal import Decimal
-from typing import Iterable, Iterator, NamedTuple, Sequence, Tuple
+from typing import Iterable, Tuple
 
 from . import _library
-from ._earlier import EarlierLand
-from ._explanation import Explained
-from ._figures import acres_of_hundredths
 from ._land import Land
-from ._lot_faults import LACKING, lacking_exception
 from ._lots_places import LotsPlaces
-from ._refused import LIST, Refusal, Refused, failure_of, inner_refusal, refusal_of
+from ._refused import LIST, exception_of, failure_of
 from ._report import (
-    FIRST_TRACT,
     Described,
     LotsOverlap,
     LotsReport,
-    Overlap,
     TractAnswer,
     accepted,
-    answers_on,
-    exception_of_list,
+    answers_by,
     list_of,
-    overlaps_on,
+    overlaps_by,
     report_by,
 )
 from ._text import Text, encoded
-from ._township import nominal_plat_of, township_of
-
-
-class _Given(NamedTuple):
-    """Tracts, and the list that they make."""
-
-    tracts: Sequence[Tuple[Text, Described]]
-    list: bytes
+from ._township import township_of
 
 
 class LotsReporting(LotsPlaces):
@@ -72,7 +57,7 @@ class LotsReporting(LotsPlaces):
         >>> lots.report_csv('name,description\\nA,"sec. 5, lots 1 and 3."\\n')
         Traceback (most recent call last):
             ...
-        township.Refused: tracts: record 2: the lot table has no record for lot 3 of section 5
+        township.Refused: tracts:2: tract `A`: the lot table has no record for lot 3 of section 5
         """
         given = encoded(tracts)
         return accepted(report_by(byref(self._parts), given), self._list_exception, given)
@@ -90,11 +75,8 @@ class LotsReporting(LotsPlaces):
         >>> answers[1].refusal, answers[1].inner, answers[2].inner
         (Refusal(number=83, at=3), Refusal(number=94, at=502), Refusal(number=64, at=12))
         """
-        given = _given(tracts)
-        return tuple(
-            each if _is_refused_as_tract(each) else self._by_table(each, index, described)
-            for index, (each, (_, described)) in enumerate(zip(self._nominal_answers(given), given.tracts))
-        )
+        given = self._list_of(tracts)
+        return accepted(answers_by(byref(self._parts), given), self._list_exception, given)
 
     def overlaps(self, tracts: Iterable[Tuple[Text, Described]]) -> Tuple[LotsOverlap, ...]:
         """Return all overlaps of the tracts, in the order of the later tract, and then of the earlier one.
@@ -106,69 +88,16 @@ class LotsReporting(LotsPlaces):
         >>> lots.overlaps([("A", "sec. 5."), ("B", "sec. 5, lot 1."), ("C", "sec. 5, lot 2.")])
         (LotsOverlap(first=0, second=1, acres=Decimal('40.45')), LotsOverlap(first=0, second=2, acres=None))
         """
-        given = _given(tracts)
-        if self.has_land:
-            return tuple(self._overlaps_on_table(given))
-        overlaps = accepted(overlaps_on(byref(self._nominal_plat()), given.list), self._list_exception, given.list)
-        return tuple(self._overlap(each, given.tracts) for each in overlaps)
+        given = self._list_of(tracts)
+        return accepted(overlaps_by(byref(self._parts), given), self._list_exception, given)
 
-    def _nominal_answers(self, given: _Given) -> Tuple[TractAnswer, ...]:
-        """Return the answer to each tract on the nominal plat, on which its record and name are refused as here."""
-        return accepted(answers_on(byref(self._nominal_plat()), given.list), self._list_exception, given.list)
-
-    def _overlaps_on_table(self, given: _Given) -> Iterator[LotsOverlap]:
-        """Yield the overlaps of the tracts on the plat of a table that says where its lots lie."""
-        earlier = EarlierLand()
-        for second, (answer, (_, described)) in enumerate(zip(self._nominal_answers(given), given.tracts)):
-            if answer.refusal and answer.refusal.number == _library.REFUSAL_TRACT_ROW:
-                continue
-            try:
-                land = self._land(described)
-            except Refused:
-                continue
-            if land.township != township_of(self._parts.township):
-                continue
-            for first, both in earlier.shared(land):
-                yield LotsOverlap(first, second, acres_of_hundredths(self._answer(both).hundredths))
-            earlier.add(second, land)
-
-    def _nominal_plat(self) -> _library.Plat:
-        """Return the nominal plat of the township. Raise `ValueError` if the table is not valid."""
-        if _library.lots_acres(byref(self._parts), b"", 0).verdict == _library.NO_LOTS:
-            raise failure_of(_library.NO_LOTS)
-        return nominal_plat_of(township_of(self._parts.township))
-
-    def _by_table(self, given: TractAnswer, index: int, described: Described) -> TractAnswer:
-        """Return the answer by the table to a tract whose record and name are accepted."""
-        answer = self._answer(described)
-        if answer.verdict == _library.ACCEPTED:
-            return TractAnswer(given.name, acres_of_hundredths(answer.hundredths), None, None)
-        if answer.verdict == _library.OTHER_TOWNSHIP:
-            # The text of such land is refused for its heading, on any plat.
-            return given
-        if answer.verdict != _library.REFUSED:
-            raise failure_of(answer.verdict, township_of(self._parts.township))
-        refusal = Refusal(_library.REFUSAL_TRACT_REFUSED, index + FIRST_TRACT)
-        return TractAnswer(given.name, None, refusal, refusal_of(answer))
-
-    def _overlap(self, overlap: Overlap, tracts: Sequence[Tuple[Text, Described]]) -> LotsOverlap:
-        """Return two tracts that overlap, with the acreage by the table."""
-        first, second = (self._land(tracts[index][1]) for index in (overlap.first, overlap.second))
-        answer = self._answer(first & second)
-        if answer.verdict == _library.REFUSED:
-            return LotsOverlap(overlap.first, overlap.second, None)
-        if answer.verdict != _library.ACCEPTED:
-            raise failure_of(answer.verdict)
-        return LotsOverlap(overlap.first, overlap.second, acres_of_hundredths(answer.hundredths))
-
-    def _land(self, described: Described) -> Land:
-        if isinstance(described, Land):
-            return described
-        return self._land_of(encoded(described), LIST)
-
-    def _land_of(self, given: bytes, source: bytes) -> Land:
-        """Return the land of a description on the plat of the table."""
-        raise NotImplementedError
+    def _list_of(self, tracts: Iterable[Tuple[Text, Described]]) -> bytes:
+        """Return the list that tracts make. Raise `ValueError` for land on another plat of the township."""
+        many = list(tracts)
+        for _, described in many:
+            if isinstance(described, Land) and self._answer(described).verdict == _library.OTHER_PLAT:
+                raise failure_of(_library.OTHER_PLAT, township_of(self._parts.township))
+        return list_of(many)
 
     def _answer(self, described: Described) -> _library.Answer:
         """Return the library's answer to a description or land."""
@@ -179,36 +108,5 @@ class LotsReporting(LotsPlaces):
 
     def _list_exception(self, answer: _library.Answer, given: bytes) -> Exception:
         """Return the exception for a list of tracts that is not accepted."""
-        if answer.verdict == _library.TRACT_REFUSED and answer.inner_number == LACKING:
-            return lacking_exception(answer, self._parts, LIST)
-        if self.has_land and answer.number in _OF_LAND:
-            return _refused_for_land(answer)
-        return exception_of_list(answer, byref(nominal_plat_of(township_of(self._parts.township))), given)
-
-
-#: The refusals of a list that depend on which lots a plat has. The library does not explain them by a lot table.
-_OF_LAND = (_library.REFUSAL_TRACT_REFUSED, _library.REFUSAL_TRACTS_OVERLAP)
-
-
-def _is_refused_as_tract(answer: TractAnswer) -> bool:
-    """Return whether a tract is refused whatever its land is: for its record, or for its name."""
-    return answer.refusal is not None and answer.refusal.number not in _OF_LAND
-
-
-def _refused_for_land(answer: _library.Answer) -> Refused:
-    """Return the refusal of a list for the land of a tract, without words of the library."""
-    inner, source = inner_refusal(answer), LIST.decode()
-    sentence = (
-        f"the description of this tract is refused on the plat of the lot table: {inner.number} at {inner.at}"
-        if inner
-        else "the land of this tract overlaps that of an earlier one"
-    )
-    explained = Explained(f"{source}: record {answer.at}", sentence)
-    text = f"township: {explained.message}\n"
-    return Refused(answer.number, answer.at, None, None, text, inner, source, explained)
-
-
-def _given(tracts: Iterable[Tuple[Text, Described]]) -> _Given:
-    """Return tracts, which may be any iterable, with the list that they make."""
-    many = list(tracts)
-    return _Given(many, list_of(many))
+        explain = _library.lots_explain_list_parts
+        return exception_of(answer, explain, byref(self._parts), given, len(given), source=LIST)

@@ -88,24 +88,29 @@ class Answers(Sequence[Union[Decimal, Refused]]):
 
 def answers_of(parts: object, descriptions: Sequence[Text], code: int, refuse: Refuse) -> Answers:
     """Return the answers to many descriptions on a plat, by the account with this code."""
+    return _answers(_library.acres_many, parts, descriptions, (code,), refuse)
+
+
+def answers_by(lots: object, descriptions: Sequence[Text], refuse: Refuse) -> Answers:
+    """Return the answers to many descriptions by a lot table."""
+    return _answers(_library.lots_acres_many, lots, descriptions, (), refuse)
+
+
+def _answers(
+    call: Callable[..., _library.Answer],
+    parts: object,
+    descriptions: Sequence[Text],
+    account: Tuple[int, ...],
+    refuse: Refuse,
+) -> Answers:
     given, offsets = in_a_row(descriptions)
     count = len(descriptions)
     words = array(_WORD, bytes(8 * _WORDS * count))
     answers = _answers_in(words)
     places = (ctypes.c_size_t * len(offsets)).from_buffer(offsets)
-    answer = _library.acres_many(parts, given, len(given), places, len(offsets), code, answers, count)
+    answer = call(parts, given, len(given), places, len(offsets), *account, answers, count)
     if answer.verdict != _library.ACCEPTED:
         raise failure_of(answer.verdict)
-    return Answers(words, given, offsets, refuse)
-
-
-def answers_by(call: Ask, descriptions: Sequence[Text], refuse: Refuse) -> Answers:
-    """Return the answers to many descriptions, each by a call of its own."""
-    given, offsets = in_a_row(descriptions)
-    words = array(_WORD, bytes(8 * _WORDS * len(descriptions)))
-    answers = _answers_in(words)
-    for index, description in enumerate(map(encoded, descriptions)):
-        answers[index] = call(description)
     return Answers(words, given, offsets, refuse)
 
 

@@ -3,7 +3,7 @@ from __future__ import annotations
 
 import ctypes
 from decimal import Decimal
-from typing import Callable, Iterable, NamedTuple, Optional, Tuple, TypeVar, Union
+from typing import Callable, Iterable, List, NamedTuple, Optional, Tuple, Type, TypeVar, Union
 
 from . import _library
 from ._figures import acres_of_hundredths
@@ -114,8 +114,19 @@ def report_by(lots: object, given: bytes) -> Tuple[_library.Answer, LotsReport]:
 
 def answers_on(parts: object, given: bytes) -> Tuple[_library.Answer, Tuple[TractAnswer, ...]]:
     """Return the library's answer to a list of tracts, and the answers to its tracts."""
+    return _each(_library.report_each, parts, given)
+
+
+def answers_by(lots: object, given: bytes) -> Tuple[_library.Answer, Tuple[TractAnswer, ...]]:
+    """Return the same by a lot table."""
+    return _each(_library.lots_report_each, lots, given)
+
+
+def _each(
+    call: Callable[..., _library.Answer], parts: object, given: bytes
+) -> Tuple[_library.Answer, Tuple[TractAnswer, ...]]:
     answers = (_library.TractAnswer * _library.TRACTS_MOST)()
-    answer = _library.report_each(parts, given, len(given), answers, len(answers))
+    answer = call(parts, given, len(given), answers, len(answers))
     return answer, tuple(map(_answer_of, answers[: answer.length]))
 
 
@@ -136,18 +147,36 @@ FIRST_TRACT = 2
 
 def overlaps_on(parts: object, given: bytes) -> Tuple[_library.Answer, Tuple[Overlap, ...]]:
     """Return the library's answer to a list of tracts, and the overlaps of its tracts."""
-    overlaps = (_library.Overlap * _USUAL_OVERLAPS)()
-    answer = _library.overlaps(parts, given, len(given), overlaps, len(overlaps))
+    answer, overlaps = _all_overlaps(_library.overlaps, _library.Overlap, parts, given)
+    return answer, tuple(Overlap(*_pair_of(each), acres_of_hundredths(each.hundredths)) for each in overlaps)
+
+
+def overlaps_by(lots: object, given: bytes) -> Tuple[_library.Answer, Tuple[LotsOverlap, ...]]:
+    """Return the same by a lot table."""
+    answer, overlaps = _all_overlaps(_library.lots_overlaps, _library.LotsOverlap, lots, given)
+    return answer, tuple(LotsOverlap(*_pair_of(each), _acres_of(each)) for each in overlaps)
+
+
+def _all_overlaps(
+    call: Callable[..., _library.Answer], kind: Type[T], parts: object, given: bytes
+) -> Tuple[_library.Answer, List[T]]:
+    """Return the library's answer to a list of tracts, and its overlaps, in a second call if there are many."""
+    overlaps = (kind * _USUAL_OVERLAPS)()  # type: ignore[operator]
+    answer = call(parts, given, len(given), overlaps, len(overlaps))
     if answer.verdict == _library.NO_ROOM:
-        overlaps = (_library.Overlap * answer.length)()
-        answer = _library.overlaps(parts, given, len(given), overlaps, len(overlaps))
-    return answer, tuple(map(_overlap_of, overlaps[: answer.length]))
+        overlaps = (kind * answer.length)()  # type: ignore[operator]
+        answer = call(parts, given, len(given), overlaps, len(overlaps))
+    return answer, overlaps[: answer.length]
 
 
-def _overlap_of(overlap: _library.Overlap) -> Overlap:
-    """Return an overlap."""
-    acres = acres_of_hundredths(overlap.hundredths)
-    return Overlap(overlap.first - FIRST_TRACT, overlap.second - FIRST_TRACT, acres)
+def _pair_of(overlap: Union[_library.Overlap, _library.LotsOverlap]) -> Tuple[int, int]:
+    """Return the indexes of two tracts that overlap."""
+    return overlap.first - FIRST_TRACT, overlap.second - FIRST_TRACT
+
+
+def _acres_of(overlap: _library.LotsOverlap) -> Optional[Decimal]:
+    """Return the acreage of an overlap by a lot table, unless the table lacks one of its lots."""
+    return None if overlap.lacking else acres_of_hundredths(overlap.hundredths)
 
 
 def _tract_of(tract: _library.Tract) -> Tract:

@@ -326,6 +326,27 @@ impl Overlap {
     };
 }
 
+/// `township_lots_overlap`.
+#[repr(C)]
+#[derive(Clone, Copy, Debug, PartialEq, Eq, Hash)]
+pub(crate) struct LotsOverlap {
+    pub(crate) first: u32,
+    pub(crate) second: u32,
+    pub(crate) hundredths: u64,
+    pub(crate) lacking: u32,
+    pub(crate) reserved: u32,
+}
+
+impl LotsOverlap {
+    pub(crate) const BLANK: LotsOverlap = LotsOverlap {
+        first: 0,
+        second: 0,
+        hundredths: 0,
+        lacking: 0,
+        reserved: 0,
+    };
+}
+
 /// `township_designation`.
 #[repr(C)]
 #[derive(Clone, Copy, Debug, PartialEq, Eq, Hash)]
@@ -563,6 +584,7 @@ const _: () = assert!(size_of::<Tract>() == 80 && offset_of!(Tract, name) == 12)
 const _: () = assert!(size_of::<Totals>() == 16 && offset_of!(Totals, remaining) == 8);
 const _: () = assert!(size_of::<TractAnswer>() == 120 && offset_of!(TractAnswer, name) == 52);
 const _: () = assert!(size_of::<Overlap>() == 16 && offset_of!(Overlap, hundredths) == 8);
+const _: () = assert!(size_of::<LotsOverlap>() == 24 && offset_of!(LotsOverlap, reserved) == 20);
 const _: () = assert!(size_of::<Designation>() == 4 && offset_of!(Designation, east_west) == 3);
 const _: () = assert!(size_of::<Land>() == 4620 && offset_of!(Land, township) == 4616);
 const _: () = assert!(size_of::<Lots>() == 13972 && offset_of!(Lots, township) == 13968);
@@ -662,6 +684,22 @@ extern "C" {
     fn township_lots_report(
         lots: *const Lots, list: *const u8, list_length: usize, tracts: *mut Tract, room: usize,
     ) -> Answer;
+    fn township_lots_report_each(
+        lots: *const Lots, list: *const u8, list_length: usize, answers: *mut TractAnswer,
+        room: usize,
+    ) -> Answer;
+    fn township_lots_overlaps(
+        lots: *const Lots, list: *const u8, list_length: usize, overlaps: *mut LotsOverlap,
+        room: usize,
+    ) -> Answer;
+    fn township_lots_acres_many(
+        lots: *const Lots, descriptions: *const u8, descriptions_length: usize,
+        offsets: *const usize, offsets_length: usize, answers: *mut Answer, room: usize,
+    ) -> Answer;
+    fn township_lots_answer_many(
+        lots: *const Lots, descriptions: *const u8, descriptions_length: usize,
+        offsets: *const usize, offsets_length: usize, answers: *mut FullAnswer, room: usize,
+    ) -> Answer;
     fn township_explain_notes(
         notes: *const u8, notes_length: usize, name: *const u8, name_length: usize, text: *mut u8,
         room: usize,
@@ -684,6 +722,10 @@ extern "C" {
     fn township_lots_explain_description(
         lots: *const Lots, description: *const u8, description_length: usize, name: *const u8,
         name_length: usize, text: *mut u8, room: usize,
+    ) -> Answer;
+    fn township_lots_explain_list(
+        lots: *const Lots, list: *const u8, list_length: usize, name: *const u8, name_length: usize,
+        text: *mut u8, room: usize,
     ) -> Answer;
     fn township_explain_notes_parts(
         notes: *const u8, notes_length: usize, name: *const u8, name_length: usize, text: *mut u8,
@@ -708,6 +750,10 @@ extern "C" {
     fn township_lots_explain_description_parts(
         lots: *const Lots, description: *const u8, description_length: usize, name: *const u8,
         name_length: usize, text: *mut u8, room: usize, explanation: *mut Explanation,
+    ) -> Answer;
+    fn township_lots_explain_list_parts(
+        lots: *const Lots, list: *const u8, list_length: usize, name: *const u8, name_length: usize,
+        text: *mut u8, room: usize, explanation: *mut Explanation,
     ) -> Answer;
     fn township_suggest(
         description: *const u8, description_length: usize, readings: *mut Reading,
@@ -1021,6 +1067,52 @@ pub(crate) fn lots_report(lots: &Lots, list: &[u8], tracts: &mut [Tract]) -> Ans
     }
 }
 
+/// Calls `township_lots_report_each`.
+pub(crate) fn lots_report_each(lots: &Lots, list: &[u8], answers: &mut [TractAnswer]) -> Answer {
+    // SAFETY: slices and references meet the library's requirements.
+    unsafe {
+        township_lots_report_each(
+            lots, list.as_ptr(), list.len(), answers.as_mut_ptr(), answers.len(),
+        )
+    }
+}
+
+/// Calls `township_lots_overlaps`.
+pub(crate) fn lots_overlaps(lots: &Lots, list: &[u8], overlaps: &mut [LotsOverlap]) -> Answer {
+    // SAFETY: slices and references meet the library's requirements.
+    unsafe {
+        township_lots_overlaps(
+            lots, list.as_ptr(), list.len(), overlaps.as_mut_ptr(), overlaps.len(),
+        )
+    }
+}
+
+/// Calls `township_lots_acres_many`.
+pub(crate) fn lots_acres_many(
+    lots: &Lots, descriptions: &[u8], offsets: &[usize], answers: &mut [Answer],
+) -> Answer {
+    // SAFETY: slices and references meet the library's requirements.
+    unsafe {
+        township_lots_acres_many(
+            lots, descriptions.as_ptr(), descriptions.len(), offsets.as_ptr(), offsets.len(),
+            answers.as_mut_ptr(), answers.len(),
+        )
+    }
+}
+
+/// Calls `township_lots_answer_many`.
+pub(crate) fn lots_answer_many(
+    lots: &Lots, descriptions: &[u8], offsets: &[usize], answers: &mut [FullAnswer],
+) -> Answer {
+    // SAFETY: slices and references meet the library's requirements.
+    unsafe {
+        township_lots_answer_many(
+            lots, descriptions.as_ptr(), descriptions.len(), offsets.as_ptr(), offsets.len(),
+            answers.as_mut_ptr(), answers.len(),
+        )
+    }
+}
+
 /// Calls `township_explain_notes`.
 pub(crate) fn explain_notes(notes: &[u8], name: &[u8], text: &mut [u8]) -> Answer {
     // SAFETY: slices and references meet the library's requirements.
@@ -1082,6 +1174,17 @@ pub(crate) fn lots_explain_description(
         township_lots_explain_description(
             lots, description.as_ptr(), description.len(), name.as_ptr(), name.len(),
             text.as_mut_ptr(), text.len(),
+        )
+    }
+}
+
+/// Calls `township_lots_explain_list`.
+pub(crate) fn lots_explain_list(lots: &Lots, list: &[u8], name: &[u8], text: &mut [u8]) -> Answer {
+    // SAFETY: slices and references meet the library's requirements.
+    unsafe {
+        township_lots_explain_list(
+            lots, list.as_ptr(), list.len(), name.as_ptr(), name.len(), text.as_mut_ptr(),
+            text.len(),
         )
     }
 }
@@ -1170,6 +1273,21 @@ pub(crate) fn lots_explain_description_parts(
         township_lots_explain_description_parts(
             lots, description.as_ptr(), description.len(), name.as_ptr(), name.len(),
             text.as_mut_ptr(), text.len(), &mut explanation,
+        )
+    };
+    (answer, explanation)
+}
+
+/// Calls `township_lots_explain_list_parts`.
+pub(crate) fn lots_explain_list_parts(
+    lots: &Lots, list: &[u8], name: &[u8], text: &mut [u8],
+) -> (Answer, Explanation) {
+    let mut explanation = Explanation::BLANK;
+    // SAFETY: slices and references meet the library's requirements.
+    let answer = unsafe {
+        township_lots_explain_list_parts(
+            lots, list.as_ptr(), list.len(), name.as_ptr(), name.len(), text.as_mut_ptr(),
+            text.len(), &mut explanation,
         )
     };
     (answer, explanation)

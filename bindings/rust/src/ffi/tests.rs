@@ -196,6 +196,25 @@ fn land_and_lots_that_are_none_are_found_out_by_each_call() {
     assert_eq!(lots_land_acres(&none, &some), no_lots);
     assert_eq!(lots_land_area(&none, &some).0, no_lots);
     assert_eq!(lots_report(&none, b"", &mut [Tract::BLANK]), no_lots);
+    let mut each = [TractAnswer::BLANK];
+    assert_eq!(lots_report_each(&none, b"", &mut each), no_lots);
+    assert_eq!(lots_overlaps(&none, b"", &mut []), no_lots);
+    let mut answers = [Answer::BLANK];
+    assert_eq!(
+        lots_acres_many(&none, b"sec. 14.", &[0, 8], &mut answers),
+        no_lots
+    );
+    assert_eq!(answers[0], Answer::BLANK);
+    let mut full = [FullAnswer::BLANK];
+    let answered = lots_answer_many(&none, b"sec. 14.", &[0, 8], &mut full);
+    assert_eq!((answered.verdict, answered.length), (ACCEPTED, 1));
+    assert_eq!([full[0].acres, full[0].normal, full[0].note], [no_lots; 3]);
+    let list = b"name,description\n";
+    assert_eq!(lots_explain_list(&none, list, b"tracts", &mut []), no_lots);
+    assert_eq!(
+        lots_explain_list_parts(&none, list, b"tracts", &mut []).0,
+        no_lots
+    );
     assert_eq!(explain_lacking(&none, 503, b"land", &mut room), no_lots);
     let nothing = (no_lots, Explanation::BLANK);
     assert_eq!(

@@ -2,15 +2,16 @@
 
 use super::Lots;
 use crate::acres::Acres;
-use crate::earlier::EarlierLand;
+use crate::answer::{Fault, Verdict};
 use crate::explanation::explained_by;
-use crate::ffi;
+use crate::ffi::{self, TRACTS_MOST};
 use crate::land::Land;
 use crate::lot_faults::refused_on_plat;
 use crate::note::Note;
-use crate::plat::{Plat, LINES};
-use crate::refused::{Refusal, Refused, DESCRIPTION};
-use crate::report::{list_of, LotsOverlap, TractAnswer, TractRefusal, FIRST_TRACT};
+use crate::plat::{in_a_row, Plat, LINES, USUAL_OVERLAPS};
+use crate::refused::{Refused, DESCRIPTION, LIST};
+use crate::report::{list_of, LotsOverlap, TractAnswer};
+use crate::text::text_in;
 use crate::township::NOMINAL_QUARTER;
 
 impl Lots {
@@ -94,20 +95,35 @@ impl Lots {
             .map(move |description| self.acres(description))
     }
 
-    /// Returns the answers to many descriptions, in order. Each answer is the result of [`Lots::acres`].
+    /// Returns the answers to many descriptions, in order, by one call of the library. Each answer is the
+    /// result of [`Lots::acres`].
     pub fn acres_many<D: AsRef<[u8]>>(&self, descriptions: &[D]) -> Vec<Result<Acres, Refused>> {
-        self.acres_of(descriptions).collect()
+        let (all, offsets) = in_a_row(descriptions);
+        let mut answers = vec![ffi::Answer::BLANK; descriptions.len()];
+        let outcome = ffi::lots_acres_many(&self.data, &all, &offsets, &mut answers);
+        if let Err(fault) = outcome.accepted() {
+            unreachable!("only descriptions are refused, and {}", fault.refusal);
+        }
+        let each = descriptions.iter().zip(answers);
+        each.map(|(description, answer)| self.acres_in(answer, description.as_ref()))
+            .collect()
     }
 
-    /// Returns the canonical descriptions of many descriptions, or their refusals, in their order. With the
-    /// standard lots, one call of the library answers all of them, which is faster than [`Lots::normal`]
-    /// for each.
+    /// Returns the canonical descriptions of many descriptions, or their refusals, in their order, by one
+    /// call of the library. This is faster than [`Lots::normal`] for each.
     pub fn normal_many<D: AsRef<[u8]>>(&self, descriptions: &[D]) -> Vec<Result<String, Refused>> {
         if !self.has_land() {
             return self.nominal().normal_many(descriptions);
         }
-        let normal = |description: &D| self.normal(description);
-        descriptions.iter().map(normal).collect()
+        let (all, offsets) = in_a_row(descriptions);
+        let mut answers = vec![ffi::FullAnswer::BLANK; descriptions.len()];
+        let outcome = ffi::lots_answer_many(&self.data, &all, &offsets, &mut answers);
+        if let Err(fault) = outcome.accepted() {
+            unreachable!("only descriptions are refused, and {}", fault.refusal);
+        }
+        let each = descriptions.iter().zip(&answers);
+        each.map(|(description, answer)| self.normal_in(answer, description.as_ref()))
+            .collect()
     }
 
     /// Returns the answer to each of the tracts, each a name and a description, whatever is wrong with the
@@ -136,17 +152,15 @@ impl Lots {
         N: AsRef<[u8]>,
         D: AsRef<[u8]>,
     {
-        let tracts: Vec<(N, D)> = tracts.into_iter().collect();
-        // On the nominal plat, a tract's record and its name are refused as here.
-        let mut answers = self.nominal().report_each_csv(listed(&tracts))?;
-        for (index, (answer, (_, description))) in answers.iter_mut().zip(&tracts).enumerate() {
-            if !is_refused_as_tract(answer) {
-                answer.answer = self
-                    .acres(description)
-                    .map_err(|refused| tract_refused(index, &refused));
+        let list = list_of(tracts);
+        let mut answers = vec![ffi::TractAnswer::BLANK; TRACTS_MOST];
+        match ffi::lots_report_each(&self.data, &list, &mut answers).accepted() {
+            Ok(answer) => {
+                let answers = &answers[..answer.text_length()];
+                Ok(answers.iter().map(TractAnswer::from_data).collect())
             }
+            Err(fault) => Err(self.whole_list_refused(fault, &list)),
         }
-        Ok(answers)
     }
 
     /// Returns all overlaps of the tracts, each a name and a description, in the order of the later tract,
@@ -172,88 +186,44 @@ impl Lots {
         N: AsRef<[u8]>,
         D: AsRef<[u8]>,
     {
-        let tracts: Vec<(N, D)> = tracts.into_iter().collect();
-        if self.has_land() {
-            return self.overlaps_on_plat(&tracts);
+        let list = list_of(tracts);
+        let mut room = vec![ffi::LotsOverlap::BLANK; USUAL_OVERLAPS];
+        let mut answer = ffi::lots_overlaps(&self.data, &list, &mut room);
+        if answer.verdict() == Verdict::NoRoom {
+            room = vec![ffi::LotsOverlap::BLANK; answer.text_length()];
+            answer = ffi::lots_overlaps(&self.data, &list, &mut room);
         }
-        let overlaps = self.nominal().overlaps_csv(listed(&tracts))?;
-        overlaps
-            .into_iter()
-            .map(|overlap| {
-                let first = self.land(&tracts[overlap.first].1)?;
-                let both = first & self.land(&tracts[overlap.second].1)?;
-                Ok(LotsOverlap {
-                    first: overlap.first,
-                    second: overlap.second,
-                    acres: self.land_acres(&both).ok(),
-                })
-            })
-            .collect()
+        match answer.accepted() {
+            Ok(answer) => {
+                let found = &room[..answer.text_length()];
+                Ok(found.iter().map(LotsOverlap::from_data).collect())
+            }
+            Err(fault) => Err(self.whole_list_refused(fault, &list)),
+        }
     }
 
-    /// Returns all overlaps of the tracts on the plat of a table that says where its lots lie.
-    fn overlaps_on_plat<N: AsRef<[u8]>, D: AsRef<[u8]>>(
-        &self,
-        tracts: &[(N, D)],
-    ) -> Result<Vec<LotsOverlap>, Refused> {
-        let answers = self.nominal().report_each_csv(listed(tracts))?;
-        let mut earlier = EarlierLand::default();
-        let mut overlaps = Vec::new();
-        for (second, (answer, (_, description))) in answers.iter().zip(tracts).enumerate() {
-            if number_of(answer) == Some(ffi::REFUSAL_TRACT_ROW) {
-                continue;
-            }
-            let Ok(land) = self.land(description) else {
-                continue;
-            };
-            overlaps.extend(
-                earlier
-                    .shared(&land)
-                    .into_iter()
-                    .map(|(first, both)| LotsOverlap {
-                        first,
-                        second,
-                        acres: self.land_acres(&both).ok(),
-                    }),
-            );
-            earlier.add(second, land);
+    /// Returns the canonical description in the answer to a description, or its refusal.
+    fn normal_in(&self, answer: &ffi::FullAnswer, description: &[u8]) -> Result<String, Refused> {
+        if answer.normal.verdict == ffi::NO_ROOM {
+            return self.normal(description);
         }
-        Ok(overlaps)
+        match answer.normal.accepted() {
+            Ok(_) => Ok(text_in(&answer.text, answer.normal)),
+            Err(fault) => Err(refused_on_plat(fault, &self.data, description, DESCRIPTION)),
+        }
+    }
+
+    /// Returns the refusal of a list as a whole. It has no explanation if a tract's fault comes before it,
+    /// since that fault would be explained.
+    fn whole_list_refused(&self, fault: Fault, list: &[u8]) -> Refused {
+        Refused::explained_if_same(fault, |room| {
+            ffi::lots_explain_list_parts(&self.data, list, LIST.as_bytes(), room)
+        })
     }
 
     /// Returns the plat of the township in which every half mile is 40 chains long.
     fn nominal(&self) -> Plat {
         let plat = Plat::from_parts(self.township(), [NOMINAL_QUARTER; LINES]);
         plat.expect("each township has a nominal plat")
-    }
-}
-
-/// Returns the list that tracts make.
-fn listed<N: AsRef<[u8]>, D: AsRef<[u8]>>(tracts: &[(N, D)]) -> Vec<u8> {
-    list_of(tracts.iter().map(|(name, description)| (name, description)))
-}
-
-/// Returns the number of a tract's refusal, if it is refused.
-fn number_of(answer: &TractAnswer) -> Option<u32> {
-    Some(answer.answer.as_ref().err()?.refusal.number)
-}
-
-/// Returns whether a tract is refused whatever its land is: for its record, or for its name.
-fn is_refused_as_tract(answer: &TractAnswer) -> bool {
-    number_of(answer).is_some_and(|number| number != ffi::REFUSAL_TRACT_REFUSED)
-}
-
-/// Returns the refusal of a tract whose description is refused, or contains a lot that the table lacks.
-fn tract_refused(index: usize, refused: &Refused) -> TractRefusal {
-    let record = index + FIRST_TRACT;
-    TractRefusal {
-        refusal: Refusal {
-            number: ffi::REFUSAL_TRACT_REFUSED,
-            at: u32::try_from(record).expect("a list has few tracts"),
-        },
-        inner: Some(Refusal {
-            number: refused.number,
-            at: refused.at,
-        }),
     }
 }

@@ -300,7 +300,7 @@ impl Plat {
 }
 
 /// Returns the bytes of all descriptions in a row, and the offsets between them.
-fn in_a_row<D: AsRef<[u8]>>(descriptions: &[D]) -> (Vec<u8>, Vec<usize>) {
+pub(crate) fn in_a_row<D: AsRef<[u8]>>(descriptions: &[D]) -> (Vec<u8>, Vec<usize>) {
     let mut all = Vec::new();
     let mut offsets = vec![0];
     for description in descriptions {

@@ -9,7 +9,7 @@ use crate::report::{list_of, Overlap, Report, TractAnswer};
 use crate::text::text_by;
 
 /// The room for overlaps in a first call.
-const USUAL_OVERLAPS: usize = 64;
+pub(crate) const USUAL_OVERLAPS: usize = 64;
 
 impl Plat {
     /// Returns the report on a list of tracts (CSV, at most 1,048,576 bytes; see

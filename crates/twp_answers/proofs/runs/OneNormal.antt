@@ -1,7 +1,6 @@
 -- The same two texts have only one canonical text: they describe one land on one plat, and it has
 -- only one text.
 use Rattle.std.proofs.Common.{◌≡◌, ℕ, List, ap, refl, subst, sym, ◌∙◌}
-use Rattle.twp_grid.specs.Places.{PLACE_DIGITS}
 use Rattle.twp_grid.specs.declared.refusal.Refusal.{Refusal}
 use Rattle.twp_plat.specs.Plats.{TownshipPlat}
 use Rattle.twp_spell.specs.CanonicalText.{IsCanonicalText}

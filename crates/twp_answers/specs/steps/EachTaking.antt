@@ -1,11 +1,8 @@
 -- How the tracts of a list are answered one after another. No public contract cites this module.
 use Rattle.std.specs.Prelude.{◌≡◌, ◌≢◌, ℕ, ◌+◌, ◌<◌, List, length, true, Bool, MatchBool, ⊤, Result, Ok, Err}
 use Rattle.twp_notes.specs.Records.{Fields, record_at}
-use Rattle.twp_plat.specs.Plats.{TownshipPlat}
-use Rattle.twp_plat.specs.declared.land_area.Account.TheVariants.{Exact}
-use Rattle.twp_answers.specs.Answers.{IsNoDescription}
-use Rattle.twp_answers.specs.EachTract.{IsAnswerAt}
-use Rattle.twp_answers.specs.OnPlats.{HasAcresOn}
+use Rattle.twp_grid.specs.declared.refusal.Refusal.{Refusal}
+use Rattle.twp_answers.specs.EachTract.{DescriptionAnswers, IsAnswerAt}
 use Rattle.twp_answers.specs.Names.{has_name}
 use Rattle.twp_answers.specs.Tracts.{TRACTS_MOST, tracts_heading, name_in, IsTractName}
 use Rattle.twp_answers.specs.TractFaults.{IsNameRepeated}
@@ -13,7 +10,6 @@ use Rattle.twp_answers.specs.declared.each_tract.TractAnswer.{TractAnswer}
 use Rattle.twp_answers.specs.declared.names.NamesSoFar.{NamesSoFar}
 use Rattle.twp_answers.specs.declared.tract_fault.TractFault.{TractFault}
 use Rattle.twp_answers.specs.declared.tract_fault.TractFault.TheVariants as fault
-use Rattle.twp_grid.specs.Lands.{STANDARD_LOTS}
 
 -- the set contains the names of the first records, up to this number, as far as tracts can have them
 pub record AreNamesOf (rows : List Fields) (count : ℕ) (names : NamesSoFar) : Type 0 where
@@ -31,13 +27,13 @@ pub record TakesName (fields : Fields) (old new : NamesSoFar) (said : Bool) : Ty
       → MatchBool said (¬ IsNameRepeated rows index) (IsNameRepeated rows index)
 
 -- the record with this number was answered
-pub record TakesRecord (plat : TownshipPlat) (fields : Fields) (number : ℕ) (old new : NamesSoFar)
+pub record TakesRecord (Has : DescriptionAnswers) (fields : Fields) (number : ℕ) (old new : NamesSoFar)
     (given : TractAnswer)
     : Type 0 where
   pub names : (rows : List Fields) (index : ℕ) → record_at rows index ≡ fields → AreNamesOf rows index old
       → AreNamesOf rows (index + 1) new
   pub answer : (rows : List Fields) (index : ℕ) → record_at rows index ≡ fields → AreNamesOf rows index old
-      → number ≡ index + 2 → IsAnswerAt plat rows index given
+      → number ≡ index + 2 → IsAnswerAt Has rows index given
 
 -- the first record is not the heading, or is missing, or memory ran out
 abbrev pub HasNoHeadingIn : List Fields → TractFault → Type 0
@@ -51,9 +47,9 @@ StopsTaking rows fault.TooManyTracts = TRACTS_MOST < length rows
 StopsTaking rows fault.Memory = ⊤
 StopsTaking rows other = ⊥
 
--- the description names land with these hundredths of an acre, or is refused, which is a fault of the record
-abbrev pub AnswersLand : TownshipPlat → List ℕ → ℕ → Result ℕ TractFault → Type 0
-AnswersLand plat description number (Ok hundredths) = HasAcresOn plat description Exact hundredths
-AnswersLand plat description number (Err (fault.TractRefused at_ inner)) =
-    (at_ ≡ number) × IsNoDescription STANDARD_LOTS plat.township description inner
-AnswersLand plat description number (Err other) = ⊥
+-- the description has this answer, whose refusal is a fault of the record
+abbrev pub AnswersLand : (List ℕ → Result ℕ Refusal → Type 0) → List ℕ → ℕ → Result ℕ TractFault → Type 0
+AnswersLand Has description number (Ok hundredths) = Has description (Ok hundredths)
+AnswersLand Has description number (Err (fault.TractRefused at_ inner)) =
+    (at_ ≡ number) × Has description (Err inner)
+AnswersLand Has description number (Err other) = ⊥

@@ -1,10 +1,13 @@
 -- The answers to tracts, and their figures, as plain data. No public contract cites this module.
-use Rattle.std.specs.Prelude.{◌≡◌, ℕ, ◌<◌, List, length, take, slice_index_or}
+use Rattle.std.specs.Prelude.{◌≡◌, ℕ, ◌<◌, ◌≤◌, List, length, take, slice_index_or}
+use Rattle.std.specs.List.{SameFrom}
 use Rattle.twp_answers.specs.declared.account_figures.TractFigure.{TractFigure}
 use Rattle.twp_answers.specs.declared.each_tract.TractAnswer.{TractAnswer}
+use Rattle.twp_calls.specs.Answers.{ACCEPTED, NO_ROOM, bare, with_text}
 use Rattle.twp_calls.specs.EachCalls.{answer_of_tract}
 use Rattle.twp_calls.specs.TractNames.{IsEnded}
 use Rattle.twp_calls.specs.declared.account_call.TownshipTract.{TownshipTract}
+use Rattle.twp_calls.specs.declared.answer.TownshipAnswer.{TownshipAnswer}
 use Rattle.twp_calls.specs.declared.each_call.TownshipTractAnswer.{TownshipTractAnswer}
 
 -- the answer and the name are these, as plain data
@@ -18,6 +21,15 @@ pub record IsPlainAnswer (given : TractAnswer) (plain : TownshipTractAnswer) : T
 abbrev pub ArePlainTo : ℕ → List TractAnswer → List TownshipTractAnswer → Type 0
 ArePlainTo count given answers = (index : ℕ) (default : TractAnswer) (other : TownshipTractAnswer)
     → index < count → IsPlainAnswer (slice_index_or given index default) (slice_index_or answers index other)
+
+-- These answers were put at the front of the room, and nothing else was; or there is less room for them.
+pub data AreAnswersPut (given : List TractAnswer) (old new : List TownshipTractAnswer)
+    (answer : TownshipAnswer) : Type 0 where
+  answers_put : length given ≤ length old → length new ≡ length old
+      → ArePlainTo (length given) given new → SameFrom old new (length given)
+      → answer ≡ with_text (bare ACCEPTED) (length given) → AreAnswersPut given old new answer
+  no_answer_room : length old < length given → answer ≡ with_text (bare NO_ROOM) (length given)
+      → AreAnswersPut given old new answer
 
 -- the figure and the name are these, as plain data
 pub record IsPlainTract (figure : TractFigure) (plain : TownshipTract) : Type 0 where

@@ -7,14 +7,14 @@ use Rattle.twp_answers.proofs.each_tract.take_records.Given as goal
 
 -- the records so far were answered, and the others remain
 abbrev pub invariant-records : goal.invariant-records
-invariant-records l = record {
+invariant-records g l = record {
   reading : IsBetweenRecords l.records;
   rest : records_left l.records ≡ drop l.taken (records_left l.fn.records);
   within : l.taken ≤ length (records_left l.fn.records);
   few : l.taken ≤ TRACTS_MOST;
   names : AreNamesOf (records_left l.fn.records) l.taken l.names;
-  answers : AreAnswersTo l.plat (records_left l.fn.records) l.taken l.answers.items;
+  answers : AreAnswersTo (g.M.Answering.answers l.by) (records_left l.fn.records) l.taken l.answers.items;
 }
 
 abbrev pub decreases-records : goal.decreases-records
-decreases-records l = length (records_left l.records)
+decreases-records g l = length (records_left l.records)

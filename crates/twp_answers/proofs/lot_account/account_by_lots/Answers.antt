@@ -7,7 +7,7 @@ use Rattle.twp_answers.proofs.FirstTractFaults.{after_of_word}
 use Rattle.twp_answers.specs.steps.LotTaking.{AreRefusedByLots}
 use Rattle.twp_answers.proofs.FirstLotTractFaults.{first_refused_by}
 use Rattle.twp_answers.proofs.LotFigures.{account_of}
-use Rattle.twp_plat.specs.LotTables.{figure_of, lots_of}
+use Rattle.twp_plat.specs.LotTables.{lots_of}
 use Rattle.twp_answers.proofs.lot_account.account_by_lots.Goals as goal
 
 pub returns-in_err-tracts-clause-fault : goal.returns-in_err-tracts-clause-fault

@@ -6,6 +6,7 @@ use Rattle.twp_answers.proofs.overlaps.add_overlaps.Given as goal
 -- the overlaps with the lands so far were found
 abbrev pub invariant-loop-first : goal.invariant-loop-first
 invariant-loop-first g l = (rows : List Fields)
-    → AreLandsTo g.L.PlaceSet.places l.plat.township rows (length rows) l.lands
-    → AreFoundTo l.plat rows 0 l.fn.second l.fn.overlaps.items
-    → AreFoundTo l.plat rows l.first l.fn.second l.overlaps.items
+    → AreLandsTo g.L.PlaceSet.places (g.M.Measuring.measure l.by).lots (g.M.Measuring.measure l.by).township
+    rows (length rows) l.lands
+    → AreFoundTo (g.M.Measuring.measure l.by) rows 0 l.fn.second l.fn.overlaps.items
+    → AreFoundTo (g.M.Measuring.measure l.by) rows l.first l.fn.second l.overlaps.items

@@ -18,7 +18,8 @@ records-preserved g c =
       few = omega arith;
       lands =
           rw c.in_ok-push.ensures.items
-          (lands_next g.L.PlaceSet.places c.args.township rows c.records.taken _ _ c.records.invariant.lands
+          (lands_next g.L.PlaceSet.places (g.M.Measuring.measure c.args.by.now).lots
+          (g.M.Measuring.measure c.args.by.now).township rows c.records.taken _ _ c.records.invariant.lands
           (rw is.is c.in_ok-land.ensures));
     }
 
@@ -35,7 +36,9 @@ returns-clause-lands g c =
     let none = rw c.if-branch.false at c.in_ok-read.ensures in
     let short = no_record_left rows c.records.taken (sym c.records.invariant.rest ∙ none) in
     let all : c.records.taken ≡ length rows = omega arith in
-    subst (λ count. AreLandsTo g.L.PlaceSet.places c.args.township rows count c.records.lands.items) all
+    subst (λ count.
+    AreLandsTo g.L.PlaceSet.places (g.M.Measuring.measure c.args.by.now).lots
+    (g.M.Measuring.measure c.args.by.now).township rows count c.records.lands.items) all
     c.records.invariant.lands
 
 pub returns-clause-whole : goal.returns-clause-whole
@@ -44,6 +47,9 @@ returns-clause-whole g c =
     let none = rw c.if-branch.false at c.in_ok-read.ensures in
     let short = no_record_left rows c.records.taken (sym c.records.invariant.rest ∙ none) in
     let all : c.records.taken ≡ length rows = omega arith in
-    whole_lands g.L.PlaceSet.places c.args.township rows c.records.lands.items
-    (subst (λ count. AreLandsTo g.L.PlaceSet.places c.args.township rows count c.records.lands.items) all
+    whole_lands g.L.PlaceSet.places (g.M.Measuring.measure c.args.by.now).lots
+    (g.M.Measuring.measure c.args.by.now).township rows c.records.lands.items
+    (subst (λ count.
+    AreLandsTo g.L.PlaceSet.places (g.M.Measuring.measure c.args.by.now).lots
+    (g.M.Measuring.measure c.args.by.now).township rows count c.records.lands.items) all
     c.records.invariant.lands)

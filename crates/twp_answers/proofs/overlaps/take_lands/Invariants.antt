@@ -11,7 +11,8 @@ invariant-records g l = record {
   rest : records_left l.records ≡ drop l.taken (records_left l.fn.records);
   within : l.taken ≤ length (records_left l.fn.records);
   few : l.taken ≤ TRACTS_MOST;
-  lands : AreLandsTo g.L.PlaceSet.places l.township (records_left l.fn.records) l.taken l.lands.items;
+  lands : AreLandsTo g.L.PlaceSet.places (g.M.Measuring.measure l.by).lots
+      (g.M.Measuring.measure l.by).township (records_left l.fn.records) l.taken l.lands.items;
 }
 
 abbrev pub decreases-records : goal.decreases-records

@@ -2,7 +2,7 @@
 use Rattle.std.proofs.Common.{◌≡◌, subst, arith}
 use Rattle.std.specs.List.{SameFrom}
 use Rattle.std.proofs.lemmas.Grind.{common_steps}
-use Rattle.twp_calls.specs.FullAnswers.{AreFullAnswersTo}
+use Rattle.twp_calls.specs.FullAnswers.{AreFullAnswersTo, calls_on}
 use Rattle.twp_calls.proofs.FullFacts.{all_answered, answers_next, kept_next, too_many}
 use Rattle.twp_calls.proofs.answer_many.township_answer_many.Goals as goal
 
@@ -10,7 +10,7 @@ pub loop-index-preserved : goal.loop-index-preserved
 loop-index-preserved c = record {
   length_is = grind (arith, common_steps, c.loop-index.invariant.length_is);
   answers =
-      answers_next c.args.plat.now c.args.descriptions.now c.args.offsets.now c.args.account
+      answers_next (calls_on c.args.plat.now c.args.account) c.args.descriptions.now c.args.offsets.now
       c.loop-index.index
       c.args.answers.now c.loop-index.answers _ c.answer_between.result
       (omega (arith, c.loop-index.invariant.length_is))
@@ -24,17 +24,20 @@ loop-index-preserved c = record {
 
 pub returns-then-answers-count-clause-answer : goal.returns-then-answers-count-clause-answer
 returns-then-answers-count-clause-answer c =
-    too_many c.args.plat.now c.args.descriptions.now c.args.offsets.now c.args.account c.args.answers.now
+    too_many (calls_on c.args.plat.now c.args.account) c.args.descriptions.now c.args.offsets.now
+    c.args.answers.now
     c.counted.result c.saturating_sub-count.result (omega (arith, c.saturating_sub-count.ensures))
     c.if-answers-count.true c.counted.ensures
 
 pub returns-clause-answer : goal.returns-clause-answer
 returns-clause-answer c =
     let all : c.loop-index.index ≡ c.saturating_sub-count.result = omega arith in
-    all_answered c.args.plat.now c.args.descriptions.now c.args.offsets.now c.args.account c.args.answers.now
+    all_answered (calls_on c.args.plat.now c.args.account) c.args.descriptions.now c.args.offsets.now
+    c.args.answers.now
     c.loop-index.answers c.counted-2.result c.saturating_sub-count.result
     (omega (arith, c.saturating_sub-count.ensures)) (omega arith) c.loop-index.invariant.length_is
-    (subst (λ n. AreFullAnswersTo c.args.plat.now c.args.descriptions.now c.args.offsets.now c.args.account n
+    (subst (λ n.
+    AreFullAnswersTo (calls_on c.args.plat.now c.args.account) c.args.descriptions.now c.args.offsets.now n
     c.args.answers.now c.loop-index.answers) all c.loop-index.invariant.answers)
     (subst (SameFrom c.args.answers.now c.loop-index.answers) all c.loop-index.invariant.kept)
     c.counted-2.ensures

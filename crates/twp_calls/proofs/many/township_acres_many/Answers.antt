@@ -2,7 +2,7 @@
 use Rattle.std.proofs.Common.{◌≡◌, sym, ◌∙◌, subst, arith}
 use Rattle.std.specs.List.{SameFrom}
 use Rattle.std.proofs.lemmas.Grind.{common_steps}
-use Rattle.twp_calls.specs.Calls.{by_account, by_none, on_plat}
+use Rattle.twp_calls.specs.Calls.{IsAcresCall, by_account, by_none, on_plat}
 use Rattle.twp_calls.specs.ManyAnswers.{AreManyAnswersTo}
 use Rattle.twp_calls.proofs.ManyFacts.{all_answered, answers_next, kept_next, too_many}
 use Rattle.twp_calls.proofs.many.township_acres_many.Goals as goal
@@ -16,7 +16,8 @@ pub loop-index-preserved : goal.loop-index-preserved
 loop-index-preserved c = record {
   length_is = grind (arith, common_steps, c.loop-index.invariant.length_is);
   answers =
-      answers_next c.args.plat.now c.args.descriptions.now c.args.offsets.now c.args.account
+      answers_next (λ text. IsAcresCall c.args.plat.now text c.args.account) c.args.descriptions.now
+      c.args.offsets.now
       c.loop-index.index
       c.loop-index.answers c.answer_between.result (omega (arith, c.loop-index.invariant.length_is))
       c.loop-index.invariant.answers
@@ -31,7 +32,8 @@ pub returns-then-answers-count-clause-answer : goal.returns-then-answers-count-c
 returns-then-answers-count-clause-answer c =
     on_plat c.in-Some.made c.in-Some.ensures
     (by_account c.in-Some-account_of.by (sym c.account_of.ensures ∙ c.in-Some-account_of.is)
-    (too_many c.args.plat.now c.args.descriptions.now c.args.offsets.now c.args.account c.args.answers.now
+    (too_many (λ text. IsAcresCall c.args.plat.now text c.args.account) c.args.descriptions.now
+    c.args.offsets.now c.args.answers.now
     c.counted.result c.saturating_sub-count.result (omega (arith, c.saturating_sub-count.ensures))
     c.if-answers-count.true c.counted.ensures))
 
@@ -40,10 +42,13 @@ returns-clause-answer c =
     let all : c.loop-index.index ≡ c.saturating_sub-count.result = omega arith in
     on_plat c.in-Some.made c.in-Some.ensures
     (by_account c.in-Some-account_of.by (sym c.account_of.ensures ∙ c.in-Some-account_of.is)
-    (all_answered c.args.plat.now c.args.descriptions.now c.args.offsets.now c.args.account c.args.answers.now
+    (all_answered (λ text. IsAcresCall c.args.plat.now text c.args.account) c.args.descriptions.now
+    c.args.offsets.now c.args.answers.now
     c.loop-index.answers c.counted-2.result c.saturating_sub-count.result
     (omega (arith, c.saturating_sub-count.ensures)) (omega arith) c.loop-index.invariant.length_is
-    (subst (λ n. AreManyAnswersTo c.args.plat.now c.args.descriptions.now c.args.offsets.now c.args.account n
+    (subst (λ n.
+    AreManyAnswersTo (λ text. IsAcresCall c.args.plat.now text c.args.account) c.args.descriptions.now
+    c.args.offsets.now n
     c.loop-index.answers) all c.loop-index.invariant.answers)
     (subst (SameFrom c.args.answers.now c.loop-index.answers) all c.loop-index.invariant.kept)
     c.counted-2.ensures))

@@ -1,5 +1,6 @@
 use Rattle.std.proofs.Common.{◌≡◌, length}
 use Rattle.std.specs.List.{SameFrom}
+use Rattle.twp_calls.specs.Calls.{IsAcresCall}
 use Rattle.twp_calls.specs.ManyAnswers.{AreManyAnswersTo}
 use Rattle.twp_calls.proofs.many.township_acres_many.Given as goal
 
@@ -7,6 +8,7 @@ use Rattle.twp_calls.proofs.many.township_acres_many.Given as goal
 abbrev pub invariant-loop-index : goal.invariant-loop-index
 invariant-loop-index l = record {
   length_is : length l.answers ≡ length l.fn.answers;
-  answers : AreManyAnswersTo l.plat l.descriptions l.offsets l.account l.index l.answers;
+  answers : AreManyAnswersTo (λ text. IsAcresCall l.plat text l.account) l.descriptions l.offsets l.index
+      l.answers;
   kept : SameFrom l.fn.answers l.answers l.index;
 }

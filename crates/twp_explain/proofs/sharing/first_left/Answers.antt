@@ -1,5 +1,6 @@
 -- The next tract shares land with the one at the index, or doesn't.
 use Rattle.std.proofs.Common.{rules, sym, ◌∙◌}
+use Rattle.twp_grid.specs.Lands.{lotting}
 use Rattle.twp_notes.specs.Records.{record_at, records_left}
 use Rattle.twp_notes.proofs.Taking.{next_record_is}
 use Rattle.twp_explain.proofs.SharingFacts.{no_overlap, none_more}
@@ -15,8 +16,10 @@ records-preserved g c =
       reading = next.1;
       rest = is.after;
       apart =
-          none_more c.args.township rows c.args.index c.records.earlier c.records.invariant.apart
-          (no_overlap c.args.township (record_at rows c.records.earlier) (record_at rows c.args.index) _ _
+          none_more (lotting (g.P.Lotting.layout c.args.lots.now)) c.args.township rows c.args.index
+          c.records.earlier c.records.invariant.apart
+          (no_overlap (lotting (g.P.Lotting.layout c.args.lots.now)) c.args.township
+          (record_at rows c.records.earlier) (record_at rows c.args.index) _ _
           (rw (← is.is) at (c.in_ok-land_into.ensures c.if-not-branch-2.false)) c.requires.land
           (λ shared. absurd (cc (c.meets_land.ensures.1 shared, c.if-meets_land.false))));
     }
