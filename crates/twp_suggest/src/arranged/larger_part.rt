@@ -1,8 +1,8 @@
 //! An acreage that is that of a part which contains the land: `E/2SE/4, containing 160 acres`. Either may be wrong.
 
 use crate::arranged::plan::Plan;
-use twp_asides::plus;
-use twp_draft::{LeftOut, Names, Placed};
+use twp_asides::{is_acres, plus};
+use twp_draft::{LeftOut, Names, Phrase, Placed};
 
 /// The nominal area of a section, in hundredths of an acre.
 const SECTION: u64 = 64_000;
@@ -20,10 +20,15 @@ struct PartsArea {
 
 impl<'a> Plan<'a> {
     /// Whether the acreage of a phrase with an index is twice that of its land, or four times: that of a part which
-    /// contains this land. Only land in one section is looked at, without lots and exceptions.
+    /// contains this land. Only a figure with a word for acres is looked at, and land in one section, without lots and
+    /// exceptions.
     pub(crate) fn is_of_larger_part(&self, acreage: u64, list: &[Placed], index: usize) -> bool {
         let counts = self.counts;
         if counts.sections != 1 || counts.lists > 0 || counts.lots > 0 || counts.exceptions > 0 {
+            return false;
+        }
+        let has_unit = matches!(list.get(index), Some(placed) if self.has_unit(placed.phrase));
+        if !has_unit {
             return false;
         }
         let land = self.area_of_parts(land_of_acreage(list, index));
@@ -37,6 +42,16 @@ impl<'a> Plan<'a> {
         }
         is_about(acreage, land.joined.saturating_mul(2))
             || is_about(acreage, land.joined.saturating_mul(4))
+    }
+
+    /// Whether an acreage has a word for acres. A figure alone, as in a cell, may be of something else.
+    fn has_unit(&self, acreage: Phrase) -> bool {
+        for index in acreage.first..acreage.end {
+            if is_acres(self.draft.pieces.lower(index)) {
+                return true;
+            }
+        }
+        false
     }
 
     /// The nominal area of the parts among some phrases.
