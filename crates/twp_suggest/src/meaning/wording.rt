@@ -1,15 +1,15 @@
 //! The description that comes of a changed text: the text, or the canonical description of what is left
 //! without the land that it excepts.
-ghost use Rattle.std.specs.Prelude.{◌≡◌, ◌≤◌, ◌++◌, IfOk, IfSome, IsTrue, OnOk, drop, length};
+ghost use Rattle.std.specs.Prelude.{◌≡◌, ◌≤◌, IfOk, IfSome, IsTrue, OnOk, drop, length};
 ghost use Rattle.twp_grid.specs.Lands.{ContainsAll, SamePlaces, lotting};
 ghost use Rattle.twp_grammar.specs.Sentences.{IsReadAs};
 ghost use Rattle.twp_suggest.specs.Descriptions.{AreItemsOf, AreLotsNamed, IsAccepted, IsDescribed};
 ghost use Rattle.twp_suggest.specs.Descriptions.{IsRemainder, NamesTownship};
 ghost use Rattle.twp_suggest.specs.Descriptions.{as_written};
-ghost use Rattle.twp_suggest.specs.Excepting.{IsParted, except};
+ghost use Rattle.twp_suggest.specs.Excepting.{HasNoSemicolon, IsParted, IsSplit};
 ghost use Rattle.twp_suggest.specs.Descriptions.{without_first_line};
 
-use crate::meaning::kept::{kept, taken};
+use crate::meaning::kept::{EXCEPT, Excepting, around_except, divided, has_semicolon};
 use crate::meaning::manner::Manner;
 use crate::meaning::named::{find_with_lots, why_unread};
 use crate::meaning::on_plat::{first_township, read};
@@ -21,16 +21,6 @@ use twp_land::{Land, Lanes, Lotting, OneLanes, PlaceSet};
 use twp_read::Description;
 use twp_resolve::{PlaceFault, names_one_section, resolve_if_room, resolve_into};
 use twp_spell::spell;
-
-/// What is between land and what it is without.
-const EXCEPT: &[u8] = b" except ";
-
-/// A text before `except`, and one after it.
-#[derive(Clone, Copy)]
-pub(crate) struct Excepting<'a> {
-    pub(crate) whole: &'a [u8],
-    pub(crate) excepted: &'a [u8],
-}
 
 /// The items of what is excepted, and the offset of its text in the changed text.
 #[derive(Drop)]
@@ -165,17 +155,10 @@ fn without_excepted<P: Lotting>(alloc: Global, made: &[u8], lots: &P) -> Result<
     let Some(parts) = around_except(made) else {
         return Err(Unread::Refused);
     };
-    match of_last(alloc, made, parts, lots) {
-        Ok(wording) => Ok(wording),
-        Err(Unread::Memory) => Err(Unread::Memory),
-        Err(unread) => {
-            // Another section may follow the exception.
-            if parts.excepted.contains(&b';') {
-                of_each(alloc, made, lots)
-            } else {
-                Err(unread)
-            }
-        }
+    if has_semicolon(parts.excepted) {
+        of_each(alloc, made, parts, lots)
+    } else {
+        of_last(alloc, made, parts, lots)
     }
 }
 
@@ -186,7 +169,8 @@ fn of_last<P: Lotting>(
     parts: Excepting<'_>,
     lots: &P,
 ) -> Result<Wording, Unread>
-    requires { made.now ≡ parts.whole.now ++ except ++ parts.excepted.now }
+    requires split { IsSplit made.now parts.whole.now parts.excepted.now }
+    requires last { HasNoSemicolon parts.excepted.now }
     ensures described { IfOk result (λ found.
         IsDescribed (lotting (P.layout lots.now)) found.manner made.now found.text.items) }
     ensures items { IfOk result (λ found. AreItemsOf made.now found.items found.excepted) }
@@ -195,44 +179,22 @@ fn of_last<P: Lotting>(
     remainder(alloc, made, parts.whole, parts.excepted, at, lots)
 }
 
-/// The description of a text without its exceptions, each of which ends with a semicolon.
+/// The description of a text without the exceptions of its divisions, which semicolons separate.
 #[inline(never)]
-fn of_each<P: Lotting>(alloc: Global, made: &[u8], lots: &P) -> Result<Wording, Unread>
+fn of_each<P: Lotting>(
+    alloc: Global,
+    made: &[u8],
+    _parts: Excepting<'_>,
+    lots: &P,
+) -> Result<Wording, Unread>
+    requires split { IsSplit made.now _parts.whole.now _parts.excepted.now }
+    requires more { ¬ HasNoSemicolon _parts.excepted.now }
     ensures described { IfOk result (λ found.
         IsDescribed (lotting (P.layout lots.now)) found.manner made.now found.text.items) }
     ensures items { IfOk result (λ found. AreItemsOf made.now found.items found.excepted) }
 {
-    let whole = kept(alloc, made)?;
-    let excepted = taken(alloc, made)?;
-    remainder(alloc, made, whole.as_slice(), excepted.as_slice(), 0, lots)
-}
-
-/// The texts before the first `except` and after it.
-pub(crate) fn around_except(text: &[u8]) -> Option<Excepting<'_>>
-    ensures { IfSome result (λ parts. text.now ≡ parts.whole.now ++ except ++ parts.excepted.now) }
-{
-    for at in 0..text.len() {
-        if let Some(parts) = split_at_except(text, at) {
-            return Some(parts);
-        }
-    }
-    None
-}
-
-/// The texts before a place and after the `except` there.
-fn split_at_except(text: &[u8], at: usize) -> Option<Excepting<'_>>
-    requires { at ≤ length text.now }
-    ensures { IfSome result (λ parts. text.now ≡ parts.whole.now ++ except ++ parts.excepted.now) }
-{
-    let (whole, rest) = text.split_at(at);
-    if rest.len() < EXCEPT.len() {
-        return None;
-    }
-    let (mark, excepted) = rest.split_at(EXCEPT.len());
-    if mark != EXCEPT {
-        return None;
-    }
-    Some(Excepting { whole, excepted })
+    let both = divided(alloc, made)?;
+    remainder(alloc, made, both.whole.as_slice(), both.excepted.as_slice(), 0, lots)
 }
 
 /// The canonical description of the land of a text without the land of another, which has to be on the plat

@@ -1,10 +1,10 @@
 use Rattle.std.proofs.Common.{◌≡◌, length, rules}
 use Rattle.twp_suggest.specs.Excepting.{except}
 use Rattle.twp_suggest.proofs.meaning.TextFacts.{in_three}
-use Rattle.twp_suggest.proofs.meaning.wording.split_at_except.Goals as goal
+use Rattle.twp_suggest.proofs.meaning.kept.split_at_except.Goals as goal
 
-pub returns : goal.returns
-returns c =
+pub returns-clause-some : goal.returns-clause-some
+returns-clause-some c =
     let mark : c.split_at-2.result.0.now ≡ except = search rules in
     rw mark at
     (in_three c.args.text.now c.split_at.result.0.now c.split_at.result.1.now c.split_at-2.result.0.now
