@@ -1,5 +1,5 @@
--- Land that a changed text excepts: all before the first ` except ` is land without all after it, unless a
--- semicolon follows. Then semicolons divide the text, and each division is land, or excepts some.
+-- Land that a changed text excepts: what is before the first ` except ` is without what is after it. Or
+-- semicolons divide the text, and each division is land, or land without what is after its own ` except `.
 use Rattle.std.specs.Prelude.{◌≡◌, ◌≢◌, ◌-◌, ◌<◌, ℕ, List, [], ◌∷◌, ◌++◌}
 use Rattle.std.specs.Prelude.{codes, drop, length, replicate, slice_index, take}
 use Rattle.std.specs.List.{All, flat_map}
@@ -84,11 +84,9 @@ pub record IsDivided (made whole excepted : List ℕ) : Type 0 where
   pub whole_is : whole ++ semicolon ∷ [] ≡ all_kept divisions
   pub excepted_is : excepted ++ blank ∷ [] ≡ all_taken blank divisions
 
--- the land of a text, what is excepted from it, and the offset of the text of this: no semicolon follows
--- the first ` except `, and what is before it is without what is after it; or one follows, and each division
--- is by itself
+-- the land of a text, what is excepted from it, and the offset of the text of this: what is before the first
+-- ` except `, and what is after it; or, if a semicolon is after it, what the divisions keep and take
 pub data IsParted (made whole excepted : List ℕ) (at : ℕ) : Type 0 where
-  of_last : IsSplit made whole excepted → HasNoSemicolon excepted → at ≡ length (whole ++ except)
-      → IsParted made whole excepted at
+  of_last : IsSplit made whole excepted → at ≡ length (whole ++ except) → IsParted made whole excepted at
   of_each : (land less : List ℕ) → IsSplit made land less → ¬ HasNoSemicolon less
       → IsDivided made whole excepted → at ≡ 0 → IsParted made whole excepted at
