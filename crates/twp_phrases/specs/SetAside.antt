@@ -1,7 +1,7 @@
--- Phrases that somebody says aren't land, such as an office's own labels and remarks: where they are in a text.
--- What is set aside isn't read.
-use Rattle.std.specs.Prelude.{◌≡◌, ◌+◌, ◌&&◌, ◌<◌, ◌≤◌, ℕ, Bool, true, false, List, [], ◌∷◌, Option, None, Some}
-use Rattle.std.specs.Prelude.{length, nat_le, nat_lt, not, slice_index, slice_range, get_or}
+-- Phrases that somebody says aren't land, such as an office's own labels and remarks: where they are in a
+-- text. What is set aside isn't read.
+use Rattle.std.specs.Prelude.{◌≡◌, ◌+◌, ◌&&◌, ◌<◌, ◌≤◌, ℕ, Bool, true, false, List, [], ◌∷◌, Option}
+use Rattle.std.specs.Prelude.{None, Some, length, nat_le, nat_lt, not, slice_index, slice_range, get_or}
 use Rattle.std.specs.List.{find}
 use Rattle.std.specs.Char.{is_ascii_alphanumeric}
 use Rattle.std.specs.Str.{str_eq_ignore_ascii_case}

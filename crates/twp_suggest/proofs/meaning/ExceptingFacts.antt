@@ -1,5 +1,6 @@
 -- The divisions of a text, one after another.
-use Rattle.std.proofs.Common.{◌≡◌, ◌<◌, ◌+◌, ℕ, suc, List, [], ◌∷◌, ◌++◌, arith, length, refl, sym, ap, subst, ◌∙◌}
+use Rattle.std.proofs.Common.{◌≡◌, ◌<◌, ◌+◌, ℕ, suc, List, [], ◌∷◌, ◌++◌, arith, length, refl, sym, ap}
+use Rattle.std.proofs.Common.{subst, ◌∙◌}
 use Rattle.std.specs.List.{All, flat_map}
 use Rattle.std.proofs.lemmas.List.{append-nil, append_assoc, flat_map_more, length-append}
 use Rattle.std.proofs.lemmas.List.Elements.{All-append, All-cons, All-nil}
@@ -106,8 +107,8 @@ pub last_division : (made rest whole further excepted others text : List ℕ) (m
     → rest ≡ text → IsDivided made further others
 last_division made rest whole further excepted others text mark after so is here =
     all_divided made further others after
-    (next_division (made ++ semicolon ∷ []) (rest ++ semicolon ∷ []) [] whole further excepted others text mark
-    after (with_end made rest whole excepted mark so) is (ap (λ front. front ++ semicolon ∷ []) here))
+    (next_division (made ++ semicolon ∷ []) (rest ++ semicolon ∷ []) [] whole further excepted others text
+    mark after (with_end made rest whole excepted mark so) is (ap (λ front. front ++ semicolon ∷ []) here))
 
 -- the rest gets shorter
 shorter_by : (front rest more : ℕ) → rest ≡ front + suc more → more < rest
