@@ -67,7 +67,8 @@ pub record IsOfDivisions (lots : Lotting) (township : Designation) (made : List 
   pub is_none : IsNoException lots township land less
 
 -- THE REMAINDER: the canonical text of the land of a text without the land that it excepts, which lies in it,
--- and isn't all of it; each division is by itself only if what is after the first ` except ` can't be excepted
+-- and isn't all of it; each division is by itself only if what is after the first ` except ` can't be
+-- excepted
 pub record IsRemainder (lots : Lotting) (made text : List ℕ) : Type 0 where
   pub whole : List ℕ
   pub excepted : List ℕ
