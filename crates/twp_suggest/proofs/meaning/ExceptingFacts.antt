@@ -1,16 +1,17 @@
 -- The divisions of a text, one after another.
 use Rattle.std.proofs.Common.{◌≡◌, ◌<◌, ◌+◌, ℕ, suc, List, [], ◌∷◌, ◌++◌, arith, length, refl, sym, ap}
-use Rattle.std.proofs.Common.{subst, ◌∙◌}
+use Rattle.std.proofs.Common.{subst, ◌∙◌, ◌≢◌, min, take}
 use Rattle.std.specs.List.{All, flat_map}
 use Rattle.std.proofs.lemmas.List.{append-nil, append_assoc, flat_map_more, length-append}
+use Rattle.std.proofs.lemmas.List.{length-take}
 use Rattle.std.proofs.lemmas.List.Elements.{All-append, All-cons, All-nil}
 use Rattle.twp_suggest.specs.Excepting.{Division, HasNoExceptBefore, HasNoSemicolon, IsDivided, IsDivision}
-use Rattle.twp_suggest.specs.Excepting.{IsSplit, all_kept, all_taken, all_written, alone, blank, is_alone}
+use Rattle.twp_suggest.specs.Excepting.{IsSplit, all_kept, all_taken, all_written, alone, blank, except, is_alone}
 use Rattle.twp_suggest.specs.Excepting.{is_without, kept, mark_after, semicolon, taken, without, written}
 use Rattle.twp_suggest.specs.steps.ExceptingSteps.{IsAdded}
 
 -- the mark before the next exception, after some divisions
-pub mark_of : ℕ → List Division → ℕ
+abbrev pub mark_of : ℕ → List Division → ℕ
 mark_of mark [] = mark
 mark_of mark (division ∷ more) = mark_of (mark_after mark division) more
 
@@ -118,6 +119,15 @@ pub shorter : (rest text more : List ℕ) → rest ≡ text ++ semicolon ∷ mor
 shorter rest text more is =
     shorter_by (length text) (length rest) (length more)
     (ap length is ∙ length-append text (semicolon ∷ more))
+
+-- fewer bytes than ` except ` has are not it
+pub too_short : (rest : List ℕ) → length rest < 8 → take 8 rest ≢ except
+too_short rest short same =
+    let size : length (take 8 rest) ≡ 8 = ap length same in
+    absurd (none (length rest) (sym (length-take 8 rest) ∙ size) short)
+  where
+    none : (n : ℕ) → min 8 n ≡ 8 → n < 8 → ⊥
+    none n is less = omega (arith, is, less)
 
 -- a division without an exception, or with one, is added
 pub land_added : (text : List ℕ) (mark : ℕ) (whole further excepted others : List ℕ) → HasNoSemicolon text

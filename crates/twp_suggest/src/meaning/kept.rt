@@ -33,7 +33,7 @@ struct FirstDivision<'a> {
 
 /// What the divisions of a text keep: their land, and blanks instead of each exception. And what they take away:
 /// blanks instead of all but the exceptions, and a semicolon between two of them.
-pub(crate) fn divided(alloc: Global, made: &[u8]) -> Result<Divided, AllocError>
+pub(crate) fn divide(alloc: Global, made: &[u8]) -> Result<Divided, AllocError>
     ensures { IfOk result (λ it. IsDivided made.now it.whole.items it.excepted.items) }
 {
     let mut whole = Vec::with_capacity(alloc, made.len())?;
@@ -114,9 +114,9 @@ fn add_exception(
     mark: u8,
 ) -> Result<(), AllocError>
     ensures whole { OnOk result (whole.new.items
-        ≡ whole.old.items ++ kept (without parts.whole.now parts.excepted.now)) }
+        ≡ whole.old.items ++ kept (without parts.entry.whole.now parts.entry.excepted.now)) }
     ensures excepted { OnOk result (excepted.new.items
-        ≡ excepted.old.items ++ taken mark (without parts.whole.now parts.excepted.now)) }
+        ≡ excepted.old.items ++ taken mark (without parts.entry.whole.now parts.entry.excepted.now)) }
 {
     keep(whole, parts)?;
     take(excepted, parts, mark)
@@ -125,7 +125,7 @@ fn add_exception(
 /// Adds land, and blanks instead of what is excepted from it.
 fn keep(whole: &mut Vec<u8>, parts: Excepting<'_>) -> Result<(), AllocError>
     ensures { OnOk result (whole.new.items
-        ≡ whole.old.items ++ kept (without parts.whole.now parts.excepted.now)) }
+        ≡ whole.old.items ++ kept (without parts.entry.whole.now parts.entry.excepted.now)) }
 {
     whole.extend_from_slice(parts.whole)?;
     add_blanks(whole, EXCEPT.len())?;
@@ -135,7 +135,7 @@ fn keep(whole: &mut Vec<u8>, parts: Excepting<'_>) -> Result<(), AllocError>
 /// Adds what is excepted after a mark, and blanks instead of the rest.
 fn take(excepted: &mut Vec<u8>, parts: Excepting<'_>, mark: u8) -> Result<(), AllocError>
     ensures { OnOk result (excepted.new.items
-        ≡ excepted.old.items ++ taken mark (without parts.whole.now parts.excepted.now)) }
+        ≡ excepted.old.items ++ taken mark (without parts.entry.whole.now parts.entry.excepted.now)) }
 {
     add_blanks(excepted, parts.whole.len())?;
     excepted.push(mark)?;

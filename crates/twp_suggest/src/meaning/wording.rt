@@ -10,7 +10,7 @@ ghost use Rattle.twp_suggest.specs.Descriptions.{as_written};
 ghost use Rattle.twp_suggest.specs.Excepting.{HasNoSemicolon, IsParted, IsSplit};
 ghost use Rattle.twp_suggest.specs.Descriptions.{without_first_line};
 
-use crate::meaning::kept::{EXCEPT, Excepting, around_except, divided, has_semicolon};
+use crate::meaning::kept::{EXCEPT, Excepting, around_except, divide, has_semicolon};
 use crate::meaning::manner::Manner;
 use crate::meaning::named::{find_with_lots, why_unread};
 use crate::meaning::on_plat::{find_land, first_township, read};
@@ -182,7 +182,7 @@ fn is_exception<P: Lotting>(
     lots: &P,
 ) -> Result<bool, AllocError>
     ensures { IfOk result (λ it. it ≡ false → IsNoException (lotting (P.layout lots.now)) township
-        parts.whole.now parts.excepted.now) }
+        parts.entry.whole.now parts.entry.excepted.now) }
 {
     let mut land = Lanes::empty();
     let mut less = Lanes::empty();
@@ -243,7 +243,7 @@ fn of_each<P: Lotting>(
         IsDescribed (lotting (P.layout lots.now)) found.manner made.now found.text.items) }
     ensures items { IfOk result (λ found. AreItemsOf made.now found.items found.excepted) }
 {
-    let both = divided(alloc, made)?;
+    let both = divide(alloc, made)?;
     let (whole, excepted) = (both.whole.as_slice(), both.excepted.as_slice());
     let Some(description) = read(alloc, whole)? else {
         return Err(Unread::Refused);

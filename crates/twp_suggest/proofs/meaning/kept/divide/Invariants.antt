@@ -1,6 +1,6 @@
 use Rattle.std.proofs.Common.{length}
 use Rattle.twp_suggest.proofs.meaning.ExceptingFacts.{AreSoFar}
-use Rattle.twp_suggest.proofs.meaning.kept.divided.Given as goal
+use Rattle.twp_suggest.proofs.meaning.kept.divide.Given as goal
 
 -- the divisions so far, and the rest of the text
 abbrev pub invariant-divisions : goal.invariant-divisions
