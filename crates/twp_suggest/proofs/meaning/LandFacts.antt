@@ -52,16 +52,6 @@ is_no_exception lots township whole excepted land less only_land only_less none 
     (subst (λ it. SamePlaces land it) (sym less_is)
     (none (subst (λ it. ContainsAll land it) less_is (subst (λ it. ContainsAll it others) land_is inside))))
 
-pub none_of_whole : (lots : Lotting) (township : Designation) (whole excepted : List ℕ)
-    → NamesNoLand lots township whole → IsNoException lots township whole excepted
-none_of_whole lots township whole excepted none = λ places others of_whole of_excepted inside.
-    absurd (none places of_whole)
-
-pub none_of_less : (lots : Lotting) (township : Designation) (whole excepted : List ℕ)
-    → NamesNoLand lots township excepted → IsNoException lots township whole excepted
-none_of_less lots township whole excepted none = λ places others of_whole of_excepted inside.
-    absurd (none others of_excepted)
-
 -- what is left of a text without its exception
 pub is_remainder : (lots : Lotting) (made whole excepted : List ℕ) (at : ℕ) (text full : List ℕ)
     (items : List Item)
