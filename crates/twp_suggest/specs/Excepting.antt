@@ -58,18 +58,14 @@ mark_after mark (alone land) = mark
 mark_after mark (without land less) = semicolon
 
 -- it contains no semicolon, and excepts what is after its first ` except `
-pub data IsDivision : Division → Type 0 where
-  is_alone : (land : List ℕ) → HasNoSemicolon land → HasNoExceptBefore land (length land)
-      → IsDivision (alone land)
-  is_without : (land less : List ℕ) → HasNoSemicolon (land ++ except ++ less)
-      → IsSplit (land ++ except ++ less) land less → IsDivision (without land less)
+abbrev pub IsDivision : Division → Type 0
+IsDivision (alone land) = HasNoSemicolon land × HasNoExceptBefore land (length land)
+IsDivision (without land less) =
+    HasNoSemicolon (land ++ except ++ less) × HasNoExceptBefore (land ++ except ++ less) (length land)
 
--- divisions as they are written, and what they keep: a semicolon ends each of them
-abbrev pub all_written : List Division → List ℕ
-all_written divisions = flat_map (λ division. written division ++ semicolon ∷ []) divisions
-
-abbrev pub all_kept : List Division → List ℕ
-all_kept divisions = flat_map (λ division. kept division ++ semicolon ∷ []) divisions
+-- divisions as they are written, or what they keep: a semicolon ends each of them
+abbrev pub all_of : (Division → List ℕ) → List Division → List ℕ
+all_of text divisions = flat_map (λ division. text division ++ semicolon ∷ []) divisions
 
 -- what they take: a blank ends each of them
 abbrev pub all_taken : ℕ → List Division → List ℕ
@@ -80,8 +76,8 @@ all_taken mark (division ∷ more) = taken mark division ++ blank ∷ all_taken 
 pub record IsDivided (made whole excepted : List ℕ) : Type 0 where
   pub divisions : List Division
   pub each : All IsDivision divisions
-  pub made_is : made ++ semicolon ∷ [] ≡ all_written divisions
-  pub whole_is : whole ++ semicolon ∷ [] ≡ all_kept divisions
+  pub made_is : made ++ semicolon ∷ [] ≡ all_of written divisions
+  pub whole_is : whole ++ semicolon ∷ [] ≡ all_of kept divisions
   pub excepted_is : excepted ++ blank ∷ [] ≡ all_taken blank divisions
 
 -- the land of a text, what is excepted from it, and the offset of the text of this: what is before the first

@@ -6,8 +6,8 @@ use Rattle.std.proofs.lemmas.List.{append-nil, append_assoc, flat_map_more, leng
 use Rattle.std.proofs.lemmas.List.{length-take}
 use Rattle.std.proofs.lemmas.List.Elements.{All-append, All-cons, All-nil}
 use Rattle.twp_suggest.specs.Excepting.{Division, HasNoExceptBefore, HasNoSemicolon, IsDivided, IsDivision}
-use Rattle.twp_suggest.specs.Excepting.{IsSplit, all_kept, all_taken, all_written, alone, blank, except, is_alone}
-use Rattle.twp_suggest.specs.Excepting.{is_without, kept, mark_after, semicolon, taken, without, written}
+use Rattle.twp_suggest.specs.Excepting.{IsSplit, all_of, all_taken, alone, blank, except, kept, mark_after}
+use Rattle.twp_suggest.specs.Excepting.{semicolon, taken, without, written}
 use Rattle.twp_suggest.specs.steps.ExceptingSteps.{IsAdded}
 
 -- the mark before the next exception, after some divisions
@@ -19,8 +19,8 @@ mark_of mark (division ∷ more) = mark_of (mark_after mark division) more
 pub record AreSoFar (made rest whole excepted : List ℕ) (mark : ℕ) : Type 0 where
   pub divisions : List Division
   pub each : All IsDivision divisions
-  pub made_is : all_written divisions ++ rest ≡ made
-  pub whole_is : whole ≡ all_kept divisions
+  pub made_is : all_of written divisions ++ rest ≡ made
+  pub whole_is : whole ≡ all_of kept divisions
   pub excepted_is : excepted ≡ all_taken blank divisions
   pub mark_is : mark ≡ mark_of blank divisions
 
@@ -60,8 +60,8 @@ next_division made rest more whole further excepted others text mark after so is
       (All-cons IsDivision is.division [] is.is (All-nil IsDivision));
   made_is = ap (λ front. front ++ more)
       (sym (flat_map_more (λ division. written division ++ semicolon ∷ []) [] so.divisions is.division))
-      ∙ append_assoc (all_written so.divisions) (written is.division ++ semicolon ∷ []) more
-      ∙ ap (λ tail. all_written so.divisions ++ tail)
+      ∙ append_assoc (all_of written so.divisions) (written is.division ++ semicolon ∷ []) more
+      ∙ ap (λ tail. all_of written so.divisions ++ tail)
       (append_assoc (written is.division) (semicolon ∷ []) more
       ∙ ap (λ front. front ++ semicolon ∷ more) (sym is.text_is) ∙ sym here)
       ∙ so.made_is;
@@ -84,7 +84,7 @@ with_end : (made rest whole excepted : List ℕ) (mark : ℕ) → AreSoFar made 
 with_end made rest whole excepted mark so = record {
   divisions = so.divisions;
   each = so.each;
-  made_is = sym (append_assoc (all_written so.divisions) rest (semicolon ∷ []))
+  made_is = sym (append_assoc (all_of written so.divisions) rest (semicolon ∷ []))
       ∙ ap (λ front. front ++ semicolon ∷ []) so.made_is;
   whole_is = so.whole_is;
   excepted_is = so.excepted_is;
@@ -97,7 +97,7 @@ all_divided : (made whole excepted : List ℕ) (mark : ℕ)
 all_divided made whole excepted mark so = record {
   divisions = so.divisions;
   each = so.each;
-  made_is = sym so.made_is ∙ append-nil (all_written so.divisions);
+  made_is = sym so.made_is ∙ append-nil (all_of written so.divisions);
   whole_is = so.whole_is;
   excepted_is = so.excepted_is;
 }
@@ -136,7 +136,7 @@ pub land_added : (text : List ℕ) (mark : ℕ) (whole further excepted others :
     → IsAdded text mark mark whole further excepted others
 land_added text mark whole further excepted others none first kept_is taken_is = record {
   division = alone text;
-  is = is_alone text none first;
+  is = (none, first);
   text_is = refl;
   after_is = refl;
   kept_is = kept_is;
@@ -149,11 +149,10 @@ pub exception_added : (text : List ℕ) (mark : ℕ) (whole further excepted oth
     → IsAdded text mark semicolon whole further excepted others
 exception_added text mark whole further excepted others land less none split kept_is taken_is = record {
   division = without land less;
-  is = is_without land less (subst HasNoSemicolon split.is none)
-      (record {
-        is = refl;
-        first = subst (λ it. HasNoExceptBefore it (length land)) split.is split.first;
-      });
+  is = (
+    subst HasNoSemicolon split.is none,
+    subst (λ it. HasNoExceptBefore it (length land)) split.is split.first,
+  );
   text_is = split.is;
   after_is = refl;
   kept_is = kept_is;
