@@ -7,7 +7,8 @@ use Rattle.std.proofs.lemmas.List.{append-nil, drop_more, length-drop}
 use Rattle.std.specs.Prelude.{slice_index_or, slice_range}
 use Rattle.twp_phrases.specs.SetAside.{AreRemarks, IsFirstOfLand}
 use Rattle.twp_calls.specs.ManyAnswers.{IsRange, count_between}
-use Rattle.twp_calls.specs.SetAsides.{AreDataOfSetAside, AreRanges, IsSetAsideCall, phrases_between, set_aside}
+use Rattle.twp_calls.specs.SetAsides.{AreDataOfSetAside, AreRanges, IsSetAsideCall, phrases_between}
+use Rattle.twp_calls.specs.SetAsides.{set_aside}
 use Rattle.twp_calls.specs.UnreadCalls.{AreStretchesPut}
 use Rattle.twp_calls.specs.declared.answer.TownshipAnswer.{TownshipAnswer}
 use Rattle.twp_calls.specs.declared.unread.TownshipStretch.{TownshipStretch}
