@@ -5,9 +5,13 @@ use Rattle.std.proofs.Common.{ap, ◌∙◌}
 use Rattle.std.proofs.lemmas.Bool.{cases_order}
 use Rattle.std.proofs.lemmas.List.{append-nil, drop_more, length-drop}
 use Rattle.std.specs.Prelude.{slice_index_or, slice_range}
-use Rattle.twp_phrases.specs.SetAside.{IsFirstOfLand}
+use Rattle.twp_phrases.specs.SetAside.{AreRemarks, IsFirstOfLand}
 use Rattle.twp_calls.specs.ManyAnswers.{IsRange, count_between}
-use Rattle.twp_calls.specs.SetAsides.{phrases_between}
+use Rattle.twp_calls.specs.SetAsides.{AreDataOfSetAside, AreRanges, IsSetAsideCall, phrases_between}
+use Rattle.twp_calls.specs.SetAsides.{set_aside}
+use Rattle.twp_calls.specs.UnreadCalls.{AreStretchesPut}
+use Rattle.twp_calls.specs.declared.answer.TownshipAnswer.{TownshipAnswer}
+use Rattle.twp_calls.specs.declared.unread.TownshipStretch.{TownshipStretch}
 
 -- one more offset
 after_one : (bytes : List ℕ) (start end : ℕ) (rest more : List ℕ) → rest ≡ start ∷ more
@@ -96,3 +100,17 @@ first_between bytes offsets items slice index same are first =
 pub few_before : (bytes offsets : List ℕ) (index : ℕ) → IsFirstOfLand (phrases_between bytes offsets) index
     → index < count_between offsets
 few_before bytes offsets index first = subst (λ n. index < n) (length_between bytes offsets) first.within
+
+-- phrases that name no land, and the places of them as data, are put
+pub are_put : (text bytes offsets : List ℕ) (items slice others : List (Bor (List ℕ)))
+    (found list old new : List TownshipStretch) (answer : TownshipAnswer) → slice ≡ items → others ≡ items
+    → AreRanges bytes offsets → map (λ phrase. phrase.now) items ≡ phrases_between bytes offsets
+    → AreRemarks (map (λ phrase. phrase.now) slice)
+    → AreDataOfSetAside (map (λ phrase. phrase.now) others) text found → list ≡ found
+    → AreStretchesPut list old new answer → IsSetAsideCall text bytes offsets old new answer
+are_put text bytes offsets items slice others found list old new answer same also ranges are remarks data_are
+    listed put =
+    set_aside found ranges (subst AreRemarks (ap (map (λ phrase. phrase.now)) same ∙ are) remarks)
+    (subst (λ phrases. AreDataOfSetAside phrases text found) (ap (map (λ phrase. phrase.now)) also ∙ are)
+    data_are)
+    (subst (λ it. AreStretchesPut it old new answer) listed put)

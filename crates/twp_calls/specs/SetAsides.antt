@@ -1,9 +1,10 @@
--- Where in a text phrases stand that somebody says aren't land. The phrases are given as bytes in a row and
+-- Where in a text phrases are that somebody says aren't land. The phrases are given as bytes in a row and
 -- the offsets between them.
 use Rattle.std.specs.Prelude.{◌≡◌, ◌⊎◌, ◌+◌, ◌<◌, ℕ, List, [], ◌∷◌, length, map}
 use Rattle.std.specs.Prelude.{slice_index_or, slice_range}
 use Rattle.twp_grid.specs.declared.refusal.Refusal.{Refusal}
-use Rattle.twp_phrases.specs.SetAside.{AreRemarks, IsFirstOfLand, set_aside}
+use Rattle.twp_phrases.specs.SetAside.{AreRemarks, AreSetAside, IsFirstOfLand}
+use Rattle.twp_phrases.specs.declared.stretches.Stretch.{Stretch}
 use Rattle.twp_calls.specs.Answers.{NO_MEMORY, NO_RANGE, bare}
 use Rattle.twp_calls.specs.Calls.{IsRefusedFor}
 use Rattle.twp_calls.specs.ManyAnswers.{IsRange, count_between}
@@ -37,12 +38,20 @@ pub record IsOfLand (phrases : List (List ℕ)) (answer : Refusal) : Type 0 wher
   pub first : IsFirstOfLand phrases index
   pub is : answer ≡ record { number = 51; at = index + 1 }
 
--- `township_set_aside`: where the phrases stand; or they are too large, or don't lie in the bytes, or one of
+-- where these phrases are in the text, as data
+pub record AreDataOfSetAside (phrases : List (List ℕ)) (text : List ℕ) (list : List TownshipStretch)
+    : Type 0 where
+  pub found : List Stretch
+  pub are : AreSetAside phrases text found
+  pub list_is : list ≡ map run_data found
+
+-- `township_set_aside`: where the phrases are; or they are too large, or don't lie in the bytes, or one of
 -- them names land; or memory ran out.
 pub data IsSetAsideCall (text bytes offsets : List ℕ) (old new : List TownshipStretch)
     (answer : TownshipAnswer) : Type 0 where
-  stand : AreRanges bytes offsets → AreRemarks (phrases_between bytes offsets)
-      → AreStretchesPut (map run_data (set_aside (phrases_between bytes offsets) text)) old new answer
+  set_aside : (list : List TownshipStretch) → AreRanges bytes offsets
+      → AreRemarks (phrases_between bytes offsets)
+      → AreDataOfSetAside (phrases_between bytes offsets) text list → AreStretchesPut list old new answer
       → IsSetAsideCall text bytes offsets old new answer
   too_large : AreTooLarge bytes offsets
       → IsRefusedFor (λ refusal. refusal ≡ record { number = 50; at = PHRASES_LIMIT }) answer

@@ -1,10 +1,9 @@
 //! Finding phrases in a text that the caller says aren't land.
 ghost use Rattle.std.specs.Prelude.{◌≡◌, ◌≢◌, ◌<◌, ◌≤◌, IfOk, MatchOption, map};
 ghost use Rattle.twp_calls.specs.Answers.{ACCEPTED};
-ghost use Rattle.twp_calls.specs.SetAsides.{AreRanges, IsSetAsideCall, PHRASES_LIMIT, phrases_between};
+ghost use Rattle.twp_calls.specs.SetAsides.{AreDataOfSetAside, AreRanges, IsSetAsideCall, PHRASES_LIMIT};
+ghost use Rattle.twp_calls.specs.SetAsides.{phrases_between};
 ghost use Rattle.twp_calls.specs.ManyAnswers.{count_between};
-ghost use Rattle.twp_calls.specs.UnreadCalls.{run_data};
-ghost use Rattle.twp_phrases.specs.SetAside.{set_aside};
 
 use crate::answer::TownshipAnswer;
 use crate::unread::{TownshipStretch, data_of_runs, put_stretches};
@@ -81,8 +80,8 @@ fn stretches_of(
     text: &[u8],
     phrases: &[&[u8]],
 ) -> Result<Vec<TownshipStretch>, AllocError>
-    ensures { IfOk result (λ it. it.items
-        ≡ map run_data (set_aside (map (λ phrase. phrase.now) phrases.now) text.now)) }
+    ensures { IfOk result (λ it.
+        AreDataOfSetAside (map (λ phrase. phrase.now) phrases.now) text.now it.items) }
 {
     let found = set_aside(alloc, text, phrases)?;
     data_of_runs(alloc, found.as_slice())

@@ -1,85 +1,74 @@
--- Where phrases stand, place by place.
-use Rattle.std.proofs.Common.{◌≡◌, ◌+◌, ◌-◌, ◌<◌, ℕ, zero, suc, true, List, [], ◌∷◌, ◌++◌}
-use Rattle.std.proofs.Common.{◌⊎◌, length, drop, refl, sym, ap, ◌∙◌, arith}
+-- Where phrases are, place by place.
+use Rattle.std.proofs.Common.{◌≡◌, ◌+◌, ◌<◌, ◌≤◌, ℕ, true, List, [], ◌∷◌, ◌++◌, ◌⊎◌, length, refl, sym, ap}
+use Rattle.std.proofs.Common.{◌∙◌, arith, map, Bor, inl, inr, subst, append_assoc, Option, None, Some}
 use Rattle.std.specs.Prelude.{get_or}
-use Rattle.std.proofs.lemmas.List.{drop_more, get_or-map}
-use Rattle.std.proofs.Math.Seq.{drop-nil}
+use Rattle.std.specs.Option.{option_map}
+use Rattle.std.proofs.lemmas.List.{append-nil, get_or-map}
 use Rattle.std.proofs.lemmas.Bool.{cases_order}
-use Rattle.std.proofs.Common.{map, Bor, inl, inr, append_assoc}
 use Rattle.twp_rules.specs.Sayings.{is_remark}
-use Rattle.twp_phrases.specs.SetAside.{length_at, set_aside, stretches_from, with_stretch}
+use Rattle.twp_phrases.specs.SetAside.{AreFrom, AreSetAside, phrase_at}
 use Rattle.twp_phrases.specs.declared.stretches.Stretch.{Stretch}
 
--- past bytes that are set aside already
-pub passed : (phrases : List (List ℕ)) (text : List ℕ) (at skip : ℕ) (rest : List ℕ)
-    → stretches_from phrases text at skip rest ≡ stretches_from phrases text (at + skip) 0 (drop skip rest)
-passed phrases text at zero rest = ap (λ n. stretches_from phrases text n 0 rest) (omega arith)
-passed phrases text at (suc skip) [] = refl
-passed phrases text at (suc skip) (byte ∷ rest) =
-    passed phrases text (at + 1) skip rest
-    ∙ ap (λ n. stretches_from phrases text n 0 (drop skip rest)) (omega arith)
+none_of : (found : Option (List ℕ)) → None ≡ option_map length found → found ≡ None
+none_of None is = refl
+none_of (Some phrase) is = absurd (cc is)
 
-no_stretch : (at n : ℕ) (f : ℕ → List Stretch) → n ≡ 0 → with_stretch at n (f (n - 1)) ≡ f 0
-no_stretch at zero f h = refl
-no_stretch at (suc n) f h = cc h
+below : (at : ℕ) → at ≤ at
+below at = omega arith
 
--- no phrase stands at a place
-pub next_none : (phrases : List (List ℕ)) (text : List ℕ) (at : ℕ) → at < length text
-    → length_at text at (drop at text) phrases ≡ 0
-    → stretches_from phrases text at 0 (drop at text)
-    ≡ stretches_from phrases text (at + 1) 0 (drop (at + 1) text)
-next_none phrases text at within none = here (drop at text) (drop_more text at 0 within) none
+no_place : (at place : ℕ) → at ≤ place → place < at → ⊥
+no_place at place from before = omega (arith, from, before)
+
+-- no phrase is at a place, nor from the next one on
+none_from : (phrases : List (List ℕ)) (text : List ℕ) (at place : ℕ) → phrase_at phrases text at ≡ None
+    → (at + 1 ≤ place → phrase_at phrases text place ≡ None) → at ≤ place
+    → phrase_at phrases text place ≡ None
+none_from phrases text at place none later from = by_order (cases_order at place)
   where
-    here : (all : List ℕ) → all ≡ get_or text at 0 ∷ drop (at + 1) text
-        → length_at text at all phrases ≡ 0
-        → stretches_from phrases text at 0 all
-        ≡ stretches_from phrases text (at + 1) 0 (drop (at + 1) text)
-    here all e none =
-        ap (stretches_from phrases text at 0) e
-        ∙ no_stretch at _ (λ skip. stretches_from phrases text (at + 1) skip (drop (at + 1) text))
-        (ap (λ rest. length_at text at rest phrases) (sym e) ∙ none)
+    by_order : (at ≡ place) ⊎ ((at < place) ⊎ (place < at)) → phrase_at phrases text place ≡ None
+    by_order (inl same) = subst (λ n. phrase_at phrases text n ≡ None) same none
+    by_order (inr (inl less)) = later (omega (arith, less))
+    by_order (inr (inr more)) = absurd (no_place at place from more)
 
-some_stretch : (phrases : List (List ℕ)) (text : List ℕ) (at n byte : ℕ) (rest : List ℕ) → 0 < n
-    → with_stretch at n (stretches_from phrases text (at + 1) (n - 1) rest)
-    ≡ record { start = at; end = at + n } ∷ stretches_from phrases text (at + n) 0 (drop n (byte ∷ rest))
-some_stretch phrases text at zero byte rest h = absurd (none h)
+-- no phrase is at a place: those from it on are those from the next place on
+pub next_none : (phrases : List (List ℕ)) (text : List ℕ) (at : ℕ) (more : List Stretch)
+    → None ≡ option_map length (phrase_at phrases text at) → AreFrom phrases text (at + 1) more
+    → AreFrom phrases text at more
+next_none phrases text at [] none later = λ place from within.
+    none_from phrases text at place (none_of (phrase_at phrases text at) none)
+    (λ after. later place after within) from
+next_none phrases text at (found ∷ more) none later = (
+  record {
+    after = omega (arith, later.0.after);
+    leftmost = λ place from before.
+        none_from phrases text at place (none_of (phrase_at phrases text at) none)
+        (λ after. later.0.leftmost place after before) from;
+    phrase = later.0.phrase;
+    first = later.0.first;
+    ends = later.0.ends;
+  },
+  later.1,
+)
+
+-- a phrase of this length is at a place: it is the next from there on
+pub next_some : (phrases : List (List ℕ)) (text : List ℕ) (at size : ℕ) (more : List Stretch)
+    → Some size ≡ option_map length (phrase_at phrases text at) → AreFrom phrases text (at + size) more
+    → AreFrom phrases text at (record { start = at; end = at + size } ∷ more)
+next_some phrases text at size more is later = found (phrase_at phrases text at) refl is
   where
-    none : 0 < 0 → ⊥
-    none less = omega arith
-some_stretch phrases text at (suc n) byte rest h =
-    ap (λ more. record { start = at; end = at + suc n } ∷ more)
-    (ap (λ (skip : ℕ). stretches_from phrases text (at + 1) skip rest) (omega arith)
-    ∙ passed phrases text (at + 1) n rest
-    ∙ ap (λ (place : ℕ). stretches_from phrases text place 0 (drop n rest)) (omega arith))
-
-suc_first : (at n : ℕ) → suc (at + n) ≡ suc at + n
-suc_first at n = omega arith
-
-dropped : (n : ℕ) (xs : List ℕ) (at : ℕ) → drop n (drop at xs) ≡ drop (at + n) xs
-dropped n xs zero = ap (λ count. drop count xs) (omega arith)
-dropped n [] (suc at) = drop-nil n ∙ sym (drop-nil (suc at + n))
-dropped n (x ∷ xs) (suc at) =
-    dropped n xs at ∙ ap (λ (count : ℕ). drop count (x ∷ xs)) (suc_first at n)
-
--- a phrase of this length stands at a place
-pub next_some : (phrases : List (List ℕ)) (text : List ℕ) (at n : ℕ) → at < length text
-    → n ≡ length_at text at (drop at text) phrases → 0 < n
-    → stretches_from phrases text at 0 (drop at text)
-    ≡ record { start = at; end = at + n } ∷ stretches_from phrases text (at + n) 0 (drop (at + n) text)
-next_some phrases text at n within is some = here (drop at text) (drop_more text at 0 within) is
-  where
-    here : (all : List ℕ) → all ≡ get_or text at 0 ∷ drop (at + 1) text
-        → n ≡ length_at text at all phrases
-        → stretches_from phrases text at 0 all
-        ≡ record { start = at; end = at + n } ∷ stretches_from phrases text (at + n) 0 (drop (at + n) text)
-    here all e is =
-        ap (stretches_from phrases text at 0) e
-        ∙ ap (λ size. with_stretch at size
-        (stretches_from phrases text (at + 1) (size - 1) (drop (at + 1) text)))
-        (ap (λ rest. length_at text at rest phrases) (sym e) ∙ sym is)
-        ∙ some_stretch phrases text at n (get_or text at 0) (drop (at + 1) text) some
-        ∙ ap (λ rest. record { start = at; end = at + n } ∷ stretches_from phrases text (at + n) 0 rest)
-        (ap (drop n) (sym (drop_more text at 0 within)) ∙ dropped n text at)
+    found : (it : Option (List ℕ)) → phrase_at phrases text at ≡ it → Some size ≡ option_map length it
+        → AreFrom phrases text at (record { start = at; end = at + size } ∷ more)
+    found None first is = absurd (cc is)
+    found (Some phrase) first is = (
+      record {
+        after = below at;
+        leftmost = λ place from before. absurd (no_place at place from before);
+        phrase = phrase;
+        first = first;
+        ends = ap (λ n. at + n) (cc is);
+      },
+      later,
+    )
 
 -- one more phrase can be set aside
 pub one_more : (phrases : List (Bor (List ℕ))) (index : ℕ) (phrase : Bor (List ℕ)) → index < length phrases
@@ -101,24 +90,37 @@ one_more phrases index phrase within is before other h = by_order (cases_order o
 abbrev bytes_of : List (Bor (List ℕ)) → List (List ℕ)
 bytes_of phrases = map (λ phrase. phrase.now) phrases
 
--- the stretches so far, and those from a place on, where no phrase stands, or one does
+-- the phrases so far, and those from a place on, where there is none, or one
 pub all_from_next : (phrases : List (Bor (List ℕ))) (text : List ℕ) (at : ℕ) (found : List Stretch)
-    → at < length text → length_at text at (drop at text) (bytes_of phrases) ≡ 0
-    → set_aside (bytes_of phrases) text
-    ≡ found ++ stretches_from (bytes_of phrases) text at 0 (drop at text)
-    → set_aside (bytes_of phrases) text
-    ≡ found ++ stretches_from (bytes_of phrases) text (at + 1) 0 (drop (at + 1) text)
-all_from_next phrases text at found within none are =
-    are ∙ ap (λ more. found ++ more) (next_none (bytes_of phrases) text at within none)
+    → None ≡ option_map length (phrase_at (bytes_of phrases) text at)
+    → ((more : List Stretch) → AreFrom (bytes_of phrases) text at more
+    → AreFrom (bytes_of phrases) text 0 (found ++ more))
+    → (more : List Stretch) → AreFrom (bytes_of phrases) text (at + 1) more
+    → AreFrom (bytes_of phrases) text 0 (found ++ more)
+all_from_next phrases text at found none are more later =
+    are more (next_none (bytes_of phrases) text at more none later)
 
-pub all_with_next : (phrases : List (Bor (List ℕ))) (text : List ℕ) (at n : ℕ) (found : List Stretch)
-    → at < length text → n ≡ length_at text at (drop at text) (bytes_of phrases) → 0 < n
-    → set_aside (bytes_of phrases) text
-    ≡ found ++ stretches_from (bytes_of phrases) text at 0 (drop at text)
-    → set_aside (bytes_of phrases) text
-    ≡ (found ++ record { start = at; end = at + n } ∷ [])
-    ++ stretches_from (bytes_of phrases) text (at + n) 0 (drop (at + n) text)
-all_with_next phrases text at n found within is some are =
-    are ∙ ap (λ more. found ++ more) (next_some (bytes_of phrases) text at n within is some)
-    ∙ sym (append_assoc found (record { start = at; end = at + n } ∷ [])
-    (stretches_from (bytes_of phrases) text (at + n) 0 (drop (at + n) text)))
+pub all_with_next : (phrases : List (Bor (List ℕ))) (text : List ℕ) (at size : ℕ) (found : List Stretch)
+    → Some size ≡ option_map length (phrase_at (bytes_of phrases) text at)
+    → ((more : List Stretch) → AreFrom (bytes_of phrases) text at more
+    → AreFrom (bytes_of phrases) text 0 (found ++ more))
+    → (more : List Stretch) → AreFrom (bytes_of phrases) text (at + size) more
+    → AreFrom (bytes_of phrases) text 0 ((found ++ record { start = at; end = at + size } ∷ []) ++ more)
+all_with_next phrases text at size found is are more later =
+    subst (AreFrom (bytes_of phrases) text 0)
+    (sym (append_assoc found (record { start = at; end = at + size } ∷ []) more))
+    (are (record { start = at; end = at + size } ∷ more)
+    (next_some (bytes_of phrases) text at size more is later))
+
+-- past the end, those so far are all
+pub all_found : (phrases : List (Bor (List ℕ))) (text : List ℕ) (at : ℕ) (found : List Stretch)
+    → length text ≤ at
+    → ((more : List Stretch) → AreFrom (bytes_of phrases) text at more
+    → AreFrom (bytes_of phrases) text 0 (found ++ more))
+    → AreSetAside (bytes_of phrases) text found
+all_found phrases text at found ended are =
+    subst (AreFrom (bytes_of phrases) text 0) (append-nil found)
+    (are [] (λ place from within. absurd (no_rest place from within)))
+  where
+    no_rest : (place : ℕ) → at ≤ place → place < length text → ⊥
+    no_rest place from within = omega (arith, ended, from, within)

@@ -1,54 +1,50 @@
--- Phrases that somebody says aren't land, such as an office's own labels and remarks: where they stand in a
+-- Phrases that somebody says aren't land, such as an office's own labels and remarks: where they are in a
 -- text. What is set aside isn't read.
-use Rattle.std.specs.Prelude.{◌≡◌, ◌+◌, ◌-◌, ◌&&◌, ◌<◌, ℕ, zero, suc, Bool, true, false, List, [], ◌∷◌}
-use Rattle.std.specs.Prelude.{if◌then◌else◌, length, nat_le, nat_lt, not, slice_index, get_or, take}
+use Rattle.std.specs.Prelude.{◌≡◌, ◌+◌, ◌&&◌, ◌<◌, ◌≤◌, ℕ, Bool, true, false, List, [], ◌∷◌, Option}
+use Rattle.std.specs.Prelude.{None, Some, length, nat_le, nat_lt, not, slice_index, slice_range, get_or}
+use Rattle.std.specs.List.{find}
 use Rattle.std.specs.Char.{is_ascii_alphanumeric}
 use Rattle.std.specs.Str.{str_eq_ignore_ascii_case}
 use Rattle.twp_rules.specs.Edges.{byte_before}
 use Rattle.twp_rules.specs.Sayings.{is_remark}
 use Rattle.twp_phrases.specs.declared.stretches.Stretch.{Stretch}
 
--- two bytes beside each other are of one word
-abbrev pub are_of_one_word : ℕ → ℕ → Bool
-are_of_one_word byte next = is_ascii_alphanumeric byte && is_ascii_alphanumeric next
+-- a place is within a word: a letter or digit is before it, and one is at it
+abbrev pub is_within_word : List ℕ → ℕ → Bool
+is_within_word text at =
+    is_ascii_alphanumeric (byte_before text at) && is_ascii_alphanumeric (slice_index text at)
 
--- a text begins with a phrase, in letters of either case
-abbrev pub begins_as : List ℕ → List ℕ → Bool
-begins_as rest phrase =
+-- a phrase is at a place of a text, in letters of either case, and neither of its ends is within a word
+abbrev pub is_at : List ℕ → ℕ → List ℕ → Bool
+is_at text at phrase =
     nat_lt 0 (length phrase)
-    && (nat_le (length phrase) (length rest) && str_eq_ignore_ascii_case (take (length phrase) rest) phrase)
+    && (nat_le (at + length phrase) (length text)
+    && (str_eq_ignore_ascii_case (slice_range text at (at + length phrase)) phrase
+    && (not (is_within_word text at) && not (is_within_word text (at + length phrase)))))
 
--- a phrase stands at a place of a text, and begins and ends no other word
-abbrev pub stands_at : List ℕ → ℕ → List ℕ → List ℕ → Bool
-stands_at text at rest phrase =
-    begins_as rest phrase
-    && not (are_of_one_word (byte_before text at) (slice_index phrase 0))
-    && not (are_of_one_word (slice_index phrase (length phrase - 1)) (slice_index rest (length phrase)))
+-- the first phrase of the list that is at a place
+abbrev pub phrase_at : List (List ℕ) → List ℕ → ℕ → Option (List ℕ)
+phrase_at phrases text at = find (is_at text at) phrases
 
--- the length of the first of these phrases that stands at a place, or 0
-abbrev pub length_at : List ℕ → ℕ → List ℕ → List (List ℕ) → ℕ
-length_at text at rest [] = 0
-length_at text at rest (phrase ∷ phrases) =
-    if stands_at text at rest phrase then length phrase else length_at text at rest phrases
+-- the next phrase from a place on: it begins at the leftmost place at which there is one, and is the first of
+-- the list that is there
+pub record IsNext (phrases : List (List ℕ)) (text : List ℕ) (from : ℕ) (found : Stretch) : Type 0 where
+  pub after : from ≤ found.start
+  pub leftmost : (at : ℕ) → from ≤ at → at < found.start → phrase_at phrases text at ≡ None
+  pub phrase : List ℕ
+  pub first : phrase_at phrases text found.start ≡ Some phrase
+  pub ends : found.end ≡ found.start + length phrase
 
--- bytes that begin at a place, and those after them
-abbrev pub with_stretch : ℕ → ℕ → List Stretch → List Stretch
-with_stretch at zero more = more
-with_stretch at (suc length) more = record { start = at; end = at + suc length } ∷ more
+-- the phrases from a place on: the next one, and those from its end on; or there is none
+abbrev pub AreFrom : List (List ℕ) → List ℕ → ℕ → List Stretch → Type 0
+AreFrom phrases text from [] =
+    (at : ℕ) → from ≤ at → at < length text → phrase_at phrases text at ≡ None
+AreFrom phrases text from (found ∷ more) =
+    IsNext phrases text from found × AreFrom phrases text found.end more
 
--- the stretches from a place on, past some bytes that are set aside already
-abbrev pub stretches_from : List (List ℕ) → List ℕ → ℕ → ℕ → List ℕ → List Stretch
-stretches_from phrases text at passed [] = []
-stretches_from phrases text at (suc passed) (byte ∷ rest) =
-    stretches_from phrases text (at + 1) passed rest
-stretches_from phrases text at zero (byte ∷ rest) =
-    with_stretch at (length_at text at (byte ∷ rest) phrases)
-    (stretches_from phrases text (at + 1) (length_at text at (byte ∷ rest) phrases - 1) rest)
-
--- WHERE THE PHRASES STAND in a text: from left to right, at each place past the last of them, the first
--- phrase of the list that stands there
-abbrev pub set_aside : List (List ℕ) → List ℕ → List Stretch
-set_aside phrases text = stretches_from phrases text 0 0 text
+-- WHERE THE PHRASES ARE in a text, from left to right
+abbrev pub AreSetAside : List (List ℕ) → List ℕ → List Stretch → Type 0
+AreSetAside phrases text found = AreFrom phrases text 0 found
 
 -- the first phrase that can't be set aside, by its index: it names land, or says where land ends or what is
 -- taken from it

@@ -1,8 +1,7 @@
-//! Phrases that somebody says aren't land, such as an office's own labels and remarks: where they stand in a
-//! text.
-ghost use Rattle.std.specs.Prelude.{◌≡◌, ◌≤◌, ◌<◌, ◌-◌, IfOk, MatchOption, drop, length, map, slice_index};
-ghost use Rattle.twp_phrases.specs.SetAside.{AreRemarks, IsFirstOfLand, are_of_one_word, begins_as, length_at};
-ghost use Rattle.twp_phrases.specs.SetAside.{set_aside, stands_at};
+//! Phrases that somebody says aren't land, such as an office's own labels and remarks: where they are in a text.
+ghost use Rattle.std.specs.Prelude.{◌≡◌, ◌≤◌, ◌<◌, ◌+◌, IfOk, IfSome, MatchOption, length, map, option_map};
+ghost use Rattle.twp_phrases.specs.SetAside.{AreRemarks, AreSetAside, IsFirstOfLand, is_at, is_within_word};
+ghost use Rattle.twp_phrases.specs.SetAside.{phrase_at};
 
 use crate::stretches::Stretch;
 use std::alloc::{AllocError, Global};
@@ -26,16 +25,15 @@ pub fn first_of_land(phrases: &[&[u8]]) -> Option<usize>
 /// that is there, in letters of either case, as whole words.
 pub fn set_aside(alloc: Global, text: &[u8], phrases: &[&[u8]]) -> Result<Vec<Stretch>, AllocError>
     ensures { IfOk result (λ it.
-        it.items ≡ set_aside (map (λ phrase. phrase.now) phrases.now) text.now) }
+        AreSetAside (map (λ phrase. phrase.now) phrases.now) text.now it.items) }
 {
     let mut found = Vec::new(alloc);
     let mut at = 0;
     'places: while at < text.len() {
-        let length = length_at(text, at, phrases);
-        if length == 0 {
+        let Some(length) = length_at(text, at, phrases) else {
             at += 1;
             continue;
-        }
+        };
         found.push(Stretch {
             start: at,
             end: at + length,
@@ -45,55 +43,39 @@ pub fn set_aside(alloc: Global, text: &[u8], phrases: &[&[u8]]) -> Result<Vec<St
     Ok(found)
 }
 
-/// The length of the first phrase that stands at a place, or 0.
-fn length_at(text: &[u8], at: usize, phrases: &[&[u8]]) -> usize
-    requires { at < length text.now }
-    ensures length { result
-        ≡ length_at text.now at (drop at text.now) (map (λ phrase. phrase.now) phrases.now) }
-    ensures within { result ≤ length (drop at text.now) }
+/// The length of the first phrase of the list that is at a place.
+fn length_at(text: &[u8], at: usize, phrases: &[&[u8]]) -> Option<usize>
+    requires { at ≤ length text.now }
+    ensures length { result ≡ option_map length
+        (phrase_at (map (λ phrase. phrase.now) phrases.now) text.now at) }
+    ensures some { IfSome result (λ size. 0 < size) }
+    ensures within { IfSome result (λ size. at + size ≤ length text.now) }
 {
     for index in 0..phrases.len() {
-        if stands_at(text, at, phrases[index]) {
-            return phrases[index].len();
+        if is_at(text, at, phrases[index]) {
+            return Some(phrases[index].len());
         }
     }
-    0
+    None
 }
 
-/// Whether a phrase stands at a place, and begins and ends no other word.
-fn stands_at(text: &[u8], at: usize, phrase: &[u8]) -> bool
-    requires { at < length text.now }
-    ensures { result ≡ stands_at text.now at (drop at text.now) phrase.now }
+/// Whether a phrase is at a place, in letters of either case, and neither of its ends is within a word.
+fn is_at(text: &[u8], at: usize, phrase: &[u8]) -> bool
+    requires { at ≤ length text.now }
+    ensures { result ≡ is_at text.now at phrase.now }
 {
-    let rest = &text[at..];
-    begins_as(rest, phrase)
-        && !are_of_one_word(byte_before(text, at), byte_at(phrase, 0))
-        && !are_of_one_word(last_of(phrase), byte_at(rest, phrase.len()))
-}
-
-/// Whether a text begins with a phrase, in letters of either case.
-fn begins_as(rest: &[u8], phrase: &[u8]) -> bool
-    ensures { result ≡ begins_as rest.now phrase.now }
-{
-    if phrase.is_empty() || rest.len() < phrase.len() {
+    let end = at + phrase.len();
+    if phrase.is_empty() || text.len() < end {
         return false;
     }
-    rest[..phrase.len()].eq_ignore_ascii_case(phrase)
+    text[at..end].eq_ignore_ascii_case(phrase)
+        && !is_within_word(text, at)
+        && !is_within_word(text, end)
 }
 
-/// The last byte of a phrase, or 0.
-fn last_of(phrase: &[u8]) -> u8
-    ensures { result ≡ slice_index phrase.now (length phrase.now - 1) }
+/// Whether a letter or digit is before a place, and one is at it.
+fn is_within_word(text: &[u8], at: usize) -> bool
+    ensures { result ≡ is_within_word text.now at }
 {
-    if phrase.is_empty() {
-        return 0;
-    }
-    phrase[phrase.len() - 1]
-}
-
-/// Whether two bytes beside each other are of one word.
-fn are_of_one_word(byte: u8, next: u8) -> bool
-    ensures { result ≡ are_of_one_word byte next }
-{
-    byte.is_ascii_alphanumeric() && next.is_ascii_alphanumeric()
+    byte_before(text, at).is_ascii_alphanumeric() && byte_at(text, at).is_ascii_alphanumeric()
 }

@@ -2,3 +2,4 @@ pub mod TextFacts
 pub mod LandFacts
 pub mod NamedFacts
 pub mod ClearFacts
+pub mod ExceptingFacts

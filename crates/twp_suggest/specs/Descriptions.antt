@@ -11,7 +11,7 @@ use Rattle.twp_grammar.specs.OnPlat.{IsLandOfItems}
 use Rattle.twp_grammar.specs.Sentences.{IsReadAs}
 use Rattle.twp_read.specs.Doubts.{HasNoDoubtfulPlace}
 use Rattle.twp_spell.specs.CanonicalText.{IsCanonicalText}
-use Rattle.twp_suggest.specs.Excepting.{IsParted}
+use Rattle.twp_suggest.specs.Excepting.{IsParted, IsSplit}
 use Rattle.twp_suggest.specs.declared.meaning.wording.Excepted.{Excepted}
 use Rattle.twp_suggest.specs.declared.meaning.manner.Manner.{Manner}
 use Rattle.twp_suggest.specs.declared.meaning.manner.Manner.TheVariants.{Changed, LotsNamed, Remainder}
@@ -53,14 +53,29 @@ abbrev pub as_written : List Item → List ℕ → List ℕ
 as_written (Heading number north_south range east_west at ∷ items) text = text
 as_written items text = without_first_line text
 
+-- a text doesn't name land that can be excepted from that of another: which lies in it, and isn't all of it
+abbrev pub IsNoException : Lotting → Designation → List ℕ → List ℕ → Type 0
+IsNoException lots township land less = (places others : ℕ → ℕ → ℕ → Bool)
+    → IsLandOfText lots township land places → IsLandOfText lots township less others
+    → ContainsAll places others → SamePlaces places others
+
+-- what is after the first ` except ` of a text can't be excepted from what is before it
+pub record IsOfDivisions (lots : Lotting) (township : Designation) (made : List ℕ) : Type 0 where
+  pub land : List ℕ
+  pub less : List ℕ
+  pub split : IsSplit made land less
+  pub is_none : IsNoException lots township land less
+
 -- THE REMAINDER: the canonical text of the land of a text without the land that it excepts, which lies in it,
--- and isn't all of it
+-- and isn't all of it; each division is by itself only if what is after the first ` except ` can't be
+-- excepted
 pub record IsRemainder (lots : Lotting) (made text : List ℕ) : Type 0 where
   pub whole : List ℕ
   pub excepted : List ℕ
   pub at : ℕ
   pub parted : IsParted made whole excepted at
   pub township : Designation
+  pub by_itself : at ≡ 0 → IsOfDivisions lots township made
   pub places : ℕ → ℕ → ℕ → Bool
   pub less : ℕ → ℕ → ℕ → Bool
   pub of_whole : IsLandOfText lots township whole places

@@ -1,57 +1,88 @@
--- Land that a changed text excepts: from the last land, or from that of each section, with a semicolon after
--- it.
-use Rattle.std.specs.Prelude.{◌≡◌, ◌==◌, ◌||◌, ℕ, suc, Bool, true, false, List, [], ◌∷◌, ◌++◌}
-use Rattle.std.specs.Prelude.{if◌then◌else◌, codes, length, nat_le, not}
-use Rattle.twp_rules.specs.Edges.{begins_with}
+-- Land that a changed text excepts: what is before the first ` except ` is without what is after it. Or
+-- semicolons divide the text, and each division is land, or land without what is after its own ` except `.
+use Rattle.std.specs.Prelude.{◌≡◌, ◌≢◌, ◌-◌, ◌<◌, ℕ, List, [], ◌∷◌, ◌++◌}
+use Rattle.std.specs.Prelude.{codes, drop, length, replicate, slice_index, take}
+use Rattle.std.specs.List.{All, flat_map}
 
 -- what is written between land and what it is without
 abbrev pub except : List ℕ
 except = codes " except "
 
--- whether what is excepted goes on at a text, up to a semicolon; or begins there
-abbrev pub is_excepting : Bool → List ℕ → Bool
-is_excepting true [] = false
-is_excepting true (byte ∷ bytes) = not (byte == 59)
-is_excepting false text = begins_with text except
+-- the marks between and before divisions
+abbrev pub semicolon : ℕ
+semicolon = 59
 
--- a blank, or the byte of what isn't excepted
-abbrev pub kept_byte : Bool → ℕ → ℕ
-kept_byte is_excepted byte = if is_excepted then 32 else byte
+abbrev pub blank : ℕ
+blank = 32
 
--- a text from a place on, with blanks instead of what is excepted, if something is before the place, or isn't
-abbrev pub kept_from : Bool → List ℕ → List ℕ
-kept_from before [] = []
-kept_from before (byte ∷ bytes) =
-    kept_byte (is_excepting before (byte ∷ bytes)) byte ∷ kept_from (is_excepting before (byte ∷ bytes)) bytes
+-- as many blanks
+abbrev pub blanks : ℕ → List ℕ
+blanks count = replicate count blank
 
--- WHAT IS KEPT: a text with blanks instead of what it excepts
-abbrev pub kept : List ℕ → List ℕ
-kept text = kept_from false text
+-- no semicolon is in a text
+abbrev pub HasNoSemicolon : List ℕ → Type 0
+HasNoSemicolon text = (at : ℕ) → at < length text → slice_index text at ≢ semicolon
 
--- how many bytes of an exception there are so far, with this one
-abbrev pub count_with : Bool → ℕ → ℕ
-count_with is_excepted count = if is_excepted then suc count else 0
+-- no ` except ` begins before a place of a text
+abbrev pub HasNoExceptBefore : List ℕ → ℕ → Type 0
+HasNoExceptBefore text place = (at : ℕ) → at < place → take (length except) (drop at text) ≢ except
 
--- a byte of an exception after the word, a blank, or a semicolon before a further exception
-abbrev pub taken_byte : ℕ → Bool → ℕ → ℕ
-taken_byte count is_further byte =
-    if count == 1 then (if is_further then 59 else 32) else (if nat_le 9 count then byte else 32)
+-- a text before its first ` except `, and after it
+pub record IsSplit (text land less : List ℕ) : Type 0 where
+  pub is : text ≡ land ++ except ++ less
+  pub first : HasNoExceptBefore text (length land)
 
--- a text from a place on, with blanks instead of what isn't excepted
-abbrev pub taken_from : Bool → ℕ → Bool → List ℕ → List ℕ
-taken_from before count is_further [] = []
-taken_from before count is_further (byte ∷ bytes) =
-    taken_byte (count_with (is_excepting before (byte ∷ bytes)) count) is_further byte
-    ∷ taken_from (is_excepting before (byte ∷ bytes)) (count_with (is_excepting before (byte ∷ bytes)) count)
-    (is_further || before) bytes
+-- a division of a text: land alone, or land, and what it is without
+pub data Division : Type 0 where
+  alone : List ℕ → Division
+  without : List ℕ → List ℕ → Division
 
--- WHAT IS TAKEN: a text with blanks instead of all but what it excepts, and a semicolon between exceptions
-abbrev pub taken : List ℕ → List ℕ
-taken text = taken_from false 0 false text
+-- a division as it is written
+abbrev pub written : Division → List ℕ
+written (alone land) = land
+written (without land less) = land ++ except ++ less
 
--- the land of a text, what is excepted from it, and the offset of the text of this: what is before `except`
--- and after it, or what is kept and taken
+-- what it keeps: its land, and blanks instead of the rest
+abbrev pub kept : Division → List ℕ
+kept (alone land) = land
+kept (without land less) = land ++ blanks (length except) ++ blanks (length less)
+
+-- what it takes: what its land is without, after a mark, and blanks instead of the rest
+abbrev pub taken : ℕ → Division → List ℕ
+taken mark (alone land) = blanks (length land)
+taken mark (without land less) = blanks (length land) ++ mark ∷ blanks (length except - 1) ++ less
+
+-- the mark before the next exception: a blank before the first one, and then a semicolon
+abbrev pub mark_after : ℕ → Division → ℕ
+mark_after mark (alone land) = mark
+mark_after mark (without land less) = semicolon
+
+-- it contains no semicolon, and excepts what is after its first ` except `
+abbrev pub IsDivision : Division → Type 0
+IsDivision (alone land) = HasNoSemicolon land × HasNoExceptBefore land (length land)
+IsDivision (without land less) =
+    HasNoSemicolon (land ++ except ++ less) × HasNoExceptBefore (land ++ except ++ less) (length land)
+
+-- divisions as they are written, or what they keep: a semicolon ends each of them
+abbrev pub all_of : (Division → List ℕ) → List Division → List ℕ
+all_of text divisions = flat_map (λ division. text division ++ semicolon ∷ []) divisions
+
+-- what they take: a blank ends each of them
+abbrev pub all_taken : ℕ → List Division → List ℕ
+all_taken mark [] = []
+all_taken mark (division ∷ more) = taken mark division ++ blank ∷ all_taken (mark_after mark division) more
+
+-- THE DIVISIONS of a text, each but the last with a semicolon after it: what they keep, and what they take
+pub record IsDivided (made whole excepted : List ℕ) : Type 0 where
+  pub divisions : List Division
+  pub each : All IsDivision divisions
+  pub made_is : made ++ semicolon ∷ [] ≡ all_of written divisions
+  pub whole_is : whole ++ semicolon ∷ [] ≡ all_of kept divisions
+  pub excepted_is : excepted ++ blank ∷ [] ≡ all_taken blank divisions
+
+-- the land of a text, what is excepted from it, and the offset of the text of this: what is before the first
+-- ` except `, and what is after it; or, if a semicolon is after it, what the divisions keep and take
 pub data IsParted (made whole excepted : List ℕ) (at : ℕ) : Type 0 where
-  of_last : made ≡ whole ++ except ++ excepted → at ≡ length (whole ++ except)
-      → IsParted made whole excepted at
-  of_each : whole ≡ kept made → excepted ≡ taken made → at ≡ 0 → IsParted made whole excepted at
+  of_last : IsSplit made whole excepted → at ≡ length (whole ++ except) → IsParted made whole excepted at
+  of_each : (land less : List ℕ) → IsSplit made land less → ¬ HasNoSemicolon less
+      → IsDivided made whole excepted → at ≡ 0 → IsParted made whole excepted at

@@ -1,1 +1,2 @@
+pub mod ExceptingSteps
 pub mod Plain

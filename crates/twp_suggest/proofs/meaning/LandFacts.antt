@@ -9,7 +9,8 @@ use Rattle.twp_grammar.specs.ItemPlaces.{parts_of, land_of}
 use Rattle.twp_grammar.specs.OnPlat.{AreOnPlat, IsLandOfItems}
 use Rattle.twp_grammar.specs.Sentences.{IsReadAs}
 use Rattle.twp_spell.specs.CanonicalText.{IsCanonicalText}
-use Rattle.twp_suggest.specs.Descriptions.{AreExcepted, IsLandOfText, IsOnlyLandOfText, IsRemainder}
+use Rattle.twp_suggest.specs.Descriptions.{AreExcepted, IsLandOfText, IsNoException, IsOfDivisions}
+use Rattle.twp_suggest.specs.Descriptions.{IsOnlyLandOfText, IsRemainder}
 use Rattle.twp_suggest.specs.Descriptions.{NamesNoLand, as_written}
 use Rattle.twp_suggest.specs.Excepting.{IsParted}
 use Rattle.twp_suggest.specs.declared.meaning.wording.Excepted.{Excepted}
@@ -39,6 +40,18 @@ no_land lots township text items only on_plat places is =
     (subst (λ (its : List Item). AreOnPlat lots township its) (sym (only is.items is.read))
     is.land.on_plat))
 
+-- land that doesn't lie in other land, or is all of it, can't be excepted
+pub is_no_exception : (lots : Lotting) (township : Designation) (whole excepted : List ℕ)
+    (land less : ℕ → ℕ → ℕ → Bool) → IsOnlyLandOfText lots whole land → IsOnlyLandOfText lots excepted less
+    → (ContainsAll land less → SamePlaces land less) → IsNoException lots township whole excepted
+is_no_exception lots township whole excepted land less only_land only_less none =
+    λ places others of_whole of_excepted inside.
+    let land_is : places ≡ land = only_land township places of_whole in
+    let less_is : others ≡ less = only_less township others of_excepted in
+    subst (λ it. SamePlaces it others) (sym land_is)
+    (subst (λ it. SamePlaces land it) (sym less_is)
+    (none (subst (λ it. ContainsAll land it) less_is (subst (λ it. ContainsAll it others) land_is inside))))
+
 -- what is left of a text without its exception
 pub is_remainder : (lots : Lotting) (made whole excepted : List ℕ) (at : ℕ) (text full : List ℕ)
     (items : List Item)
@@ -47,15 +60,17 @@ pub is_remainder : (lots : Lotting) (made whole excepted : List ℕ) (at : ℕ) 
     → IsLandOfText lots township whole places → IsLandOfText lots township excepted less
     → ContainsAll places less → ¬ SamePlaces places less
     → IsCanonicalText lots township (difference places less) full → text ≡ as_written items full
-    → IsParted made whole excepted at → IsRemainder lots made text
+    → IsParted made whole excepted at → (at ≡ 0 → IsOfDivisions lots township made)
+    → IsRemainder lots made text
 is_remainder lots made whole excepted at text full items township places less only of_whole of_excepted inside
-    some_left spelled written parted =
+    some_left spelled written parted by_itself =
     record {
       whole = whole;
       excepted = excepted;
       at = at;
       parted = parted;
       township = township;
+      by_itself = by_itself;
       places = places;
       less = less;
       of_whole = of_whole;

@@ -1,80 +1,206 @@
-//! What a changed text keeps, and what it takes away, if it excepts land from that of sections that aren't the last one.
-ghost use Rattle.std.specs.Prelude.{◌≡◌, ◌<◌, ◌≤◌, IfOk, drop, length};
-ghost use Rattle.twp_suggest.specs.Excepting.{count_with, is_excepting, kept, kept_byte, taken, taken_byte};
+//! What a changed text keeps, and what it takes away, if it excepts land: its first exception, and its divisions.
+ghost use Rattle.std.specs.Prelude.{◌≡◌, ◌≢◌, ◌≤◌, ◌<◌, ◌++◌, ◌∷◌, [], ℕ, IfOk, IfSome, MatchBool, MatchOption, OnOk};
+ghost use Rattle.std.specs.Prelude.{drop, length, slice_index, take};
+ghost use Rattle.twp_suggest.specs.Excepting.{HasNoExceptBefore, HasNoSemicolon, IsDivided, IsSplit, alone, blanks};
+ghost use Rattle.twp_suggest.specs.Excepting.{except, kept, semicolon, taken, without};
+ghost use Rattle.twp_suggest.specs.steps.ExceptingSteps.{IsAdded};
 
 use std::alloc::{AllocError, Global};
-use twp_rules::begins_with;
 
 /// What is between land and what it is without.
-const EXCEPT: &[u8] = b" except ";
+pub(crate) const EXCEPT: &[u8] = b" except ";
 
-/// How many bytes that has.
-const EXCEPT_BYTES: usize = 8;
+/// A text before its first `except`, and after it.
+#[derive(Clone, Copy)]
+pub(crate) struct Excepting<'a> {
+    pub(crate) whole: &'a [u8],
+    pub(crate) excepted: &'a [u8],
+}
 
-/// A text with blanks instead of each exception, up to the semicolon that ends it.
-pub(crate) fn kept(alloc: Global, made: &[u8]) -> Result<Vec<u8>, AllocError>
-    ensures { IfOk result (λ text. text.items ≡ kept made.now) }
+/// What the divisions of a text keep, and what they take away.
+#[derive(Drop)]
+pub(crate) struct Divided {
+    pub(crate) whole: Vec<u8>,
+    pub(crate) excepted: Vec<u8>,
+}
+
+/// The first division of a text, and the text after the semicolon that ends it.
+#[derive(Clone, Copy)]
+struct FirstDivision<'a> {
+    text: &'a [u8],
+    more: Option<&'a [u8]>,
+}
+
+/// What the divisions of a text keep: their land, and blanks instead of each exception. And what they take away:
+/// blanks instead of all but the exceptions, and a semicolon between two of them.
+pub(crate) fn divide(alloc: Global, made: &[u8]) -> Result<Divided, AllocError>
+    ensures { IfOk result (λ it. IsDivided made.now it.whole.items it.excepted.items) }
 {
-    let mut text = Vec::with_capacity(alloc, made.len())?;
-    let mut is_excepted = false;
-    for at in 0..made.len() {
-        is_excepted = is_excepting(is_excepted, made, at);
-        text.push(kept_byte(is_excepted, made[at]))?;
+    let mut whole = Vec::with_capacity(alloc, made.len())?;
+    let mut excepted = Vec::with_capacity(alloc, made.len())?;
+    let mut mark = b' ';
+    let mut rest = made;
+    'divisions: loop {
+        let division = first_division(rest);
+        mark = add_division(&mut whole, &mut excepted, division.text, mark)?;
+        let Some(more) = division.more else {
+            return Ok(Divided { whole, excepted });
+        };
+        whole.push(b';')?;
+        excepted.push(b' ')?;
+        rest = more;
     }
-    Ok(text)
 }
 
-/// A text with blanks instead of all but its exceptions, and a semicolon between two of them.
-pub(crate) fn taken(alloc: Global, made: &[u8]) -> Result<Vec<u8>, AllocError>
-    ensures { IfOk result (λ text. text.items ≡ taken made.now) }
+/// The first division of a text.
+fn first_division(text: &[u8]) -> FirstDivision<'_>
+    ensures none { HasNoSemicolon result.text.now }
+    ensures rest { MatchOption result.more (text.now ≡ result.text.now)
+        (λ more. text.now ≡ result.text.now ++ semicolon ∷ more.now) }
 {
-    let mut text = Vec::with_capacity(alloc, made.len())?;
-    let mut before = false;
-    let mut count: usize = 0;
-    let mut is_further = false;
-    for at in 0..made.len() {
-        let is_excepted = is_excepting(before, made, at);
-        count = count_with(is_excepted, count);
-        text.push(taken_byte(count, is_further, made[at]))?;
-        is_further = is_further || before;
-        before = is_excepted;
+    let at = before_semicolon(text);
+    let (first, rest) = text.split_at(at);
+    let Some((_, more)) = rest.split_first() else {
+        return FirstDivision {
+            text: first,
+            more: None,
+        };
+    };
+    FirstDivision {
+        text: first,
+        more: Some(more),
     }
-    Ok(text)
 }
 
-/// Whether a byte is excepted, after one that is, or isn't.
-fn is_excepting(before: bool, made: &[u8], at: usize) -> bool
-    requires { at < length made.now }
-    ensures { result ≡ is_excepting before (drop at made.now) }
+/// Adds a division to what is kept and to what is taken away, in which a mark is before an exception. Returns the
+/// mark before the next one.
+fn add_division(
+    whole: &mut Vec<u8>,
+    excepted: &mut Vec<u8>,
+    text: &[u8],
+    mark: u8,
+) -> Result<u8, AllocError>
+    requires { HasNoSemicolon text.now }
+    ensures { IfOk result (λ after. IsAdded text.now mark after whole.old.items whole.new.items
+        excepted.old.items excepted.new.items) }
 {
-    if before {
-        return made[at] != b';';
+    match around_except(text) {
+        Some(parts) => {
+            add_exception(whole, excepted, parts, mark)?;
+            Ok(b';')
+        }
+        None => {
+            add_land(whole, excepted, text)?;
+            Ok(mark)
+        }
     }
-    let (_, rest) = made.split_at(at);
-    begins_with(rest, EXCEPT)
 }
 
-/// A blank, or a byte that isn't excepted.
-fn kept_byte(is_excepted: bool, byte: u8) -> u8
-    ensures { result ≡ kept_byte is_excepted byte }
+/// Adds land that nothing is excepted from.
+fn add_land(whole: &mut Vec<u8>, excepted: &mut Vec<u8>, land: &[u8]) -> Result<(), AllocError>
+    ensures whole { OnOk result (whole.new.items ≡ whole.old.items ++ kept (alone land.now)) }
+    ensures excepted { OnOk result ((mark : ℕ)
+        → excepted.new.items ≡ excepted.old.items ++ taken mark (alone land.now)) }
 {
-    if is_excepted { b' ' } else { byte }
+    whole.extend_from_slice(land)?;
+    add_blanks(excepted, land.len())
 }
 
-/// How many bytes of an exception there are so far, with this one.
-fn count_with(is_excepted: bool, count: usize) -> usize
-    requires { count < 18446744073709551615 }
-    ensures { result ≡ count_with is_excepted count }
+/// Adds land, and what is excepted from it.
+fn add_exception(
+    whole: &mut Vec<u8>,
+    excepted: &mut Vec<u8>,
+    parts: Excepting<'_>,
+    mark: u8,
+) -> Result<(), AllocError>
+    ensures whole { OnOk result (whole.new.items
+        ≡ whole.old.items ++ kept (without parts.entry.whole.now parts.entry.excepted.now)) }
+    ensures excepted { OnOk result (excepted.new.items
+        ≡ excepted.old.items ++ taken mark (without parts.entry.whole.now parts.entry.excepted.now)) }
 {
-    if is_excepted { count + 1 } else { 0 }
+    keep(whole, parts)?;
+    take(excepted, parts, mark)
 }
 
-/// A byte of an exception after the word, a blank, or a semicolon before a further exception.
-fn taken_byte(count: usize, is_further: bool, byte: u8) -> u8
-    ensures { result ≡ taken_byte count is_further byte }
+/// Adds land, and blanks instead of what is excepted from it.
+fn keep(whole: &mut Vec<u8>, parts: Excepting<'_>) -> Result<(), AllocError>
+    ensures { OnOk result (whole.new.items
+        ≡ whole.old.items ++ kept (without parts.entry.whole.now parts.entry.excepted.now)) }
 {
-    if count == 1 {
-        return if is_further { b';' } else { b' ' };
+    whole.extend_from_slice(parts.whole)?;
+    add_blanks(whole, EXCEPT.len())?;
+    add_blanks(whole, parts.excepted.len())
+}
+
+/// Adds what is excepted after a mark, and blanks instead of the rest.
+fn take(excepted: &mut Vec<u8>, parts: Excepting<'_>, mark: u8) -> Result<(), AllocError>
+    ensures { OnOk result (excepted.new.items
+        ≡ excepted.old.items ++ taken mark (without parts.entry.whole.now parts.entry.excepted.now)) }
+{
+    add_blanks(excepted, parts.whole.len())?;
+    excepted.push(mark)?;
+    add_blanks(excepted, EXCEPT.len() - 1)?;
+    excepted.extend_from_slice(parts.excepted)
+}
+
+/// Adds as many blanks.
+fn add_blanks(text: &mut Vec<u8>, count: usize) -> Result<(), AllocError>
+    ensures { OnOk result (text.new.items ≡ text.old.items ++ blanks count) }
+{
+    for _index in 0..count {
+        text.push(b' ')?;
     }
-    if count > EXCEPT_BYTES { byte } else { b' ' }
+    Ok(())
+}
+
+/// Whether a text contains a semicolon.
+pub(crate) fn has_semicolon(text: &[u8]) -> bool
+    ensures { MatchBool result (¬ HasNoSemicolon text.now) (HasNoSemicolon text.now) }
+{
+    before_semicolon(text) < text.len()
+}
+
+/// How many bytes are before the first semicolon of a text.
+fn before_semicolon(text: &[u8]) -> usize
+    ensures within { result ≤ length text.now }
+    ensures none { (at : ℕ) → at < result → slice_index text.now at ≢ semicolon }
+    ensures ends { result < length text.now → slice_index text.now result ≡ semicolon }
+{
+    for at in 0..text.len() {
+        if text[at] == b';' {
+            return at;
+        }
+    }
+    text.len()
+}
+
+/// The texts before the first `except` and after it.
+pub(crate) fn around_except(text: &[u8]) -> Option<Excepting<'_>>
+    ensures { MatchOption result (HasNoExceptBefore text.now (length text.now))
+        (λ parts. IsSplit text.now parts.whole.now parts.excepted.now) }
+{
+    for at in 0..text.len() {
+        if let Some(parts) = split_at_except(text, at) {
+            return Some(parts);
+        }
+    }
+    None
+}
+
+/// The texts before a place and after the `except` there.
+fn split_at_except(text: &[u8], at: usize) -> Option<Excepting<'_>>
+    requires { at ≤ length text.now }
+    ensures none { MatchOption result (take (length except) (drop at text.now) ≢ except)
+        (λ parts. length parts.whole.now ≡ at) }
+    ensures some { IfSome result (λ parts. text.now ≡ parts.whole.now ++ except ++ parts.excepted.now) }
+{
+    let (whole, rest) = text.split_at(at);
+    if rest.len() < EXCEPT.len() {
+        return None;
+    }
+    let (mark, excepted) = rest.split_at(EXCEPT.len());
+    if mark != EXCEPT {
+        return None;
+    }
+    Some(Excepting { whole, excepted })
 }

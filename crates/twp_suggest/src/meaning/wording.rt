@@ -1,18 +1,19 @@
 //! The description that comes of a changed text: the text, or the canonical description of what is left
 //! without the land that it excepts.
-ghost use Rattle.std.specs.Prelude.{◌≡◌, ◌≤◌, ◌++◌, IfOk, IfSome, IsTrue, OnOk, drop, length};
+ghost use Rattle.std.specs.Prelude.{◌≡◌, ◌≤◌, IfOk, IfSome, IsTrue, List, OnOk, drop, false, length};
 ghost use Rattle.twp_grid.specs.Lands.{ContainsAll, SamePlaces, lotting};
 ghost use Rattle.twp_grammar.specs.Sentences.{IsReadAs};
 ghost use Rattle.twp_suggest.specs.Descriptions.{AreItemsOf, AreLotsNamed, IsAccepted, IsDescribed};
-ghost use Rattle.twp_suggest.specs.Descriptions.{IsRemainder, NamesTownship};
+ghost use Rattle.twp_suggest.specs.Descriptions.{IsNoException, IsOfDivisions, IsRemainder, NamesTownship};
+ghost use Rattle.twp_grammar.specs.declared.item.Item.{Item as Named};
 ghost use Rattle.twp_suggest.specs.Descriptions.{as_written};
-ghost use Rattle.twp_suggest.specs.Excepting.{IsParted, except};
+ghost use Rattle.twp_suggest.specs.Excepting.{HasNoSemicolon, IsParted, IsSplit};
 ghost use Rattle.twp_suggest.specs.Descriptions.{without_first_line};
 
-use crate::meaning::kept::{kept, taken};
+use crate::meaning::kept::{EXCEPT, Excepting, around_except, divide, has_semicolon};
 use crate::meaning::manner::Manner;
 use crate::meaning::named::{find_with_lots, why_unread};
-use crate::meaning::on_plat::{first_township, read};
+use crate::meaning::on_plat::{find_land, first_township, read};
 use crate::meaning::unread::Unread;
 use std::alloc::{AllocError, Global};
 use twp_grammar::Item;
@@ -21,16 +22,6 @@ use twp_land::{Land, Lanes, Lotting, OneLanes, PlaceSet};
 use twp_read::Description;
 use twp_resolve::{PlaceFault, names_one_section, resolve_if_room, resolve_into};
 use twp_spell::spell;
-
-/// What is between land and what it is without.
-const EXCEPT: &[u8] = b" except ";
-
-/// A text before `except`, and one after it.
-#[derive(Clone, Copy)]
-pub(crate) struct Excepting<'a> {
-    pub(crate) whole: &'a [u8],
-    pub(crate) excepted: &'a [u8],
-}
 
 /// The items of what is excepted, and the offset of its text in the changed text.
 #[derive(Drop)]
@@ -156,7 +147,8 @@ fn with_lots_named<P: Lotting>(
     Ok(text)
 }
 
-/// The canonical description of the land of a text that it doesn't except.
+/// The canonical description of the land of a text that it doesn't except. All after the first `except` is excepted
+/// from all before it, or, if that can't be, each division of the text is by itself.
 fn without_excepted<P: Lotting>(alloc: Global, made: &[u8], lots: &P) -> Result<Wording, Unread>
     ensures described { IfOk result (λ found.
         IsDescribed (lotting (P.layout lots.now)) found.manner made.now found.text.items) }
@@ -165,74 +157,98 @@ fn without_excepted<P: Lotting>(alloc: Global, made: &[u8], lots: &P) -> Result<
     let Some(parts) = around_except(made) else {
         return Err(Unread::Refused);
     };
-    match of_last(alloc, made, parts, lots) {
-        Ok(wording) => Ok(wording),
-        Err(Unread::Memory) => Err(Unread::Memory),
-        Err(unread) => {
-            // Another section may follow the exception.
-            if parts.excepted.contains(&b';') {
-                of_each(alloc, made, lots)
-            } else {
-                Err(unread)
-            }
+    let Some(description) = read(alloc, parts.whole)? else {
+        return Err(Unread::Refused);
+    };
+    let Some(township) = first_township(description.items()) else {
+        return Err(Unread::Refused);
+    };
+    if has_semicolon(parts.excepted) {
+        let is_exception = is_exception(alloc, parts, township, lots)?;
+        if !is_exception {
+            return of_each(alloc, made, parts, township, lots);
         }
     }
+    of_last(alloc, made, parts, description, township, lots)
 }
 
-/// The description of a text without its exception, which is of the last land.
+/// Whether a text names land that can be excepted from that of another: which lies in it, and isn't all of it. Not
+/// inlined, since its sets of land would be cleared for each text.
+#[inline(never)]
+fn is_exception<P: Lotting>(
+    alloc: Global,
+    parts: Excepting<'_>,
+    township: Township,
+    lots: &P,
+) -> Result<bool, AllocError>
+    ensures { IfOk result (λ it. it ≡ false → IsNoException (lotting (P.layout lots.now)) township
+        parts.entry.whole.now parts.entry.excepted.now) }
+{
+    let mut land = Lanes::empty();
+    let mut less = Lanes::empty();
+    let names_land = find_land(alloc, parts.whole, township, &mut land, lots)?;
+    if !names_land {
+        return Ok(false);
+    }
+    let names_less = find_land(alloc, parts.excepted, township, &mut less, lots)?;
+    if !names_less {
+        return Ok(false);
+    }
+    Ok(is_proper_part(&less, &land))
+}
+
+/// The description of a text without its exception, which is of all land before it.
 fn of_last<P: Lotting>(
     alloc: Global,
     made: &[u8],
     parts: Excepting<'_>,
+    description: Description,
+    township: Township,
     lots: &P,
 ) -> Result<Wording, Unread>
-    requires { made.now ≡ parts.whole.now ++ except ++ parts.excepted.now }
+    requires split { IsSplit made.now parts.whole.now parts.excepted.now }
+    requires read { IsReadAs parts.whole.now description }
+    requires only { (items : List Named) → IsReadAs parts.whole.now items → description ≡ items }
     ensures described { IfOk result (λ found.
         IsDescribed (lotting (P.layout lots.now)) found.manner made.now found.text.items) }
     ensures items { IfOk result (λ found. AreItemsOf made.now found.items found.excepted) }
 {
     let at = parts.whole.len() + EXCEPT.len();
-    remainder(alloc, made, parts.whole, parts.excepted, at, lots)
+    remainder(
+        alloc,
+        made,
+        parts.whole,
+        description,
+        parts.excepted,
+        at,
+        township,
+        lots,
+    )
 }
 
-/// The description of a text without its exceptions, each of which ends with a semicolon.
+/// The description of a text without the exceptions of its divisions, which semicolons separate.
 #[inline(never)]
-fn of_each<P: Lotting>(alloc: Global, made: &[u8], lots: &P) -> Result<Wording, Unread>
+fn of_each<P: Lotting>(
+    alloc: Global,
+    made: &[u8],
+    _parts: Excepting<'_>,
+    township: Township,
+    lots: &P,
+) -> Result<Wording, Unread>
+    requires split { IsSplit made.now _parts.whole.now _parts.excepted.now }
+    requires more { ¬ HasNoSemicolon _parts.excepted.now }
+    requires none { IsNoException (lotting (P.layout lots.now)) township
+        _parts.whole.now _parts.excepted.now }
     ensures described { IfOk result (λ found.
         IsDescribed (lotting (P.layout lots.now)) found.manner made.now found.text.items) }
     ensures items { IfOk result (λ found. AreItemsOf made.now found.items found.excepted) }
 {
-    let whole = kept(alloc, made)?;
-    let excepted = taken(alloc, made)?;
-    remainder(alloc, made, whole.as_slice(), excepted.as_slice(), 0, lots)
-}
-
-/// The texts before the first `except` and after it.
-pub(crate) fn around_except(text: &[u8]) -> Option<Excepting<'_>>
-    ensures { IfSome result (λ parts. text.now ≡ parts.whole.now ++ except ++ parts.excepted.now) }
-{
-    for at in 0..text.len() {
-        if let Some(parts) = split_at_except(text, at) {
-            return Some(parts);
-        }
-    }
-    None
-}
-
-/// The texts before a place and after the `except` there.
-fn split_at_except(text: &[u8], at: usize) -> Option<Excepting<'_>>
-    requires { at ≤ length text.now }
-    ensures { IfSome result (λ parts. text.now ≡ parts.whole.now ++ except ++ parts.excepted.now) }
-{
-    let (whole, rest) = text.split_at(at);
-    if rest.len() < EXCEPT.len() {
-        return None;
-    }
-    let (mark, excepted) = rest.split_at(EXCEPT.len());
-    if mark != EXCEPT {
-        return None;
-    }
-    Some(Excepting { whole, excepted })
+    let both = divide(alloc, made)?;
+    let (whole, excepted) = (both.whole.as_slice(), both.excepted.as_slice());
+    let Some(description) = read(alloc, whole)? else {
+        return Err(Unread::Refused);
+    };
+    remainder(alloc, made, whole, description, excepted, 0, township, lots)
 }
 
 /// The canonical description of the land of a text without the land of another, which has to be on the plat
@@ -243,24 +259,23 @@ fn split_at_except(text: &[u8], at: usize) -> Option<Excepting<'_>>
 fn remainder<P: Lotting>(
     alloc: Global,
     _made: &[u8],
-    whole: &[u8],
+    _whole: &[u8],
+    description: Description,
     excepted: &[u8],
     at: usize,
+    township: Township,
     lots: &P,
 ) -> Result<Wording, Unread>
-    requires { IsParted _made.now whole.now excepted.now at }
+    requires parted { IsParted _made.now _whole.now excepted.now at }
+    requires by_itself { at ≡ 0 → IsOfDivisions (lotting (P.layout lots.now)) township _made.now }
+    requires read { IsReadAs _whole.now description }
+    requires only { (items : List Named) → IsReadAs _whole.now items → description ≡ items }
     ensures described { IfOk result (λ found.
         IsDescribed (lotting (P.layout lots.now)) found.manner _made.now found.text.items) }
     ensures items { IfOk result (λ found. AreItemsOf _made.now found.items found.excepted) }
 {
     let mut land = Lanes::empty();
     let mut less = Lanes::empty();
-    let Some(description) = read(alloc, whole)? else {
-        return Err(Unread::Refused);
-    };
-    let Some(township) = first_township(description.items()) else {
-        return Err(Unread::Refused);
-    };
     let Ok(()) = resolve_into(&mut land, &description, township, lots) else {
         return Err(why_unread(&description, lots));
     };
@@ -288,6 +303,9 @@ fn remainder<P: Lotting>(
 fn is_proper_part(part: &Lanes, land: &Lanes) -> bool
     ensures inside { IsTrue result → ContainsAll (⟦<Lanes as PlaceSet>⟧.places land.now) (⟦<Lanes as PlaceSet>⟧.places part.now) }
     ensures some_left { IsTrue result → ¬ SamePlaces (⟦<Lanes as PlaceSet>⟧.places land.now) (⟦<Lanes as PlaceSet>⟧.places part.now) }
+    ensures none_left { result ≡ false
+        → ContainsAll (⟦<Lanes as PlaceSet>⟧.places land.now) (⟦<Lanes as PlaceSet>⟧.places part.now)
+        → SamePlaces (⟦<Lanes as PlaceSet>⟧.places land.now) (⟦<Lanes as PlaceSet>⟧.places part.now) }
 {
     land.holds_land(part) && !land.same(part)
 }

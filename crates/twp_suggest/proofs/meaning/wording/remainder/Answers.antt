@@ -5,17 +5,14 @@ use Rattle.twp_suggest.proofs.meaning.wording.remainder.Goals as goal
 pub returns-clause-described : goal.returns-clause-described
 returns-clause-described g c =
     let lots = lotting (g.P.Lotting.layout c.args.lots.now) in
-    let read = rw c.in-Some.is at c.in_ok-description.ensures.read in
-    let only = rw c.in-Some.is at c.in_ok-description.ensures.only in
     let land =
-    is_land lots c.in-Some-first_township.township c.args.whole.now _ _ read (c.in-Ok.ensures.land) in
-    let read_less = rw c.in-Some-2.is at c.in_ok-items.ensures.read in
+    is_land lots c.args.township c.args._whole.now _ _ c.requires.read (c.in-Ok.ensures.land) in
+    let read_less = rw c.in-Some.is at c.in_ok-items.ensures.read in
     let less =
-    is_land lots c.in-Some-first_township.township c.args.excepted.now _ _ read_less
-    (c.in-Ok-resolve_into.ensures.land) in
-    is_remainder lots c.args._made.now c.args.whole.now c.args.excepted.now c.args.at c.in_ok-text.text.items
+    is_land lots c.args.township c.args.excepted.now _ _ read_less (c.in-Ok-resolve_into.ensures.land) in
+    is_remainder lots c.args._made.now c.args._whole.now c.args.excepted.now c.args.at c.in_ok-text.text.items
     c.in_ok-full.full.items _ _ _ _
-    only land less (c.is_proper_part.ensures.inside c.if-not-is_proper_part.false)
+    c.requires.only land less (c.is_proper_part.ensures.inside c.if-not-is_proper_part.false)
     (c.is_proper_part.ensures.some_left c.if-not-is_proper_part.false)
     (rw c.take_away.ensures at c.in_ok-full.ensures.text)
-    (rw c.as_slice.ensures.value at c.in_ok-text.ensures) c.requires
+    (rw c.as_slice.ensures.value at c.in_ok-text.ensures) c.requires.parted c.requires.by_itself
