@@ -2,7 +2,6 @@
 from __future__ import annotations
 
 from ctypes import byref
-from decimal import Decimal
 from typing import Iterable, Iterator, NamedTuple, Sequence, Tuple
 
 from . import _library
