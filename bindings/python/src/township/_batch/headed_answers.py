@@ -181,11 +181,11 @@ class HeadedAnswers(Answers):
             return [text, 1, assumed or None, None, None]
 
     def _with_lots(self, reading: Reading, fields: _Fields) -> Reading:
-        """Return a reading that says whether it assumes the standard lots, if there is no file for its township."""
+        """Return a reading that says whether it assumes the standard lots, unless there is a file for its township."""
         try:
             township = township_in_heading(encoded(reading.text))
         except Refused:
-            return reading
+            return reading_with_standard_lots(reading)
         is_known = self._headed.plat_in(township, *fields).by is not None
         return reading if is_known else reading_with_standard_lots(reading)
 
