@@ -29,7 +29,8 @@ static bool has_lot_or_section(const township_land *land) {
 }
 
 /* A canonical description was made with the standard lots. Any other description depends on them if its land includes a
-   lot or a whole section. A regular township has all land of such a reading. */
+   lot or a whole section. A text that is a description already is its own reading, even if a regular township refuses
+   it: it does not depend on the standard lots. */
 bool twpg_depends_on_lots(uint32_t manner, twpg_bytes text) {
     township_designation township = township_in(text);
     township_land land;
@@ -39,8 +40,8 @@ bool twpg_depends_on_lots(uint32_t manner, twpg_bytes text) {
         return true;
     }
     answer = township_land_read(&township, text.start, text.length, &land);
-    if (answer.verdict != TOWNSHIP_ACCEPTED) {
+    if (answer.verdict != TOWNSHIP_ACCEPTED && answer.verdict != TOWNSHIP_REFUSED) {
         twpg_fail(answer.verdict);
     }
-    return has_lot_or_section(&land);
+    return answer.verdict == TOWNSHIP_ACCEPTED && has_lot_or_section(&land);
 }

@@ -101,8 +101,10 @@ class WithoutAPlat(unittest.TestCase):
             self.assertEqual(len(suggest(text)), 1, text)
 
     def test_what_does_not(self):
-        # Aliquot parts without lots.
-        for text in ("Sec 14: N2", "S2 Sec 5", "T2N R3W Sec 6: E2SE4", "sec. 14, NE1/4.", "Sec 13: N2; Sec 14: S2"):
+        # Aliquot parts without lots; and descriptions that a plat with the standard lots refuses: of a lot that it lacks,
+        # and of a part that includes lots.
+        for text in ("Sec 14: N2", "S2 Sec 5", "T2N R3W Sec 6: E2SE4", "sec. 14, NE1/4.", "Sec 13: N2; Sec 14: S2",
+                     "sec. 14, lot 1.", "sec. 5, N1/2.", "T. 2 N., R. 3 W., sec. 37."):
             reading, = suggest(text)
             self.assertEqual((reading.assumes_standard_lots, STANDARD in reading.assumptions), (False, False), text)
 

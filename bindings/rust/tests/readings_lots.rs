@@ -133,8 +133,15 @@ fn what_assumes_the_standard_lots() {
     }
     let readings = corner().suggest("sec. 14.").readings;
     assert!(!only(readings).assumes_standard_lots);
-    // Aliquot parts without lots.
-    for text in ["Sec 14: N2", "S2 Sec 5", "sec. 14, NE1/4."] {
+    // Aliquot parts without lots; and descriptions that a plat with the standard lots refuses: of a lot
+    // that it lacks, and of a part that includes lots.
+    for text in [
+        "Sec 14: N2",
+        "S2 Sec 5",
+        "sec. 14, NE1/4.",
+        "sec. 14, lot 1.",
+        "sec. 5, N1/2.",
+    ] {
         assert!(!assumes(text), "{text}");
     }
     let phrases = Phrases::new(["blah"]).unwrap();
@@ -190,7 +197,7 @@ fn land_before_its_heading() {
     let phrases = Phrases::new(["Kestrel"]).unwrap();
     for (text, acres) in [
         ("L4 of Sec 14, T2N R3W", "71.10"),
-        ("Kestrel L4 Sec 14-2N-3W", "71.10"),
+        ("Kestrel Sec 14-2N-3W NE4", "150.55"),
         ("All of Sec 14 less Lot 1, T2N R3W", "543.15"),
     ] {
         let mut parts = plats.suggest_without(text, &phrases).unwrap();

@@ -2,6 +2,7 @@
 from __future__ import annotations
 
 from ctypes import byref
+from typing import Optional
 
 from . import _library
 from ._parts import Part, parts_of
@@ -33,16 +34,20 @@ def _depends_on_lots(reading: Reading) -> bool:
     """
     if reading.manner != MANNERS[_library.CHANGED]:
         return True
-    return any(part.lot is not None or _is_section(part) for part in parts_of(_land_of(encoded(reading.text))))
+    land = _land_of(encoded(reading.text))
+    return land is not None and any(part.lot is not None or _is_section(part) for part in parts_of(land))
 
 
-def _land_of(given: bytes) -> _library.Land:
-    """Return the land of a reading in a regular township, which has all of it."""
+def _land_of(given: bytes) -> Optional[_library.Land]:
+    """Return the land of a reading in a regular township, or `None` if it is refused there.
+
+    A text that is a description already is its own reading, even if a regular township refuses it.
+    """
     land = _library.Land()
     answer = _library.land_read(byref(_designation_of(given)), given, len(given), byref(land))
-    if answer.verdict != _library.ACCEPTED:
+    if answer.verdict not in (_library.ACCEPTED, _library.REFUSED):
         raise failure_of(answer.verdict)
-    return land
+    return land if answer.verdict == _library.ACCEPTED else None
 
 
 def _designation_of(given: bytes) -> _library.Designation:

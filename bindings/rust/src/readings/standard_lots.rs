@@ -35,10 +35,8 @@ fn depends_on_lots(reading: &Reading) -> bool {
         Err(_) => ANY_TOWNSHIP,
     };
     let (answer, land) = ffi::land_read(&township, reading.text.as_bytes());
-    match answer.accepted() {
-        Ok(_) => Part::all_of(&land).iter().any(is_lot_or_section),
-        Err(fault) => unreachable!("a regular township has the land, and {}", fault.refusal),
-    }
+    // A text that is a description already is its own reading, even if a regular township refuses it.
+    answer.accepted().is_ok() && Part::all_of(&land).iter().any(is_lot_or_section)
 }
 
 fn is_lot_or_section(part: &Part) -> bool {
