@@ -317,3 +317,55 @@ CREATE FUNCTION parts(lots lots, land land, OUT section int4, OUT lot int4, OUT 
 AS 'MODULE_PATHNAME', 'twpg_parts_by_lots' LANGUAGE C IMMUTABLE STRICT PARALLEL SAFE COST 100 ROWS 4;
 COMMENT ON FUNCTION parts(lots, land)
 IS 'the parts of land that its description by a lot table names: lots, and other parts of sections';
+
+-- Readings by a lot table: on its plat, with its lots. The function on field notes keeps a literal in their place from
+-- being taken for either of the two.
+
+CREATE FUNCTION suggest(
+    lots lots, description text,
+    OUT reading text, OUT acres numeric, OUT changes int4, OUT assumes text[], OUT reason text
+) RETURNS SETOF record
+AS 'MODULE_PATHNAME', 'twpg_suggest_by_lots' LANGUAGE C IMMUTABLE STRICT PARALLEL SAFE COST 500 ROWS 1;
+COMMENT ON FUNCTION suggest(lots, text)
+IS 'the descriptions that a text can be read as on the plat of a lot table, with their acres, or a row without one';
+
+CREATE FUNCTION suggest(
+    lots lots, description text, ignore text[],
+    OUT reading text, OUT acres numeric, OUT changes int4, OUT assumes text[], OUT reason text
+) RETURNS SETOF record
+AS 'MODULE_PATHNAME', 'twpg_suggest_by_lots_without' LANGUAGE C IMMUTABLE PARALLEL SAFE COST 500 ROWS 1;
+COMMENT ON FUNCTION suggest(lots, text, text[])
+IS 'the descriptions that a text can be read as on the plat of a lot table without some phrases, with their acres, or a row without one';
+
+CREATE FUNCTION suggest(
+    notes text, description text, ignore text[], account text DEFAULT 'exact',
+    OUT reading text, OUT acres numeric, OUT changes int4, OUT assumes text[], OUT reason text
+) RETURNS SETOF record
+AS 'MODULE_PATHNAME', 'twpg_suggest_by_notes_without' LANGUAGE C IMMUTABLE PARALLEL SAFE COST 600 ROWS 1;
+COMMENT ON FUNCTION suggest(text, text, text[], text)
+IS 'the descriptions that a text can be read as without some phrases, with their acres on the plat of field notes, or a row without one';
+
+CREATE FUNCTION unread(lots lots, description text, ignore text[]) RETURNS text[]
+AS 'MODULE_PATHNAME', 'twpg_unread_by_lots' LANGUAGE C IMMUTABLE PARALLEL SAFE COST 1000;
+COMMENT ON FUNCTION unread(lots, text, text[])
+IS 'what is unread of a text without readings on the plat of a lot table, apart from some phrases; empty if it has readings';
+
+-- Drawings of the plat of a lot table, with its lots.
+
+CREATE FUNCTION svg(lots lots, land land) RETURNS text
+AS 'MODULE_PATHNAME', 'twpg_svg_by_lots' LANGUAGE C IMMUTABLE STRICT PARALLEL SAFE COST 2000;
+COMMENT ON FUNCTION svg(lots, land) IS 'a drawing of the plat of a lot table, with the land, as an SVG document';
+
+CREATE FUNCTION svg(lots lots, land land, section int4) RETURNS text
+AS 'MODULE_PATHNAME', 'twpg_svg_of_section_by_lots' LANGUAGE C IMMUTABLE STRICT PARALLEL SAFE COST 2000;
+COMMENT ON FUNCTION svg(lots, land, int4)
+IS 'a drawing of a section of the plat of a lot table, with the land in it, as an SVG document';
+
+CREATE FUNCTION svg(notes text, land land) RETURNS text
+AS 'MODULE_PATHNAME', 'twpg_svg_by_notes' LANGUAGE C IMMUTABLE STRICT PARALLEL SAFE COST 1100;
+COMMENT ON FUNCTION svg(text, land) IS 'a drawing of the plat of field notes, with the land, as an SVG document';
+
+CREATE FUNCTION svg(notes text, land land, section int4) RETURNS text
+AS 'MODULE_PATHNAME', 'twpg_svg_of_section_by_notes' LANGUAGE C IMMUTABLE STRICT PARALLEL SAFE COST 1100;
+COMMENT ON FUNCTION svg(text, land, int4)
+IS 'a drawing of a section of the plat of field notes, with the land in it, as an SVG document';

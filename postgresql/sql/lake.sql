@@ -218,6 +218,60 @@ FROM tables, land(:'heading', 'secs. 1 and 14; sec. 6, lot 7, NE1/4SE1/4; sec. 1
 SELECT count(*) AS parts FROM tables, land(lots, 'sec. 14.') AS land, parts(lots, land - land) WHERE name = 'lake';
 SELECT parts(lots, land) FROM tables, lands WHERE tables.name = 'dated' AND lands.name = 'lake';
 
+-- Readings on the plat of a table: its lots are named, 38.50, 12.25, and 19.80 acres here, and 80 acres; or those of a
+-- regular township, which has none in section 14, and four in section 5.
+SELECT name, suggested.* FROM tables, suggest(lots, 'Sec 14: NE4') AS suggested ORDER BY name;
+SELECT name, reading FROM tables, suggest(lots, 'N2NE4 Sec 5') ORDER BY name;
+SELECT reading, acres, acres = acres(lots, reading) AS same, normal(lots, reading) FROM tables, suggest(lots, 'Sec 14: All less Lot 1') WHERE name = 'lake';
+-- Lots that only this plat has, a lot that it lacks, a township that is not the table's, and no reading.
+SELECT text, suggested.* FROM tables, (VALUES ('L4 Sec 14'), ('Lot 2, Sec 5'), ('N2 Sec 13-3N-3W'), ('the old mill'), (''), ('sec. 14, a portion of lot 2'))
+    AS texts (text), suggest(lots, text) AS suggested WHERE name = 'lake';
+SELECT reading, acres, assumes FROM tables, suggest(lots, 'sec. 14: blah NE4', ARRAY['blah']) WHERE name = 'lake';
+SELECT reading, acres FROM tables, suggest(lots, 'Sec 14: NE4', ignore => NULL) WHERE name = 'lake';
+SELECT count(*) AS rows FROM suggest(NULL::lots, 'sec. 14.');
+SELECT count(*) AS rows FROM tables, suggest(lots, NULL, ARRAY['blah']);
+SELECT count(*) AS rows FROM suggest(NULL::lots, 'sec. 14.', ARRAY['blah']);
+SELECT suggest(lots, 'sec. 14.', ARRAY['Lot 3']) FROM tables WHERE name = 'lake';
+-- A table with the standard lots has the readings of any plat of its township, but its own acres.
+SELECT count(*) AS readings, bool_and(by_table.reading IS NOT DISTINCT FROM without.reading AND by_table.reason IS NOT DISTINCT FROM without.reason) AS same
+FROM tables, (VALUES ('N2 Sec 5'), ('sec. 14: NE¼NE¼ SW¼SW¼'), ('the old mill'), ('sec. 14, a portion of lot 2'), ('Sec 14: NE4')) AS texts (text),
+    LATERAL ROWS FROM (suggest(lots, text)) WITH ORDINALITY AS by_table (reading, acres, changes, assumes, reason, ordinal)
+    JOIN LATERAL ROWS FROM (suggest(text)) WITH ORDINALITY AS without (reading, changes, assumes, reason, ordinal) USING (ordinal)
+WHERE name IN ('dated', 'standard');
+-- What is unread of a text that has no reading by a table; the last text has one by this table alone.
+SELECT unread(lots, 'the old mill', NULL), unread(lots, 'the old blah mill', ARRAY['blah']) AS without, unread(lots, 'Sec 14: All less Lot 1', '{}') AS none,
+       unread(NULL::lots, 'the old mill', NULL) IS NULL AS no_table, unread(lots, NULL, NULL) IS NULL AS no_text
+FROM tables WHERE name = 'lake';
+
+-- Drawings of the plat of a table: its lots, the lake, and the acreage that it returns.
+CREATE FUNCTION found(svg text, path text) RETURNS text[] LANGUAGE sql IMMUTABLE AS
+$$ SELECT xpath(path, xmlparse(DOCUMENT svg), ARRAY[ARRAY['s', 'http://www.w3.org/2000/svg']])::text[] $$;
+CREATE TABLE drawn AS SELECT name, lots, land, svg(lots, land) AS svg, svg(lots, land, 14) AS sheet
+FROM tables, land(lots, 'sec. 14, S1/2; sec. 5, lot 1.') AS land;
+SELECT name, found(svg, '/s:svg/s:title/text()') AS title, found(svg, '/s:svg/s:desc/text()') AS description, found(svg, '/s:svg/s:text/text()') AS words,
+       found(svg, '//s:path/@class') AS paths
+FROM drawn ORDER BY name;
+-- The numbers of sections, and the acres of those whose lots have a figure: 640.45 in section 5, and 581.65 in section 14.
+SELECT name, cardinality(numbers) AS numbers, numbers[9:10] AS fifth, numbers[27:28] AS fourteenth
+FROM drawn, found(svg, '/s:svg/s:g/s:text/text()') AS numbers ORDER BY name;
+SELECT name, found(svg, '//s:path[@class="absent"]/@d') AS absent, found(svg, '//s:path[@class="land"]/@d') AS land FROM drawn ORDER BY name;
+SELECT name, cardinality(found(svg, '//s:path[@class="lots"]/@d')) AS paths, length((found(svg, '//s:path[@class="lots"]/@d'))[1]) AS length FROM drawn ORDER BY name;
+-- On the sheet of section 14: lot 1 in the northeast, 2 and 3 west of it, 4 as wide as one of them and twice as high, and
+-- the lake in the northwest. The sides of lots are drawn once.
+SELECT found(sheet, '/s:svg/s:g/s:text/text()') AS numbers, found(sheet, '//s:path[@class="absent"]/@d') AS absent, found(sheet, '//s:path[@class="lots"]/@d') AS lots,
+       found(sheet, '/s:svg/s:text/text()') AS words
+FROM drawn WHERE name = 'lake';
+SELECT found(svg(lots, land(lots, 'sec. 5, lot 1.'), 5), '/s:svg/s:g/s:text/text()') AS numbers, found(svg(lots, land(lots, 'sec. 5, lot 1.'), 5), '/s:svg/s:text/text()') AS words
+FROM tables WHERE name = 'standard';
+-- The same lines as without a table, if its lots are the standard ones; and land of another plat.
+SELECT name, found(svg, '//s:path/@d') = found(svg(land), '//s:path/@d') AS same FROM drawn ORDER BY name;
+SELECT svg(lots, land) FROM tables, lands WHERE tables.name = 'dated' AND lands.name = 'lake';
+SELECT svg(lots, land, 37) FROM drawn WHERE name = 'lake';
+-- A lot in two parts has its number in the larger one, and no land is there in section 20.
+SELECT found(svg(lots, land(lots, 'sec. 14, lot 9.'), 14), '/s:svg/s:g/s:text/@x') AS x, found(svg(lots, land(lots, 'sec. 14, lot 9.'), 14), '/s:svg/s:g/s:text/@y') AS y,
+       found(svg(lots, land(lots, 'sec. 14, lot 9.')), '//s:path[@class="absent"]/@d') AS absent
+FROM (SELECT E'section,lot,acres,land\nT,2,N,3,W\n14,9,45.01,"NE1/4NE1/4, SW1/4SW1/4SW1/4"\n14,,,"SE1/4SW1/4SW1/4, N1/2SW1/4SW1/4"\n20,,,"N1/2, S1/2"\n'::lots AS lots) AS parted;
+
 -- Land and a table of another plat, or with other lots on the same one.
 SELECT tables.name, lands.name AS land, acres_or_null(lots, land), number, at, message
 FROM tables, lands, refusal(lots, land) AS refused WHERE tables.name <> lands.name ORDER BY tables.name, lands.name;

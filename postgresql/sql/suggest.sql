@@ -14,6 +14,12 @@ FROM suggest(E'TRACT 1: NE/4 Sec 14, T2N R3W,\n Boise\t Meridian, containing 160
 -- What is not left out: a number that is said again, steps that may lack a comma, in two changes, and a wrong letter.
 SELECT unnest(assumes) AS assumed FROM suggest('Section Fourteen (14): N2SWSW, NEI/4.');
 SELECT reading, assumes = '{}' AS nothing FROM suggest('N2 Sec 14');
+-- Without a plat, its lots are not known: lots and whole sections, lots in place of an aliquot part, and what an exception
+-- leaves are those of a regular township. Aliquot parts without lots assume nothing, and neither do descriptions that such
+-- a plat refuses.
+SELECT text, assumes FROM (VALUES ('Lot 1, Sec 5'), ('sec. 14.'), ('sec. 14, N1/2, S1/2.'), ('T2N R3W sec. 6, lot 7.'), ('N2 Sec 5'), ('Sec 14: W2 less the NENW'),
+    ('TRACT 1: sec. 14.'), ('Sec 14: N2'), ('S2 Sec 5'), ('sec. 14, lot 1.'), ('sec. 5, N1/2.')) AS texts (text), suggest(text);
+SELECT count(*) AS none FROM plats, (VALUES ('Lot 1, Sec 5'), ('sec. 14.'), ('N2 Sec 5')) AS texts (text), suggest(plat, text) WHERE assumes <> '{}';
 
 -- A reading is on one line, with a single space for white space. Its acres are those of the description: here, the
 -- northeast quarter's 160.

@@ -20,6 +20,9 @@ Datum twpg_acres_of_land(PG_FUNCTION_ARGS);
 Datum twpg_acres_of_land_or_null(PG_FUNCTION_ARGS);
 Datum twpg_area_of_land(PG_FUNCTION_ARGS);
 Datum twpg_suggest_on_plat(PG_FUNCTION_ARGS);
+Datum twpg_suggest_on_plat_without(PG_FUNCTION_ARGS);
+Datum twpg_svg_on_plat(PG_FUNCTION_ARGS);
+Datum twpg_svg_of_section_on_plat(PG_FUNCTION_ARGS);
 
 /* Reads the first argument as the text of a type. */
 static void read_first(FunctionCallInfo fcinfo, PGFunction input) {
@@ -42,6 +45,8 @@ OF_TEXT(twpg_acres_of_land_by_notes, twpg_plat_in, twpg_acres_of_land)
 OF_TEXT(twpg_acres_of_land_by_notes_or_null, twpg_plat_in, twpg_acres_of_land_or_null)
 OF_TEXT(twpg_area_of_land_by_notes, twpg_plat_in, twpg_area_of_land)
 OF_TEXT(twpg_suggest_by_notes, twpg_plat_in, twpg_suggest_on_plat)
+OF_TEXT(twpg_svg_by_notes, twpg_plat_in, twpg_svg_on_plat)
+OF_TEXT(twpg_svg_of_section_by_notes, twpg_plat_in, twpg_svg_of_section_on_plat)
 OF_TEXT(twpg_text_is_empty, twpg_land_in, twpg_land_is_empty)
 OF_TEXT(twpg_text_plat_date, twpg_land_in, twpg_land_plat_date)
 OF_TEXT(twpg_text_has_own_lots, twpg_land_in, twpg_land_has_own_lots)
@@ -55,4 +60,13 @@ Datum twpg_township_of_text(PG_FUNCTION_ARGS) {
     }
     read_first(fcinfo, twpg_land_in);
     return twpg_land_township(fcinfo);
+}
+
+/* The readings of a text without phrases. It is not strict: without field notes, there are no rows. */
+PG_FUNCTION_INFO_V1(twpg_suggest_by_notes_without);
+Datum twpg_suggest_by_notes_without(PG_FUNCTION_ARGS) {
+    if (!PG_ARGISNULL(0)) {
+        read_first(fcinfo, twpg_plat_in);
+    }
+    return twpg_suggest_on_plat_without(fcinfo);
 }

@@ -22,8 +22,12 @@ typedef struct twpg_aside {
 twpg_aside twpg_whole_argument(FunctionCallInfo fcinfo, int index);
 twpg_aside twpg_argument_without(FunctionCallInfo fcinfo, int index);
 
-/* suggest.c: bytes of a text on one line, and whether a text has readings. */
+/* suggest.c: bytes of a text on one line, and whether a text has readings by a lot table, or with the standard lots if that
+   is NULL. */
 void twpg_append_line(StringInfo line, const uint8_t *at, const uint8_t *end);
-bool twpg_has_readings(twpg_bytes text);
+bool twpg_has_readings(twpg_bytes text, const township_lots *lots);
+
+/* standard_lots.c: whether the land of a reading with this text depends on the lots of the plat. */
+bool twpg_depends_on_lots(uint32_t manner, twpg_bytes text);
 
 #endif

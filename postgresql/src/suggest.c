@@ -1,8 +1,9 @@
 /*
  * The function suggest: how a text, as people write it, would be written as a description. It returns a row for each of
  * the text's readings. A text that has none has one row without a reading, so that a join with it keeps every text. It
- * can leave out phrases that the caller says are not land.
+ * can leave out phrases that the caller says are not land. By a lot table, readings are on its plat.
  */
+#include "lots.h"
 #include "readings.h"
 
 #include "catalog/pg_type.h"
@@ -13,10 +14,12 @@
 #define USUAL_CHANGES 64
 #define USUAL_BYTES 4096
 
-/* A text and what is left out of it, the plat that its readings are on, or NULL, and what the library suggests. */
+/* A text and what is left out of it, the plat or the lot table by which it is read, or NULL for both, and what the library
+   suggests. */
 typedef struct twpg_suggested {
     twpg_aside aside;
     const township_plat *plat;
+    const township_lots *lots;
     uint32_t account;
     township_suggestion sizes;
     township_reading readings[TOWNSHIP_READINGS_MOST];
@@ -24,8 +27,8 @@ typedef struct twpg_suggested {
     uint8_t *bytes;
 } twpg_suggested;
 
-/* A row, to which its values are added from left to right: the reading; its acres, if there is a plat; how many changes
-   make the text a description; what they assume; and the reason why there is no reading. */
+/* A row, to which its values are added from left to right: the reading; its acres, if there is a plat or a table; how many
+   changes make the text a description; what they assume; and the reason why there is no reading. */
 typedef struct twpg_row {
     Datum values[5];
     bool nulls[5];
@@ -45,6 +48,9 @@ static const struct {
     {TOWNSHIP_ASSUMES_NO_MISSING_COMMA, "no comma is missing"},
 };
 
+/* What a reading assumes that depends on the lots of the plat, if nothing says which lots it has. */
+#define STANDARD_LOTS "the plat has the standard lots"
+
 /* A phrase of a text: the bytes from `start` to before `end`. */
 typedef struct twpg_phrase {
     const uint8_t *start;
@@ -52,11 +58,22 @@ typedef struct twpg_phrase {
 } twpg_phrase;
 
 static township_answer suggest_in(twpg_suggested *suggested, size_t changes, size_t bytes) {
+    twpg_bytes text = suggested->aside.left;
+
     suggested->changes = palloc(changes * sizeof *suggested->changes);
     suggested->bytes = palloc(bytes);
-    return township_suggest(suggested->aside.left.start, suggested->aside.left.length, suggested->readings,
-                            lengthof(suggested->readings), suggested->changes, changes, suggested->bytes, bytes,
-                            &suggested->sizes);
+    if (suggested->lots != NULL) {
+        return township_lots_suggest(suggested->lots, text.start, text.length, suggested->readings,
+                                     lengthof(suggested->readings), suggested->changes, changes, suggested->bytes,
+                                     bytes, &suggested->sizes);
+    }
+    return township_suggest(text.start, text.length, suggested->readings, lengthof(suggested->readings),
+                            suggested->changes, changes, suggested->bytes, bytes, &suggested->sizes);
+}
+
+/* Whether readings have acres. */
+static bool has_acres(const twpg_suggested *suggested) {
+    return suggested->plat != NULL || suggested->lots != NULL;
 }
 
 /* Finds the readings. The library says how much room many need. */
@@ -73,8 +90,8 @@ static void suggest(twpg_suggested *suggested) {
     }
 }
 
-bool twpg_has_readings(twpg_bytes text) {
-    twpg_suggested suggested = {.aside = {.left = text}};
+bool twpg_has_readings(twpg_bytes text, const township_lots *lots) {
+    twpg_suggested suggested = {.aside = {.left = text}, .lots = lots};
 
     suggest(&suggested);
     return suggested.sizes.readings != 0;
@@ -213,6 +230,7 @@ static Datum assumed_by(const twpg_suggested *suggested, const township_reading 
     const twpg_aside *aside = &suggested->aside;
     const township_stretch *place = aside->places;
     const township_stretch *last = place + aside->count;
+    twpg_bytes text = {suggested->bytes + reading->text, (size_t)reading->text_length};
     size_t most = (size_t)(reading->changes_length + aside->count + 1);
     twpg_said said = {palloc(most * sizeof *said.texts), palloc(most * sizeof *said.values), 0};
 
@@ -225,6 +243,9 @@ static Datum assumed_by(const twpg_suggested *suggested, const township_reading 
             say(&said, assumption_by(change, aside->left));
         }
         change++;
+    }
+    if (!has_acres(suggested) && twpg_depends_on_lots(reading->manner, text)) {
+        say(&said, pstrdup(STANDARD_LOTS));
     }
     return PointerGetDatum(construct_array(said.values, said.count, TEXTOID, -1, false, TYPALIGN_INT));
 }
@@ -248,10 +269,18 @@ static void add_text(twpg_row *row, const twpg_suggested *suggested, const towns
     add_value(row, CStringGetTextDatum(twpg_from_utf8(line.data)));
 }
 
-/* Adds the acres of a reading. The plat can refuse it, as one with the heading of another township. */
+static township_answer acres_of(const twpg_suggested *suggested, const township_reading *reading) {
+    const uint8_t *text = suggested->bytes + reading->text;
+    size_t length = (size_t)reading->text_length;
+
+    return suggested->lots != NULL ? township_lots_acres(suggested->lots, text, length)
+                                   : township_acres(suggested->plat, text, length, suggested->account);
+}
+
+/* Adds the acres of a reading. It can be refused, as one with the heading of another township, or with a lot that the
+   table lacks. */
 static void add_acres(twpg_row *row, const twpg_suggested *suggested, const township_reading *reading) {
-    township_answer answer = township_acres(suggested->plat, suggested->bytes + reading->text,
-                                            (size_t)reading->text_length, suggested->account);
+    township_answer answer = acres_of(suggested, reading);
 
     if (answer.verdict == TOWNSHIP_ACCEPTED) {
         add_value(row, twpg_acres_datum(answer.hundredths));
@@ -266,7 +295,7 @@ static twpg_row row_of(const twpg_suggested *suggested, const township_reading *
     twpg_row row = {{0}, {false}, 0};
 
     add_text(&row, suggested, reading);
-    if (suggested->plat != NULL) {
+    if (has_acres(suggested)) {
         add_acres(&row, suggested, reading);
     }
     add_value(&row, Int32GetDatum((int32)(reading->changes_length + suggested->aside.count)));
@@ -279,7 +308,7 @@ static twpg_row row_of(const twpg_suggested *suggested, const township_reading *
 static twpg_row row_without_reading(const twpg_suggested *suggested) {
     const township_suggestion *sizes = &suggested->sizes;
     twpg_row row = {{0}, {false}, 0};
-    int before_reason = suggested->plat != NULL ? 4 : 3;
+    int before_reason = has_acres(suggested) ? 4 : 3;
 
     while (row.count < before_reason) {
         add_null(&row);
@@ -336,6 +365,13 @@ Datum twpg_suggest_on_plat(PG_FUNCTION_ARGS) {
     return suggested_rows(fcinfo, &suggested);
 }
 
+PG_FUNCTION_INFO_V1(twpg_suggest_by_lots);
+Datum twpg_suggest_by_lots(PG_FUNCTION_ARGS) {
+    twpg_suggested suggested = {.aside = twpg_whole_argument(fcinfo, 1), .lots = PG_GETARG_LOTS(0)};
+
+    return suggested_rows(fcinfo, &suggested);
+}
+
 /* The functions that follow take phrases after a text. They are not strict: without phrases, nothing is left out. */
 
 PG_FUNCTION_INFO_V1(twpg_suggest_without);
@@ -359,5 +395,17 @@ Datum twpg_suggest_on_plat_without(PG_FUNCTION_ARGS) {
     suggested.aside = twpg_argument_without(fcinfo, 1);
     suggested.plat = PG_GETARG_PLAT(0);
     suggested.account = twpg_account_of(PG_GETARG_TEXT_PP(3));
+    return suggested_rows(fcinfo, &suggested);
+}
+
+PG_FUNCTION_INFO_V1(twpg_suggest_by_lots_without);
+Datum twpg_suggest_by_lots_without(PG_FUNCTION_ARGS) {
+    twpg_suggested suggested = {0};
+
+    if (PG_ARGISNULL(0) || PG_ARGISNULL(1)) {
+        return no_rows(fcinfo);
+    }
+    suggested.aside = twpg_argument_without(fcinfo, 1);
+    suggested.lots = PG_GETARG_LOTS(0);
     return suggested_rows(fcinfo, &suggested);
 }

@@ -1,10 +1,10 @@
 /*
  * The function svg: a drawing of a township, or of one of its sections, with land, as an SVG document that needs no
- * other file. Its unit is the side of a place. The figures on it are the library's.
+ * other file. Its unit is the side of a place. The figures on it are the library's. By a lot table, it shows the lots of
+ * the table's plat, and the acreage that it returns.
  */
-#include "land.h"
+#include "svg.h"
 
-#include "lib/stringinfo.h"
 #include "miscadmin.h"
 
 #define ACROSS_TOWNSHIP (TWPG_SECTIONS_ACROSS * TOWNSHIP_PLACES_ACROSS)
@@ -12,15 +12,6 @@
 
 /* The most characters of the land's description: all of it may be very long. */
 #define WORDS_MOST 500
-
-/* What is drawn: land, a plat or NULL, and a section's index, or -1 for the whole township. */
-typedef struct twpg_drawn {
-    township_land land;
-    const township_plat *plat;
-    int section;
-    twpg_lot_numbers lots; /* the standard ones, or none if the land is on a plat with others */
-    township_plat_figures figures; /* if there is a plat */
-} twpg_drawn;
 
 /* A square of places, by rows from the north and in each from the west, and how many there are along a side. */
 typedef struct twpg_picture {
@@ -59,7 +50,12 @@ static void hold_section(const twpg_picture *picture, const uint32_t *rows, int 
     }
 }
 
-static twpg_picture picture_of(const twpg_drawn *drawn) {
+/* Whether the lots that are drawn are those of a table that says where they lie. */
+static bool is_mapped(const twpg_drawn *drawn) {
+    return drawn->table != NULL && drawn->table->mapped != 0;
+}
+
+static twpg_picture picture_of(const twpg_drawn *drawn, const township_land *land) {
     twpg_picture picture = {across_of(drawn), NULL};
     int section;
     int x;
@@ -68,7 +64,7 @@ static twpg_picture picture_of(const twpg_drawn *drawn) {
     picture.held = palloc0((size_t)(picture.across * picture.across) * sizeof *picture.held);
     for (section = 0; section < TOWNSHIP_SECTIONS; section++) {
         if (find_corner(drawn, section, &x, &y)) {
-            hold_section(&picture, drawn->land.rows[section], x, y);
+            hold_section(&picture, land->rows[section], x, y);
         }
     }
     return picture;
@@ -98,14 +94,14 @@ static void add_rectangle(StringInfo svg, const twpg_picture *picture, int x, in
     appendStringInfo(svg, "M%d %dh%dv%dh-%dz", x, y, width, height, width);
 }
 
-/* The land as rectangles, no two of which overlap: at most one for each two places, of 16 characters or less. So a
-   drawing takes less than 300 KB. */
-static void add_land(StringInfo svg, const twpg_drawn *drawn) {
-    twpg_picture picture = picture_of(drawn);
+/* Land as rectangles, no two of which overlap: at most one for each two places, of 16 characters or less. So a drawing
+   takes less than 300 KB, and one by a lot table less than twice that. */
+static void add_land(StringInfo svg, const twpg_drawn *drawn, const township_land *land, const char *attributes) {
+    twpg_picture picture = picture_of(drawn, land);
     int x;
     int y;
 
-    appendStringInfoString(svg, "<path class=\"land\" fill=\"#b58900\" fill-opacity=\"0.4\" d=\"");
+    appendStringInfo(svg, "<path %s d=\"", attributes);
     for (y = 0; y < picture.across; y++) {
         for (x = 0; x < picture.across; x++) {
             if (picture.held[y * picture.across + x]) {
@@ -152,6 +148,20 @@ static void add_lots_of(StringInfo svg, const twpg_drawn *drawn, int section, tw
     }
 }
 
+/* Adds the sides of the lots of a table that says where they lie. */
+static void add_mapped_lines(StringInfo svg, const twpg_drawn *drawn) {
+    twpg_lotted section;
+    int x;
+    int y;
+
+    for (section.index = 0; section.index < TOWNSHIP_SECTIONS; section.index++) {
+        if (find_corner(drawn, section.index, &x, &y)) {
+            twpg_find_section(drawn->table, &drawn->lots, &section);
+            twpg_add_lot_lines(svg, &section, x, y);
+        }
+    }
+}
+
 static void add_lots(StringInfo svg, const twpg_drawn *drawn, twpg_lot_adder add) {
     int section;
 
@@ -165,11 +175,6 @@ static void add_lot(StringInfo svg, const twpg_drawn *drawn, int section, int lo
     (void)section;
     (void)lot;
     appendStringInfo(svg, "M%d %dh%dv%dh-%dz", x, y, PLACES_OF_CELL, PLACES_OF_CELL, PLACES_OF_CELL);
-}
-
-/* The acres of hundredths. */
-static char *acres_text(uint64_t hundredths) {
-    return psprintf(UINT64_FORMAT ".%02d", hundredths / 100, (int)(hundredths % 100));
 }
 
 /* Text between tags. All characters in it are ASCII. */
@@ -205,13 +210,33 @@ static void add_text(StringInfo svg, double x, double y, double size, const char
     appendStringInfoString(svg, "</text>\n");
 }
 
-/* The number of a lot and its acres, on the sheet of its section. */
-static void add_lot_number(StringInfo svg, const twpg_drawn *drawn, int section, int lot, int x, int y) {
-    double middle = x + PLACES_OF_CELL / 2.0;
+/* The number of a lot and its acres around a place, on the sheet of its section. */
+static void add_number_at(StringInfo svg, const twpg_drawn *drawn, int section, int lot, double x, double y) {
+    char *acres = twpg_acres_of_lot(drawn, section, lot);
 
-    add_text(svg, middle, y + 4, 1.2, psprintf("Lot %d", lot));
-    if (drawn->plat != NULL) {
-        add_text(svg, middle, y + 5.5, 1, acres_text(drawn->figures.lots[section][lot - 1]));
+    add_text(svg, x, y, 1.2, psprintf("Lot %d", lot));
+    if (acres != NULL) {
+        add_text(svg, x, y + 1.5, 1, acres);
+    }
+}
+
+static void add_lot_number(StringInfo svg, const twpg_drawn *drawn, int section, int lot, int x, int y) {
+    add_number_at(svg, drawn, section, lot, x + PLACES_OF_CELL / 2.0, y + 4);
+}
+
+/* The same for the lots of the section that is drawn, by a table that says where they lie. */
+static void add_mapped_numbers(StringInfo svg, const twpg_drawn *drawn) {
+    const township_lots *table = drawn->table;
+    twpg_lotted section = {.index = drawn->section};
+    int index;
+
+    twpg_find_section(table, &drawn->lots, &section);
+    for (index = table->first[drawn->section]; index < table->first[drawn->section + 1]; index++) {
+        double x = 0;
+        double y = 0;
+
+        twpg_find_middle(&section, table->numbers[index], &x, &y);
+        add_number_at(svg, drawn, drawn->section, table->numbers[index], x, y);
     }
 }
 
@@ -223,11 +248,12 @@ static void add_section_numbers(StringInfo svg, const twpg_drawn *drawn) {
 
     for (section = 0; section < TOWNSHIP_SECTIONS && drawn->section < 0; section++) {
         double middle = TOWNSHIP_PLACES_ACROSS / 2.0;
+        char *acres = twpg_acres_of_all(drawn, section);
 
         (void)find_corner(drawn, section, &x, &y);
         add_text(svg, x + middle, y + middle + 1, 6, psprintf("%d", section + 1));
-        if (drawn->plat != NULL) {
-            add_text(svg, x + middle, y + middle + 5, 3, acres_text(drawn->figures.sections[section]));
+        if (acres != NULL) {
+            add_text(svg, x + middle, y + middle + 5, 3, acres);
         }
     }
 }
@@ -246,8 +272,8 @@ static township_land land_on(const twpg_drawn *drawn) {
 }
 
 /* The description of the land, its beginning if it is long. */
-static char *words_of(const township_land *land) {
-    char *words = twpg_land_text(land);
+static char *words_of(const twpg_drawn *drawn, const township_land *land) {
+    char *words = drawn->table != NULL ? twpg_describe(land, drawn->table) : twpg_land_text(land);
 
     return strlen(words) <= WORDS_MOST ? words : psprintf("%.*s ..", WORDS_MOST, words);
 }
@@ -255,23 +281,6 @@ static char *words_of(const township_land *land) {
 /* Whether there is land in a section that is not drawn. */
 static bool is_elsewhere(const twpg_drawn *drawn, const township_land *shown) {
     return memcmp(drawn->land.rows, shown->rows, sizeof shown->rows) != 0;
-}
-
-/* The acres of the land, and of all that is drawn, by the plat. */
-static char *caption_of(const twpg_drawn *drawn, const township_land *land) {
-    township_answer answer = township_land_acres(drawn->plat, land, TOWNSHIP_EXACT);
-    uint64_t all = drawn->section < 0 ? drawn->figures.township : drawn->figures.sections[drawn->section];
-
-    if (answer.verdict == TOWNSHIP_OTHER_PLAT) {
-        twpg_fail_of_own_lots("Draw it without a plat: svg(land).");
-    }
-    if (answer.verdict != TOWNSHIP_ACCEPTED) {
-        twpg_site first = twpg_site_of_plat(drawn->plat);
-        twpg_site second = twpg_site_of(land);
-
-        twpg_fail_of_two(answer.verdict, &first, &second);
-    }
-    return psprintf("%s of %s acres", acres_text(answer.hundredths), acres_text(all));
 }
 
 static char *title_of(const twpg_drawn *drawn) {
@@ -291,7 +300,11 @@ static void add_all_lines(StringInfo svg, const twpg_drawn *drawn, double unit) 
     }
     add_lines(svg, "quarters", across, TOWNSHIP_PLACES_ACROSS / 2, (drawn->section < 0 ? 0.15 : 0.6) * unit);
     appendStringInfo(svg, "<path class=\"lots\" stroke-width=\"%g\" d=\"", 0.2 * unit);
-    add_lots(svg, drawn, add_lot);
+    if (is_mapped(drawn)) {
+        add_mapped_lines(svg, drawn);
+    } else {
+        add_lots(svg, drawn, add_lot);
+    }
     appendStringInfoString(svg, "\"/>\n");
     add_lines(svg, "sections", across, TOWNSHIP_PLACES_ACROSS, 0.8 * unit);
     appendStringInfoString(svg, "</g>\n");
@@ -301,7 +314,9 @@ static void add_all_lines(StringInfo svg, const twpg_drawn *drawn, double unit) 
 static void add_numbers(StringInfo svg, const twpg_drawn *drawn, double unit) {
     appendStringInfo(svg, "<g stroke=\"#fff\" stroke-width=\"%g\" paint-order=\"stroke\">\n", unit);
     add_section_numbers(svg, drawn);
-    if (drawn->section >= 0) {
+    if (drawn->section >= 0 && is_mapped(drawn)) {
+        add_mapped_numbers(svg, drawn);
+    } else if (drawn->section >= 0) {
         add_lots(svg, drawn, add_lot_number);
     }
     appendStringInfoString(svg, "</g>\n");
@@ -311,8 +326,9 @@ static void add_numbers(StringInfo svg, const twpg_drawn *drawn, double unit) {
 static text *drawing_of(const twpg_drawn *drawn) {
     double unit = (double)across_of(drawn) / ACROSS_TOWNSHIP;
     township_land land = land_on(drawn);
-    char *words = words_of(&land);
+    char *words = words_of(drawn, &land);
     char *title = title_of(drawn);
+    char *caption = twpg_caption_of(drawn, &land);
     StringInfoData svg;
 
     initStringInfo(&svg);
@@ -328,11 +344,16 @@ static text *drawing_of(const twpg_drawn *drawn) {
     appendStringInfo(&svg, "<rect x=\"%g\" y=\"%g\" width=\"%g\" height=\"%g\" fill=\"#fff\"/>\n", -4 * unit,
                      -14 * unit, 200 * unit, 216 * unit);
     add_text(&svg, 96 * unit, -5 * unit, 7 * unit, title);
-    add_land(&svg, drawn);
+    if (is_mapped(drawn)) {
+        township_land absent = twpg_absent_in(drawn->table);
+
+        add_land(&svg, drawn, &absent, "class=\"absent\" fill=\"#268bd2\" fill-opacity=\"0.3\"");
+    }
+    add_land(&svg, drawn, &drawn->land, "class=\"land\" fill=\"#b58900\" fill-opacity=\"0.4\"");
     add_all_lines(&svg, drawn, unit);
     add_numbers(&svg, drawn, unit);
-    if (drawn->plat != NULL) {
-        add_text(&svg, 96 * unit, 199 * unit, 5 * unit, caption_of(drawn, &land));
+    if (caption != NULL) {
+        add_text(&svg, 96 * unit, 199 * unit, 5 * unit, caption);
     }
     appendStringInfoString(&svg, "</svg>\n");
     return cstring_to_text_with_len(svg.data, svg.len);
@@ -347,17 +368,31 @@ static int section_of(int32 number) {
     return number - 1;
 }
 
-static text *draw(const township_plat *plat, const struct varlena *land, int section) {
-    twpg_drawn *drawn = palloc(sizeof *drawn);
+/* The land that is drawn, with the standard lots unless it is on a plat with others. */
+static twpg_drawn *drawn_of(const struct varlena *land, int section) {
+    twpg_drawn *drawn = palloc0(sizeof *drawn);
 
     check_stack_depth();
     twpg_land_of(land, &drawn->land);
-    drawn->plat = plat;
     drawn->section = section;
-    memset(&drawn->lots, 0, sizeof drawn->lots);
     if (drawn->land.own_lots == 0) {
         twpg_find_lots(&drawn->land.township, &drawn->lots);
     }
+    return drawn;
+}
+
+static text *draw_by_lots(const township_lots *lots, const struct varlena *land, int section) {
+    twpg_drawn *drawn = drawn_of(land, section);
+
+    twpg_check_on_table(lots, &drawn->land);
+    drawn->table = lots;
+    return drawing_of(drawn);
+}
+
+static text *draw(const township_plat *plat, const struct varlena *land, int section) {
+    twpg_drawn *drawn = drawn_of(land, section);
+
+    drawn->plat = plat;
     if (plat != NULL) {
         uint32_t verdict = township_figures(plat, &drawn->figures).verdict;
 
@@ -381,4 +416,14 @@ Datum twpg_svg_on_plat(PG_FUNCTION_ARGS) {
 PG_FUNCTION_INFO_V1(twpg_svg_of_section_on_plat);
 Datum twpg_svg_of_section_on_plat(PG_FUNCTION_ARGS) {
     PG_RETURN_TEXT_P(draw(PG_GETARG_PLAT(0), PG_GETARG_LAND(1), section_of(PG_GETARG_INT32(2))));
+}
+
+PG_FUNCTION_INFO_V1(twpg_svg_by_lots);
+Datum twpg_svg_by_lots(PG_FUNCTION_ARGS) {
+    PG_RETURN_TEXT_P(draw_by_lots(PG_GETARG_LOTS(0), PG_GETARG_LAND(1), -1));
+}
+
+PG_FUNCTION_INFO_V1(twpg_svg_of_section_by_lots);
+Datum twpg_svg_of_section_by_lots(PG_FUNCTION_ARGS) {
+    PG_RETURN_TEXT_P(draw_by_lots(PG_GETARG_LOTS(0), PG_GETARG_LAND(1), section_of(PG_GETARG_INT32(2))));
 }

@@ -2,6 +2,7 @@
  * The function unread: what of a text without readings is not understood, or can be read in two ways. It can leave out
  * phrases that the caller says are not land.
  */
+#include "lots.h"
 #include "readings.h"
 
 #include "catalog/pg_type.h"
@@ -83,15 +84,16 @@ static township_answer unread_in(twpg_bytes text, township_stretch **unread, siz
     return township_unread(text.start, text.length, *unread, room);
 }
 
-/* Returns what is unread of a text, or nothing if it has readings. */
-static Datum unread_of(twpg_aside aside) {
+/* Returns what is unread of a text, or nothing if it has readings: by a lot table, or with the standard lots if that is
+   NULL. */
+static Datum unread_of(twpg_aside aside, const township_lots *lots) {
     township_stretch *unread;
     township_answer answer;
     twpg_said said = {NULL, 0};
     uint64_t next = 0;
     uint64_t index;
 
-    if (twpg_has_readings(aside.left)) {
+    if (twpg_has_readings(aside.left, lots)) {
         return PointerGetDatum(construct_empty_array(TEXTOID));
     }
     answer = unread_in(aside.left, &unread, USUAL_UNREAD);
@@ -112,13 +114,21 @@ static Datum unread_of(twpg_aside aside) {
     return PointerGetDatum(construct_array(said.values, said.count, TEXTOID, -1, false, TYPALIGN_INT));
 }
 
-TWPG_RETURNS(twpg_unread, unread_of(twpg_whole_argument(fcinfo, 0)))
+TWPG_RETURNS(twpg_unread, unread_of(twpg_whole_argument(fcinfo, 0), NULL))
 
-/* It takes phrases after the text. It is not strict: without phrases, nothing is left out. */
+/* These take phrases after the text. They are not strict: without phrases, nothing is left out. */
 PG_FUNCTION_INFO_V1(twpg_unread_without);
 Datum twpg_unread_without(PG_FUNCTION_ARGS) {
     if (PG_ARGISNULL(0)) {
         PG_RETURN_NULL();
     }
-    return unread_of(twpg_argument_without(fcinfo, 0));
+    return unread_of(twpg_argument_without(fcinfo, 0), NULL);
+}
+
+PG_FUNCTION_INFO_V1(twpg_unread_by_lots);
+Datum twpg_unread_by_lots(PG_FUNCTION_ARGS) {
+    if (PG_ARGISNULL(0) || PG_ARGISNULL(1)) {
+        PG_RETURN_NULL();
+    }
+    return unread_of(twpg_argument_without(fcinfo, 1), PG_GETARG_LOTS(0));
 }

@@ -152,6 +152,17 @@ def test_suggest_says_of_a_manner_what_it_is(server: Interface) -> None:
     assert reading["remark"] == "the aliquot part includes lots, which are named in its place"
 
 
+def test_suggest_says_if_the_lots_are_not_known(server: Interface) -> None:
+    standard = "the plat has the standard lots"
+    for text, depends in (("N2 Sec 5", True), ("TRACT 1: sec. 14.", True), ("Sec 14: N2", False)):
+        [reading] = server.ask("suggest", **NOMINAL, text=text)["readings"]
+        assert (reading["assumptions"][-1:] == [standard]) is depends
+        # Field notes make a plat with these lots, and a table without places is for them.
+        for basis in ({"notes": NOTES}, {"lots": "section,lot,acres\nT,2,N,3,W\n5,1,40.45\n"}):
+            [reading] = server.ask("suggest", **basis, text=text)["readings"]
+            assert standard not in reading["assumptions"]
+
+
 def test_suggest_nothing(server: Interface) -> None:
     unread = {"start": 4, "end": 12, "ways": None, "sentence": "not understood: `old mill`"}
     nothing = {"readings": [], "reason": None, "start": None, "end": None, "unread": [unread]}

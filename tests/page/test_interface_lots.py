@@ -118,6 +118,25 @@ def test_readings(server: Interface) -> None:
     assert reading["acres"] == {"lots": "83.35"} and "83.35" in reading["svg"]
 
 
+def test_readings_name_the_lots_of_the_table(server: Interface) -> None:
+    # 38.50, 12.25, and 19.80, and a half of 80 acres; in a township that nobody surveyed, 160 acres without lots.
+    [reading] = server.ask("suggest", lots=LAKE, text="Sec 14: NE4", draw=True)["readings"]
+    assert (reading["manner"], reading["acres"], reading["assumptions"]) == ("lots named", {"lots": "150.55"}, [])
+    assert reading["canonical"] == "T. 2 N., R. 3 W.,\nsec. 14, lots 1, 2, 3, S1/2NE1/4.\n"
+    assert reading["remark"] == "the aliquot part includes lots, which are named in its place"
+    [other] = server.ask("suggest", township="T. 2 N., R. 3 W.", text="Sec 14: NE4")["readings"]
+    assert (other["text"], other["acres"]["exact"]) == ("Sec 14: NE1/4", "160.00")
+    # Field notes beside the table say nothing of its lots.
+    [both] = server.ask("suggest", lots=LAKE, notes=NOTES, text="Sec 14: NE4")["readings"]
+    assert both["text"] == reading["text"]
+
+
+def test_words_without_which_only_the_table_has_a_reading(server: Interface) -> None:
+    text = "Sec 14: All less Lot 1 bläh"
+    answer = server.ask("suggest", lots=LAKE, text=text)
+    assert answer["readings"] == [] and text[answer["start"] : answer["end"]] == "bläh"
+
+
 @pytest.mark.parametrize("section", [None, 14])
 def test_the_drawing(server: Interface, section: "int | None") -> None:
     asked = {} if section is None else {"section": section}

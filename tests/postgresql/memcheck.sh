@@ -26,6 +26,8 @@ SELECT count(cell) FROM received_land, quarter_quarters(value) AS cell WHERE NOT
 SELECT count(plat_date(value)) FROM received_land
 SELECT count(cell) FROM lot_tables, quarter_quarters(lots, land(lots, 'secs. 1 thru 36.')) AS cell
 SELECT count(part) FROM lot_tables, parts(lots, land(lots, 'sec. 14, S1/2.')) AS part
+SELECT count(suggested), count(unread(lots, description, '{and}')) FROM lot_tables, written, suggest(lots, description, '{and,the,of}') AS suggested
+SELECT count(svg(lots, land(lots, 'sec. 14, S1/2.'))), count(svg(lots, land(lots, 'sec. 36.'), 14)) FROM lot_tables
 SELECT count(land(lots, 'sec. 14.')), count(normal(lots, 'sec. 14, S1/2.')), count(normal(lots, land(lots, 'sec. 36.'))) FROM lot_tables
 SELECT count(land_or_null('plat ' || left('1912-03-04 with its lots: T2N R3W sec. 14', n))) FROM generate_series(0, 41) AS n
 SELECT acres(plat::text, 'sec. 5, lot 1.'), township(plat::text), township(land::text) FROM plats, lands WHERE lands.id = 1001

@@ -23,6 +23,7 @@ SELECT notes(plat, 'sec. 14, NE1/4 SE1/4.') FROM plats;
 SELECT suggest('NENE Sec 14');
 SELECT suggest(plat, 'NENE Sec 14') FROM plats;
 SELECT suggest('NENE Sec 14', ARRAY['Kestrel']);
+SELECT suggest(lots, 'NENE Sec 14') FROM plats;
 SELECT plat FROM plats;
 SELECT land FROM plats;
 SELECT acres(plat::text, 'sec. 5, lot 1.') FROM plats;
@@ -39,11 +40,12 @@ SELECT land('T. 2 N., R. 3 W.', 'sec. 14.');
 SELECT 'plat with its lots: T. 2 N., R. 3 W., sec. 14.'::land;
 SELECT land(lots, 'sec. 14.') FROM plats;
 SELECT normal(lots, land) FROM plats;
+SELECT svg(lots, land) FROM plats;
 SELECT E'section,lot,acres\nT,2,N,3,W\n'::lots;
 END
     echo "\\! rm $work/refused"
     echo "SELECT acres(plat, 'sec. 5, lot 1.') FROM plats;"
 } > "$work/refusing.sql"
-{ yes 'ERROR:  53200' | head -n 26; echo 40.45; } > "$work/wanted"
+{ yes 'ERROR:  53200' | head -n 28; echo 40.45; } > "$work/wanted"
 sql -d memory < "$work/refusing.sql" > "$work/found"
 same 'refused memory'

@@ -16,8 +16,8 @@ all_read 'the worked examples' "$(wc -l < "$work/examples")" \
 all_read 'descriptions from practice' "$(sed 1d "$root/tests/descriptions/written.tsv" | wc -l)" \
     "$(sql -d readings -c 'SELECT count(*) FROM written')"
 
-# For each example, how many readings there are, and each reading, with the phrases of what it assumes. Readings are on
-# one line here, with single spaces.
+# For each example, how many readings there are, and each reading, with the phrases of what its changes assume. Readings
+# are on one line here, with single spaces.
 sed '1,/^$/d; s/^\(  .*`\): [^`]*$/\1/; s/\\[nt]/ /g; s/\(.\)  */\1 /g' "$root/crates/twp_trials/stdout" > "$work/wanted"
 sql -d readings << 'END' > "$work/found"
 SELECT line
@@ -28,6 +28,7 @@ FROM examples, LATERAL (
     UNION ALL
     SELECT suggested.ordinality, assumed.ordinality, '  ' || regexp_replace(words, '`: [^`]*$', '`')
     FROM suggest(text) WITH ORDINALITY AS suggested, unnest(assumes) WITH ORDINALITY AS assumed (words)
+    WHERE words <> 'the plat has the standard lots'
 ) AS lines
 ORDER BY id, reading_number, number;
 END
@@ -42,6 +43,14 @@ GROUP BY id, land, plat
 HAVING CASE WHEN land LIKE 'not %' THEN count(acres) > 0
             WHEN land LIKE 'AMB: %' THEN count(acres) = 1
             ELSE count(acres) > 0 AND NOT bool_or(land_or_null(plat, reading) = land_or_null(plat, land)) END;
+END
+# By a table with the standard lots, the readings are the same; and it is never an assumption that the plat has them.
+shows 'readings by a table with the standard lots' 't|0|t' sql -d readings << 'END'
+SELECT bool_and(by_table.readings = on_plat.readings), sum(assumed), count(*) > 100
+FROM (SELECT DISTINCT description FROM written) AS texts,
+    LATERAL (SELECT array_agg(reading ORDER BY ordinality) AS readings, sum((assumes @> '{the plat has the standard lots}')::int) AS assumed
+        FROM suggest(E'section,lot,acres\nT,2,N,3,W\n'::lots, description) WITH ORDINALITY) AS by_table,
+    LATERAL (SELECT array_agg(reading ORDER BY ordinality) AS readings FROM plats, suggest(plat, description) WITH ORDINALITY) AS on_plat;
 END
 shows 'acres other than those of the reading' '0|t|t' sql -d readings -c '
     SELECT count(*) FILTER (WHERE acres IS DISTINCT FROM acres_or_null(plat, reading)), count(acres) > 100, count(reason) > 10

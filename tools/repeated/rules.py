@@ -15,6 +15,14 @@ DEFINITIONS = "crates/twp_calls/specs/Suggestions.antt"
 
 ASSUMPTIONS = "crates/twp_suggest/src/assumptions.rt"
 
+#: Where the words for the standard lots are, which a reading assumes if no plat is known.
+STANDARD_LOTS = {
+    f"{RUST}/readings/assumption.rs": r'^const STANDARD_LOTS: &str = "(.*)";$',
+    SQL: r'^#define STANDARD_LOTS "(.*)"$',
+    "docs/DESCRIPTIONS.md": r"^\| (the plat .*?) \| the whole reading",
+    "docs/HTTP.md": r"end with `(.*?)`",
+}
+
 
 def compare() -> Compared:
     text = text_of(DEFINITIONS)
@@ -49,7 +57,12 @@ def compare() -> Compared:
     ):
         if found != words:
             differences.append(f"{place}: the words for what is assumed are {found}, and not {words}")
-    return 3 * len(wanted) + 7, differences
+    # The library knows nothing of this assumption: the package for Python has the words that the others repeat.
+    [standard] = re.findall(r'^STANDARD_LOTS = "(.*)"$', text_of(f"{PYTHON}/_readings.py"), re.M)
+    for place, form in STANDARD_LOTS.items():
+        if re.findall(form, text_of(place), re.M) != [standard]:
+            differences.append(f"{place}: the words for the standard lots are not `{standard}`")
+    return 3 * len(wanted) + 7 + len(STANDARD_LOTS), differences
 
 
 def plain(name: str) -> str:

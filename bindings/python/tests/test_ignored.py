@@ -93,7 +93,7 @@ class Suggested(RefusalCase):
         between = Change(16, 16, "", ",", "comma")
         found = Readings([Reading("sec. 14, NE1/4SW1/4", (around,), "changed"),
                           Reading("sec. 14, NE1/4  ,    SW1/4", (between,), "changed")])
-        with mock.patch.object(_suggested, "readings_of", lambda _: found):
+        with mock.patch.object(_suggested, "readings_of", lambda *_: found):
             one, two = township.suggest(text, ignore=["blah"])
         self.assertEqual([each[:4] for each in one.changes], [(14, 15, " ", ""), (15, 19, "blah", ""), (19, 20, " ", "")])
         self.assertEqual([each[:4] for each in two.changes], [(15, 15, "", ","), (15, 19, "blah", " ")])
@@ -110,10 +110,11 @@ class Suggested(RefusalCase):
         text = "TRACT blah 1: blah sec. 14"
         label = Change(0, 19, "TRACT" + " " * 6 + "1:" + " " * 6, "", "label", "not land", "TRACT      1:      ")
         found = Readings([Reading("sec. 14", (label,), "changed")])
-        with mock.patch.object(_suggested, "readings_of", lambda _: found):
+        with mock.patch.object(_suggested, "readings_of", lambda *_: found):
             reading, = township.suggest(text, ignore=["blah"])
         self.assertEqual([each.left_out for each in reading.changes], ["TRACT ", "blah", " 1: ", "blah", " "])
-        self.assertEqual(reading.assumptions, ("without `TRACT`: this is not land", SAID, "without `1:`: this is not land"))
+        said = ("without `TRACT`: this is not land", SAID, "without `1:`: this is not land", "the plat has the standard lots")
+        self.assertEqual(reading.assumptions, said)
 
     def test_what_is_unread_besides(self):
         text = "½ bläh\nthe old blah mill"

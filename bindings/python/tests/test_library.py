@@ -238,6 +238,7 @@ class Verdicts(unittest.TestCase):
         "lots_plain": lambda: township.Lots.read(b","),
         "explain_lots_parts": lambda: township.Lots.read(b""),
         "explain_lacking_parts": lambda: LOTS.acres("sec. 31."),
+        "lots_suggest": lambda: LOTS.suggest("sec. 14."),
         "lots_acres": lambda: LOTS.acres("sec. 14."),
         "lots_area": lambda: LOTS.area("sec. 14."),
         "lots_land_read": lambda: LOTS.land("sec. 14."),

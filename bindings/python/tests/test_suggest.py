@@ -86,7 +86,7 @@ class Suggested(unittest.TestCase):
             ("Sec. 14: N2SW;", "no missing comma", "N2SW", "`N2SW`: no comma is missing"),
             ("Sec. 28: E/2 SE/4", "no missing comma", "E/2 SE/4", "`E/2 SE/4`: no comma is missing"),
         ):
-            reading, = township.suggest(text)
+            reading, = PLAT.suggest(text)
             assumed = [change for change in reading.changes if change.assumes is not None]
             self.assertEqual([(each.assumes, each.phrase.strip()) for each in assumed], [(assumes, phrase.strip())], text)
             self.assertEqual(reading.assumptions, (said,), text)

@@ -78,8 +78,8 @@ pub use self::part::Part;
 pub use self::plat::{NoPlat, Plat, LINES};
 pub use self::plats::{Basis, DifferentPlats, NoAcres, OpenError, Plats, PlatsReport, PlatsTract};
 pub use self::readings::{
-    suggest, suggest_without, Assumption, Beyond, Change, Manner, Phrases, Reading, Rule,
-    Suggestion, Unread, Ways,
+    suggest, suggest_without, Assumption, Beyond, Change, Manner, PartReadings, Phrases, Reading,
+    Rule, Suggestion, Unread, Ways,
 };
 pub use self::refused::{Refusal, Refused};
 pub use self::report::{

@@ -18,6 +18,7 @@ use std::sync::Arc;
 mod list;
 mod many;
 mod places;
+mod readings;
 mod text;
 
 pub use self::places::PlatLot;

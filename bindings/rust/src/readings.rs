@@ -4,15 +4,20 @@ mod aside;
 mod assumption;
 #[cfg(test)]
 mod header;
+mod parts;
 mod phrases;
 mod rule;
+mod standard_lots;
 mod unread;
 
 pub use self::aside::suggest_without;
 pub use self::assumption::Assumption;
+pub use self::parts::PartReadings;
 pub use self::phrases::Phrases;
 pub use self::rule::Rule;
 pub use self::unread::{Unread, Ways};
+
+pub(crate) use self::aside::readings_without;
 
 use crate::answer::{out_of_memory, Verdict};
 use crate::ffi;
@@ -62,6 +67,12 @@ pub struct Reading {
     pub changes: Vec<Change>,
     /// How the description comes of the changed text.
     pub manner: Manner,
+    /// Whether the reading assumes that the plat has the standard lots, because no plat and no lot
+    /// table say which lots it has: [`Assumption::StandardLots`]. Only readings that depend on the lots
+    /// do: those that name lots or a whole section, and those that are the canonical description of
+    /// their land.
+    #[cfg_attr(feature = "serde", serde(default))]
+    pub assumes_standard_lots: bool,
 }
 
 /// How the description of a reading comes of the changed text.
@@ -98,6 +109,14 @@ pub struct Change {
 
 /// Suggests how a text would be written as a description, without a plat.
 ///
+/// Without a plat, its lots are not known. A reading that depends on them says that it assumes the
+/// standard lots, which are those of any [`Plat`]. With a lot table, call [`Lots::suggest`]; for land in
+/// several townships, [`Plats::suggest`].
+///
+/// [`Lots::suggest`]: crate::Lots::suggest
+/// [`Plat`]: crate::Plat
+/// [`Plats::suggest`]: crate::Plats::suggest
+///
 /// ```
 /// # let notes = include_bytes!(concat!(env!("TOWNSHIP_FILES"), "/samples/b1.csv"));
 /// # let plat = township::Plat::read(notes)?;
@@ -117,9 +136,13 @@ pub struct Change {
 /// # Ok::<(), township::Refused>(())
 /// ```
 pub fn suggest(text: impl AsRef<[u8]>) -> Suggestion {
-    let text = text.as_ref();
-    let data = Data::with_room(text, USUAL_CHANGES, USUAL_BYTES)
-        .or_else(|said| Data::with_room(text, size(said.changes), size(said.bytes)));
+    readings_of(text.as_ref(), None).with_standard_lots()
+}
+
+/// Returns the readings of a text on the plat of a lot table, or else with the standard lots.
+fn readings_of(text: &[u8], lots: Option<&ffi::Lots>) -> Suggestion {
+    let data = Data::with_room(text, lots, USUAL_CHANGES, USUAL_BYTES)
+        .or_else(|said| Data::with_room(text, lots, size(said.changes), size(said.bytes)));
     match data {
         Ok(data) => data.suggestion(text),
         Err(said) => unreachable!("there was room for all of {said:?}"),
@@ -157,11 +180,19 @@ struct Data {
 
 impl Data {
     /// Calls the library with this much room. If there is too little, returns how much there is.
-    fn with_room(text: &[u8], changes: usize, bytes: usize) -> Result<Data, ffi::Suggestion> {
+    fn with_room(
+        text: &[u8],
+        lots: Option<&ffi::Lots>,
+        changes: usize,
+        bytes: usize,
+    ) -> Result<Data, ffi::Suggestion> {
         let mut readings = [ffi::Reading::BLANK; ffi::READINGS_MOST];
         let mut changes = vec![ffi::Change::BLANK; changes];
         let mut bytes = vec![0; bytes];
-        let (answer, said) = ffi::suggest(text, &mut readings, &mut changes, &mut bytes);
+        let (answer, said) = match lots {
+            Some(lots) => ffi::lots_suggest(lots, text, &mut readings, &mut changes, &mut bytes),
+            None => ffi::suggest(text, &mut readings, &mut changes, &mut bytes),
+        };
         match answer.verdict() {
             Verdict::Accepted => Ok(Data {
                 readings,
@@ -200,6 +231,7 @@ impl Data {
             text: self.text(data.text, data.text_length),
             changes: changes.iter().map(|data| self.change(data)).collect(),
             manner: Manner::of(data.manner),
+            assumes_standard_lots: false,
         }
     }
 

@@ -33,27 +33,32 @@ impl TownshipText<'_> {
     /// # Ok::<(), township::Refused>(())
     /// ```
     pub fn township(&self) -> Result<Township, Refused> {
-        let mut given = self.text.as_bytes().to_vec();
-        loop {
-            let (answer, parts) = ffi::designation_read(&given);
-            let fault = match answer.accepted() {
-                Ok(_) => {
-                    let read = Township::from_designation(&parts);
-                    return Ok(read.expect("what is read is a township"));
-                }
-                Err(fault) => fault,
-            };
-            let at = usize::try_from(fault.refusal.at).expect("a place is in the text");
-            if fault.refusal.number == ffi::REFUSAL_DESIGNATION_AFTER {
-                // Land follows the township, at this place.
-                given.truncate(at);
-            } else if !blank_zeros(&mut given, at) {
-                let refusal = Refusal {
-                    at: start_of_number(self.text.as_bytes(), fault.refusal.at),
-                    ..fault.refusal
-                };
-                return Err(refused_township(Fault { refusal, ..fault }, self.text));
+        township_in_heading(self.text)
+    }
+}
+
+/// Returns the township in the heading of a description. It is refused if it does not begin with one.
+pub(crate) fn township_in_heading(text: &str) -> Result<Township, Refused> {
+    let mut given = text.as_bytes().to_vec();
+    loop {
+        let (answer, parts) = ffi::designation_read(&given);
+        let fault = match answer.accepted() {
+            Ok(_) => {
+                let read = Township::from_designation(&parts);
+                return Ok(read.expect("what is read is a township"));
             }
+            Err(fault) => fault,
+        };
+        let at = usize::try_from(fault.refusal.at).expect("a place is in the text");
+        if fault.refusal.number == ffi::REFUSAL_DESIGNATION_AFTER {
+            // Land follows the township, at this place.
+            given.truncate(at);
+        } else if !blank_zeros(&mut given, at) {
+            let refusal = Refusal {
+                at: start_of_number(text.as_bytes(), fault.refusal.at),
+                ..fault.refusal
+            };
+            return Err(refused_township(Fault { refusal, ..fault }, text));
         }
     }
 }

@@ -8,12 +8,12 @@ from typing import Callable, List, Sequence, Union
 from . import _library
 from ._explanation import explained_by
 from ._full import FullAnswers, texts_or_refusals
-from ._ignored import Ignored
+from ._ignored import Ignored, Place, phrases_in
 from ._land import Land
 from ._note import Note, notes_of
 from ._readings import Reading, Readings
 from ._refused import DESCRIPTION, Refused, exception_of
-from ._suggested import suggest
+from ._suggested import readings_without
 from ._text import Text, encoded
 from ._township import township_of
 from ._written import text_by, without_text
@@ -97,7 +97,13 @@ write a comma after NE1/4 (320.00 acres)
 
     def _measured_readings(self, text: Text, ignore: Ignored, acres: Callable[[str], Decimal]) -> Readings:
         """Return the readings of a text, each with its acreage, or with the refusal of its description."""
-        return suggest(text, ignore).measured(lambda reading: self._measured_reading(reading, acres))
+        given = encoded(text)
+        found = self._readings_without(given, phrases_in(ignore)._places_in(given))
+        return found.measured(lambda reading: self._measured_reading(reading, acres))
+
+    def _readings_without(self, given: bytes, aside: Sequence[Place]) -> Readings:
+        """Return the readings of a text without these places. The plat of field notes has the standard lots."""
+        return readings_without(given, aside)
 
     def _measured_reading(self, reading: Reading, acres: Callable[[str], Decimal]) -> Reading:
         try:

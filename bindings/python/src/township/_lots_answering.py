@@ -10,7 +10,7 @@ from . import _library
 from ._describing import Describing
 from ._figures import acres_of_hundredths, fraction_of
 from ._full import FullAnswers
-from ._ignored import Ignored
+from ._ignored import Ignored, Place
 from ._land import Land
 from ._lot_faults import LACKING, described_exception, lacking_exception, table_notes
 from ._lots_drawing import LotsDrawing
@@ -20,6 +20,7 @@ from ._many import Answers, Ask, answers_by, each_acres
 from ._note import Note
 from ._readings import Readings
 from ._refused import DESCRIPTION, LAND, Refused, failure_of
+from ._suggested import readings_without
 from ._text import Text, encoded
 from ._township import nominal_plat_of, township_of
 
@@ -108,11 +109,22 @@ class LotsAnswering(LotsReporting, LotsDrawing, Describing):
     def suggest(self, text: Text, ignore: Ignored = ()) -> Readings:
         """Return the readings of a text, as `Plat.suggest` does, with their acreage by the table.
 
+        They are readings on the plat of the table: if an aliquot part includes lots, they name the lots of this plat.
+
         >>> lots = township.Lots.of_figures("T. 2 N., R. 3 W.", {(5, 1): "40.45"})
         >>> [reading.acres for reading in lots.suggest("Lot 1, Sec 5")]
         [Decimal('40.45')]
+        >>> lake = township.Lots.read("section,lot,acres,land\\nT,2,N,3,W\\n14,1,38.50,NE1/4NE1/4\\n")
+        >>> reading, = lake.suggest("Sec 14: N2")
+        >>> print(reading.acres, reading.normal, end="")
+        318.50 T. 2 N., R. 3 W.,
+        sec. 14, lot 1, NW1/4NE1/4, S1/2NE1/4, NW1/4.
         """
         return self._measured_readings(text, ignore, self.acres)
+
+    def _readings_without(self, given: bytes, aside: Sequence[Place]) -> Readings:
+        """Return the readings of a text without these places, on the plat of the table."""
+        return readings_without(given, aside, self._parts)
 
     def acres_of(self, descriptions: Iterable[Text]) -> Iterator[Union[Decimal, Refused]]:
         """Iterate over the answers to many descriptions, as `Plat.acres_of` does.

@@ -1,15 +1,24 @@
 """The readings of a text with the land of several townships: those of each of its parts."""
 from __future__ import annotations
 
-from typing import List, NamedTuple, Sequence
+from typing import TYPE_CHECKING, Callable, List, NamedTuple, Optional, Sequence
 
 from . import _library
 from ._ignored import Ignored, Place, blanked, phrases_in, places_within
 from ._readings import Readings
 from ._refused import Refused
+from ._spelling import township_in_heading
 from ._split import TownshipText, split
+from ._standard_lots import with_standard_lots
 from ._suggested import readings_without
 from ._text import Text, encoded
+from ._township import Township
+
+if TYPE_CHECKING:
+    from ._lots import Lots
+
+#: Returns the lot table of a township, or `None` if its plat has the standard lots, or is not known.
+TableOf = Callable[[Township], "Optional[Lots]"]
 
 
 class PartReadings(NamedTuple):
@@ -23,7 +32,8 @@ def suggest_parts(text: Text, ignore: Ignored = ()) -> List[PartReadings]:
     """Return the readings of each part of a text with the land of several townships, without acreage.
 
     The parts are those of `split`. A text in which land is before the first heading is its only part, since its
-    readings may begin with that heading. Raise `Refused` if the text is too long (39). See `Plats.suggest`.
+    readings may begin with that heading. Raise `Refused` if the text is too long (39). Without plats, a reading that
+    depends on the lots says that it assumes the standard ones. See `Plats.suggest`.
 
     >>> for part, readings in township.suggest_parts("T2N-R3W Sec 5: Lots 1, 2; T3N-R3W Sec 32: S2"):
     ...     print(part.township, readings[0].text)
@@ -36,17 +46,58 @@ def suggest_parts(text: Text, ignore: Ignored = ()) -> List[PartReadings]:
     >>> part.text, readings[0].text
     ('        T2N-R3W Sec 14: N2', 'T2N R3W Sec 14: N1/2')
     """
+    parts = parts_read(text, ignore, lambda _: None)
+    return [part._replace(readings=with_standard_lots(part.readings)) for part in parts]
+
+
+def parts_read(text: Text, ignore: Ignored, table_of: TableOf) -> List[PartReadings]:
+    """Return the readings of each part of a text, each on the plat of the lot table of its township, if it has one."""
     given = encoded(text)
     aside = phrases_in(ignore)._places_in(given)
     parts = _parts_without(blanked(given, aside), aside)
-    return [PartReadings(part, _readings_in(given, part, aside)) for part in parts]
+    return [PartReadings(part, _readings_in(given, part, aside, table_of)) for part in parts]
 
 
-def _readings_in(given: bytes, part: TownshipText, aside: Sequence[Place]) -> Readings:
+def _readings_in(given: bytes, part: TownshipText, aside: Sequence[Place], table_of: TableOf) -> Readings:
     """Return the readings of a part of a text without these places of the text."""
     inside = places_within(aside, part.start, part.end)
     moved = [Place(start - part.start, end - part.start) for start, end in inside]
-    return readings_without(given[part.start : part.end], moved)
+    text = given[part.start : part.end]
+
+    def readings(table: Optional[Lots]) -> Readings:
+        return readings_without(text, moved, None if table is None else table._parts)
+
+    township = _township_in(blanked(text, moved))
+    if township is not None:
+        return readings(table_of(township))
+    # The township may be in no heading of the text, but in that of each reading.
+    found = readings(None)
+    township = _only_township(found)
+    table = None if township is None else table_of(township)
+    return found if table is None else readings(table)
+
+
+def _township_in(left: bytes) -> Optional[Township]:
+    """Return the township in the first heading of a text, which land may precede, or `None` if there is none."""
+    try:
+        split(left)
+        return _township_at(left, 0)
+    except Refused as refused:
+        return _township_at(left, refused.at) if refused.number == _library.REFUSAL_SPLIT_NO_HEADING else None
+
+
+def _township_at(left: bytes, start: int) -> Optional[Township]:
+    """Return the township in the heading at a place, or `None` if there is none."""
+    try:
+        return township_in_heading(left[start:])
+    except Refused:
+        return None
+
+
+def _only_township(found: Readings) -> Optional[Township]:
+    """Return the township in the headings of readings, or `None` if they don't all have the same one."""
+    townships = {_township_at(encoded(reading.text), 0) for reading in found}
+    return townships.pop() if len(townships) == 1 else None
 
 
 def _parts_without(left: bytes, aside: Sequence[Place]) -> List[TownshipText]:

@@ -3,7 +3,7 @@ from __future__ import annotations
 
 import re
 from bisect import bisect_left, bisect_right
-from typing import Iterable, Iterator, List, NamedTuple, Optional, Sequence, Tuple
+from typing import Iterable, Iterator, List, NamedTuple, Optional, Sequence, Set, Tuple
 
 from ._readings import SET_ASIDE, Change, Reading
 
@@ -90,8 +90,9 @@ def condition_of(given: bytes, reading: Reading, others: Sequence[Reading]) -> O
 
     White space may be within a part, or between two parts; or an `of` may be for one part, or for both.
     """
-    deciding = {change.rule for each in others for change in _deciding(each, others)}
-    own = _deciding(reading, others)
+    shared = _made_by_all(others)
+    deciding = {change.rule for each in others for change in _deciding(each, shared)}
+    own = _deciding(reading, shared)
     if deciding == {"copied step"}:
         return "if the `of` is for both parts" if own else "as it is written"
     between = [change for change in own if change.rule == "comma"]
@@ -107,18 +108,24 @@ def condition_of(given: bytes, reading: Reading, others: Sequence[Reading]) -> O
 
 def shared_of(readings: Sequence[Reading]) -> List[Change]:
     """Return the changes that all readings make."""
-    first, *others = readings
-    return [change for change in first.changes if all(_makes(other, change) for other in others)]
+    shared = _made_by_all(readings)
+    return [change for change in readings[0].changes if _is_shared(change, shared)]
 
 
-def _deciding(reading: Reading, others: Sequence[Reading]) -> List[Change]:
+def _deciding(reading: Reading, shared: Set[Change]) -> List[Change]:
     """Return the changes that not all readings make."""
-    return [change for change in reading.changes if not all(_makes(other, change) for other in others)]
+    return [change for change in reading.changes if not _is_shared(change, shared)]
 
 
-def _makes(reading: Reading, change: Change) -> bool:
-    """Return whether a reading of the same text makes a change. Each leaves out what the caller says is not land."""
-    return change.rule == SET_ASIDE or change in reading.changes
+def _made_by_all(readings: Sequence[Reading]) -> Set[Change]:
+    """Return the changes that all readings of a text make in the same way."""
+    first, *others = (set(each.changes) for each in readings)
+    return first.intersection(*others)
+
+
+def _is_shared(change: Change, shared: Set[Change]) -> bool:
+    """Return whether all readings of a text make a change. Each leaves out what the caller says is not land."""
+    return change.rule == SET_ASIDE or change in shared
 
 
 def _rows(given: bytes, changes: Iterable[Change]) -> Iterator[List[Change]]:
@@ -142,10 +149,9 @@ def _left_out(given: bytes, row: Sequence[Change]) -> Iterator[Tuple[int, Phrase
         if _SECTIONS.match(text):
             meaning = "is several sections: the land is written for each of them"
         yield moved[0].start, Phrase(" ".join(text.split()).strip(",; "), meaning)
-    for change in row:
-        text = " ".join(_shown(given[change.start : change.end]).split())
-        if all(each.rule == "mark" for each in row):
-            yield change.start, Phrase(text, _NOTHING)
+    if all(change.rule == "mark" for change in row):
+        for change in row:
+            yield change.start, Phrase(" ".join(_shown(given[change.start : change.end]).split()), _NOTHING)
 
 
 def _pieces(given: bytes, rows: Sequence[Sequence[Change]], changes: Sequence[Change]) -> Iterator[_Piece]:

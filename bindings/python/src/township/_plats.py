@@ -14,13 +14,14 @@ from ._ignored import Ignored
 from ._land import Land
 from ._lands import Lands
 from ._lots import Lots
-from ._part_readings import PartReadings, suggest_parts
+from ._part_readings import PartReadings, parts_read
 from ._plat import Plat
 from ._readings import Reading
 from ._refused import LIST, Refusal, Refused, refused_as_a_whole
 from ._report import FIRST_TRACT, LotsOverlap
 from ._rounding import rounded
 from ._spelling import Named, township_in_heading, township_named
+from ._standard_lots import reading_with_standard_lots
 from ._text import Path, Text, encoded
 from ._township import Township
 
@@ -173,8 +174,9 @@ class Plats(Mapping[Township, Basis]):
     def suggest(self, text: Text, account: Account = "exact", ignore: Ignored = ()) -> List[PartReadings]:
         """Return the readings of each part of a text, as `suggest_parts` does, with their acreage.
 
-        Each is measured by the plat or the lot table of the township in its heading. Without one, it has no acreage. If
-        a reading has no heading, or is refused there, its `refused` says so.
+        Each is read and measured by the plat or the lot table of the township in its heading, with the lots that the
+        table has. Without a plat and a table, it has no acreage, and is read with the standard lots; if it depends on
+        them, it says that this is assumed. If a reading has no heading, or is refused there, its `refused` says so.
 
         >>> (part, readings), = township.Plats([plat]).suggest("T2N-R3W Sec 14: NE/4, S2NW4")
         >>> print(readings[0].acres, readings[0].text)
@@ -183,7 +185,7 @@ class Plats(Mapping[Township, Basis]):
         code_of(account)
         return [
             part._replace(readings=part.readings.measured(lambda reading: self._measured(reading, account)))
-            for part in suggest_parts(text, ignore)
+            for part in parts_read(text, ignore, self._table_of)
         ]
 
     def report(self, tracts: Iterable[Tuple[str, Located]], account: Account = "exact") -> PlatsReport:
@@ -278,7 +280,7 @@ class Plats(Mapping[Township, Basis]):
         except Refused as refused:
             return reading._replace(refused=refused)
         except MissingPlat:
-            return reading
+            return reading_with_standard_lots(reading)
 
     def _acres_or_none(self, land: Lands) -> Optional[Decimal]:
         try:

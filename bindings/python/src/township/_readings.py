@@ -33,6 +33,9 @@ ASSUMED = {
 #: assumption, of which the library knows nothing.
 SET_ASIDE = "set aside"
 
+#: What a reading assumes of which nothing is known but its text, if its land depends on the lots of the plat.
+STANDARD_LOTS = "the plat has the standard lots"
+
 #: All assumptions in words.
 _IN_WORDS = {**ASSUMED, SET_ASIDE: "you said that this is not land"}
 
@@ -133,11 +136,19 @@ class Reading(NamedTuple):
     normal: Optional[str] = None
     #: The refusal of the description on the plat, such as one of another township. `None` if it is accepted.
     refused: Optional[Refused] = None
+    #: Whether the reading assumes that the plat has the standard lots, because no field notes and no lot table say
+    #: which lots it has. Only readings that depend on the lots do: those that name lots or a whole section, and those
+    #: that are the canonical description of their land.
+    assumes_standard_lots: bool = False
 
     @property
     def assumptions(self) -> Tuple[str, ...]:
-        """The assumptions of the reading that the text does not state, each one once."""
-        return assumptions_of(self.changes)
+        """The assumptions of the reading that the text does not state, each one once.
+
+        >>> township.suggest("Sec 5: N2")[0].assumptions
+        ('the plat has the standard lots',)
+        """
+        return (*assumptions_of(self.changes), *((STANDARD_LOTS,) if self.assumes_standard_lots else ()))
 
 
 class Unread(NamedTuple):
@@ -228,9 +239,9 @@ class Readings(Sequence[Reading]):
         return f"<township.Readings: {texts}>"
 
 
-def readings_of(given: bytes) -> Readings:
-    """Return the readings of a text as descriptions, without a plat."""
-    return _Suggested(given).readings()
+def readings_of(given: bytes, lots: Optional[_library.Lots] = None) -> Readings:
+    """Return the readings of a text as descriptions: on the plat of a lot table, or else with the standard lots."""
+    return _Suggested(given, lots).readings()
 
 
 def _unread(given: bytes) -> Tuple[Unread, ...]:
@@ -269,8 +280,9 @@ def _end_after(given: bytes, at: int, is_end: Callable[[int], bool]) -> int:
 class _Suggested:
     """What the library writes for a text."""
 
-    def __init__(self, given: bytes) -> None:
+    def __init__(self, given: bytes, lots: Optional[_library.Lots]) -> None:
         self._given = given
+        self._lots = lots
         self._said = _library.Suggestion()
         self._readings = (_library.Reading * _library.READINGS_MOST)()
         if self._call(_CHANGES, _BYTES) == _library.NO_ROOM:
@@ -281,9 +293,11 @@ class _Suggested:
         given, readings = self._given, _library.READINGS_MOST
         self._changes: Any = (_library.Change * changes)()
         buffer = create_string_buffer(size)
-        answer = _library.suggest(
-            given, len(given), self._readings, readings, self._changes, changes, buffer, size, byref(self._said)
-        )
+        asked = (given, len(given), self._readings, readings, self._changes, changes, buffer, size, byref(self._said))
+        if self._lots is None:
+            answer = _library.suggest(*asked)
+        else:
+            answer = _library.lots_suggest(byref(self._lots), *asked)
         if answer.verdict not in (_library.ACCEPTED, _library.NO_ROOM):
             raise failure_of(answer.verdict)
         self._bytes = buffer.raw

@@ -2,18 +2,24 @@
 from __future__ import annotations
 
 from bisect import bisect_left, bisect_right
-from typing import Iterator, List, Sequence
+from typing import Iterator, List, Optional, Sequence
 
+from . import _library
 from ._ignored import Ignored, Place, blanked, phrases_in
 from ._readings import AROUND, SET_ASIDE, Change, Reading, Readings, Unread, readings_of
+from ._standard_lots import with_standard_lots
 from ._text import Text, encoded
 
 
 def suggest(text: Text, ignore: Ignored = ()) -> Readings:
     """Return the readings of a text as descriptions, without a plat: they have no acreage. See `Plat.suggest`.
 
+    Without a plat, its lots are not known. A reading that depends on them says that it assumes the standard lots.
+
     >>> township.suggest("N2 Sec 14")[0].text
     'sec. 14, N1/2'
+    >>> township.suggest("N2 Sec 4")[0].assumptions
+    ('the plat has the standard lots',)
     >>> township.suggest("sec. 14, that portion of the NE/4 lying north of the road").reason
     'a portion needs a survey'
 
@@ -24,15 +30,16 @@ def suggest(text: Text, ignore: Ignored = ()) -> Readings:
     ('sec. 14, NE1/4', ('without `Payout group Kestrel`: you said that this is not land',))
     """
     given = encoded(text)
-    return readings_without(given, phrases_in(ignore)._places_in(given))
+    return with_standard_lots(readings_without(given, phrases_in(ignore)._places_in(given)))
 
 
-def readings_without(given: bytes, aside: Sequence[Place]) -> Readings:
+def readings_without(given: bytes, aside: Sequence[Place], lots: Optional[_library.Lots] = None) -> Readings:
     """Return the readings of a text without these places, which are in order. Each reading says that they are left out.
 
-    The library reads the text with spaces in their place, so that all other places stay the same.
+    The library reads the text with spaces in their place, so that all other places stay the same: on the plat of a lot
+    table, or else with the standard lots.
     """
-    found = readings_of(blanked(given, aside))
+    found = readings_of(blanked(given, aside), lots)
     if not aside:
         return found
     readings = [_with_aside(given, reading, aside) for reading in found]

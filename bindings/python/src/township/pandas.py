@@ -24,7 +24,6 @@ import pandas
 
 from ._account import Account, code_of
 from ._column import Basis, Measured, canonical_texts, lands_of, measured, shared_lands
-from ._land import Land
 from ._lots import Lots
 from ._plat import Plat
 from ._refused import Refused

@@ -132,6 +132,8 @@ def wrong_many(lots: Lots) -> None:
 
 def readings(plat: Plat) -> Optional[Decimal]:
     found: Readings = plat.suggest(b"NENE Sec 14", account="plat")
+    is_assumed: bool = found[0].assumes_standard_lots
+    assert not is_assumed
     reading: Reading = suggest("NENE Sec 14")[0]
     changes: Tuple[Change, ...] = reading.changes
     places: List[int] = [place for change in changes for place in (change.start, change.end)]

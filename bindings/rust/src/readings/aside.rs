@@ -2,7 +2,8 @@
 
 use std::ops::Range;
 
-use super::{suggest, Assumption, Change, Phrases, Reading, Rule, Suggestion, Unread};
+use super::{readings_of, Assumption, Change, Phrases, Reading, Rule, Suggestion, Unread};
+use crate::ffi;
 
 /// Suggests how a text would be written as a description without phrases that are not land.
 ///
@@ -23,28 +24,43 @@ use super::{suggest, Assumption, Change, Phrases, Reading, Rule, Suggestion, Unr
 /// ```
 pub fn suggest_without(text: impl AsRef<[u8]>, phrases: &Phrases) -> Suggestion {
     let text = text.as_ref();
-    let aside = phrases.places_in(text);
-    let mut left = text.to_vec();
-    for place in &aside {
-        left[place.clone()].fill(b' ');
-    }
-    let found = suggest(&left);
+    readings_without(text, &phrases.places_in(text), None).with_standard_lots()
+}
+
+/// Returns the readings of a text without these places, which are in order: on the plat of a lot
+/// table, or else with the standard lots.
+pub(crate) fn readings_without(
+    text: &[u8],
+    aside: &[Range<usize>],
+    lots: Option<&ffi::Lots>,
+) -> Suggestion {
     if aside.is_empty() {
-        return found;
+        return readings_of(text, lots);
     }
+    let left = blanked(text, aside);
+    let found = readings_of(&left, lots);
     Suggestion {
         readings: found
             .readings
             .into_iter()
-            .map(|reading| with_aside(&left, reading, &aside))
+            .map(|reading| with_aside(&left, reading, aside))
             .collect(),
         unread: found
             .unread
             .into_iter()
-            .flat_map(|unread| unread_outside(&left, unread, &aside))
+            .flat_map(|unread| unread_outside(&left, unread, aside))
             .collect(),
         beyond: found.beyond,
     }
+}
+
+/// Returns a text with a space over each byte of these places.
+pub(super) fn blanked(text: &[u8], aside: &[Range<usize>]) -> Vec<u8> {
+    let mut left = text.to_vec();
+    for place in aside {
+        left[place.clone()].fill(b' ');
+    }
+    left
 }
 
 /// Returns a reading that says what was left out before the text was read.

@@ -2,7 +2,7 @@
 
 use std::fmt;
 
-/// What a change of a reading assumes that the text does not state.
+/// What a reading, or a change of it, assumes that the text does not state.
 #[derive(Clone, Copy, Debug, PartialEq, Eq, Hash)]
 #[cfg_attr(feature = "serde", derive(serde::Serialize, serde::Deserialize))]
 #[non_exhaustive]
@@ -22,10 +22,18 @@ pub enum Assumption {
     NoMissingComma,
     /// A phrase is not land, since the caller says so.
     SetAside,
+    /// The plat has the standard lots, since nothing says which lots it has. No change assumes this, but
+    /// a reading may: see [`Reading::assumes_standard_lots`].
+    ///
+    /// [`Reading::assumes_standard_lots`]: crate::Reading::assumes_standard_lots
+    StandardLots,
 }
 
 /// What the caller says of a phrase that is left out, of which the library knows nothing.
 const SET_ASIDE: &str = "you said that this is not land";
+
+/// What a reading assumes for which no plat is known, of which the library knows nothing, either.
+const STANDARD_LOTS: &str = "the plat has the standard lots";
 
 /// The assumptions of the library, in the order of their numbers, which begin with 1.
 const ASSUMPTIONS: [Assumption; 6] = [
@@ -48,6 +56,7 @@ impl Assumption {
             Assumption::WrongLetter => "a letter or digit is wrong",
             Assumption::NoMissingComma => "no comma is missing",
             Assumption::SetAside => SET_ASIDE,
+            Assumption::StandardLots => STANDARD_LOTS,
         }
     }
 

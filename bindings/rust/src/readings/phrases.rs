@@ -122,7 +122,7 @@ impl Phrases {
     }
 
     /// Returns where the phrases are in a text, from left to right.
-    pub(super) fn places_in(&self, text: &[u8]) -> Vec<Range<usize>> {
+    pub(crate) fn places_in(&self, text: &[u8]) -> Vec<Range<usize>> {
         let mut found = vec![Stretch::BLANK; USUAL_PLACES];
         let mut answer = self.find(text, &mut found);
         if answer.verdict() == Verdict::NoRoom {

@@ -2,6 +2,7 @@
 from __future__ import annotations
 
 from fractions import Fraction
+from itertools import chain
 from math import prod
 from typing import Any, Dict, List, Optional, Sequence, Tuple
 
@@ -11,13 +12,15 @@ from .._ignored import Phrases
 from .._land import Land
 from .._lands import Lands, PartRefused, parts_and_lands
 from .._lots import Lots
-from .._part_readings import suggest_parts
+from .._part_readings import parts_read
 from .._phrases import tidy
 from .._plat import Plat
-from .._readings import assumptions_of
+from .._readings import Reading
 from .._refused import Refusal, Refused
 from .._rounding import rounded
+from .._spelling import township_in_heading
 from .._split import SOURCE, TownshipText, split
+from .._standard_lots import reading_with_standard_lots
 from .._text import encoded
 from .._township import Township
 from .added import Added, Located
@@ -162,20 +165,29 @@ class HeadedAnswers(Answers):
     def _suggested(self, description: str, fields: _Fields, ignore: Phrases) -> List[Any]:
         """Return the fields on the readings of a description: if each of its parts has one, their text and acreage."""
         try:
-            parts = suggest_parts(encoded(description), ignore)
+            parts = parts_read(encoded(description), ignore, lambda township: self._table_of(township, fields))
         except Refused:
             return _NO_READINGS
         number = prod(len(readings) for _, readings in parts)
         if number != 1:
             unread = filter(None, (why_none(readings) for _, readings in parts if not readings))
             return [None, number, None, None, _BETWEEN.join(unread) or None]
-        chosen = [readings[0] for _, readings in parts]
+        chosen = [self._with_lots(readings[0], fields) for _, readings in parts]
         text = _BETWEEN.join(tidy(reading.text).rstrip(".") for reading in chosen) + "."
-        assumed = _BETWEEN.join(assumptions_of(change for reading in chosen for change in reading.changes))
+        assumed = _BETWEEN.join(dict.fromkeys(chain.from_iterable(reading.assumptions for reading in chosen)))
         try:
             return [text, 1, assumed or None, self._located(encoded(text), fields).acres, None]
         except _Unanswered:
             return [text, 1, assumed or None, None, None]
+
+    def _with_lots(self, reading: Reading, fields: _Fields) -> Reading:
+        """Return a reading that says whether it assumes the standard lots, unless there is a file for its township."""
+        try:
+            township = township_in_heading(encoded(reading.text))
+        except Refused:
+            return reading_with_standard_lots(reading)
+        is_known = self._headed.plat_in(township, *fields).by is not None
+        return reading if is_known else reading_with_standard_lots(reading)
 
 
 #: The fields on readings if there are none.

@@ -12,8 +12,7 @@ from .._batch.lines import Lines
 from .._batch.records import Record, Records
 from .._batch.separators import headed
 from .._batch.shape import Shape
-from .._readings import Reading
-from .._suggested import suggest
+from .._readings import Reading, readings_of
 from .._text import encoded
 from .fieldplaces import FieldPlaces, Place
 
@@ -104,9 +103,9 @@ def _listed(record: Record, columns: _Columns, index: int, place: Optional[Place
 
 def _names_land(name: str, description: str) -> bool:
     """Return whether what should be a name may belong to the description after it."""
-    size = len(encoded(name))
-    readings = [*suggest(name), *suggest(f"{name}, {description}")]
-    return ";" in name or not all(_leaves_out(reading, size) for reading in readings)
+    given = encoded(name)
+    readings = [*readings_of(given), *readings_of(encoded(f"{name}, {description}"))]
+    return ";" in name or not all(_leaves_out(reading, len(given)) for reading in readings)
 
 
 def _leaves_out(reading: Reading, size: int) -> bool:

@@ -7,9 +7,11 @@ from .._drawing import svg_of
 from .._drawing.of_plat import shade_of, subject_of
 from .._ignored import PHRASES, Phrases, blanked
 from .._land import Land
+from .._lots import Lots
 from .._phrases import MANNERS_SAID, condition_of, phrases_of
 from .._readings import Change, Reading, Unread
 from .._refused import Refused
+from .._standard_lots import with_standard_lots
 from .._suggested import readings_without
 from .._text import encoded
 from .answers import BASIS, land_json
@@ -21,7 +23,11 @@ from .unknown import unknown_words
 
 
 def suggest_answer(body: bytes) -> Json:
-    """Answer with the readings of a text, in their order, or with the reason that there are none."""
+    """Answer with the readings of a text, in their order, or with the reason that there are none.
+
+    They are readings on the plat of a lot table that says where its lots lie. Without field notes and without a table,
+    those that depend on the lots assume the standard ones.
+    """
     given = Given(body, BASIS | {"text", "draw", "ignore"})
     written = encoded(given.text("text"))
     draws = given.flag("draw")
@@ -30,8 +36,11 @@ def suggest_answer(body: bytes) -> Json:
         aside = Phrases(given.texts("ignore", PHRASES_MOST) if given.has("ignore") else ())._places_in(written)
     except Refused as refused:
         return {"refused": refused_json(refused, PHRASES)}
-    found = readings_without(written, aside)
-    place = found.beyond if found or found.reason is not None else unknown_words(blanked(written, aside))
+    table = basis.reads._parts if isinstance(basis.reads, Lots) else None
+    found = readings_without(written, aside, table)
+    if not given.has("notes") and basis.lots is None:
+        found = with_standard_lots(found)
+    place = found.beyond if found or found.reason is not None else unknown_words(blanked(written, aside), table)
     start, end = (None, None) if place is None else (_place(written, byte) for byte in place)
     return {
         "readings": [

@@ -4,6 +4,7 @@ from __future__ import annotations
 import re
 from typing import Iterator, Optional, Tuple
 
+from .. import _library
 from .._readings import readings_of
 
 #: A word, without the punctuation around it.
@@ -16,8 +17,10 @@ _BETWEEN = b" \t\r\n,;:"
 _BYTES_MOST, _TRIES_MOST = 2_048, 256
 
 
-def unknown_words(given: bytes) -> Optional[Tuple[int, int]]:
+def unknown_words(given: bytes, lots: Optional[_library.Lots] = None) -> Optional[Tuple[int, int]]:
     """Return where the words begin and end, in bytes, or `None` if there are none, or too many.
+
+    The text is read on the plat of a lot table, or else with the standard lots.
 
     >>> unknown_words(b"sec. 14, blah NE1/4")
     (9, 13)
@@ -31,7 +34,7 @@ def unknown_words(given: bytes) -> Optional[Tuple[int, int]]:
             after = after.lstrip(_BETWEEN)
         if not _WORD.search(after):
             before = before.rstrip(_BETWEEN)
-        if readings_of(before + after):
+        if readings_of(before + after, lots):
             return start, end
     return None
 
