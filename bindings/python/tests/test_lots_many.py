@@ -46,6 +46,16 @@ class Many(RefusalCase):
                 answers.append(refused)
         return answers
 
+    def test_shared_by_threads(self):
+        descriptions = DESCRIPTIONS * 1000
+        wanted = table().acres_many(descriptions)
+        for threads in (2, 4):
+            answers = table().acres_many(descriptions, threads=threads)
+            self.assertEqual((answers.hundredths, answers.refused), (wanted.hundredths, wanted.refused))
+        self.assertGreater(sum(wanted.hundredths), 0)
+        with self.assertRaises(ValueError):
+            table().acres_many([], threads=0)
+
     def test_acres_many(self):
         answers, wanted = table().acres_many(DESCRIPTIONS), self.one_by_one()
         self.assertEqual(list(answers.hundredths), self.HUNDREDTHS)

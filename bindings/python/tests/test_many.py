@@ -123,6 +123,29 @@ class Many(unittest.TestCase):
         with self.assertRaises(IndexError):
             answers[0]
 
+    def test_shared_by_threads(self):
+        descriptions = [ACCEPTED, REFUSED, "sec. 36.", "sec. 14, N\u00bd."] * 1000 + ["sec. 5, lot 1."]
+        wanted = uneven().acres_many(descriptions)
+        self.assertEqual((wanted[-1], len(wanted.refused)), (Decimal("40.45"), 1000))
+        for threads, calls in ((1, 1), (2, 2), (3, 3), (4, 4), (100, 4)):
+            real = mock.Mock(wraps=_library.acres_many)
+            with self.subTest(threads=threads), mock.patch.object(_library, "acres_many", real):
+                answers = uneven().acres_many(descriptions, threads=threads)
+                self.assertEqual(real.call_count, calls)
+                self.assertEqual((answers.hundredths, answers.refused), (wanted.hundredths, wanted.refused))
+                self.assertEqual(numbers(answers[-5:]), numbers(wanted[-5:]))
+
+    def test_a_few_descriptions_take_one_call(self):
+        real = mock.Mock(wraps=_library.acres_many)
+        with mock.patch.object(_library, "acres_many", real):
+            self.assertEqual(numbers(uneven().acres_many([ACCEPTED] * 1999, threads=4))[-1], Decimal("161.00"))
+        self.assertEqual(real.call_count, 1)
+
+    def test_numbers_of_threads_that_are_none(self):
+        for threads, error in ((0, ValueError), (-1, ValueError), ("2", TypeError), (1.5, TypeError)):
+            with self.subTest(threads=threads), self.assertRaises(error):
+                uneven().acres_many([ACCEPTED], threads=threads)
+
     def test_what_is_not_answered_by_one_call(self):
         for descriptions, error in (("sec. 14.", TypeError), ([None], TypeError), ([14], TypeError)):
             with self.subTest(descriptions=descriptions), self.assertRaises(error):

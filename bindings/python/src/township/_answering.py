@@ -114,18 +114,21 @@ class Answering(Reporting, Describing):
         call, parts, code = _library.acres, byref(self._parts), code_of(account)
         return each_acres(descriptions, lambda given: call(parts, given, len(given), code), self._described_exception)
 
-    def acres_many(self, descriptions: Sequence[Text], account: Account = "exact") -> Answers:
+    def acres_many(
+        self, descriptions: Sequence[Text], account: Account = "exact", *, threads: int = 1
+    ) -> Answers:
         """Return the answers to many descriptions, which one call of the library gives.
 
         The answers are those of `acres_of`, as a sequence. This is several times as fast, and takes about 100
-        bytes of memory for each description, beyond their text.
+        bytes of memory for each description, beyond their text. At most `threads` threads share the work, each with
+        a call for at least 1,000 descriptions.
 
         >>> answers = plat.acres_many(["sec. 5, lot 1.", "sec. 5, lot 5.", "sec. 36."])
         >>> answers[0], answers[1].number, answers[2]
         (Decimal('40.45'), 64, Decimal('640.00'))
         """
         many = self._listed(descriptions, "acres")
-        return answers_of(byref(self._parts), many, code_of(account), self._described_exception)
+        return answers_of(byref(self._parts), many, code_of(account), self._described_exception, threads)
 
     def _full_answers(self, descriptions: Sequence[Text], account: Account) -> FullAnswers:
         """Return everything that the library answers about many descriptions."""

@@ -139,15 +139,16 @@ class LotsAnswering(LotsReporting, LotsDrawing, Describing):
             raise TypeError("this takes many descriptions; for one there is Lots.acres")
         return each_acres(descriptions, self._asking(), self._exception_of)
 
-    def acres_many(self, descriptions: Sequence[Text]) -> Answers:
-        """Return the answers to many descriptions, as `Plat.acres_many` does.
+    def acres_many(self, descriptions: Sequence[Text], *, threads: int = 1) -> Answers:
+        """Return the answers to many descriptions, as `Plat.acres_many` does, in at most `threads` threads.
 
         >>> lots = township.Lots.of_figures("T. 2 N., R. 3 W.", {(5, 1): "40.45"})
         >>> answers = lots.acres_many(["sec. 5, lot 1.", "sec. 5, lot 2.", "sec. 36."])
         >>> answers[0], answers[1].number, answers[2]
         (Decimal('40.45'), 94, Decimal('640.00'))
         """
-        return answers_by(byref(self._parts), self._listed(descriptions, "acres"), self._exception_of)
+        many = self._listed(descriptions, "acres")
+        return answers_by(byref(self._parts), many, self._exception_of, threads)
 
     def _full_answers(self, descriptions: Sequence[Text]) -> FullAnswers:
         """Return everything that the library answers about many descriptions."""

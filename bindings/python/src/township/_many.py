@@ -11,6 +11,7 @@ from . import _library
 from ._figures import acres_of_hundredths
 from ._refused import Refused, failure_of
 from ._text import Text, encoded
+from ._threads import in_threads
 
 # An answer consists of words of 64 bits. The word with the verdict is 0 if the description is accepted.
 _WORDS = ctypes.sizeof(_library.Answer) // 8
@@ -86,14 +87,16 @@ class Answers(Sequence[Union[Decimal, Refused]]):
         return f"<township.Answers to {len(self)} descriptions: {len(self.refused)} refused>"
 
 
-def answers_of(parts: object, descriptions: Sequence[Text], code: int, refuse: Refuse) -> Answers:
+def answers_of(
+    parts: object, descriptions: Sequence[Text], code: int, refuse: Refuse, threads: int = 1
+) -> Answers:
     """Return the answers to many descriptions on a plat, by the account with this code."""
-    return _answers(_library.acres_many, parts, descriptions, (code,), refuse)
+    return _answers(_library.acres_many, parts, descriptions, (code,), refuse, threads)
 
 
-def answers_by(lots: object, descriptions: Sequence[Text], refuse: Refuse) -> Answers:
+def answers_by(lots: object, descriptions: Sequence[Text], refuse: Refuse, threads: int = 1) -> Answers:
     """Return the answers to many descriptions by a lot table."""
-    return _answers(_library.lots_acres_many, lots, descriptions, (), refuse)
+    return _answers(_library.lots_acres_many, lots, descriptions, (), refuse, threads)
 
 
 def _answers(
@@ -102,15 +105,19 @@ def _answers(
     descriptions: Sequence[Text],
     account: Tuple[int, ...],
     refuse: Refuse,
+    threads: int,
 ) -> Answers:
     given, offsets = in_a_row(descriptions)
-    count = len(descriptions)
-    words = array(_WORD, bytes(8 * _WORDS * count))
-    answers = _answers_in(words)
-    places = (ctypes.c_size_t * len(offsets)).from_buffer(offsets)
-    answer = call(parts, given, len(given), places, len(offsets), *account, answers, count)
-    if answer.verdict != _library.ACCEPTED:
-        raise failure_of(answer.verdict)
+    words = array(_WORD, bytes(8 * _WORDS * len(descriptions)))
+
+    def answer_range(first: int, end: int) -> _library.Answer:
+        places = (ctypes.c_size_t * (end - first + 1)).from_buffer(offsets, first * offsets.itemsize)
+        answers = (_library.Answer * (end - first)).from_buffer(words, first * 8 * _WORDS)
+        return call(parts, given, len(given), places, len(places), *account, answers, len(answers))
+
+    for answer in in_threads(threads, len(descriptions), answer_range):
+        if answer.verdict != _library.ACCEPTED:
+            raise failure_of(answer.verdict)
     return Answers(words, given, offsets, refuse)
 
 
