@@ -93,7 +93,11 @@ fn explain<S: Suggests, P: Lotting>(
 }
 
 /// The explanation of a list of too many bytes, or without a heading.
-pub(crate) fn find_none(alloc: Global, fault: TractFault, refusal: Refusal) -> Result<Finding, AllocError>
+pub(crate) fn find_none(
+    alloc: Global,
+    fault: TractFault,
+    refusal: Refusal,
+) -> Result<Finding, AllocError>
     ensures refusal { IfOk result (λ finding. finding.refusal ≡ refusal) }
     ensures place { IfOk result (λ finding. finding.place ≡ Whole) }
     ensures other { IfOk result (λ finding. finding.other ≡ None) }

@@ -119,7 +119,7 @@ static void finds_overlaps(void) {
 }
 
 static const char *const texts[] = {
-    "sec. 14, lot 1.", "sec. 14, NE1/4.", "", "sec. 14, lot 1 and 2.", "sec. 14, lots 4, 3, and 2.", "sec. 6, lot 1.",
+    "sec. 14, lot 1.", "sec. 14, NE1/4.", "", "sec. 14, lot 1 and 2.", "sec. 14, lots 2 to 4.", "sec. 6, lot 1.",
 };
 
 #define TEXTS COUNT(texts)
