@@ -11,7 +11,6 @@ use Rattle.twp_plat.specs.PlatFaults as plat_faults
 use Rattle.twp_plat.specs.declared.fault.PlatFault.{PlatFault}
 use Rattle.twp_read.specs.TextFaults as text_faults
 use Rattle.twp_read.specs.declared.fault.TextFault.{TextFault}
-use Rattle.twp_grid.specs.Places.{PLACE_DIGITS}
 use Rattle.twp_grammar.specs.Sentences.{IsReadAs}
 use Rattle.twp_grammar.specs.declared.item.Item.{Item}
 use Rattle.twp_resolve.specs.PlaceFaults as place_faults

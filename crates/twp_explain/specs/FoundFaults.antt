@@ -1,7 +1,6 @@
 -- What is shown of a refused description, where it is in its file: up to where the sign or the item at fault
 -- is underlined, and where its land was named before.
 use Rattle.std.specs.Prelude.{◌≡◌, ◌≢◌, ◌⊎◌, List, ℕ, Option, Some, None}
-use Rattle.twp_grid.specs.Places.{PLACE_DIGITS}
 use Rattle.twp_grid.specs.Townships.{Designation}
 use Rattle.twp_grid.specs.declared.refusal.Refusal.{Refusal}
 use Rattle.twp_grammar.specs.Sentences.{IsReadAs}

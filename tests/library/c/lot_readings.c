@@ -30,7 +30,8 @@ static township_answer suggest_by(const township_lots *lots, const char *text, r
     return answer;
 }
 
-/* A text has exactly these readings by a table: of each, its text, a bar, and its manner. */
+/* A text has exactly these readings by a table: of each, its text, which ends a line if it is canonical, a bar, and its
+   manner. */
 static void reads_by(const township_lots *lots, const char *text, const char *wanted) {
     rooms found;
     char shown[1024] = "";
@@ -51,20 +52,20 @@ static void reads_by(const township_lots *lots, const char *text, const char *wa
 
 /* Lots 1 to 3 of section 14 are in its N1/2NE1/4, and lot 1 of section 5 is its NE1/4NE1/4; section 6 has none. */
 static void names_the_lots_of_the_plat(const township_lots *lake, const township_lots *standard) {
-    reads_by(lake, "Sec 14: NE/4", "sec. 14, lots 1, 2, 3, S1/2NE1/4.|1\n");
+    reads_by(lake, "Sec 14: NE/4", "sec. 14, lots 1, 2, 3, S1/2NE1/4.\n|1\n");
     reads_by(standard, "Sec 14: NE/4", "Sec 14: NE1/4|0\n");
-    reads_by(lake, "Sec 5: N/2", "sec. 5, lot 1, NW1/4NE1/4, S1/2NE1/4, NW1/4.|1\n");
-    reads_by(standard, "Sec 5: N/2", "sec. 5, lots 1, 2, 3, 4, S1/2NE1/4, S1/2NW1/4.|1\n");
+    reads_by(lake, "Sec 5: N/2", "sec. 5, lot 1, NW1/4NE1/4, S1/2NE1/4, NW1/4.\n|1\n");
+    reads_by(standard, "Sec 5: N/2", "sec. 5, lots 1, 2, 3, 4, S1/2NE1/4, S1/2NW1/4.\n|1\n");
     reads_by(lake, "Sec 6: N/2", "Sec 6: N1/2|0\n");
     /* A part that is called fractional has to include lots. */
-    reads_by(lake, "Fractional NE/4 Sec 14", "sec. 14, lots 1, 2, 3, S1/2NE1/4.|1\n");
+    reads_by(lake, "Fractional NE/4 Sec 14", "sec. 14, lots 1, 2, 3, S1/2NE1/4.\n|1\n");
     reads_by(standard, "Fractional NE/4 Sec 14", "");
     /* The lake is in the NW1/4NW1/4, where the plat has no land; and lot 2 is half of a quarter-quarter. */
     reads_by(lake, "Sec 14: N/2", "");
     reads_by(lake, "Sec 14: NW/4 NE/4 NE/4", "");
     /* White space is between two parts, of which the first is lot 1, or between the steps of one. */
     reads_by(lake, "sec. 14: NE1/4NE1/4 SW1/4SW1/4",
-             "sec. 14, lot 1, SW1/4SW1/4.|1\nsec. 14: NE1/4NE1/4SW1/4SW1/4|0\n");
+             "sec. 14, lot 1, SW1/4SW1/4.\n|1\nsec. 14: NE1/4NE1/4SW1/4SW1/4|0\n");
 }
 
 /* The township of the table doesn't matter, but there has to be one. */
@@ -72,7 +73,7 @@ static void takes_other_townships(const township_lots *lake) {
     township_lots nowhere = *lake;
     rooms found, none;
 
-    reads_by(lake, "T9S R9E Sec 14: NE/4", "T. 9 S., R. 9 E.,\nsec. 14, lots 1, 2, 3, S1/2NE1/4.|1\n");
+    reads_by(lake, "T9S R9E Sec 14: NE/4", "T. 9 S., R. 9 E.,\nsec. 14, lots 1, 2, 3, S1/2NE1/4.\n|1\n");
     reads_by(lake, "T. 9 S., R. 9 E., sec. 14, lot 9.", "T. 9 S., R. 9 E., sec. 14, lot 9.|0\n");
     nowhere.township.number = 0;
     memset(&none, NEVER, sizeof none);
@@ -128,7 +129,7 @@ static void agrees_with_the_explanation(const township_lots *lake) {
     const township_answer answer = township_lots_explain_description_parts(
         lake, given.at, given.length, (const uint8_t *)"", 0, room_text(r), MOST_TEXT, &parts);
 
-    reads_by(lake, "sec. 14, NE/4", "sec. 14, lots 1, 2, 3, S1/2NE1/4.|1\n");
+    reads_by(lake, "sec. 14, NE/4", "sec. 14, lots 1, 2, 3, S1/2NE1/4.\n|1\n");
     CHECK(answer.verdict == TOWNSHIP_REFUSED && parts.repair_length == sizeof wanted - 1);
     CHECK(memcmp(room_text(r) + parts.repair, wanted, sizeof wanted - 1) == 0);
     drop(given);
