@@ -234,7 +234,7 @@ fn phrases_between_parts() {
 
 #[test]
 fn texts_that_are_too_long() {
-    let text = format!("{:1$}", "T2N R3W sec. 14", (1 << 20) + 1);
+    let text = "T2N R3W sec. 14".to_owned() + &" ".repeat(1 << 20);
     let refused = Plats::default().suggest(&text).unwrap_err();
     assert_eq!(refused.number, 39);
 }
