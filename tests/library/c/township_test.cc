@@ -16,6 +16,7 @@ static_assert(sizeof(township_lots) == 13972, "a lot table has no byte between i
 static_assert(sizeof(township_part) == 6, "a part has 6 bytes");
 static_assert(sizeof(township_tract_answer) == 120, "the answer to a tract has 120 bytes");
 static_assert(sizeof(township_overlap) == 16, "an overlap has 16 bytes");
+static_assert(sizeof(township_lots_overlap) == 24, "an overlap by a lot table has 24 bytes");
 static_assert(sizeof(township_reading) == 40, "a reading has 4 numbers of 8 bytes and 2 of 4");
 static_assert(sizeof(township_change) == 56, "a change has 6 numbers of 8 bytes and 2 of 4");
 static_assert(sizeof(township_suggestion) == 56, "a suggestion has 7 numbers of 8 bytes");
@@ -106,6 +107,17 @@ static std::uint64_t shared(const std::string &notes, const std::string &list) {
     return holds ? overlap.hundredths : 0;
 }
 
+// The lot that a table lacks of the land that the only two tracts of a list share, if they overlap.
+static std::uint32_t lacking(const std::string &table, const std::string &list) {
+    township_lots lots{};
+    township_lots_overlap overlap{};
+    const bool holds =
+        township_lots_read(bytes(table), table.size(), &lots).verdict == TOWNSHIP_ACCEPTED &&
+        township_lots_overlaps(&lots, bytes(list), list.size(), &overlap, 1).length == 1 && overlap.hundredths == 0;
+
+    return holds ? overlap.lacking : 0;
+}
+
 // The first reading of a text that has two.
 static std::string first_reading(const std::string &given) {
     township_reading readings[TOWNSHIP_READINGS_MOST]{};
@@ -130,6 +142,8 @@ int main(int count, char **words) {
                                          "sec. 14, lot 9.") == 1225 &&
                        tract(notes, "name,description\nA,\"sec. 5, lot 1.\"\n") == "A: 4045" &&
                        shared(notes, "name,description\nA,sec. 14\nB,\"sec. 14, NE1/4\"\n") == 16000 &&
+                       lacking("section,lot,acres\nT,2,N,3,W\n5,1,40.45\n",
+                               "name,description\nA,sec. 5\nB,\"sec. 5, lots 1 to 3\"\n") == 502 &&
                        first_reading("sec. 14, NE1/4 SW1/4") == "sec. 14, NE1/4, SW1/4";
 
     std::cout << holds << " passed, " << !holds << " failed\n";

@@ -20,7 +20,7 @@ pub returns-in-Ok-spell : goal.returns-in-Ok-spell
 returns-in-Ok-spell c =
     by_lots c.in-Some.township c.in-Some.ensures
     (accepted (text_put (HasNormalByLots c.in-Some.township c.args.lots.now.lots c.args.description.now)
-    _ _ _ _ _ _ c.bare.ensures c.deref.ensures.value
+    _ _ _ _ _ _ c.bare-in-Ok-spell.ensures c.deref.ensures.value
     (record { places = _; described = c.in-Ok.ensures; text_is = c.in-Ok-spell.ensures.text })
     c.put.ensures.put))
 

@@ -2,6 +2,7 @@
 use Rattle.std.proofs.Common.{◌≡◌, subst, length, arith}
 use Rattle.std.specs.List.{SameFrom}
 use Rattle.std.proofs.lemmas.Grind.{common_steps}
+use Rattle.std.proofs.lemmas.List.{get_or_default}
 use Rattle.twp_calls.specs.LotOverlapCalls.{ArePlainOverlapsTo, IsPlainOverlap, lots_overlaps_put}
 use Rattle.twp_calls.specs.LotOverlapCalls.{no_lots_room}
 use Rattle.twp_calls.proofs.EachFacts.{kept_next, plain_next}
@@ -12,7 +13,8 @@ loop-index-preserved c = record {
   length_is = grind (arith, common_steps, c.loop-index.invariant.length_is);
   plain =
       plain_next IsPlainOverlap c.loop-index.index c.args.found.now _ c.loop-index.overlaps c.plain.result
-      (omega (arith, c.loop-index.invariant.length_is)) (omega arith) c.index-found-index.is c.plain.ensures
+      (omega (arith, c.loop-index.invariant.length_is)) (omega arith)
+      (get_or_default c.args.found.now c.loop-index.index _ _ (omega arith)) c.plain.ensures
       c.loop-index.invariant.plain;
   kept =
       kept_next c.loop-index.index c.args.overlaps.now c.loop-index.overlaps c.plain.result
