@@ -307,7 +307,8 @@ static void explains_by_lots(void) {
                     "  write SE1/4\n  perhaps: sec. 14, SE1/4.\n", "sec. 14, SE1/4."});
     explains(BY_LOTS, NULL, "sec. 14, NE/4.",
              (said){"/", NULL, 0, "`/` is allowed only in 1/2 and 1/4",
-                    "  1 | sec. 14, NE/4.\n    |            ^\n", "  write NE1/4\n", ""});
+                    "  1 | sec. 14, NE/4.\n    |            ^\n",
+                    "  perhaps: sec. 14, lots 1, 2, 3, S1/2NE1/4.\n", "sec. 14, lots 1, 2, 3, S1/2NE1/4."});
 }
 
 /* So it is for the tracts of a list. A lot that the table lacks is not at one place of a description, so the tract's

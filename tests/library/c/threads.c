@@ -260,7 +260,8 @@ static bool same_round(const round_answers *a, const round_answers *b) {
 
 /* Whether a call of a round explains a refusal. */
 static bool is_explained(int call) {
-    return (call >= 7 && call <= 9) || (call >= 31 && call <= 33) || (call >= 41 && call <= 44) || call == 51;
+    return (call >= 7 && call <= 9) || (call >= 31 && call <= 33) || (call >= 41 && call <= 44) || call == 51 ||
+           call == 57;
 }
 
 static void *run(void *given) {
@@ -297,7 +298,8 @@ static round_answers *answers_alone(bytes notes, const township_plat *plat) {
 
         CHECK(is_explained(call) ? wanted->texts[call][0] != 0 : verdict == TOWNSHIP_ACCEPTED);
     }
-    CHECK(wanted->texts[11][0] != 0 && wanted->texts[12][0] != 0 && wanted->texts[50][0] != 0);
+    CHECK(wanted->texts[11][0] != 0 && wanted->texts[12][0] != 0 && wanted->texts[50][0] != 0 &&
+          wanted->texts[56][0] != 0);
     CHECK(wanted->answers[7].verdict == TOWNSHIP_REFUSED && wanted->answers[8].verdict == TOWNSHIP_REFUSED &&
           wanted->answers[9].verdict == TOWNSHIP_TRACT_REFUSED);
     return wanted;
