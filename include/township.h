@@ -209,8 +209,8 @@ typedef struct township_answer {
    canonical text are unchanged. */
 typedef struct township_full_answer {
     township_answer acres;  /* the answer of township_acres, or of township_lots_acres */
-    township_answer normal; /* the answer of township_normal, with a buffer of TOWNSHIP_TEXT_ROOM bytes; or of
-                               township_lots_land_text for the land described */
+    township_answer normal; /* the answer of township_normal, with a buffer of TOWNSHIP_TEXT_ROOM bytes; or, for the
+                               land described, that of township_lots_land_text */
     township_answer note;   /* if `acres` accepts the description, the answer of township_explain_description, or of
                                township_lots_explain_description, with an empty buffer: its verdict is
                                TOWNSHIP_NO_ROOM if there is a note. Otherwise, it is the same as `acres` */

@@ -233,16 +233,16 @@ class Reports(RefusalCase):
 
     def test_lacking_lot(self):
         # Of section 5, the table has lots 1 and 2. The lot comes before what is wrong with later tracts.
-        for tracts, record, at in (
-            ([("A", "sec. 5, lots 1 to 4.")], 2, 503),
-            ([("A", "sec. 14."), ("B", "sec. 14; sec. 5, lot 4.")], 3, 504),
-            ([("A", "sec. 14."), ("B", "sec. 7, lot 1."), ("A", "sec. 15.")], 3, 701),
+        for tracts, record, name, at in (
+            ([("A", "sec. 5, lots 1 to 4.")], 2, "A", 503),
+            ([("A", "sec. 14."), ("B", "sec. 14; sec. 5, lot 4.")], 3, "B", 504),
+            ([("A", "sec. 14."), ("B", "sec. 7, lot 1."), ("A", "sec. 15.")], 3, "B", 701),
         ):
             with self.subTest(tracts=tracts):
                 refused = self.refused(table().report, tracts)
                 self.assertEqual((refused.number, refused.at, refused.inner), (83, record, (94, at)))
                 sentence = f"the lot table has no record for lot {at % 100} of section {at // 100}"
-                self.assertEqual(str(refused), f"tracts: record {record}: {sentence}")
+                self.assertEqual(str(refused), f"tracts:{record}: tract `{name}`: {sentence}")
 
     def test_refused(self):
         # A list is refused as on a plat, before any later lot that is lacking.

@@ -295,7 +295,12 @@ fn refused_lists() {
     for (list, name, at, lot) in [
         ("A,\"sec. 5, lots 1 to 4.\"\n", "A", 2, 503),
         ("A,sec. 14.\nB,\"sec. 14; sec. 5, lot 4.\"\n", "B", 3, 504),
-        ("A,sec. 14.\nB,\"sec. 7, lot 1.\"\nA,sec. 15.\n", "B", 3, 701),
+        (
+            "A,sec. 14.\nB,\"sec. 7, lot 1.\"\nA,sec. 15.\n",
+            "B",
+            3,
+            701,
+        ),
     ] {
         let list = "name,description\n".to_owned() + list;
         let refused = table().report(&list).unwrap_err();
