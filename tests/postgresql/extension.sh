@@ -32,8 +32,11 @@ min
 overlaps
 suggest
 suggest
+suggest
+suggest
 total_acres
 union_of
+unread
 unread' sql -d kinds << 'END'
 SELECT proname FROM pg_proc JOIN pg_depend ON objid = pg_proc.oid AND classid = 'pg_proc'::regclass
 WHERE deptype = 'e' AND refobjid = (SELECT oid FROM pg_extension WHERE extname = 'township')

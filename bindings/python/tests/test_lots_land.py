@@ -343,7 +343,8 @@ class Tracts(RefusalCase):
         self.assertEqual((refused.number, refused.at, refused.inner), (83, 3, Refusal(66, 9)))
         self.assertEqual(refused.sentence, "tract `B`: this part includes lots; name the lots instead")
         self.assertEqual(refused.hints, ("write sec. 14, lots 1, 2 and 3, S1/2NE1/4",))
-        self.assertEqual(str(refused)[:14], "tracts:3:14: t")
+        # The record is `"B","sec. 14, NE1/4."`.
+        self.assertEqual(str(refused)[:14], "tracts:3:15: t")
         refused = self.refused(lake().report, [("A", "sec. 14, lot 1."), ("B", "sec. 14.")])
         self.assertEqual((refused.number, refused.at, refused.inner), (84, 3, None))
         self.assertEqual(refused.sentence, "tract `B` overlaps tract `A` (record 2); both include sec. 14, lot 1.")

@@ -164,7 +164,7 @@ def _all_overlaps(
     overlaps = (kind * _USUAL_OVERLAPS)()  # type: ignore[operator]
     answer = call(parts, given, len(given), overlaps, len(overlaps))
     if answer.verdict == _library.NO_ROOM:
-        overlaps = (kind * answer.length)()  # type: ignore[operator]
+        overlaps = (kind * answer.length)()
         answer = call(parts, given, len(given), overlaps, len(overlaps))
     return answer, overlaps[: answer.length]
 
