@@ -9,7 +9,10 @@ flags="$(pkg-config --cflags --libs township)"
 prints 'pkg-config' "$version
 status 0" pkg-config --modversion township
 tests=
-for part in check given area designations land lists lots lot_lands lot_lists many explanations readings split threads; do tests="$tests tests/library/c/$part.c"; done
+for part in check given area designations land lists lots lot_lands lot_lists lot_readings many explanations readings split \
+    threads; do
+    tests="$tests tests/library/c/$part.c"
+done
 try 'a C program compiles' cc -std=c11 -o "$work/shared" tests/library/c/township_test.c $tests $flags -pthread
 try 'it uses the shared library' sh -c 'ldd "$1" | grep -q "libtownship.so.1 => /"' sh "$work/shared"
 count 'the C test' "$work/shared" samples "$version" 5
