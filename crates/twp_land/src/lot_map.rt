@@ -1,13 +1,18 @@
-ghost use Rattle.std.specs.Prelude.{◌≡◌, ◌+◌, ◌-◌, ◌*◌, ◌%◌, ◌/◌, ◌≤◌, ◌<◌, ◌↔◌, ℕ, IsTrue, true, false, MatchOption, IfSome, get_or};
+ghost use Rattle.std.specs.Prelude.{◌≡◌, ◌+◌, ◌-◌, ◌*◌, ◌%◌, ◌/◌, ◌≤◌, ◌<◌, ◌↔◌, ℕ, IsTrue, true, false};
+ghost use Rattle.std.specs.Prelude.{MatchOption, get_or};
 ghost use Rattle.twp_grid.specs.Places.{PLACE_DIGITS};
 ghost use Rattle.twp_grid.specs.Lands.{SharePlace, Meets, HoldsAll, union};
 ghost use Rattle.twp_grid.specs.Spans.{place_block, position_block, in_rectangle};
-ghost use Rattle.twp_land.specs.LotMaps.{mark_of, mark_in, place_number, layout_of_bytes};
+ghost use Rattle.twp_land.specs.LotMaps.{mark_in, layout_of_bytes};
 ghost use Rattle.twp_land.specs.steps.Marked.{PLACES, marked, in_section, NoneLeft, IsNext};
+
+mod bytes;
+mod marks;
 
 use crate::lots::share_place;
 use crate::lotting::Lotting;
 use crate::place_set::PlaceSet;
+use bytes::Extent;
 use twp_grid::{Block, PLACES_TO_POSITION, SECTIONS, Section};
 
 /// The number of positions in a section.
@@ -44,11 +49,10 @@ pub struct LotMap {
     divided: [u8; DIVIDED_BYTES],
 }
 
-/// A block of places with the same mark, and the number after those of its places.
+/// A block of places, and the number after those of its places.
 #[derive(Clone, Copy)]
 struct Marked {
     block: Block,
-    mark: u8,
     end: usize,
 }
 
@@ -99,34 +103,28 @@ impl LotMap {
             (NoneLeft (marked self.now.positions self.now.divided section least most) from)
             (λ found. IsNext (marked self.now.positions self.now.divided section least most) from
             found.block found.end) }
-        ensures mark { IfSome result (λ found. (column row : ℕ)
-            → in_rectangle found.block column row ≡ true
-            → mark_of self.now.positions self.now.divided section (place_number column row)
-            ≡ found.mark) }
     {
         let mut at = from;
         'places: while at < PLACES {
             let position = self.position(section, at);
-            let mark = self.mark(position, at);
-            let is_sought = least <= mark && mark <= most;
-            if position <= NO_LAND && at % PLACES_OF_POSITION == 0 {
-                if is_sought {
+            match self.extent(position, at, least, most) {
+                Extent::All => {
                     return Some(Marked {
                         block: position_at(at),
-                        mark,
                         end: at + PLACES_OF_POSITION,
                     });
                 }
-                at += PLACES_OF_POSITION;
-            } else {
-                if is_sought {
-                    return Some(Marked {
-                        block: place_at(at),
-                        mark,
-                        end: at + 1,
-                    });
+                Extent::Nothing => at += PLACES_OF_POSITION,
+                Extent::Partial => {
+                    let mark = self.mark(position, at);
+                    if least <= mark && mark <= most {
+                        return Some(Marked {
+                            block: place_at(at),
+                            end: at + 1,
+                        });
+                    }
+                    at += 1;
                 }
-                at += 1;
             }
         }
         None
@@ -134,9 +132,16 @@ impl LotMap {
 
     /// Whether a block of a section contains a place with a mark from a least to a greatest.
     fn meets(&self, section: Section, block: Block, least: u8, most: u8) -> bool
+        requires { least ≤ 100 }
         ensures { IsTrue result
             ↔ Meets (marked self.now.positions self.now.divided section least most) block }
     {
+        if self.has_none_from(section, least) {
+            return false;
+        }
+        if block.width() <= PLACES_TO_POSITION && block.height() <= PLACES_TO_POSITION {
+            return self.small_meets(section, block, least, most);
+        }
         let mut from = 0;
         while let Some(found) = self.next(section, from, least, most) {
             if share_place(found.block, block) {
@@ -203,10 +208,16 @@ impl Lotting for LotMap {
     }
 
     fn add_section<S: PlaceSet>(&self, set: &mut S, section: Section) -> bool {
+        if self.has_none_from(section, NO_LAND) {
+            return set.add_apart(section, Block::whole());
+        }
         self.add(set, section, 0, LOT_MOST)
     }
 
     fn holds_section<S: PlaceSet>(&self, set: &S, section: Section) -> bool {
+        if self.has_none_from(section, NO_LAND) {
+            return set.full(section, Block::whole());
+        }
         self.is_held(set, section, 0, LOT_MOST)
     }
 
@@ -215,7 +226,10 @@ impl Lotting for LotMap {
             return false;
         }
         let lot = number as u8;
-        self.next(section, 0, lot, lot).is_some()
+        match self.next_lot(section, lot - 1) {
+            Some(next) => next == lot,
+            None => false,
+        }
     }
 
     fn has_lots(&self, section: Section, first: u16, last: u16) -> bool {
@@ -247,15 +261,10 @@ impl Lotting for LotMap {
     }
 
     fn next_lot(&self, section: Section, after: u8) -> Option<u8> {
-        if after >= LOT_MOST {
+        if after >= LOT_MOST || self.has_none_from(section, after + 1) {
             return None;
         }
-        let mut lot = NO_LAND;
-        let mut from = 0;
-        while let Some(found) = self.next(section, from, after + 1, lot - 1) {
-            lot = found.mark;
-            from = found.end;
-        }
+        let lot = self.lowest(section, after);
         if lot == NO_LAND {
             return None;
         }
@@ -276,6 +285,9 @@ impl Lotting for LotMap {
     // What is marked as a lot, or as no land, is subtracted.
     fn off_lots_count<S: PlaceSet>(&self, set: &S, section: Section) -> u32 {
         let mut count = set.count(section, Block::whole());
+        if self.has_none_from(section, 1) {
+            return count;
+        }
         let mut from = 0;
         while let Some(found) = self.next(section, from, 1, NO_LAND) {
             count -= set.count(section, found.block);

@@ -96,7 +96,7 @@ fn paint_row(marks: &mut [u8; PLACES], row: u8, start: u8, end: u8, mark: u8) ->
 }
 
 /// The number of a place in its section.
-fn place_number(column: u8, row: u8) -> usize
+pub(crate) fn place_number(column: u8, row: u8) -> usize
     requires column { column < 32 }
     requires row { row < 32 }
     ensures number { result ≡ place_number column row }

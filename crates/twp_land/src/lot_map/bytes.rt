@@ -1,0 +1,72 @@
+//! The bytes of a section's positions, or of a position's places, all at once: the loops have no early
+//! exit, so LLVM handles many steps together.
+ghost use Rattle.std.specs.Prelude.{◌≡◌, ◌+◌, ◌-◌, ◌*◌, ◌≤◌, ◌<◌, ℕ, get_or};
+ghost use Rattle.twp_land.specs.steps.LotBytes.{AreAll, AreNone, IsLowest};
+
+use crate::lot_map::{DIVIDED_BYTES, NO_LAND, PLACES_OF_POSITION, POSITION_BYTES, POSITIONS};
+use twp_grid::Section;
+
+/// How many places of a position have marks from a least to a greatest.
+#[derive(Clone, Copy)]
+pub enum Extent {
+    /// All of them.
+    All,
+    /// None of them.
+    Nothing,
+    /// Perhaps only some.
+    Partial,
+}
+
+/// The greatest byte of a section's positions.
+#[inline(always)]
+pub(crate) fn highest(positions: &[u8; POSITION_BYTES], section: Section) -> u8
+    ensures { (index : ℕ) → index < 16
+        → get_or positions.now ((section - 1) * 16 + index) 0 ≤ result }
+{
+    let first = usize::from(section.number() - 1) * POSITIONS;
+    let mut highest = 0;
+    for index in 0..POSITIONS {
+        highest = highest.max(positions[first + index]);
+    }
+    highest
+}
+
+/// The lowest mark of a divided position that is greater than a number; 100 if there is none.
+#[inline(always)]
+pub(crate) fn lowest_in(divided: &[u8; DIVIDED_BYTES], first: usize, after: u8) -> u8
+    requires fits { first + 64 ≤ 8192 }
+    requires after { after < 100 }
+    ensures { IsLowest divided.now first 64 after result }
+{
+    let mut lowest = NO_LAND;
+    for within in 0..PLACES_OF_POSITION {
+        let mark = divided[first + within].min(NO_LAND);
+        if after < mark && mark < lowest {
+            lowest = mark;
+        }
+    }
+    lowest
+}
+
+/// How many places of a divided position have marks from a least to a greatest.
+pub(crate) fn extent_in(divided: &[u8; DIVIDED_BYTES], first: usize, least: u8, most: u8) -> Extent
+    requires { first + 64 ≤ 8192 }
+    ensures all { result ≡ Extent.All → AreAll divided.now first 64 least most }
+    ensures nothing { result ≡ Extent.Nothing → AreNone divided.now first 64 least most }
+{
+    let mut all = true;
+    let mut some = false;
+    for within in 0..PLACES_OF_POSITION {
+        let mark = divided[first + within].min(NO_LAND);
+        let is_sought = (least <= mark) & (mark <= most);
+        all = all & is_sought;
+        some = some | is_sought;
+    }
+    if all {
+        return Extent::All;
+    }
+    if some {
+        return Extent::Partial;
+    }
+    Extent::Nothing
+}
