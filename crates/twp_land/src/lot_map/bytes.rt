@@ -32,7 +32,7 @@ pub(crate) fn highest(positions: &[u8; POSITION_BYTES], section: Section) -> u8
 }
 
 /// The lowest mark of a divided position that is greater than a number; 100 if there is none.
-#[inline(always)]
+#[inline(never)]
 pub(crate) fn lowest_in(divided: &[u8; DIVIDED_BYTES], first: usize, after: u8) -> u8
     requires fits { first + 64 ≤ 8192 }
     requires after { after < 100 }
@@ -49,6 +49,7 @@ pub(crate) fn lowest_in(divided: &[u8; DIVIDED_BYTES], first: usize, after: u8) 
 }
 
 /// How many places of a divided position have marks from a least to a greatest.
+#[inline(never)]
 pub(crate) fn extent_in(divided: &[u8; DIVIDED_BYTES], first: usize, least: u8, most: u8) -> Extent
     requires { first + 64 ≤ 8192 }
     ensures all { result ≡ Extent.All → AreAll divided.now first 64 least most }
