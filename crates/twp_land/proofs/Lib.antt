@@ -31,5 +31,6 @@ pub mod MadeLands
 pub mod MarkedFacts
 pub mod MarkedLoops
 pub mod MarkedLots
+pub mod SectionMarks
 pub mod WholeDecided
 pub mod OneSections

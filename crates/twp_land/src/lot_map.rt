@@ -12,7 +12,7 @@ mod marks;
 use crate::lots::share_place;
 use crate::lotting::Lotting;
 use crate::place_set::PlaceSet;
-use bytes::Extent;
+use bytes::{Extent, is_between};
 use twp_grid::{Block, PLACES_TO_POSITION, SECTIONS, Section};
 
 /// The number of positions in a section.
@@ -117,7 +117,7 @@ impl LotMap {
                 Extent::Nothing => at += PLACES_OF_POSITION,
                 Extent::Partial => {
                     let mark = self.mark(position, at);
-                    if least <= mark && mark <= most {
+                    if is_between(mark, least, most) {
                         return Some(Marked {
                             block: place_at(at),
                             end: at + 1,
@@ -261,7 +261,10 @@ impl Lotting for LotMap {
     }
 
     fn next_lot(&self, section: Section, after: u8) -> Option<u8> {
-        if after >= LOT_MOST || self.has_none_from(section, after + 1) {
+        if after >= LOT_MOST {
+            return None;
+        }
+        if self.has_none_from(section, after + 1) {
             return None;
         }
         let lot = self.lowest(section, after);

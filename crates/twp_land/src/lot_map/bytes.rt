@@ -1,6 +1,6 @@
 //! The bytes of a section's positions, or of a position's places, all at once: the loops have no early
 //! exit, so LLVM handles many steps together.
-ghost use Rattle.std.specs.Prelude.{◌≡◌, ◌+◌, ◌-◌, ◌*◌, ◌≤◌, ◌<◌, ℕ, get_or};
+ghost use Rattle.std.specs.Prelude.{◌≡◌, ◌+◌, ◌-◌, ◌*◌, ◌≤◌, ◌<◌, ◌&&◌, ℕ, get_or, nat_le};
 ghost use Rattle.twp_land.specs.steps.LotBytes.{AreAll, AreNone, IsLowest};
 
 use crate::lot_map::{DIVIDED_BYTES, NO_LAND, PLACES_OF_POSITION, POSITION_BYTES, POSITIONS};
@@ -59,7 +59,7 @@ pub(crate) fn extent_in(divided: &[u8; DIVIDED_BYTES], first: usize, least: u8, 
     let mut some = false;
     for within in 0..PLACES_OF_POSITION {
         let mark = divided[first + within].min(NO_LAND);
-        let is_sought = (least <= mark) & (mark <= most);
+        let is_sought = is_between(mark, least, most);
         all = all & is_sought;
         some = some | is_sought;
     }
@@ -70,4 +70,12 @@ pub(crate) fn extent_in(divided: &[u8; DIVIDED_BYTES], first: usize, least: u8, 
         return Extent::Partial;
     }
     Extent::Nothing
+}
+
+/// Whether a mark is from a least to a greatest.
+#[inline(always)]
+pub(crate) fn is_between(mark: u8, least: u8, most: u8) -> bool
+    ensures { result ≡ (nat_le least mark && nat_le mark most) }
+{
+    (least <= mark) & (mark <= most)
 }

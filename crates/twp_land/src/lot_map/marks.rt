@@ -5,7 +5,7 @@ ghost use Rattle.twp_grid.specs.Lands.{Meets};
 ghost use Rattle.twp_land.specs.LotMaps.{mark_in, mark_of};
 ghost use Rattle.twp_land.specs.steps.Marked.{PLACES, marked};
 
-use crate::lot_map::bytes::{Extent, extent_in, highest, lowest_in};
+use crate::lot_map::bytes::{Extent, extent_in, highest, is_between, lowest_in};
 use crate::lot_map::{DIVIDED_BYTES, LotMap, NO_LAND, PLACES_OF_POSITION, POSITIONS};
 use crate::lot_marks::place_number;
 use twp_grid::{Block, Section};
@@ -27,7 +27,7 @@ impl LotMap {
             return Extent::Partial;
         }
         if position <= NO_LAND {
-            if least <= position && position <= most {
+            if is_between(position, least, most) {
                 return Extent::All;
             }
             return Extent::Nothing;
@@ -111,7 +111,7 @@ impl LotMap {
         for column in columns.0..columns.1 {
             let number = place_number(column, row);
             let mark = self.mark(self.position(section, number), number);
-            if least <= mark && mark <= most {
+            if is_between(mark, least, most) {
                 return true;
             }
         }
@@ -127,7 +127,7 @@ impl LotMap {
     {
         let position = self.position(section, place_number(block.column(), block.row()));
         if position <= NO_LAND {
-            return least <= position && position <= most;
+            return is_between(position, least, most);
         }
         let columns = (block.column(), block.column() + block.width());
         for row in block.row()..block.row() + block.height() {
