@@ -3,6 +3,7 @@ use Rattle.std.proofs.lemmas.Bool.{false≢true}
 use Rattle.twp_grid.specs.Spans.{in_rectangle}
 use Rattle.twp_land.specs.steps.Marked.{marked}
 use Rattle.twp_land.proofs.MarkedLoops.{each_next}
+use Rattle.twp_land.proofs.SectionMarks.{none_marked}
 use Rattle.twp_land.proofs.lot_map.LotMap.meets.Goals as goal
 
 pub returns-then-share_place : goal.returns-then-share_place
@@ -29,3 +30,12 @@ loop-found-preserved c =
           (c.if-share_place.ensures.1
           (record { column = column; row = row; inside = in_block; is_held = inside })));
     }
+
+pub returns-then-has_none_from : goal.returns-then-has_none_from
+returns-then-has_none_from c =
+    let self = c.args.self.now in (
+      λ no. absurd (false≢true no),
+      λ met. absurd
+          (none_marked self.positions self.divided c.args.section c.args.least c.args.most met.column met.row
+          (c.has_none_from.ensures c.if-has_none_from.true) met.is_held),
+    )
