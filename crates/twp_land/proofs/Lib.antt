@@ -24,6 +24,7 @@ pub mod CombinedLots
 pub mod CompareFacts
 pub mod DividingFacts
 pub mod PaintFacts
+pub mod TilePaint
 pub mod PlatLayouts
 pub mod RelationFacts
 pub mod LotSections

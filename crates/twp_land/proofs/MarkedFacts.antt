@@ -44,7 +44,7 @@ is_marked positions divided s least most c r place low high =
     rw (test_of_place PLACE_DIGITS c r place, lower, upper) refl
 
 -- a place of the position that contains another
-position_mark : (positions divided : List ℕ) (s at position number : ℕ)
+pub position_mark : (positions divided : List ℕ) (s at position number : ℕ)
     → position ≡ get_or positions ((s - 1) * 16 + at / 64) 0 → number / 64 ≡ at / 64
     → mark_of positions divided s number ≡ mark_in divided position (number % 64)
 position_mark positions divided s at position number is same =

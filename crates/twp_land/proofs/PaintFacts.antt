@@ -19,11 +19,11 @@ same_place c r c' r' place place' same =
     (omega arith, omega arith)
 
 -- a mark that a painted block has, or that was there before
-is_new : (b : Bool) (mark was now : ℕ) → now ≡ (if b then mark else was) → b ≡ true → now ≡ mark
+pub is_new : (b : Bool) (mark was now : ℕ) → now ≡ (if b then mark else was) → b ≡ true → now ≡ mark
 is_new true mark was now is here = is
 is_new false mark was now is here = cc here
 
-is_old : (b : Bool) (mark was now : ℕ) → now ≡ (if b then mark else was) → b ≡ false → now ≡ was
+pub is_old : (b : Bool) (mark was now : ℕ) → now ≡ (if b then mark else was) → b ≡ false → now ≡ was
 is_old true mark was now is elsewhere = cc elsewhere
 is_old false mark was now is elsewhere = is
 

@@ -1,20 +1,21 @@
 -- The marks of a section's places, as the bytes of its positions show them.
 use Rattle.std.proofs.Common.{◌≡◌, ◌==◌, ℕ, ◌+◌, ◌-◌, ◌*◌, ◌/◌, ◌%◌, ◌<◌, ◌≤◌, ◌&&◌, ◌↔◌, Bool, true, false}
-use Rattle.std.proofs.Common.{List, get_or, not, nat_le, nat_lt, refl, sym, ap, subst, ◌∙◌, inl, inr, arith}
+use Rattle.std.proofs.Common.{IsTrue, List, get_or, not, nat_le, nat_lt, refl, sym, ap, subst, ◌∙◌, inl, inr, arith}
 use Rattle.std.proofs.Math.Path.{fun_ext}
-use Rattle.std.proofs.lemmas.Bool.{cases_Bool, cases_lt, eqb-true}
+use Rattle.std.proofs.lemmas.Bool.{and_parts, cases_Bool, cases_lt, eqb-true}
 use Rattle.std.proofs.lemmas.Bool.Decides.{nat_tests}
 use Rattle.twp_grid.specs.Places.{PLACE_DIGITS, IsPlace, is_place}
-use Rattle.twp_grid.specs.Spans.{Rectangle, in_rectangle, whole_block}
+use Rattle.twp_grid.specs.Spans.{IsDyadic, Rectangle, in_rectangle, in_span, whole_block}
 use Rattle.twp_grid.specs.Lands.{HasLot, HoldsAll, HoldsEach, IsLastLot, IsNextLot, Meets, SharePlace}
 use Rattle.twp_grid.specs.Lands.{block_places, lotting, section_places}
 use Rattle.twp_grid.proofs.PlaceTests.{place_of_test, test_of_place, whole_is_place}
 use Rattle.twp_land.specs.LotMaps.{NO_LAND, layout_of_bytes, mark_in, mark_of, place_number}
 use Rattle.twp_land.specs.steps.LotBytes.{mark_at}
 use Rattle.twp_land.specs.steps.Marked.{PLACES, marked, NoneLeft}
-use Rattle.twp_land.proofs.LotBlocks.{meets_of_share, share_of_meets}
-use Rattle.twp_land.proofs.MarkedFacts.{column_at, marked_parts, number_of, place_at_number, row_at}
-use Rattle.twp_land.proofs.MarkedLots.{at_lot, lot_at}
+use Rattle.twp_land.proofs.LotBlocks.{along_position, first_in, meets_of_share, share_of_meets}
+use Rattle.twp_land.proofs.MarkedFacts.{column_at, is_marked, marked_parts, number_of, place_at_number}
+use Rattle.twp_land.proofs.MarkedFacts.{position_mark, row_at}
+use Rattle.twp_land.proofs.MarkedLots.{at_lot, lot_at, place_in_block}
 
 -- the mark of each place of a position that isn't divided
 pub whole_mark : (divided : List ℕ) (byte within : ℕ) → byte ≤ 100 → mark_in divided byte within ≡ byte
@@ -131,7 +132,7 @@ pub mark_of_lot : (positions divided : List ℕ) (s lot : ℕ)
     → (number : ℕ) × (number < PLACES) × (mark_of positions divided s number ≡ lot) × (lot < 100)
 mark_of_lot positions divided s lot has =
     let there = lot_at positions divided s lot has.0 has.1 has.2 in
-    (place_number has.0 has.1, (number_of has.0 has.1 there.0).0, there.1.0, there.1.1.1)
+    (place_number has.0 has.1, (number_of has.0 has.1 there.0).0, there.1.0, there.1.2)
 
 pub lot_of_number : (positions divided : List ℕ) (s lot number : ℕ) → number < PLACES
     → mark_of positions divided s number ≡ lot → 0 < lot → lot < 100
@@ -148,7 +149,7 @@ pub last_lot : (positions divided : List ℕ) (s after : ℕ) → AreBelow posit
     → IsLastLot (lotting (layout_of_bytes positions divided)) s after
 last_lot positions divided s after below lot has =
     let mark = mark_of_lot positions divided s lot has in
-    omega (arith, below mark.0 mark.1, mark.2.0)
+    omega (arith, below mark.0 mark.1, mark.2)
 
 -- the lowest mark that is greater than a number
 abbrev pub IsLowestMark : List ℕ → List ℕ → ℕ → ℕ → ℕ → Type 0
@@ -164,7 +165,7 @@ no_lot positions divided s after lowest none least lot has =
       | inr few ↦ few
       | inl more ↦
           absurd
-          (omega (arith, none, mark.2.0, mark.2.1, least mark.0 mark.1 (omega (arith, more, mark.2.0))))
+          (omega (arith, none, mark.2, mark.3, least mark.0 mark.1 (omega (arith, more, mark.2))))
     ]
 
 pub next_lot : (positions divided : List ℕ) (s after lowest : ℕ) → after < lowest → lowest < 100
@@ -176,5 +177,48 @@ next_lot positions divided s after lowest more few is least = record {
   after = more;
   first = λ other has later.
       let mark = mark_of_lot positions divided s other has in
-      omega (arith, mark.2.0, least mark.0 mark.1 (omega (arith, later, mark.2.0)));
+      omega (arith, mark.2, least mark.0 mark.1 (omega (arith, later, mark.2)));
 }
+
+-- a block within a position that isn't divided has its mark at each place
+pub small_marked : (positions divided : List ℕ) (s least most position first : ℕ) (block : Rectangle)
+    → IsDyadic PLACE_DIGITS block.columns → IsDyadic PLACE_DIGITS block.rows
+    → block.columns.len ≤ 8 → block.rows.len ≤ 8
+    → first ≡ place_number block.columns.start block.rows.start
+    → position ≡ get_or positions ((s - 1) * 16 + first / 64) 0 → position ≤ 100
+    → IsTrue (nat_le least position && nat_le position most)
+    ↔ Meets (marked positions divided s least most) block
+small_marked positions divided s least most position first block across upward wide high number is whole = (
+  λ yes.
+      let inside : in_rectangle block block.columns.start block.rows.start ≡ true =
+      rw (first_in block.columns across.some, first_in block.rows upward.some) refl in
+      let place = place_in_block block block.columns.start block.rows.start across upward inside in
+      let mark = mark_here block.columns.start block.rows.start inside in
+      let range = and_parts (nat_le least position) (nat_le position most) yes in
+      record {
+        column = block.columns.start;
+        row = block.rows.start;
+        inside = inside;
+        is_held =
+            is_marked positions divided s least most block.columns.start block.rows.start place
+            (grind (arith, nat_tests, range.0, mark)) (grind (arith, nat_tests, range.1, mark));
+      },
+  λ met.
+      let parts = marked_parts positions divided s least most met.column met.row met.is_held in
+      let mark = mark_here met.column met.row met.inside in
+      grind (arith, nat_tests, parts.1, parts.2, mark),
+)
+  where
+    mark_here : (c r : ℕ) → in_rectangle block c r ≡ true
+        → mark_of positions divided s (place_number c r) ≡ position
+    mark_here c r inside =
+        let both = and_parts (in_span block.columns c) (in_span block.rows r) inside in
+        let place = place_in_block block c r across upward inside in
+        let east : c / 8 ≡ block.columns.start / 8 = along_position block.columns c across wide both.0 in
+        let north : r / 8 ≡ block.rows.start / 8 = along_position block.rows r upward high both.1 in
+        let here = number_of c r place in
+        let at_first : first / 64 ≡ block.rows.start / 8 * 4 + block.columns.start / 8 =
+        omega (arith, number, across.within) in
+        let same : place_number c r / 64 ≡ first / 64 = omega (arith, here.1, at_first, east, north) in
+        position_mark positions divided s first position (place_number c r) is same
+        ∙ whole_mark divided position (place_number c r % 64) whole
