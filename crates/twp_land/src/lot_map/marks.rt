@@ -95,14 +95,7 @@ impl LotMap {
 
     /// Whether a row of a section contains a place with a mark from a least to a greatest, from one
     /// column up to another.
-    fn row_meets(
-        &self,
-        section: Section,
-        row: u8,
-        columns: (u8, u8),
-        least: u8,
-        most: u8,
-    ) -> bool
+    fn row_meets(&self, section: Section, row: u8, columns: (u8, u8), least: u8, most: u8) -> bool
         requires row { row < 32 }
         requires columns { columns.1 ≤ 32 }
         ensures { IsTrue result ↔ ((column : ℕ) × (columns.0 ≤ column) × (column < columns.1)
