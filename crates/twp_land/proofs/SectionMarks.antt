@@ -10,7 +10,7 @@ use Rattle.twp_grid.specs.Lands.{HasLot, HoldsAll, HoldsEach, IsLastLot, IsNextL
 use Rattle.twp_grid.specs.Lands.{block_places, lotting, section_places}
 use Rattle.twp_grid.proofs.PlaceTests.{place_of_test, test_of_place, whole_is_place}
 use Rattle.twp_land.specs.LotMaps.{NO_LAND, layout_of_bytes, mark_in, mark_of, place_number}
-use Rattle.twp_land.specs.steps.LotBytes.{mark_at}
+use Rattle.twp_land.specs.steps.LotBytes.{IsLowestBelow, mark_at}
 use Rattle.twp_land.specs.steps.Marked.{PLACES, marked, NoneLeft}
 use Rattle.twp_land.proofs.LotBlocks.{along_position, first_in, meets_of_share, share_of_meets}
 use Rattle.twp_land.proofs.MarkedFacts.{column_at, is_marked, marked_parts, number_of, place_at_number}
@@ -222,3 +222,70 @@ small_marked positions divided s least most position first block across upward w
         let same : place_number c r / 64 ≡ first / 64 = omega (arith, here.1, at_first, east, north) in
         position_mark positions divided s first position (place_number c r) is same
         ∙ whole_mark divided position (place_number c r % 64) whole
+
+-- the marks of a section's next position
+in_next : (positions divided : List ℕ) (s index position number : ℕ)
+    → position ≡ get_or positions ((s - 1) * 16 + index * 64 / 64) 0 → index * 64 ≤ number
+    → number < (index + 1) * 64 → mark_of positions divided s number ≡ mark_in divided position (number % 64)
+in_next positions divided s index position number is least less =
+    position_mark positions divided s (index * 64) position number is (omega (arith, least, less))
+
+pub lower_next : (positions divided : List ℕ) (s after index position lowest here : ℕ)
+    → position ≡ get_or positions ((s - 1) * 16 + index * 64 / 64) 0
+    → IsLowestBelow positions divided s after (index * 64) lowest → after < here → here ≤ 100
+    → (here < 100 → (within : ℕ) × (within < 64) × (mark_in divided position within ≡ here))
+    → ((within : ℕ) → within < 64 → after < mark_in divided position within
+    → here ≤ mark_in divided position within)
+    → here < lowest → IsLowestBelow positions divided s after ((index + 1) * 64) here
+lower_next positions divided s after index position lowest here is so_far more most has least lower = record {
+  more = more;
+  most = most;
+  is = λ few.
+      let place = has few in
+      let less : place.0 < 64 = place.1 in
+      let within : (index * 64 + place.0) % 64 ≡ place.0 = omega (arith, less) in (
+        index * 64 + place.0,
+        omega (arith, less),
+        in_next positions divided s index position (index * 64 + place.0) is (omega arith) (omega (arith, less))
+            ∙ ap (λ n. mark_in divided position n) within
+            ∙ place.2,
+      );
+  least = λ number less later. elim (cases_lt number (index * 64)) [
+    | inl before ↦ omega (arith, so_far.least number before later, lower)
+    | inr from ↦
+        let mark = in_next positions divided s index position number is (omega (arith, from)) less in
+        omega (arith, mark, least (number % 64) (omega arith) (omega (arith, mark, later)))
+  ];
+}
+
+pub not_lower_next : (positions divided : List ℕ) (s after index position lowest here : ℕ)
+    → position ≡ get_or positions ((s - 1) * 16 + index * 64 / 64) 0
+    → IsLowestBelow positions divided s after (index * 64) lowest
+    → ((within : ℕ) → within < 64 → after < mark_in divided position within
+    → here ≤ mark_in divided position within)
+    → lowest ≤ here → IsLowestBelow positions divided s after ((index + 1) * 64) lowest
+not_lower_next positions divided s after index position lowest here is so_far least lower = record {
+  more = so_far.more;
+  most = so_far.most;
+  is = λ few.
+      let place = so_far.is few in
+      let less : place.0 < index * 64 = place.1 in
+      (place.0, omega (arith, less), place.2);
+  least = λ number less later. elim (cases_lt number (index * 64)) [
+    | inl before ↦ so_far.least number before later
+    | inr from ↦
+        let mark = in_next positions divided s index position number is (omega (arith, from)) less in
+        omega (arith, mark, lower, least (number % 64) (omega arith) (omega (arith, mark, later)))
+  ];
+}
+
+-- the columns and rows of a block's places
+pub inside_of : (block : Rectangle) (c r : ℕ) → block.columns.start ≤ c
+    → c < block.columns.start + block.columns.len → block.rows.start ≤ r
+    → r < block.rows.start + block.rows.len → in_rectangle block c r ≡ true
+inside_of block c r east west south north = grind (arith, nat_tests, east, west, south, north)
+
+pub range_of : (block : Rectangle) (c r : ℕ) → in_rectangle block c r ≡ true
+    → (block.columns.start ≤ c) × (c < block.columns.start + block.columns.len)
+    × (block.rows.start ≤ r) × (r < block.rows.start + block.rows.len)
+range_of block c r inside = grind (arith, nat_tests, inside)

@@ -1,6 +1,6 @@
 -- The marks of a divided position, up to a place.
-use Rattle.std.specs.Prelude.{◌≡◌, ℕ, ◌+◌, ◌×◌, ◌≤◌, ◌<◌, List, get_or, min}
-use Rattle.twp_land.specs.LotMaps.{NO_LAND}
+use Rattle.std.specs.Prelude.{◌≡◌, ℕ, ◌+◌, ◌≤◌, ◌<◌, List, get_or, min}
+use Rattle.twp_land.specs.LotMaps.{NO_LAND, mark_of}
 
 -- the mark of a place, by the index of its byte
 abbrev pub mark_at : List ℕ → ℕ → ℕ
@@ -23,3 +23,12 @@ pub record IsLowest (divided : List ℕ) (first count after lowest : ℕ) : Type
   pub is : lowest < NO_LAND → (within : ℕ) × (within < count) × (mark_at divided (first + within) ≡ lowest)
   pub least : (within : ℕ) → within < count → after < mark_at divided (first + within)
       → lowest ≤ mark_at divided (first + within)
+
+-- the same for the places of a section that are numbered below an end
+pub record IsLowestBelow (positions divided : List ℕ) (section after end lowest : ℕ) : Type 0 where
+  pub more : after < lowest
+  pub most : lowest ≤ NO_LAND
+  pub is : lowest < NO_LAND
+      → (number : ℕ) × (number < end) × (mark_of positions divided section number ≡ lowest)
+  pub least : (number : ℕ) → number < end → after < mark_of positions divided section number
+      → lowest ≤ mark_of positions divided section number

@@ -1,4 +1,4 @@
-use Rattle.std.proofs.Common.{◌≡◌, ◌≢◌, ◌+◌, ◌<◌, ◌×◌, ℕ, true, false, get_or}
+use Rattle.std.proofs.Common.{◌≡◌, ◌≢◌, ◌+◌, ◌<◌, ℕ, true, false, get_or}
 use Rattle.twp_land.proofs.lot_marks.has_marks.Given as goal
 
 -- whether one of the places so far has a mark

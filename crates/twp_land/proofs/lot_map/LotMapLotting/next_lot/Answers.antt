@@ -1,14 +1,14 @@
 -- The next lot is the lowest mark that is greater.
-use Rattle.std.proofs.Common.{arith}
+use Rattle.std.proofs.Common.{◌<◌, arith}
 use Rattle.std.proofs.lemmas.Bool.Decides.{nat_tests}
 use Rattle.twp_land.proofs.SectionMarks.{last_lot, mark_of_lot, next_lot, no_lot}
 use Rattle.twp_land.proofs.lot_map.LotMapLotting.next_lot.Goals as goal
 
-pub returns-then-after-from : goal.returns-then-after-from
-returns-then-after-from c lot has =
+pub returns-then-after-ge-LOT_MOST : goal.returns-then-after-ge-LOT_MOST
+returns-then-after-ge-LOT_MOST c lot has =
     let self = c.args.self.now in
     let mark = mark_of_lot self.positions self.divided c.args.section lot has in
-    grind (arith, nat_tests, c.if-after-from.true, mark.2.1)
+    grind (arith, nat_tests, c.if-after-ge-LOT_MOST.true, mark.3)
 
 pub returns-then-has_none_from : goal.returns-then-has_none_from
 returns-then-has_none_from c =
@@ -25,6 +25,7 @@ returns-then-lot-eq-NO_LAND c =
 pub returns : goal.returns
 returns c =
     let self = c.args.self.now in
-    let few = grind (arith, nat_tests, c.if-lot-eq-NO_LAND.false, c.lowest-lot.ensures.most) in
+    let few : c.lowest-lot.result < 100 =
+    grind (arith, nat_tests, c.if-lot-eq-NO_LAND.false, c.lowest-lot.ensures.most) in
     next_lot self.positions self.divided c.args.section c.args.after c.lowest-lot.result
     c.lowest-lot.ensures.more few (c.lowest-lot.ensures.is few) c.lowest-lot.ensures.least
