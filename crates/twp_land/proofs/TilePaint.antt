@@ -171,6 +171,15 @@ tier_taken start end column row mark old mid least less most few so_far has =
     ))
     so_far has
 
+-- the places of a row of positions, by the columns of the first and of the one after the last
+pub tier_block : (across : Interval) (start end row : ℕ) → start * 8 ≡ across.start
+    → (end - start) * 8 ≡ across.len
+    → rectangle (span_from (start * 8) ((end - start) * 8)) (span_from (row * 8) 8)
+    ≡ rectangle across (span_from (row * 8) 8)
+tier_block across start end row first long =
+    ap (λ n. rectangle (span_from n ((end - start) * 8)) (span_from (row * 8) 8)) first
+    ∙ ap (λ n. rectangle (span_from across.start n) (span_from (row * 8) 8)) long
+
 -- a block of whole positions: its first column and row, and its size, in positions
 pub tiers_next : (across : Interval) (start first row mark : ℕ) (old mid new : List ℕ) → first ≤ row → row < 4
     → start ≡ first * 8 → across.start + across.len ≤ 32

@@ -1,4 +1,4 @@
-ghost use Rattle.std.specs.Prelude.{◌≡◌, ◌≢◌, ◌+◌, ◌-◌, ◌*◌, ◌≤◌, ◌<◌, ◌↔◌, ℕ, IsTrue, false};
+ghost use Rattle.std.specs.Prelude.{◌≡◌, ◌≢◌, ◌+◌, ◌-◌, ◌*◌, ◌≤◌, ◌<◌, ℕ, IsTrue, false};
 ghost use Rattle.std.specs.Prelude.{get_or, []};
 ghost use Rattle.twp_grid.specs.Winding.{SECTION_COUNT};
 ghost use Rattle.twp_grid.specs.Spans.{rectangle, span_from};
@@ -141,8 +141,10 @@ fn paint_position(marks: &mut [u8; PLACES], column: u8, row: u8, mark: u8) -> bo
 /// Whether one of the places of a position, from a first number on, has a mark.
 fn has_marks(marks: &[u8; PLACES], first: usize) -> bool
     requires { first + 64 ≤ PLACES }
-    ensures { IsTrue result
-        ↔ ((within : ℕ) × (within < 64) × (get_or marks.now (first + within) 0 ≢ 0)) }
+    ensures marked { IsTrue result
+        → (within : ℕ) × (within < 64) × (get_or marks.now (first + within) 0 ≢ 0) }
+    ensures free { result ≡ false
+        → (within : ℕ) → within < 64 → get_or marks.now (first + within) 0 ≡ 0 }
 {
     let mut is_marked = false;
     for within in 0..PLACES_OF_POSITION {
