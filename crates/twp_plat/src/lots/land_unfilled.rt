@@ -1,6 +1,7 @@
 //! Quarter-quarters that a lot lies in and that also contain land in no part of a record.
 ghost use Rattle.std.specs.Prelude.{◌≡◌, ◌≤◌, ◌<◌, ◌↔◌, IsTrue};
 ghost use Rattle.twp_plat.specs.steps.Unfilled.{IsLeast, earlier_of, mark_within, IsRecordOf, HasFreePlace};
+ghost use Rattle.twp_plat.specs.steps.Unfilled.{HasMarkedPlace};
 ghost use Rattle.twp_plat.specs.steps.Unfilled.{IsLotRecordAt, IsUnfilledAt, IsUnfilledIn, IsUnfilledRecord};
 ghost use Rattle.twp_plat.specs.steps.Unfilled.{AreMarksOfLots};
 
@@ -52,7 +53,10 @@ fn first_unfilled_at(
     requires { position < POSITIONS }
     ensures { IsLeast result (IsUnfilledAt marks.now.sections lots.now.records section position) }
 {
-    if !has_free_place(marks, section, position) || !has_mark(marks, section, position) {
+    if !has_free_place(marks, section, position) {
+        return None;
+    }
+    if !has_mark(marks, section, position) {
         return None;
     }
     first_lot_at(marks, lots, section, position)
