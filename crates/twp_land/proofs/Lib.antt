@@ -30,6 +30,7 @@ pub mod RelationFacts
 pub mod LotSections
 pub mod MadeLands
 pub mod MarkedFacts
+pub mod MaskFacts
 pub mod MarkedLoops
 pub mod MarkedLots
 pub mod SectionMarks

@@ -12,7 +12,7 @@ mod marks;
 use crate::lots::share_place;
 use crate::lotting::Lotting;
 use crate::place_set::PlaceSet;
-use bytes::{Extent, is_between};
+use bytes::{Extent, has_byte, is_between};
 use twp_grid::{Block, PLACES_TO_POSITION, SECTIONS, Section};
 
 /// The number of positions in a section.
@@ -266,6 +266,9 @@ impl Lotting for LotMap {
         }
         if self.has_none_from(section, after + 1) {
             return None;
+        }
+        if has_byte(&self.positions, section, after + 1) {
+            return Some(after + 1);
         }
         let lot = self.lowest(section, after);
         if lot == NO_LAND {

@@ -1,9 +1,12 @@
-//! The bytes of a section's positions, or of a position's places, all at once: the loops have no early
-//! exit, so LLVM handles many steps together.
-ghost use Rattle.std.specs.Prelude.{◌≡◌, ◌+◌, ◌-◌, ◌*◌, ◌≤◌, ◌<◌, ◌&&◌, ℕ, get_or, nat_le};
+//! The bytes of a section's positions, or of a position's places, all at once: those of a section as a
+//! vector; and the loops have no early exit, so LLVM handles many steps together.
+ghost use Rattle.std.specs.Prelude.{◌≡◌, ◌+◌, ◌-◌, ◌*◌, ◌≤◌, ◌<◌, ◌&&◌, ℕ, IsTrue, get_or};
+ghost use Rattle.std.specs.Prelude.{length, nat_le};
+ghost use Rattle.std.specs.Simd.Lanes.{chunk};
 ghost use Rattle.twp_land.specs.steps.LotBytes.{AreAll, AreNone, IsLowest};
 
 use crate::lot_map::{DIVIDED_BYTES, NO_LAND, PLACES_OF_POSITION, POSITION_BYTES, POSITIONS};
+use std::simd::prelude::*;
 use twp_grid::Section;
 
 /// How many places of a position have marks from a least to a greatest.
@@ -17,18 +20,33 @@ pub enum Extent {
     Partial,
 }
 
-/// The greatest byte of a section's positions.
+/// The bytes of a section's positions.
 #[inline(always)]
-pub(crate) fn highest(positions: &[u8; POSITION_BYTES], section: Section) -> u8
-    ensures { (index : ℕ) → index < 16
-        → get_or positions.now ((section - 1) * 16 + index) 0 ≤ result }
+fn section_bytes(positions: &[u8; POSITION_BYTES], section: Section) -> u8x16
+    ensures bytes { result ≡ chunk ((section - 1) * 16) 16 positions.now }
+    ensures fits { (section - 1) * 16 + 16 ≤ length positions.now }
 {
-    let first = usize::from(section.number() - 1) * POSITIONS;
-    let mut highest = 0;
-    for index in 0..POSITIONS {
-        highest = highest.max(positions[first + index]);
-    }
-    highest
+    u8x16::from_slice(&positions[usize::from(section.number() - 1) * POSITIONS..])
+}
+
+/// Whether each of them is less than a number.
+#[inline(always)]
+pub(crate) fn are_below(positions: &[u8; POSITION_BYTES], section: Section, least: u8) -> bool
+    ensures { IsTrue result → (index : ℕ) → index < 16
+        → get_or positions.now ((section - 1) * 16 + index) 0 < least }
+{
+    let bytes = section_bytes(positions, section);
+    u8x16::splat(least).simd_le(bytes).to_bitmask() == 0
+}
+
+/// Whether one of them is a number.
+#[inline(always)]
+pub(crate) fn has_byte(positions: &[u8; POSITION_BYTES], section: Section, byte: u8) -> bool
+    ensures { IsTrue result → (index : ℕ) × (index < 16)
+        × (get_or positions.now ((section - 1) * 16 + index) 0 ≡ byte) }
+{
+    let bytes = section_bytes(positions, section);
+    bytes.simd_eq(u8x16::splat(byte)).to_bitmask() != 0
 }
 
 /// The lowest mark of a divided position that is greater than a number; 100 if there is none.

@@ -5,7 +5,7 @@ ghost use Rattle.twp_grid.specs.Lands.{Meets};
 ghost use Rattle.twp_land.specs.LotMaps.{mark_in, mark_of};
 ghost use Rattle.twp_land.specs.steps.Marked.{PLACES, marked};
 
-use crate::lot_map::bytes::{Extent, extent_in, highest, is_between, lowest_in};
+use crate::lot_map::bytes::{Extent, are_below, extent_in, is_between, lowest_in};
 use crate::lot_map::{DIVIDED_BYTES, LotMap, NO_LAND, PLACES_OF_POSITION, POSITIONS};
 use crate::lot_marks::place_number;
 use twp_grid::{Block, Section};
@@ -46,7 +46,7 @@ impl LotMap {
         ensures { IsTrue result → (number : ℕ) → number < PLACES
             → mark_of self.now.positions self.now.divided section number < least }
     {
-        highest(&self.positions, section) < least
+        are_below(&self.positions, section, least)
     }
 
     /// The lowest mark of a position that is greater than a number; 100 if there is none.
