@@ -289,3 +289,35 @@ pub range_of : (block : Rectangle) (c r : ℕ) → in_rectangle block c r ≡ tr
     → (block.columns.start ≤ c) × (c < block.columns.start + block.columns.len)
     × (block.rows.start ≤ r) × (r < block.rows.start + block.rows.len)
 range_of block c r inside = grind (arith, nat_tests, inside)
+
+-- a position with the lowest number that the next lot can have
+pub next_byte : (positions divided : List ℕ) (s after index : ℕ) → index < 16
+    → get_or positions ((s - 1) * 16 + index) 0 ≡ after + 1 → after < 99
+    → IsNextLot (lotting (layout_of_bytes positions divided)) s after (after + 1)
+next_byte positions divided s after index less is few = record {
+  has =
+      let here : index * 64 / 64 ≡ index = omega arith in
+      let mark : mark_of positions divided s (index * 64) ≡ after + 1 =
+      ap (λ n. mark_in divided (get_or positions ((s - 1) * 16 + n) 0) (index * 64 % 64)) here
+      ∙ ap (λ b. mark_in divided b (index * 64 % 64)) is
+      ∙ whole_mark divided (after + 1) (index * 64 % 64) (omega (arith, few)) in
+      lot_of_number positions divided s (after + 1) (index * 64) (omega (arith, less)) mark (omega arith)
+      (omega (arith, few));
+  after = omega arith;
+  first = λ other has later. omega (arith, later);
+}
+
+-- the places of the positions from one on, up to another, whose bytes are out of a range
+pub passed_places : (positions divided : List ℕ) (s least most start end : ℕ)
+    → ((index : ℕ) → index < 16 → get_or positions ((s - 1) * 16 + index) 0 < 101)
+    → ((index : ℕ) → start ≤ index → index < end → least ≤ get_or positions ((s - 1) * 16 + index) 0
+    → ¬ (get_or positions ((s - 1) * 16 + index) 0 ≤ most))
+    → end ≤ 16 → (number : ℕ) → start * 64 ≤ number → number < end * 64
+    → least ≤ mark_of positions divided s number → ¬ (mark_of positions divided s number ≤ most)
+passed_places positions divided s least most start end whole out few number least' less low high =
+    let index : number / 64 < 16 = omega (arith, less, few) in
+    let mark =
+    whole_mark divided (get_or positions ((s - 1) * 16 + number / 64) 0) (number % 64)
+    (omega (arith, whole (number / 64) index)) in
+    out (number / 64) (omega (arith, least')) (omega (arith, less)) (omega (arith, mark, low))
+    (omega (arith, mark, high))

@@ -99,12 +99,13 @@ impl LotMap {
     /// The first block of a section, from a place's number on, whose places have marks from a least
     /// to a greatest: a whole position, or a single place. `None` if no such place is left.
     fn next(&self, section: Section, from: usize, least: u8, most: u8) -> Option<Marked>
+        requires { least ≤ most }
         ensures next { MatchOption result
             (NoneLeft (marked self.now.positions self.now.divided section least most) from)
             (λ found. IsNext (marked self.now.positions self.now.divided section least most) from
             found.block found.end) }
     {
-        let mut at = from;
+        let mut at = self.passed(section, from, least, most);
         'places: while at < PLACES {
             let position = self.position(section, at);
             match self.extent(position, at, least, most) {
@@ -132,7 +133,8 @@ impl LotMap {
 
     /// Whether a block of a section contains a place with a mark from a least to a greatest.
     fn meets(&self, section: Section, block: Block, least: u8, most: u8) -> bool
-        requires { least ≤ 100 }
+        requires most { least ≤ 100 }
+        requires range { least ≤ most }
         ensures { IsTrue result
             ↔ Meets (marked self.now.positions self.now.divided section least most) block }
     {
@@ -156,7 +158,8 @@ impl LotMap {
     /// contains one of them. Returns whether it contained none; if it did, its content has no
     /// meaning.
     fn add<S: PlaceSet>(&self, set: &mut S, section: Section, least: u8, most: u8) -> bool
-        requires { IsTrue (S.has_room set.old section) }
+        requires room { IsTrue (S.has_room set.old section) }
+        requires range { least ≤ most }
         ensures apart { IsTrue result → ¬ SharePlace (S.places set.old)
             (in_section section (marked self.now.positions self.now.divided section least most)) }
         ensures met { result ≡ false → SharePlace (S.places set.old)
@@ -177,6 +180,7 @@ impl LotMap {
 
     /// Whether a set contains each place of a section with a mark from a least to a greatest.
     fn is_held<S: PlaceSet>(&self, set: &S, section: Section, least: u8, most: u8) -> bool
+        requires { least ≤ most }
         ensures { IsTrue result ↔ ((column row : ℕ)
             → marked self.now.positions self.now.divided section least most column row ≡ true
             → S.places set.now section column row ≡ true) }

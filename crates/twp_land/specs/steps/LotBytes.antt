@@ -1,5 +1,5 @@
 -- The marks of a divided position, up to a place.
-use Rattle.std.specs.Prelude.{◌≡◌, ℕ, ◌+◌, ◌≤◌, ◌<◌, List, get_or, min}
+use Rattle.std.specs.Prelude.{◌≡◌, ℕ, ◌+◌, ◌-◌, ◌%◌, ◌≤◌, ◌<◌, List, get_or, map, min}
 use Rattle.twp_land.specs.LotMaps.{NO_LAND, mark_of}
 
 -- the mark of a place, by the index of its byte
@@ -32,3 +32,7 @@ pub record IsLowestBelow (positions divided : List ℕ) (section after end lowes
       → (number : ℕ) × (number < end) × (mark_of positions divided section number ≡ lowest)
   pub least : (number : ℕ) → number < end → after < mark_of positions divided section number
       → lowest ≤ mark_of positions divided section number
+
+-- bytes less a number, as a byte is that wraps around
+abbrev pub bytes_less : ℕ → List ℕ → List ℕ
+bytes_less least bytes = map (λ byte. (byte + (256 - least)) % 256) bytes

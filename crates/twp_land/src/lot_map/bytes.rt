@@ -2,8 +2,9 @@
 //! vector; and the loops have no early exit, so LLVM handles many steps together.
 ghost use Rattle.std.specs.Prelude.{◌≡◌, ◌+◌, ◌-◌, ◌*◌, ◌≤◌, ◌<◌, ◌&&◌, ℕ, IsTrue, get_or};
 ghost use Rattle.std.specs.Prelude.{length, nat_le};
-ghost use Rattle.std.specs.Simd.Lanes.{chunk};
-ghost use Rattle.twp_land.specs.steps.LotBytes.{AreAll, AreNone, IsLowest};
+ghost use Rattle.std.specs.Prelude.{map, drop};
+ghost use Rattle.std.specs.Simd.Lanes.{chunk, mask_l};
+ghost use Rattle.twp_land.specs.steps.LotBytes.{AreAll, AreNone, IsLowest, bytes_less};
 
 use crate::lot_map::{DIVIDED_BYTES, NO_LAND, PLACES_OF_POSITION, POSITION_BYTES, POSITIONS};
 use std::simd::prelude::*;
@@ -47,6 +48,51 @@ pub(crate) fn has_byte(positions: &[u8; POSITION_BYTES], section: Section, byte:
 {
     let bytes = section_bytes(positions, section);
     bytes.simd_eq(u8x16::splat(byte)).to_bitmask() != 0
+}
+
+/// A bit for each position of a section from an index on: whether its byte is from a least to a
+/// greatest.
+#[inline(always)]
+fn later_between(
+    positions: &[u8; POSITION_BYTES],
+    section: Section,
+    from: usize,
+    least: u8,
+    most: u8,
+) -> u64
+    requires from { from < 16 }
+    requires range { least ≤ most }
+    ensures bits { result ≡ mask_l (map (λ byte. nat_le byte (most - least))
+        (drop from (bytes_less least (chunk ((section - 1) * 16) 16 positions.now)))) }
+    ensures fits { (section - 1) * 16 + 16 ≤ length positions.now }
+{
+    let more = section_bytes(positions, section) - u8x16::splat(least);
+    more.simd_le(u8x16::splat(most - least)).to_bitmask() >> from
+}
+
+/// The first position of a section, from an index on, whose byte is from a least to a greatest; 16 if
+/// there is none.
+#[inline(always)]
+pub(crate) fn first_between(
+    positions: &[u8; POSITION_BYTES],
+    section: Section,
+    from: usize,
+    least: u8,
+    most: u8,
+) -> usize
+    requires from { from < 16 }
+    requires range { least ≤ most }
+    ensures from { from ≤ result }
+    ensures within { result ≤ 16 }
+    ensures passed { (index : ℕ) → from ≤ index → index < result
+        → least ≤ get_or positions.now ((section - 1) * 16 + index) 0
+        → ¬ (get_or positions.now ((section - 1) * 16 + index) 0 ≤ most) }
+{
+    let sought = later_between(positions, section, from, least, most);
+    if sought == 0 {
+        return POSITIONS;
+    }
+    from + sought.trailing_zeros() as usize
 }
 
 /// The lowest mark of a divided position that is greater than a number; 100 if there is none.

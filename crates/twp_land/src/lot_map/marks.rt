@@ -5,8 +5,10 @@ ghost use Rattle.twp_grid.specs.Lands.{Meets};
 ghost use Rattle.twp_land.specs.LotMaps.{mark_in, mark_of};
 ghost use Rattle.twp_land.specs.steps.Marked.{PLACES, marked};
 
-use crate::lot_map::bytes::{Extent, are_below, extent_in, is_between, lowest_in};
-use crate::lot_map::{DIVIDED_BYTES, LotMap, NO_LAND, PLACES_OF_POSITION, POSITIONS};
+use crate::lot_map::bytes::{
+    Extent, are_below, extent_in, first_between, is_between, lowest_in,
+};
+use crate::lot_map::{DIVIDED_BYTES, LotMap, NO_LAND, PLACES, PLACES_OF_POSITION, POSITIONS};
 use crate::lot_marks::place_number;
 use twp_grid::{Block, Section};
 
@@ -36,6 +38,27 @@ impl LotMap {
             Some(first) => extent_in(&self.divided, first, least, most),
             None => Extent::Partial,
         }
+    }
+
+    /// A place itself; or if it is the first one of a position, and the positions of the section aren't
+    /// divided, the first place of the next position, from this one on, with a mark from a least to a
+    /// greatest.
+    #[inline(always)]
+    pub(super) fn passed(&self, section: Section, place: usize, least: u8, most: u8) -> usize
+        requires { least ≤ most }
+        ensures from { place ≤ result }
+        ensures passed { (number : ℕ) → place ≤ number → number < result
+            → least ≤ mark_of self.now.positions self.now.divided section number
+            → ¬ (mark_of self.now.positions self.now.divided section number ≤ most) }
+    {
+        if place % PLACES_OF_POSITION != 0 || place >= PLACES {
+            return place;
+        }
+        if !are_below(&self.positions, section, NO_LAND + 1) {
+            return place;
+        }
+        let from = place / PLACES_OF_POSITION;
+        PLACES_OF_POSITION * first_between(&self.positions, section, from, least, most)
     }
 
     /// Whether no place of a section has a mark from a least on, as its positions show. If it isn't

@@ -1,7 +1,7 @@
 -- The next lot is the lowest mark that is greater.
-use Rattle.std.proofs.Common.{◌<◌, arith}
+use Rattle.std.proofs.Common.{◌<◌, refl, arith}
 use Rattle.std.proofs.lemmas.Bool.Decides.{nat_tests}
-use Rattle.twp_land.proofs.SectionMarks.{last_lot, mark_of_lot, next_lot, no_lot}
+use Rattle.twp_land.proofs.SectionMarks.{last_lot, mark_of_lot, next_byte, next_lot, no_lot}
 use Rattle.twp_land.proofs.lot_map.LotMapLotting.next_lot.Goals as goal
 
 pub returns-then-after-ge-LOT_MOST : goal.returns-then-after-ge-LOT_MOST
@@ -15,6 +15,13 @@ returns-then-has_none_from c =
     let self = c.args.self.now in
     last_lot self.positions self.divided c.args.section c.args.after
     (c.has_none_from.ensures c.if-has_none_from.true)
+
+pub returns-then-has_byte : goal.returns-then-has_byte
+returns-then-has_byte c =
+    let self = c.args.self.now in
+    let byte = c.if-has_byte.ensures refl in
+    let few : c.args.after < 99 = grind (arith, nat_tests, c.if-after-ge-LOT_MOST.false) in
+    next_byte self.positions self.divided c.args.section c.args.after byte.0 byte.1 byte.2 few
 
 pub returns-then-lot-eq-NO_LAND : goal.returns-then-lot-eq-NO_LAND
 returns-then-lot-eq-NO_LAND c =
