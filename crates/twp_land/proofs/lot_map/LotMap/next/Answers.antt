@@ -1,7 +1,7 @@
 -- The block found is a position, or a place.
 use Rattle.std.proofs.Common.{arith, refl}
 use Rattle.std.proofs.lemmas.Bool.Decides.{nat_tests}
-use Rattle.twp_land.proofs.MarkedFacts.{position_next, place_next, place_passed}
+use Rattle.twp_land.proofs.MarkedFacts.{place_next, place_passed, position_next, position_passed}
 use Rattle.twp_land.proofs.lot_map.LotMap.next.Goals as goal
 
 pub returns-in-All : goal.returns-in-All
@@ -23,6 +23,16 @@ returns-then-is_between c = record {
       (grind (arith, nat_tests, c.if-is_between.true, c.is_between.ensures, c.mark-mark.ensures))
       (grind (arith, nat_tests, c.if-is_between.true, c.is_between.ensures, c.mark-mark.ensures))
       c.places.invariant.more c.places.invariant.passed);
+}
+
+pub places-preserved-in-Nothing : goal.places-preserved-in-Nothing
+places-preserved-in-Nothing c = record {
+  more = omega (arith, c.places.invariant.more);
+  passed =
+      position_passed c.args.self.now.positions c.args.self.now.divided c.args.section c.args.least
+      c.args.most
+      c.args.from c.places.at c.position-position.result (c.in-Nothing.ensures.first (λ other. cc other))
+      c.position-position.ensures (c.in-Nothing.ensures.nothing refl) c.places.invariant.passed;
 }
 
 pub places-preserved : goal.places-preserved
