@@ -1,6 +1,8 @@
 -- Masks of the lanes of a vector.
-use Rattle.std.proofs.Common.{◌≡◌, ℕ, zero, suc, ◌+◌, ◌-◌, ◌*◌, ◌/◌, ◌%◌, ◌^◌, ◌<◌, ◌≤◌, Bool, true, false, cond}
-use Rattle.std.proofs.Common.{List, [], ◌∷◌, get_or, length, map, drop, leb, not, refl, sym, ap, ◌∙◌, inl, inr}
+use Rattle.std.proofs.Common.{◌≡◌, ℕ, zero, suc, ◌+◌, ◌-◌, ◌*◌, ◌/◌, ◌%◌, ◌^◌, ◌<◌, ◌≤◌, Bool, true, false}
+use Rattle.std.proofs.Common.{cond}
+use Rattle.std.proofs.Common.{List, [], ◌∷◌, get_or, length, map, drop, leb, not, refl, sym, ap, ◌∙◌, inl}
+use Rattle.std.proofs.Common.{inr}
 use Rattle.std.proofs.Common.{arith, div-one, mul_comm, pow-suc}
 use Rattle.std.proofs.lemmas.Bool.{cases_Bool}
 use Rattle.std.proofs.lemmas.Bool.Decides.{nat_tests}
@@ -51,7 +53,8 @@ pub passed_bytes : (positions v w : List ℕ) (first from least most r : ℕ) �
     → r ≤ prefix_len (λ x. not (leb x (most - least))) (drop from w)
     → (index : ℕ) → from ≤ index → index < from + r → index < 16 → least ≤ get_or positions (first + index) 0
     → ¬ (get_or positions (first + index) 0 ≤ most)
-passed_bytes positions v w first from least most r is room moved small range top count k after less short low =
+passed_bytes positions v w first from least most r is room moved small range top count k after less short
+    low =
     let back : from + (k - from) ≡ k = omega (arith, after) in
     let long : length v ≡ 16 = ap length is ∙ length-chunk first 16 positions room in
     let at : get_or (drop from w) (k - from) 0 ≡ (get_or positions (first + k) 0 + (256 - least)) % 256 =

@@ -1,6 +1,7 @@
 -- The marks of a section's places, as the bytes of its positions show them.
 use Rattle.std.proofs.Common.{◌≡◌, ◌==◌, ℕ, ◌+◌, ◌-◌, ◌*◌, ◌/◌, ◌%◌, ◌<◌, ◌≤◌, ◌&&◌, ◌↔◌, Bool, true, false}
-use Rattle.std.proofs.Common.{IsTrue, List, get_or, not, nat_le, nat_lt, refl, sym, ap, subst, ◌∙◌, inl, inr, arith}
+use Rattle.std.proofs.Common.{IsTrue, List, get_or, not, nat_le, nat_lt, refl, sym, ap, subst, ◌∙◌, inl, inr}
+use Rattle.std.proofs.Common.{arith}
 use Rattle.std.proofs.Math.Path.{fun_ext}
 use Rattle.std.proofs.lemmas.Bool.{and_parts, cases_Bool, cases_lt, eqb-true}
 use Rattle.std.proofs.lemmas.Bool.Decides.{nat_tests}
@@ -59,14 +60,16 @@ none_left positions divided s least most from below c r is =
     absurd (none_marked positions divided s least most c r below is)
 
 -- so a section without marks from 100 on is land
-all_land : (positions divided : List ℕ) (s c r : ℕ) → AreBelow positions divided s 100 → IsPlace PLACE_DIGITS c r
+all_land : (positions divided : List ℕ) (s c r : ℕ) → AreBelow positions divided s 100
+    → IsPlace PLACE_DIGITS c r
     → (layout_of_bytes positions divided).has_land s c r ≡ true
 all_land positions divided s c r below place =
     let less : nat_le NO_LAND (mark_of positions divided s (place_number c r)) ≡ false =
     grind (arith, nat_tests, below (place_number c r) (number_of c r place).0) in
     rw (test_of_place PLACE_DIGITS c r place, less) refl
 
-pub whole_section : (positions divided : List ℕ) (s : ℕ) (block : Rectangle) → block ≡ whole_block PLACE_DIGITS
+pub whole_section : (positions divided : List ℕ) (s : ℕ) (block : Rectangle)
+    → block ≡ whole_block PLACE_DIGITS
     → AreBelow positions divided s 100
     → block_places s block ≡ section_places (lotting (layout_of_bytes positions divided)) s
 whole_section positions divided s block is below = fun_ext (λ o. fun_ext (λ c. fun_ext (λ r.
@@ -246,7 +249,8 @@ lower_next positions divided s after index position lowest here is so_far more m
       let within : (index * 64 + place.0) % 64 ≡ place.0 = omega (arith, less) in (
         index * 64 + place.0,
         omega (arith, less),
-        in_next positions divided s index position (index * 64 + place.0) is (omega arith) (omega (arith, less))
+        in_next positions divided s index position (index * 64 + place.0) is (omega arith)
+            (omega (arith, less))
             ∙ ap (λ n. mark_in divided position n) within
             ∙ place.2,
       );

@@ -144,7 +144,8 @@ in_section column row c r few few' inside =
 
 -- one more position of a row of them
 pub tier_next : (start column row mark : ℕ) (old mid new : List ℕ) → start ≤ column → column < 4 → row < 4
-    → IsPainted (rectangle (span_from (start * 8) ((column - start) * 8)) (span_from (row * 8) 8)) mark old mid
+    → IsPainted (rectangle (span_from (start * 8) ((column - start) * 8)) (span_from (row * 8) 8)) mark old
+    mid
     → IsPainted (tile column row) mark mid new
     → IsPainted (rectangle (span_from (start * 8) ((column + 1 - start) * 8)) (span_from (row * 8) 8)) mark
     old new
@@ -157,7 +158,8 @@ tier_next start column row mark old mid new least few few' so_far more =
 
 pub tier_taken : (start end column row mark : ℕ) (old mid : List ℕ) → start ≤ column → column < end → end ≤ 4
     → row < 4
-    → IsPainted (rectangle (span_from (start * 8) ((column - start) * 8)) (span_from (row * 8) 8)) mark old mid
+    → IsPainted (rectangle (span_from (start * 8) ((column - start) * 8)) (span_from (row * 8) 8)) mark old
+    mid
     → HasMark mid (tile column row)
     → HasMark old (rectangle (span_from (start * 8) ((end - start) * 8)) (span_from (row * 8) 8))
 tier_taken start end column row mark old mid least less most few so_far has =
@@ -188,10 +190,12 @@ pub tiers_next : (across : Interval) (start first row mark : ℕ) (old mid new :
     → IsPainted (rectangle across (span_from start ((row + 1 - first) * 8))) mark old new
 tiers_next across start first row mark old mid new least few is east so_far more =
     joined_painted (rectangle across (span_from start ((row - first) * 8)))
-    (rectangle across (span_from (row * 8) 8)) (rectangle across (span_from start ((row + 1 - first) * 8))) mark
+    (rectangle across (span_from (row * 8) 8)) (rectangle across (span_from start ((row + 1 - first) * 8)))
+    mark
     old mid new
     (λ c r. grind (arith, nat_tests, least, is))
-    (λ c r inside. (grind (arith, nat_tests, inside, east), grind (arith, nat_tests, inside, few))) so_far more
+    (λ c r inside. (grind (arith, nat_tests, inside, east), grind (arith, nat_tests, inside, few))) so_far
+    more
 
 pub tiers_taken : (across upward : Interval) (first row mark : ℕ) (old mid : List ℕ) → first ≤ row
     → upward.start ≡ first * 8 → row * 8 + 8 ≤ upward.start + upward.len → upward.start + upward.len ≤ 32

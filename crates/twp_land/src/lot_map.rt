@@ -292,6 +292,10 @@ impl Lotting for LotMap {
         false
     }
 
+    fn holds_lot<S: PlaceSet>(&self, set: &S, section: Section, number: u8) -> bool {
+        self.is_held(set, section, number, number)
+    }
+
     // What is marked as a lot, or as no land, is subtracted.
     fn off_lots_count<S: PlaceSet>(&self, set: &S, section: Section) -> u32 {
         let mut count = set.count(section, Block::whole());

@@ -5,9 +5,7 @@ ghost use Rattle.twp_grid.specs.Lands.{Meets};
 ghost use Rattle.twp_land.specs.LotMaps.{mark_in, mark_of};
 ghost use Rattle.twp_land.specs.steps.Marked.{PLACES, marked};
 
-use crate::lot_map::bytes::{
-    Extent, are_below, extent_in, first_between, is_between, lowest_in,
-};
+use crate::lot_map::bytes::{Extent, are_below, extent_in, first_between, is_between, lowest_in};
 use crate::lot_map::{DIVIDED_BYTES, LotMap, NO_LAND, PLACES, PLACES_OF_POSITION, POSITIONS};
 use crate::lot_marks::place_number;
 use twp_grid::{Block, Section};

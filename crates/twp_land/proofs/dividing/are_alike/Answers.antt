@@ -22,5 +22,6 @@ returns c =
     subst
     (λ m.
     c.loop-within.alike
-    ≡ all_below m (λ n. get_or c.args.marks.now (c.args.first + n) 0 == get_or c.args.marks.now c.args.first 0))
+    ≡ all_below m
+    (λ n. get_or c.args.marks.now (c.args.first + n) 0 == get_or c.args.marks.now c.args.first 0))
     all c.loop-within.invariant.alike

@@ -20,7 +20,8 @@ returns-clause-painted c _ =
     let here : c.from-first.result * 64 + (number - c.from-first.result * 64) ≡ number =
     omega (arith, first, least) in
     ap (λ n. get_or c.args.marks.now n 0) (sym here)
-    ∙ c.if-has_marks.ensures.free refl (number - c.from-first.result * 64) (omega (arith, first, least, less)))
+    ∙ c.if-has_marks.ensures.free refl (number - c.from-first.result * 64)
+    (omega (arith, first, least, less)))
     (λ number least less. at.painted number (omega (arith, first, least))
     (omega (arith, first, less, c.loop-within-test.false)))
     (λ number less. at.before number (omega (arith, first, less)))

@@ -26,5 +26,6 @@ returns-clause-painted c _ =
     omega (arith, c.loop-column-test.false, c.loop-column.auto.column-end, c.requires.start) in
     subst
     (λ n.
-    IsPainted (rectangle (span_from (c.args.start * 8) ((n - c.args.start) * 8)) (span_from (c.args.row * 8) 8))
+    IsPainted
+    (rectangle (span_from (c.args.start * 8) ((n - c.args.start) * 8)) (span_from (c.args.row * 8) 8))
     c.args.mark c.args.marks.now c.loop-column.marks) all c.loop-column.invariant.painted

@@ -14,7 +14,8 @@ loop-index-preserved c =
             rw w.lowest-is
             (lower_next self.positions self.divided c.args.section c.args.after c.loop-index.index
             c.position.result c.loop-index.lowest c.lowest_at-here.result c.position.ensures
-            c.loop-index.invariant.lowest here.more here.most here.is here.least (omega (arith, w.if-here-lowest.true)))
+            c.loop-index.invariant.lowest here.more here.most here.is here.least
+            (omega (arith, w.if-here-lowest.true)))
         | else-here-lowest w ↦
             rw w.lowest-is
             (not_lower_next self.positions self.divided c.args.section c.args.after c.loop-index.index

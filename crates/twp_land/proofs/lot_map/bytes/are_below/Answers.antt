@@ -1,9 +1,11 @@
-use Rattle.std.proofs.Common.{◌≡◌, ℕ, ◌+◌, ◌-◌, ◌*◌, ◌^◌, ◌%◌, false, leb, get_or, length, map, replicate, sym, ap}
+use Rattle.std.proofs.Common.{◌≡◌, ℕ, ◌+◌, ◌-◌, ◌*◌, ◌^◌, ◌%◌, false, leb, get_or, length, map, replicate}
+use Rattle.std.proofs.Common.{sym, ap}
 use Rattle.std.proofs.Common.{◌∙◌, arith, w8}
 use Rattle.std.proofs.lemmas.Bool.{eqb-true}
 use Rattle.std.proofs.lemmas.Bool.Decides.{nat_tests}
 use Rattle.std.proofs.lemmas.List.{length-map}
-use Rattle.std.proofs.lemmas.Simd.{length-chunk, mask_l-mod, none_from_empty_mask, tops_compared, zip2_splat_left}
+use Rattle.std.proofs.lemmas.Simd.{length-chunk, mask_l-mod, none_from_empty_mask, tops_compared}
+use Rattle.std.proofs.lemmas.Simd.{zip2_splat_left}
 use lib.Lanes.{chunk, mask_l}
 use Rattle.twp_land.proofs.lot_map.bytes.are_below.Goals as goal
 
@@ -25,6 +27,7 @@ returns c is index less =
     ∙ sym hits
     ∙ eqb-true _ 0 is in
     let fails : leb c.args.least (get_or positions (first + index) 0) ≡ false =
-    none_from_empty_mask (λ y. leb c.args.least y) positions first 16 0 bytes.ensures.fits none (first + index)
+    none_from_empty_mask (λ y. leb c.args.least y) positions first 16 0 bytes.ensures.fits none
+    (first + index)
     (omega arith) (omega (arith, less)) in
     grind (arith, nat_tests, fails)

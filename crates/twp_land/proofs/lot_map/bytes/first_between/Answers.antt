@@ -1,6 +1,5 @@
 -- The lowest bit is that of the first position.
 use Rattle.std.proofs.Common.{◌≡◌, ℕ, ◌+◌, ◌-◌, ◌*◌, ◌≤◌, drop, leb, length, not, refl, sym, ap, ◌∙◌, arith}
-
 use Rattle.std.proofs.lemmas.List.{length-map}
 use Rattle.std.proofs.lemmas.List.Sums.{prefix_len-le-length}
 use Rattle.std.proofs.lemmas.Simd.{leading_from_mask_l, length-chunk, trailing_mask_l}
@@ -18,7 +17,8 @@ returns-then-sought-eq0-clause-passed c index after less low =
     let room = c.later_between-sought.ensures.fits in
     let long = later_length c.args.positions.now first c.args.from c.args.least room in
     let count =
-    leading_from_mask_l (λ x. leb x (c.args.most - c.args.least)) (drop c.args.from (bytes_less c.args.least v))
+    leading_from_mask_l (λ x. leb x (c.args.most - c.args.least))
+    (drop c.args.from (bytes_less c.args.least v))
     (sym c.later_between-sought.ensures.bits ∙ c.if-sought-eq0.true) in
     passed_bytes c.args.positions.now v (bytes_less c.args.least v) first c.args.from c.args.least c.args.most
     (16 - c.args.from) refl room refl c.fits-positions c.requires.range (omega arith)

@@ -1,4 +1,5 @@
-use Rattle.std.proofs.Common.{◌≡◌, ℕ, ◌+◌, ◌-◌, ◌*◌, ◌/◌, ◌%◌, ◌^◌, drop, leb, length, map, ap, ◌∙◌, arith, w8}
+use Rattle.std.proofs.Common.{◌≡◌, ℕ, ◌+◌, ◌-◌, ◌*◌, ◌/◌, ◌%◌, ◌^◌, drop, leb, length, map, ap, ◌∙◌, arith}
+use Rattle.std.proofs.Common.{w8}
 use Rattle.std.proofs.lemmas.List.{length-map}
 use Rattle.std.proofs.lemmas.Simd.{bitmask_splat, length-chunk, zip2_splat}
 use lib.Lanes.{mask_l}
@@ -21,5 +22,6 @@ returns-clause-bits c =
     (ap (λ n. n / 2 ^ c.args.from) hits
     ∙ later_mask (λ x. leb x (c.args.most - c.args.least)) (bytes_less c.args.least bytes) c.args.from
     ∙ ap
-    (λ l. mask_l (map (λ x. leb x (c.args.most - c.args.least)) (drop c.args.from (bytes_less c.args.least l))))
+    (λ l.
+    mask_l (map (λ x. leb x (c.args.most - c.args.least)) (drop c.args.from (bytes_less c.args.least l))))
     c.section_bytes.ensures.bytes)

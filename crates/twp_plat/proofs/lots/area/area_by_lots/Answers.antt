@@ -38,7 +38,8 @@ loop-number-preserved-then-is_untouched g c =
     section_is c.loop-number.number c.unwrap-section.result _ c.new.ensures c.unwrap-section.ensures in
     let free : (column row : ℕ) → places c.unwrap-section.result column row ≡ false =
     unmet_places (places c.unwrap-section.result) (c.is_untouched.ensures c.if-is_untouched.true)
-    (λ column row held. (g.met.L.PlaceSet.within c.args.land.now c.unwrap-section.result column row held).1) in
+    (λ column row held.
+    (g.met.L.PlaceSet.within c.args.land.now c.unwrap-section.result column row held).1) in
     let same : c.loop-number.units + 0 ≡ c.loop-number.units = omega arith in
     let summed =
     sum-next (lots_of lots) (figure_of lots) places c.loop-number.number c.unwrap-section.result

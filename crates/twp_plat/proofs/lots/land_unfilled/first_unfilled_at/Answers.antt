@@ -17,4 +17,5 @@ pub returns-then-not-has_mark : goal.returns-then-not-has_mark
 returns-then-not-has_mark c number unfilled =
     let lot = unfilled.1 in
     let some = lot.2.0.0 in
-    absurd (cc (c.has_mark.ensures.1 (lot.0, lot.1, λ none. omega (arith, some, none)), c.if-not-has_mark.true))
+    absurd
+    (cc (c.has_mark.ensures.1 (lot.0, lot.1, λ none. omega (arith, some, none)), c.if-not-has_mark.true))

@@ -1,1 +1,0 @@
-use Rattle.twp_land.proofs.lot_map.LotMap.passed.Goals as goal
