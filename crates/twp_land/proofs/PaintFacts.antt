@@ -1,6 +1,6 @@
 -- Marks that are painted place by place and row by row.
-use Rattle.std.proofs.Common.{◌≡◌, ◌≢◌, ℕ, ◌+◌, ◌<◌, ◌≤◌, ◌&&◌, Bool, true, false, List, get_or, set, length}
-use Rattle.std.proofs.Common.{nat_le, nat_lt, if◌then◌else◌, refl, sym, ap, subst, ◌-◌, ◌∙◌, inl, inr, arith}
+use Rattle.std.proofs.Common.{◌≡◌, ◌≢◌, ℕ, ◌+◌, ◌<◌, ◌≤◌, Bool, true, false, List, get_or, set, length}
+use Rattle.std.proofs.Common.{if◌then◌else◌, refl, sym, ap, subst, ◌-◌, ◌∙◌, inl, inr, arith}
 use Rattle.std.proofs.Common.{◌⊎◌, zero, suc, [], replicate}
 use Rattle.std.proofs.lemmas.List.{get_or-set_same, get_or-set_other}
 use Rattle.std.proofs.lemmas.Bool.{cases_Bool}

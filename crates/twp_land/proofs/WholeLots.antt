@@ -4,12 +4,11 @@ use Rattle.std.proofs.Common.{refl}
 use Rattle.std.proofs.Common.{sym, ◌∙◌, subst, inl, inr, arith}
 use Rattle.std.specs.Option.{option_map_or}
 use Rattle.std.proofs.lemmas.Bool.{and_parts, cases_Bool, cases_lt, eqb-true, eq-eqb, false≢true}
-use Rattle.twp_grid.specs.Winding.{IsSection}
 use Rattle.twp_grid.specs.Places.{PLACE_DIGITS, IsPlace, is_place}
 use Rattle.twp_grid.specs.Spans.{whole_block}
-use Rattle.twp_grid.specs.Lands.{AreLots, ContainsAll, HasLot, HasWholeLots, IsLastLot, IsLotHeld, IsNextLot}
+use Rattle.twp_grid.specs.Lands.{AreLots, ContainsAll, HasLot, IsLastLot, IsLotHeld, IsNextLot}
 use Rattle.twp_grid.specs.Lands.{IsWholeOrNot, Lotting, LieWithin, Meets, lot_places}
-use Rattle.twp_grid.proofs.PlaceTests.{place_of_test, test_of_place, whole_is_place}
+use Rattle.twp_grid.proofs.PlaceTests.{test_of_place, whole_is_place}
 use Rattle.twp_land.specs.steps.Relating.{HoldsWholeLots}
 
 -- each lot up to this number is contained wholly or not at all

@@ -1,5 +1,5 @@
 -- The places of a position are numbered one after another.
-use Rattle.std.proofs.Common.{◌≡◌, ◌+◌, ◌-◌, ◌*◌, get_or, ap, refl, subst, sym, ◌∙◌, arith}
+use Rattle.std.proofs.Common.{◌≡◌, ◌+◌, ◌-◌, ◌*◌, get_or, ap, refl, sym, ◌∙◌, arith}
 use Rattle.twp_land.proofs.TilePaint.{position_painted, position_taken}
 use Rattle.twp_land.proofs.lot_marks.paint_position.Goals as goal
 

@@ -1,4 +1,4 @@
-use Rattle.std.proofs.Common.{◌≡◌, ◌+◌, ◌-◌, ◌*◌, ◌/◌, ◌<◌, ◌≤◌, refl, subst, arith}
+use Rattle.std.proofs.Common.{◌≡◌, ◌+◌, ◌-◌, ◌*◌, ◌/◌, refl, subst, arith}
 use Rattle.twp_grid.specs.Spans.{rectangle, span_from}
 use Rattle.twp_land.specs.LotMarks.{HasMark, IsPainted}
 use Rattle.twp_land.proofs.TilePaint.{tier_block, tiers_next, tiers_taken, whole_positions}

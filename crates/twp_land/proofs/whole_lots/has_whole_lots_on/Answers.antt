@@ -1,5 +1,5 @@
 -- One more section, and all sections: those before the first and after the last have no places.
-use Rattle.std.proofs.Common.{◌≡◌, ℕ, sym, ◌∙◌, subst, refl, inl, inr, arith}
+use Rattle.std.proofs.Common.{◌≡◌, ◌∙◌, subst, refl, inl, inr, arith}
 use Rattle.std.proofs.lemmas.Bool.{cases_lt}
 use Rattle.twp_grid.specs.Lands.{lotting}
 use Rattle.twp_land.specs.steps.Relating.{HoldsWholeLots}

@@ -1,6 +1,6 @@
 -- The next lot is contained, or not at all; the numbers between are those of no lot.
 use Rattle.std.proofs.Common.{refl, arith}
-use Rattle.twp_grid.specs.Lands.{LOT_NUMBER_MOST, lotting, IsWholeOrNot}
+use Rattle.twp_grid.specs.Lands.{lotting, IsWholeOrNot}
 use Rattle.twp_land.proofs.WholeLots.{none_whole, whole_contained, whole_last, whole_next, contained_whole}
 use Rattle.twp_land.proofs.WholeLots.{unmet_whole}
 use Rattle.twp_land.proofs.whole_lots.holds_lots_of.Goals as goal

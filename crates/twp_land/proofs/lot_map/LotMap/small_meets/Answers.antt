@@ -1,8 +1,6 @@
 -- One byte decides, or each place does.
-use Rattle.std.proofs.Common.{◌≡◌, ap, refl, sym, ◌∙◌, inl, inr, arith}
+use Rattle.std.proofs.Common.{◌≡◌, refl, inl, inr, arith}
 use Rattle.std.proofs.lemmas.Bool.{cases_lt, false≢true}
-use Rattle.std.proofs.lemmas.Bool.Decides.{nat_tests}
-use Rattle.twp_land.specs.LotMaps.{place_number}
 use Rattle.twp_land.proofs.SectionMarks.{inside_of, range_of, small_marked}
 use Rattle.twp_land.proofs.lot_map.LotMap.small_meets.Goals as goal
 

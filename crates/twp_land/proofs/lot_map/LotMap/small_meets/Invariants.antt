@@ -1,4 +1,4 @@
-use Rattle.std.proofs.Common.{◌≡◌, ◌+◌, ℕ, ◌≤◌, ◌<◌, true}
+use Rattle.std.proofs.Common.{◌≡◌, ℕ, ◌≤◌, ◌<◌, true}
 use Rattle.twp_land.specs.steps.Marked.{marked}
 use Rattle.twp_land.proofs.lot_map.LotMap.small_meets.Given as goal
 

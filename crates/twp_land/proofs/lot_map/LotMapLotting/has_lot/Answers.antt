@@ -1,5 +1,5 @@
 -- The next lot after the number before it is the lot, if the section has it.
-use Rattle.std.proofs.Common.{◌≡◌, ◌<◌, ◌-◌, subst, arith}
+use Rattle.std.proofs.Common.{◌<◌, subst, arith}
 use Rattle.std.proofs.lemmas.Bool.{eq-eqb, eqb-true}
 use Rattle.std.proofs.lemmas.Bool.Decides.{nat_tests}
 use Rattle.twp_grid.specs.Lands.{HasLot, lotting}

@@ -1,8 +1,7 @@
-use Rattle.std.proofs.Common.{◌≡◌, ℕ, ◌+◌, ◌-◌, ◌*◌, ◌<◌, eqb, get_or, length, map, not, sym, ap, ◌∙◌, arith}
+use Rattle.std.proofs.Common.{◌≡◌, ℕ, ◌-◌, ◌*◌, ◌<◌, eqb, get_or, length, not, sym, ap, ◌∙◌, arith}
 use Rattle.std.proofs.Common.{w8}
 use Rattle.std.proofs.lemmas.Bool.{eq-eqb, eqb-true, false≢true}
 use Rattle.std.proofs.lemmas.Simd.{bitmask_splat, get_or-chunk, length-chunk}
-use lib.Lanes.{mask_l}
 use Rattle.twp_land.proofs.MaskFacts.{some_in_mask}
 use Rattle.twp_land.proofs.lot_map.bytes.has_byte.Goals as goal
 
