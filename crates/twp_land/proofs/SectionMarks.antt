@@ -15,7 +15,7 @@ use Rattle.twp_land.specs.steps.LotBytes.{IsLowestBelow, mark_at}
 use Rattle.twp_land.specs.steps.Marked.{PLACES, marked, NoneLeft}
 use Rattle.twp_land.proofs.LotBlocks.{along_position, first_in, meets_of_share, share_of_meets}
 use Rattle.twp_land.proofs.MarkedFacts.{column_at, is_marked, marked_parts, number_of, place_at_number}
-use Rattle.twp_land.proofs.MarkedFacts.{position_mark, row_at}
+use Rattle.twp_land.proofs.MarkedFacts.{AreMarks, ArePassed, position_mark, row_at}
 use Rattle.twp_land.proofs.MarkedLots.{at_lot, lot_at, place_in_block}
 
 -- the mark of each place of a position that isn't divided
@@ -325,3 +325,22 @@ passed_places positions divided s least most start end whole out few number leas
     (omega (arith, whole (number / 64) index)) in
     out (number / 64) (omega (arith, least')) (omega (arith, less)) (omega (arith, mark, low))
     (omega (arith, mark, high))
+
+-- the marked places that are left are not before one up to which no place is marked
+pub are_passed : (positions divided : List ℕ) (s least most from at : ℕ)
+    → ((number : ℕ) → from ≤ number → number < at → least ≤ mark_of positions divided s number
+    → ¬ (mark_of positions divided s number ≤ most))
+    → ArePassed positions divided s least most from at
+are_passed positions divided s least most from at none c r is after =
+    let parts = marked_parts positions divided s least most c r is in
+    elim (cases_lt (place_number c r) at) [
+      | inr not_before ↦ not_before
+      | inl before ↦ absurd (none (place_number c r) after before parts.1 parts.2)
+    ]
+
+-- a position with a mark from a least to a greatest
+pub whole_marks : (divided : List ℕ) (position least most : ℕ) → position ≤ 100 → least ≤ position
+    → position ≤ most → AreMarks divided position least most
+whole_marks divided position least most whole low high within _ =
+    let mark = whole_mark divided position within whole in
+    (omega (arith, mark, low), omega (arith, mark, high))

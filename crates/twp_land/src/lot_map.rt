@@ -9,6 +9,7 @@ ghost use Rattle.twp_land.specs.steps.Marked.{PLACES, marked, in_section, NoneLe
 mod bytes;
 mod marks;
 
+use crate::lot_marks::place_number;
 use crate::lots::share_place;
 use crate::lotting::Lotting;
 use crate::place_set::PlaceSet;
@@ -97,8 +98,35 @@ impl LotMap {
     }
 
     /// The first block of a section, from a place's number on, whose places have marks from a least
-    /// to a greatest: a whole position, or a single place. `None` if no such place is left.
+    /// to a greatest: a whole position, or a single place. `None` if no such place is left. Inlined,
+    /// except for a search through divided positions.
+    #[inline(always)]
     fn next(&self, section: Section, from: usize, least: u8, most: u8) -> Option<Marked>
+        requires { least ≤ most }
+        ensures next { MatchOption result
+            (NoneLeft (marked self.now.positions self.now.divided section least most) from)
+            (λ found. IsNext (marked self.now.positions self.now.divided section least most) from
+            found.block found.end) }
+    {
+        let at = self.passed(section, from, least, most);
+        if at >= PLACES {
+            return None;
+        }
+        if at % PLACES_OF_POSITION == 0 {
+            let position = self.position(section, at);
+            if position <= NO_LAND && is_between(position, least, most) {
+                return Some(Marked {
+                    block: position_at(at),
+                    end: at + PLACES_OF_POSITION,
+                });
+            }
+        }
+        self.search(section, from, least, most)
+    }
+
+    /// The same, position by position, and in divided positions place by place.
+    #[inline(never)]
+    fn search(&self, section: Section, from: usize, least: u8, most: u8) -> Option<Marked>
         requires { least ≤ most }
         ensures next { MatchOption result
             (NoneLeft (marked self.now.positions self.now.divided section least most) from)
@@ -131,7 +159,9 @@ impl LotMap {
         None
     }
 
-    /// Whether a block of a section contains a place with a mark from a least to a greatest.
+    /// Whether a block of a section contains a place with a mark from a least to a greatest. Inlined,
+    /// except for a search.
+    #[inline(always)]
     fn meets(&self, section: Section, block: Block, least: u8, most: u8) -> bool
         requires most { least ≤ 100 }
         requires range { least ≤ most }
@@ -141,6 +171,22 @@ impl LotMap {
         if self.has_none_from(section, least) {
             return false;
         }
+        if block.width() <= PLACES_TO_POSITION && block.height() <= PLACES_TO_POSITION {
+            let position = self.position(section, place_number(block.column(), block.row()));
+            if position <= NO_LAND {
+                return is_between(position, least, most);
+            }
+        }
+        self.search_block(section, block, least, most)
+    }
+
+    /// The same, block by block, or in a block within a position place by place.
+    #[inline(never)]
+    fn search_block(&self, section: Section, block: Block, least: u8, most: u8) -> bool
+        requires { least ≤ most }
+        ensures { IsTrue result
+            ↔ Meets (marked self.now.positions self.now.divided section least most) block }
+    {
         if block.width() <= PLACES_TO_POSITION && block.height() <= PLACES_TO_POSITION {
             return self.small_meets(section, block, least, most);
         }
