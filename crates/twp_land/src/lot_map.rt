@@ -1,19 +1,16 @@
 ghost use Rattle.std.specs.Prelude.{◌≡◌, ◌+◌, ◌-◌, ◌*◌, ◌%◌, ◌/◌, ◌≤◌, ◌<◌, ◌↔◌, ℕ, IsTrue, true, false};
-ghost use Rattle.std.specs.Prelude.{MatchOption, get_or};
-ghost use Rattle.twp_grid.specs.Places.{PLACE_DIGITS};
-ghost use Rattle.twp_grid.specs.Lands.{SharePlace, Meets, HoldsAll, union};
-ghost use Rattle.twp_grid.specs.Spans.{place_block, position_block, in_rectangle};
+ghost use Rattle.std.specs.Prelude.{get_or};
+ghost use Rattle.twp_grid.specs.Lands.{SharePlace, union};
 ghost use Rattle.twp_land.specs.LotMaps.{mark_in, layout_of_bytes};
-ghost use Rattle.twp_land.specs.steps.Marked.{PLACES, marked, in_section, NoneLeft, IsNext};
+ghost use Rattle.twp_land.specs.steps.Marked.{PLACES, marked, in_section};
 
 mod bytes;
 mod marks;
+mod searching;
 
-use crate::lot_marks::place_number;
-use crate::lots::share_place;
 use crate::lotting::Lotting;
 use crate::place_set::PlaceSet;
-use bytes::{Extent, has_byte, is_between};
+use bytes::has_byte;
 use twp_grid::{Block, PLACES_TO_POSITION, SECTIONS, Section};
 
 /// The number of positions in a section.
@@ -48,13 +45,6 @@ pub const DIVIDED_BYTES: usize = 128 * PLACES_OF_POSITION;
 pub struct LotMap {
     positions: [u8; POSITION_BYTES],
     divided: [u8; DIVIDED_BYTES],
-}
-
-/// A block of places, and the number after those of its places.
-#[derive(Clone, Copy)]
-struct Marked {
-    block: Block,
-    end: usize,
 }
 
 impl LotMap {
@@ -95,109 +85,6 @@ impl LotMap {
             return NO_LAND;
         }
         self.divided[index]
-    }
-
-    /// The first block of a section, from a place's number on, whose places have marks from a least
-    /// to a greatest: a whole position, or a single place. `None` if no such place is left. Inlined,
-    /// except for a search through divided positions.
-    #[inline(always)]
-    fn next(&self, section: Section, from: usize, least: u8, most: u8) -> Option<Marked>
-        requires { least ≤ most }
-        ensures next { MatchOption result
-            (NoneLeft (marked self.now.positions self.now.divided section least most) from)
-            (λ found. IsNext (marked self.now.positions self.now.divided section least most) from
-            found.block found.end) }
-    {
-        let at = self.passed(section, from, least, most);
-        if at >= PLACES {
-            return None;
-        }
-        if at % PLACES_OF_POSITION == 0 {
-            let position = self.position(section, at);
-            if position <= NO_LAND && is_between(position, least, most) {
-                return Some(Marked {
-                    block: position_at(at),
-                    end: at + PLACES_OF_POSITION,
-                });
-            }
-        }
-        self.search(section, from, least, most)
-    }
-
-    /// The same, position by position, and in divided positions place by place.
-    #[inline(never)]
-    fn search(&self, section: Section, from: usize, least: u8, most: u8) -> Option<Marked>
-        requires { least ≤ most }
-        ensures next { MatchOption result
-            (NoneLeft (marked self.now.positions self.now.divided section least most) from)
-            (λ found. IsNext (marked self.now.positions self.now.divided section least most) from
-            found.block found.end) }
-    {
-        let mut at = self.passed(section, from, least, most);
-        'places: while at < PLACES {
-            let position = self.position(section, at);
-            match self.extent(position, at, least, most) {
-                Extent::All => {
-                    return Some(Marked {
-                        block: position_at(at),
-                        end: at + PLACES_OF_POSITION,
-                    });
-                }
-                Extent::Nothing => at += PLACES_OF_POSITION,
-                Extent::Partial => {
-                    let mark = self.mark(position, at);
-                    if is_between(mark, least, most) {
-                        return Some(Marked {
-                            block: place_at(at),
-                            end: at + 1,
-                        });
-                    }
-                    at += 1;
-                }
-            }
-        }
-        None
-    }
-
-    /// Whether a block of a section contains a place with a mark from a least to a greatest. Inlined,
-    /// except for a search.
-    #[inline(always)]
-    fn meets(&self, section: Section, block: Block, least: u8, most: u8) -> bool
-        requires most { least ≤ 100 }
-        requires range { least ≤ most }
-        ensures { IsTrue result
-            ↔ Meets (marked self.now.positions self.now.divided section least most) block }
-    {
-        if self.has_none_from(section, least) {
-            return false;
-        }
-        if block.width() <= PLACES_TO_POSITION && block.height() <= PLACES_TO_POSITION {
-            let position = self.position(section, place_number(block.column(), block.row()));
-            if position <= NO_LAND {
-                return is_between(position, least, most);
-            }
-        }
-        self.search_block(section, block, least, most)
-    }
-
-    /// The same, block by block, or in a block within a position place by place.
-    #[inline(never)]
-    fn search_block(&self, section: Section, block: Block, least: u8, most: u8) -> bool
-        requires { least ≤ most }
-        ensures { IsTrue result
-            ↔ Meets (marked self.now.positions self.now.divided section least most) block }
-    {
-        if block.width() <= PLACES_TO_POSITION && block.height() <= PLACES_TO_POSITION {
-            return self.small_meets(section, block, least, most);
-        }
-        let mut from = 0;
-        while let Some(found) = self.next(section, from, least, most) {
-            if share_place(found.block, block) {
-                return true;
-            }
-            from = found.end;
-        }
-        false
     }
 
     /// Adds the places of a section with marks from a least to a greatest to a set, unless the set
@@ -355,26 +242,4 @@ impl Lotting for LotMap {
         }
         count
     }
-}
-
-/// The position whose places are numbered from this on.
-fn position_at(number: usize) -> Block
-    requires { number < PLACES }
-    ensures { result ≡ position_block PLACE_DIGITS (number / 64 % 4) (number / 64 / 4) }
-{
-    let position = number / PLACES_OF_POSITION;
-    Block::position((position % 4) as u8, (position / 4) as u8).unwrap()
-}
-
-/// The place with this number.
-fn place_at(number: usize) -> Block
-    requires { number < PLACES }
-    ensures { result ≡ place_block (number / 64 % 4 * 8 + number % 8)
-        (number / 64 / 4 * 8 + number % 64 / 8) }
-{
-    let position = number / PLACES_OF_POSITION;
-    let within = number % PLACES_OF_POSITION;
-    let column = position % 4 * 8 + within % 8;
-    let row = position / 4 * 8 + within / 8;
-    Block::place(column as u8, row as u8).unwrap()
 }
