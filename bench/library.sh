@@ -2,11 +2,11 @@
 # Prints how many instructions a call of the library takes: notes to a plat, and on a kept plat descriptions of one
 # part, of a lot or two and a part in two sections, of parts in three sections, of three whole sections, of land named
 # twice, and of 50 and 100 parts; the canonical text of two of them; a description to land, and land of one section
-# combined with other land and compared to it; the readings of texts; and calls by lot tables. A count is that of 2,000 calls less that of
-# 1,000, by valgrind's callgrind. Beside it are the count in bench/expected-library and the ratio of the two; the status
-# is 1 if a ratio is over 1.02, or if the last 50 parts take over 1.05 times as many as the 49 before them. It then
-# prints how many descriptions are answered per second on one core, from C and from Python. It builds lib/ as `make lib`
-# does, unless the first word is `built`.
+# combined with other land and compared to it; the readings of texts; and calls by lot tables. A count is that of 2,000
+# calls less that of 1,000, by valgrind's callgrind. Beside it are the count in bench/expected-library and the ratio of
+# the two; the status is 1 if a ratio is over 1.02, or if the last 50 parts take over 1.05 times as many as the 49 before
+# them. It then prints how many descriptions are answered per second on one core, from C and from Python. It builds lib/
+# as `make lib` does, unless the first word is `built`.
 set -eu
 [ "${1:-}" = built ] || sh tools/library.sh > /dev/null
 work=$(mktemp -d)

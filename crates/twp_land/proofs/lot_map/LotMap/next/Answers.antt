@@ -10,8 +10,10 @@ returns-then-is_between c =
     let self = c.args.self.now in
     let position = c.position-position.result in
     let at = c.passed-at in
-    let low : c.args.least ≤ position = grind (arith, nat_tests, c.if-is_between.true, c.is_between.ensures) in
-    let high : position ≤ c.args.most = grind (arith, nat_tests, c.if-is_between.true, c.is_between.ensures) in
+    let low : c.args.least ≤ position =
+    grind (arith, nat_tests, c.if-is_between.true, c.is_between.ensures) in
+    let high : position ≤ c.args.most =
+    grind (arith, nat_tests, c.if-is_between.true, c.is_between.ensures) in
     record {
       next =
           rw c.position_at.ensures
@@ -21,6 +23,7 @@ returns-then-is_between c =
           (whole_marks self.divided position c.args.least c.args.most
           (grind (arith, nat_tests, c.if-position-le-NO_LAND.true)) low high)
           at.ensures.from
-          (are_passed self.positions self.divided c.args.section c.args.least c.args.most c.args.from at.result
+          (are_passed self.positions self.divided c.args.section c.args.least c.args.most c.args.from
+          at.result
           at.ensures.passed));
     }
