@@ -5,9 +5,9 @@
  * or `land` (one part to land), or `combine` or `compare` (land of one section with other land); or the readings of a
  * description (`same`), of a text as leases have it (`a lease`), or of white space between two parts (`ways`). If CALL
  * begins with `table-`, NOTES is a lot table: `table-read`; the acres by it of two sections with lots and a part
- * (`table-two`), or of three whole sections (`table-whole`); or `table-land` or `table-text` (the land of the former, or
- * its canonical text). Prints the sum of the calls' answers, so that no call is optimized away, and their processor time
- * in seconds.
+ * (`table-two`), or of three whole sections (`table-whole`); or `table-land` or `table-text` (the land of the former,
+ * or its canonical text). Prints the sum of the calls' answers, so that no call is optimized away, and their processor
+ * time in seconds.
  */
 #include "township.h"
 

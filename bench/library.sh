@@ -4,9 +4,9 @@
 # twice, and of 50 and 100 parts; the canonical text of two of them; a description to land, and land of one section
 # combined with other land and compared to it; the readings of texts; and calls by lot tables. A count is that of 2,000
 # calls less that of 1,000, by valgrind's callgrind. Beside it are the count in bench/expected-library and the ratio of
-# the two; the status is 1 if a ratio is over 1.02, or if the last 50 parts take over 1.05 times as many as the 49 before
-# them. It then prints how many descriptions are answered per second on one core, from C and from Python. It builds lib/
-# as `make lib` does, unless the first word is `built`.
+# the two; the status is 1 if a ratio is over 1.02, or if the last 50 parts take over 1.05 times as many as the 49
+# before them. It then prints how many descriptions are answered per second on one core, from C and from Python. It
+# builds lib/ as `make lib` does, unless the first word is `built`.
 set -eu
 [ "${1:-}" = built ] || sh tools/library.sh > /dev/null
 work=$(mktemp -d)
@@ -55,8 +55,8 @@ row 'land compared to other land' compare
 row 'the readings of a description' same
 row 'the readings of a text of a lease' 'a lease'
 row 'the readings of white space between parts' ways
-# The calls by a lot table. The lots of the second table are the standard ones, too, but it says where they lie, so calls
-# by it take the way of any plat: at most 1.3 times as many instructions. The third one has halves of quarter-quarters.
+# Calls by a lot table. The lots of the second table are the standard ones, too, but it says where they lie, so calls by
+# it take the way of any plat: at most 1.3 times as many instructions. The third has halves of quarter-quarters.
 for table in standard own; do
     of="by a table of the plat's own lots"
     [ "$table" = own ] || of='by a table of the standard lots'
