@@ -1,5 +1,5 @@
 -- The greatest byte of the section decides, or that of the block's position.
-use Rattle.std.proofs.Common.{◌≡◌, refl, arith}
+use Rattle.std.proofs.Common.{refl, arith}
 use Rattle.std.proofs.lemmas.Bool.{false≢true}
 use Rattle.twp_land.proofs.SectionMarks.{none_marked, small_marked}
 use Rattle.twp_land.proofs.lot_map.LotMap.meets.Goals as goal
