@@ -14,9 +14,6 @@ const UNKNOWN_MOST: usize = 1_000;
 /// There is room from the start for this many pieces, and one more for each two bytes.
 const PIECES_FIRST: usize = 8;
 
-/// How many pieces are added together: to add each by a call takes several times as long.
-const BATCH: usize = 8;
-
 /// A piece: what it is, and where it begins and ends.
 #[derive(Clone, Copy)]
 pub(crate) struct Piece {
@@ -89,52 +86,6 @@ impl Piece {
     }
 }
 
-/// The last pieces, which aren't in the list yet.
-#[derive(Drop)]
-struct Batch {
-    pieces: [Piece; BATCH],
-    count: usize,
-}
-
-impl Batch {
-    /// No pieces.
-    fn new() -> Batch {
-        let none = Piece {
-            kind: Kind::Other,
-            size: 0,
-            gap: Spacing::Nothing,
-            first: 0,
-            start: 0,
-            end: 0,
-        };
-        Batch {
-            pieces: [none; BATCH],
-            count: 0,
-        }
-    }
-
-    /// Adds a piece.
-    #[inline(always)]
-    fn add(&mut self, piece: Piece, list: &mut Vec<Piece>) -> Result<(), AllocError> {
-        if self.count >= BATCH {
-            self.put(list)?;
-        }
-        if let Some(slot) = self.pieces.get_mut(self.count) {
-            *slot = piece;
-            self.count = plus(self.count, 1);
-        }
-        Ok(())
-    }
-
-    /// Puts the pieces into the list.
-    #[inline(never)]
-    fn put(&mut self, list: &mut Vec<Piece>) -> Result<(), AllocError> {
-        list.extend_from_slice(self.pieces.get(..self.count).unwrap_or(&[]))?;
-        self.count = 0;
-        Ok(())
-    }
-}
-
 /// Whether a line feed or a tab is among some bytes.
 pub(crate) fn has_break(white: &[u8]) -> bool {
     for byte in white {
@@ -149,7 +100,6 @@ pub(crate) fn has_break(white: &[u8]) -> bool {
 pub(crate) fn cut(text: &[u8], lower: &[u8], list: &mut Vec<Piece>) -> Result<(), AllocError> {
     // Most pieces have two bytes or more.
     list.reserve(plus(text.len() / 2, PIECES_FIRST))?;
-    let mut batch = Batch::new();
     let mut at: usize = 0;
     let mut end: usize = 0;
     let mut unknown: usize = 0;
@@ -178,13 +128,12 @@ pub(crate) fn cut(text: &[u8], lower: &[u8], list: &mut Vec<Piece>) -> Result<()
         let piece = Piece::at(lower, start, whole, kind, gap);
         end = piece.end;
         if may_be_two(kind, text, start, size) {
-            batch.put(list)?;
             push_token(list, text, lower, piece)?;
         } else {
-            batch.add(piece, list)?;
+            list.push(piece)?;
         }
     }
-    batch.put(list)
+    Ok(())
 }
 
 /// How many bytes the character at a place of a text has.
