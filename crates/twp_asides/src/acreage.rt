@@ -179,11 +179,11 @@ impl<'a> Pieces<'a> {
             let word = self.lower(place);
             let is_lead = is_acreage_lead(word);
             let is_unit = is_acres(word) || is_same(word, b"acreage");
-            let is_mark = (self.is(place, b":")
-                || self.is(place, b".")
-                || self.is(place, b"=")
-                || self.after_quoted_name(place).is_some())
-                && place > index
+            let is_mark = place > index
+                && (self.is(place, b":")
+                    || self.is(place, b".")
+                    || self.is(place, b"=")
+                    || self.after_quoted_name(place).is_some())
                 && !self.is_after_point(plus(place, 1));
             if !is_lead && !is_unit && !is_mark && !is_area_word(word) {
                 break;

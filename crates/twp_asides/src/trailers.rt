@@ -39,7 +39,7 @@ pub fn end_of_trailer(pieces: &Pieces<'_>, index: usize) -> Option<usize> {
     let mut has_word = false;
     for place in index..pieces.len() {
         let is_apart = matches!(pieces.kind(place), Kind::Semicolon)
-            || (pieces.has_before(place, b'\n') && place > index);
+            || (place > index && pieces.has_break_before(place) && pieces.has_before(place, b'\n'));
         if is_apart && trailer == Trailer::Terms {
             return Some(place);
         }
