@@ -8,6 +8,7 @@ mod acreage;
 mod beyond;
 mod cutting;
 mod figures;
+mod fixed_words;
 mod interests;
 mod joints;
 mod labels;

@@ -123,6 +123,12 @@ impl<'a> Pieces<'a> {
         }
     }
 
+    /// Whether the text from the piece at an index on, in lowercase, begins with another.
+    pub(crate) fn begins_as(&self, index: usize, text: &[u8]) -> bool {
+        let start = self.start(index);
+        self.lower.get(start..plus(start, text.len())) == Some(text)
+    }
+
     /// Whether the piece before an index is this text. The first piece is after none.
     #[inline(always)]
     pub fn follows(&self, index: usize, text: &[u8]) -> bool {

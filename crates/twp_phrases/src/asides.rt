@@ -111,6 +111,14 @@ impl<'a> Finder<'a> {
         if let Some(end) = pieces.end_of_unit(index, self.names_land) {
             return Some((LeftOut::Label, end));
         }
+        let fixed = if self.names_land {
+            pieces.end_of_words_after(index)
+        } else {
+            pieces.end_of_words_before(index)
+        };
+        if let Some(end) = fixed {
+            return Some((LeftOut::Label, end));
+        }
         if let Some(end) = pieces.end_of_acreage(index) {
             let is_after_dash = pieces.is_after_dash(index);
             let is_other = self.is_added(index) || (may_be_minus && is_after_dash);
