@@ -31,9 +31,10 @@ digits = words (codes "0 1 2 3 4 5 6 7 8 9")
 abbrev pub section_ends : List (List ℕ)
 section_ends = words (codes ") one two three four five six seven eight nine ten eleven twelve teen ty")
 
--- or with a digit that scanning made a letter of
+-- or with a digit that scanning made a letter of, or both
 abbrev pub worn_section_ends : List (List ℕ)
 worn_section_ends = words (codes "1l 1i 1o 2l 2i 2o 3l 3i 3o")
+    ++ texts (codes " ll| li| il| lo| io|.ll|.li|.il|.lo|.io")
 
 -- and the word for one that was named before
 abbrev pub section_again : List (List ℕ)

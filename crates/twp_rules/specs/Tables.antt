@@ -108,7 +108,7 @@ quarter_abbreviations = all_as (words (codes "qr. . qtr qtr.")) (codes "1/4")
 
 -- DAMAGE: letters that scanning makes of digits, and digits of letters
 abbrev pub damages : List Entry
-damages = pairs (words (codes "l=1 i=1 o=0"))
+damages = pairs (words (codes "l=1 i=1 o=0 ll=11 li=11 il=11 lo=10 io=10"))
 
 abbrev pub damaged_corners : List Entry
 damaged_corners = all_as (words (codes "5 8")) (codes "S")

@@ -143,6 +143,7 @@ moved_heading_words = words (codes "t tp twp twsp township r rg rge rng range n 
 abbrev pub number_words : List (List ℕ)
 number_words = words (codes "one two three four five six seven eight nine ten eleven twelve thirteen")
     ++ words (codes "fourteen fifteen sixteen seventeen eighteen nineteen twenty thirty l i o")
+    ++ words (codes "ll li il lo io")
 
 -- the words of numbers from one to nine, which follow those for tens
 abbrev pub one_to_nine : List (List ℕ)
@@ -211,7 +212,7 @@ words_in_parts = codes "of" ∷ (92 ∷ []) ∷ codes "/" ∷ []
 -- words for numbers
 abbrev pub numeral_words : List (List ℕ)
 numeral_words = words (codes "one two three four five six seven eight nine ten eleven twelve thirteen")
-    ++ words (codes "fourteen fifteen sixteen seventeen eighteen nineteen twenty thirty")
+    ++ words (codes "fourteen fifteen sixteen seventeen eighteen nineteen twenty thirty ll li il lo io")
 
 -- the words before the number of a township, as descriptions have them, and of a range
 abbrev pub tier_words : List (List ℕ)

@@ -172,14 +172,14 @@ fn is_digit_at(text: &[u8], start: usize, at: usize) -> bool
         && !begins_with(rest_of(text, at), b"0sn")
 }
 
-/// The place of the first digit of a number that isn't 0, or of the word for it.
+/// The place of the first digit of a number that isn't 0, or of its first 0 if it has no other digit, or of the word
+/// for it.
 fn first_place(text: &[u8], at: usize) -> usize
     ensures { result ≡ first_place text.now at }
 {
-    if byte_at(text, at).is_ascii_digit() {
-        return text
-            .len()
-            .saturating_sub(without_zeros(rest_of(text, at)).len());
+    let digits = without_zeros(rest_of(text, at));
+    if byte_at(text, at).is_ascii_digit() && byte_at(digits, 0).is_ascii_digit() {
+        return text.len().saturating_sub(digits.len());
     }
     at
 }

@@ -196,7 +196,16 @@ pub(crate) fn is_in_worn_directions(seen: &[u8], written: &[u8]) -> bool
 }
 
 /// The table `damages` of the specification.
-static DAMAGES: [[u8; 3]; 3] = [*b"l=1", *b"i=1", *b"o=0"];
+static DAMAGES: [[u8; 5]; 8] = [
+    *b"l=1__",
+    *b"i=1__",
+    *b"o=0__",
+    *b"ll=11",
+    *b"li=11",
+    *b"il=11",
+    *b"lo=10",
+    *b"io=10",
+];
 
 /// Whether this is a row of it: what it looks at, and what it writes.
 pub(crate) fn is_in_damages(seen: &[u8], written: &[u8]) -> bool
@@ -206,7 +215,7 @@ pub(crate) fn is_in_damages(seen: &[u8], written: &[u8]) -> bool
         seen,
         written,
         0x0000_9200,
-        0x2000_0000,
+        0x2000_9200,
         0x2000_0000,
         &DAMAGES,
     )

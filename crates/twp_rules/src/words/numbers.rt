@@ -123,7 +123,7 @@ pub(crate) fn is_in_marks_before_codes(byte: u8) -> bool
 }
 
 /// The texts `number_words` of the specification.
-static NUMBER_WORDS: [[u8; 9]; 24] = [
+static NUMBER_WORDS: [[u8; 9]; 29] = [
     *b"one______",
     *b"two______",
     *b"three____",
@@ -148,6 +148,11 @@ static NUMBER_WORDS: [[u8; 9]; 24] = [
     *b"l________",
     *b"i________",
     *b"o________",
+    *b"ll_______",
+    *b"li_______",
+    *b"il_______",
+    *b"lo_______",
+    *b"io_______",
 ];
 
 /// Whether a word is one of them.
@@ -178,7 +183,7 @@ pub(crate) fn is_in_damaged_digits(byte: u8) -> bool
 }
 
 /// The texts `numeral_words` of the specification.
-static NUMERAL_WORDS: [[u8; 9]; 21] = [
+static NUMERAL_WORDS: [[u8; 9]; 26] = [
     *b"one______",
     *b"two______",
     *b"three____",
@@ -200,11 +205,16 @@ static NUMERAL_WORDS: [[u8; 9]; 21] = [
     *b"nineteen_",
     *b"twenty___",
     *b"thirty___",
+    *b"ll_______",
+    *b"li_______",
+    *b"il_______",
+    *b"lo_______",
+    *b"io_______",
 ];
 
 /// Whether a word is one of them.
 pub(crate) fn is_in_numeral_words(word: &[u8]) -> bool
     ensures { result ≡ is_one_of word.now numeral_words }
 {
-    is_one_of(word, 0x0018_c060, 0x0080_d320, 0x0164_c2e0, &NUMERAL_WORDS)
+    is_one_of(word, 0x0018_d260, 0x0080_d320, 0x8164_c2e0, &NUMERAL_WORDS)
 }
