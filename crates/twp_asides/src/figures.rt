@@ -216,7 +216,10 @@ impl<'a> Pieces<'a> {
             return false;
         };
         let word = self.lower(before);
-        let is_record = (self.is(before, b".") && self.follows(before, b"no"))
+        let is_month_before = self.is(before, b".")
+            && matches!(self.lower_back(before, 1), Some(month) if is_month(month));
+        let is_record = is_month_before
+            || (self.is(before, b".") && self.follows(before, b"no"))
             || is_of_label(word)
             || is_instrument(word)
             || is_of_record(word);

@@ -62,11 +62,14 @@ impl<'a> Pieces<'a> {
         if is_whole { Some(end) } else { None }
     }
 
-    /// Whether `for` is at an index, as a patent begins, or after a comma, and land after it.
-    fn is_for_before_land(&self, index: usize) -> bool {
+    /// Whether `for` is at an index, as a patent begins, or after a comma, or the number of an entry, and land after
+    /// it.
+    pub(crate) fn is_for_before_land(&self, index: usize) -> bool {
         let next = plus(index, 1);
+        let is_after_entry = matches!(self.kind_before(index), Some(Kind::BadNumber))
+            || matches!(index.checked_sub(1), Some(entry) if self.has_digits(entry, 4));
         self.is(index, b"for")
-            && (self.begins_line(index) || self.follows(index, b","))
+            && (self.begins_line(index) || self.follows(index, b",") || is_after_entry)
             && (self.begins_part(next)
                 || (self.is(next, b"the") && matches!(self.kind(plus(next, 1)), Kind::Lot))
                 || matches!(self.kind(next), Kind::Lot))

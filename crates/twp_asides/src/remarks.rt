@@ -230,6 +230,8 @@ fn ends_remark(pieces: &Pieces<'_>, index: usize, position: Position) -> bool {
                     && pieces.begins_place(next)
                     && !matches!(pieces.kind(next), Kind::All))
                 || matches!(pieces.lower_back(index, 1), Some(word) if is_of_covering(word))
+                || is_after_record(pieces, index)
+                || pieces.is_for_before_land(index)
                 || matches!(pieces.kind(index), Kind::Semicolon)
                 || pieces.begins_register(index)
                 || begins_code_of_state(pieces, index)
@@ -239,6 +241,21 @@ fn ends_remark(pieces: &Pieces<'_>, index: usize, position: Position) -> bool {
     let is_colon = position == Position::BeforeLand
         && (matches!(pieces.kind(index), Kind::Colon) || pieces.is(index, b"="));
     is_mark || is_colon || pieces.begins_column(index)
+}
+
+/// Whether the number of a record is before an index, and land after it, as in `WD BK 14 PG 22 INST 36115 E2NE`.
+fn is_after_record(pieces: &Pieces<'_>, index: usize) -> bool {
+    let Some(number) = index.checked_sub(1) else {
+        return false;
+    };
+    let is_number = matches!(pieces.kind(number), Kind::Number(_) | Kind::BadNumber)
+        && !pieces.is_joined(index);
+    let is_record = pieces.follows(number, b"pg")
+        || pieces.follows(number, b"page")
+        || pieces.follows(number, b"inst")
+        || pieces.follows(number, b"#")
+        || (pieces.follows(number, b"no") && pieces.size(number) >= 4);
+    is_number && is_record && pieces.begins_place(index)
 }
 
 /// Whether the address of land is at an index, as in `Commonly known as: 1290 Robinson Rd`.

@@ -194,9 +194,10 @@ fn trailer_with_next(pieces: &Pieces<'_>, word: &[u8], next: usize) -> Option<Tr
     let is_shown = is_same(word, b"as")
         && pieces.is(next, b"shown")
         && is_soon(pieces, next, b"official");
+    let is_filed = is_same(word, b"has") && pieces.is(next, b"filed");
     let is_end = is_same(word, b"only")
         && matches!(pieces.kind(next), Kind::Stop | Kind::Semicolon);
-    if is_shown || is_end {
+    if is_shown || is_end || is_filed {
         return Some(Trailer::Terms);
     }
     None
