@@ -21,6 +21,7 @@ mod pieces;
 mod remarks;
 mod serials;
 mod states;
+mod titles;
 mod trailers;
 mod units;
 mod worn_figures;

@@ -9,6 +9,7 @@ use twp_words::{is_acres, is_company, is_doubtful_title, is_feature, is_known, i
 /// agency.
 pub(crate) fn is_known_at(pieces: &Pieces<'_>, index: usize) -> bool {
     is_known(pieces.lower(index))
+        || pieces.begins_title(index)
         || pieces.is(index, b">")
         || pieces.is_date(index)
         || pieces.is_percentage(index)

@@ -101,6 +101,15 @@ depths = texts (codes "from the|below|above|down to|all depths")
 abbrev pub estates : List (List ℕ)
 estates = texts (codes "depths|surface|from surf|mineral|oil|only")
 
+-- titles of entries, deeds, and offices, and what is said of water, in which a word that limits land doesn't: what
+-- they begin with,
+abbrev pub title_fronts : List (List ℕ)
+title_fronts = texts (codes "e.o.|w.d.|point of diversion|formerly lease|tax deed|survey type|survey number")
+
+-- and what they end with
+abbrev pub title_ends : List (List ℕ)
+title_ends = texts (codes "u.s|u. s|h.e|h. e|d.l.e|c.e|d.e|placer claim|placer claims")
+
 -- or the number of a lease, or of a parcel
 abbrev pub number_fronts : List (List ℕ)
 number_fronts = words (codes "lease rp pin apn")

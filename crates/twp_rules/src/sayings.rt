@@ -4,9 +4,9 @@ ghost use Rattle.twp_rules.specs.Naming.{word_of};
 ghost use Rattle.twp_rules.specs.Sayings.{begins_whole_word, has_no_limit, has_only_columns_from, is_mentioned};
 ghost use Rattle.twp_rules.specs.Sayings.{is_more_or_less, is_remark, is_said_of_interests, is_said_of_land, is_said_of_rights};
 ghost use Rattle.twp_rules.specs.Sayings.{is_said_of_terms, limits_land, may_contain, mentions_from, says};
-ghost use Rattle.twp_rules.specs.Sayings.{is_possessive};
+ghost use Rattle.twp_rules.specs.Sayings.{is_of_title, is_possessive};
 
-use crate::context::less;
+use crate::context::{before, less};
 use crate::endings::labels::*;
 use crate::figures::from;
 use crate::naming::{
@@ -185,14 +185,25 @@ fn limits_land(word: &[u8]) -> bool
         || is_in_measure_words(word)
 }
 
-/// Whether a word begins at a place, after neither a letter nor a digit, and isn't the S of a possessive.
+/// Whether a word begins at a place, after neither a letter nor a digit, isn't the S of a possessive, and is of no title
+/// in which it limits no land.
 fn begins_whole_word(seen: &[u8], at: usize) -> bool
     requires { at ≤ length seen.now }
     ensures { result ≡ begins_whole_word seen.now at }
 {
     byte_at(seen, at).is_ascii_alphabetic()
         && !byte_before(seen, at).is_ascii_alphanumeric()
-        && !is_possessive(seen, at)
+        && !(is_possessive(seen, at) || is_of_title(seen, at))
+}
+
+/// Whether the word at a place begins a title in which no word limits land, or ends one, as in `H.E.` for a homestead
+/// entry.
+fn is_of_title(seen: &[u8], at: usize) -> bool
+    requires { at ≤ length seen.now }
+    ensures { result ≡ is_of_title seen.now at }
+{
+    let rest = from(seen, at);
+    has_title_fronts(rest) || has_title_ends(before(seen, at + word_of(rest).len()))
 }
 
 /// Whether the S of a possessive is at a place, as in `Lessor's`.

@@ -3,7 +3,7 @@ ghost use Rattle.std.specs.Prelude.{◌≡◌};
 ghost use Rattle.twp_rules.specs.Edges.{begins_with_one, ends_with_one};
 ghost use Rattle.twp_rules.specs.Endings.{acreage_ends, acreage_fronts, being_fronts, depths, less_ends, records, reservations};
 ghost use Rattle.twp_rules.specs.Endings.{estates, interest_fronts, number_fronts, parenthesis_ends};
-ghost use Rattle.twp_rules.specs.Endings.{property_fronts, rights, terms};
+ghost use Rattle.twp_rules.specs.Endings.{property_fronts, rights, terms, title_ends, title_fronts};
 
 use crate::rows::{begins_with_one, ends_with_one};
 
@@ -145,6 +145,44 @@ pub(crate) fn has_estates(seen: &[u8]) -> bool
     ensures { result ≡ begins_with_one seen.now estates }
 {
     begins_with_one(seen, 0x0008_a050, &ESTATES)
+}
+
+/// The texts `title_fronts` of the specification.
+static TITLE_FRONTS: [[u8; 18]; 7] = [
+    *b"e.o.______________",
+    *b"w.d.______________",
+    *b"point of diversion",
+    *b"formerly lease____",
+    *b"tax deed__________",
+    *b"survey type_______",
+    *b"survey number_____",
+];
+
+/// Whether a text begins with one of them.
+pub(crate) fn has_title_fronts(seen: &[u8]) -> bool
+    ensures { result ≡ begins_with_one seen.now title_fronts }
+{
+    begins_with_one(seen, 0x0099_0060, &TITLE_FRONTS)
+}
+
+/// The texts `title_ends` of the specification.
+static TITLE_ENDS: [[u8; 13]; 9] = [
+    *b"__________u.s",
+    *b"_________u. s",
+    *b"__________h.e",
+    *b"_________h. e",
+    *b"________d.l.e",
+    *b"__________c.e",
+    *b"__________d.e",
+    *b"_placer claim",
+    *b"placer claims",
+];
+
+/// Whether a text ends with one of them.
+pub(crate) fn has_title_ends(seen: &[u8]) -> bool
+    ensures { result ≡ ends_with_one seen.now title_ends }
+{
+    ends_with_one(seen, 0x0008_2020, &TITLE_ENDS)
 }
 
 /// The texts `number_fronts` of the specification.
