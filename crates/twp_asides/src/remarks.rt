@@ -176,6 +176,7 @@ fn begins_remark(pieces: &Pieces<'_>, index: usize, position: Position) -> bool 
         Kind::To => position == Position::BeforeLand,
         _ => matches!(pieces.lower(index), [b'a'..=b'z', _, ..])
             || is_initial(pieces, index)
+            || pieces.begins_title(index)
             || begins_oil_and_gas(pieces, index)
             || pieces.is(index, b"$")
             || pieces.end_of_code(index).is_some(),
@@ -353,6 +354,9 @@ fn says_something(pieces: &Pieces<'_>, index: usize) -> bool {
         [b'a'..=b'z', _, ..] => true,
         _ => false,
     };
+    if pieces.begins_title(index) {
+        return true;
+    }
     match pieces.kind(index) {
         Kind::Other => is_word || is_instrument(pieces.lower(index)),
         Kind::BadNumber | Kind::To => true,

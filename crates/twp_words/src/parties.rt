@@ -114,8 +114,8 @@ pub fn is_month(word: &[u8]) -> bool {
     match word.len() {
         3 => is_among(
             word,
-            0x255508c_0008e452,
-            "apr aug dec feb jan jul jun mar may nov oct sep",
+            0x255518c_0008e452,
+            "apr aug dec feb jan jul jun mar may mch nov oct sep",
         ),
         4 => is_among(word, 0x2100020_00080400, "july june sept"),
         5 => is_among(word, 0x1100_00002002, "april march"),
