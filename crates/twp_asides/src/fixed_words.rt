@@ -111,7 +111,7 @@ impl<'a> Pieces<'a> {
     }
 
     /// Whether the piece at an index is the first of its column, or after a mark.
-    fn is_after_mark_or_column(&self, index: usize) -> bool {
+    pub fn is_after_mark_or_column(&self, index: usize) -> bool {
         let is_marked = match index.checked_sub(1) {
             Some(before) => self.is_mark(before) || self.is_dash(before) || self.is(before, b"("),
             None => true,
@@ -120,7 +120,7 @@ impl<'a> Pieces<'a> {
     }
 
     /// Whether a mark that ends a phrase is at an index.
-    fn is_mark(&self, index: usize) -> bool {
+    pub(crate) fn is_mark(&self, index: usize) -> bool {
         matches!(
             self.kind(index),
             Kind::Comma | Kind::Semicolon | Kind::Colon | Kind::Stop

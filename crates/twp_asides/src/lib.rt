@@ -11,6 +11,7 @@ mod figures;
 mod fixed_words;
 mod interests;
 mod joints;
+mod known_runs;
 mod labels;
 mod lands;
 mod limits;

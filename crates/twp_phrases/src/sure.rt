@@ -53,9 +53,37 @@ impl<'a> Finder<'a> {
         }
     }
 
-    /// The remark at an index.
+    /// The remark at an index, or the run of known words.
     #[inline(never)]
     pub(crate) fn remark(&mut self, index: usize) -> Option<usize> {
+        if let Some(end) = self.whole_remark(index) {
+            return Some(end);
+        }
+        if !self.names_land || !self.may_be_known_run(index) {
+            return None;
+        }
+        let end = self.draft.pieces.end_of_known_run(index)?;
+        let from = self.draft.extent();
+        Some(
+            self.draft
+                .add(Names::Nothing(LeftOut::Label), index, end, from),
+        )
+    }
+
+    /// Whether a run of known words may begin at an index: after a mark, or what is left out, or in parentheses.
+    fn may_be_known_run(&self, index: usize) -> bool {
+        let pieces = &self.draft.pieces;
+        let is_after_aside = match self.draft.phrases.last() {
+            Some(placed) => {
+                placed.phrase.end == index && matches!(placed.phrase.names, Names::Nothing(_))
+            }
+            None => false,
+        };
+        is_after_aside || pieces.is(index, b"(") || pieces.is_after_mark_or_column(index)
+    }
+
+    /// The remark at an index.
+    fn whole_remark(&mut self, index: usize) -> Option<usize> {
         let position = if self.names_land {
             Position::AfterLand
         } else {

@@ -1,0 +1,55 @@
+//! Runs of words each of which is known to say nothing of which land is meant: `, HBP`, `(fee)`, `480 acs PS`.
+
+use crate::pieces::{Pieces, plus};
+use twp_grammar::Kind;
+use twp_words::is_known;
+
+/// The most pieces of such a run.
+const PIECES_MOST: usize = 8;
+
+impl<'a> Pieces<'a> {
+    /// Where such a run at an index ends, also in parentheses: at a mark, or with its column.
+    pub fn end_of_known_run(&self, index: usize) -> Option<usize> {
+        if !self.is(index, b"(") {
+            return self.end_of_known_words(index);
+        }
+        let end = self.end_of_known_words(plus(index, 1))?;
+        if self.is(end, b")") {
+            Some(plus(end, 1))
+        } else {
+            None
+        }
+    }
+
+    /// Where such a run at an index ends.
+    fn end_of_known_words(&self, index: usize) -> Option<usize> {
+        let mut has_word = false;
+        for place in index..plus(index, PIECES_MOST) {
+            if place > index && (self.is_mark(place) || self.begins_column(place)) {
+                return if has_word { Some(place) } else { None };
+            }
+            let is_word = self.is_known_word(place);
+            if !is_word && !self.is_within_run(place) {
+                return None;
+            }
+            has_word = has_word || is_word;
+        }
+        None
+    }
+
+    /// Whether a word at an index is known to say nothing of which land is meant.
+    fn is_known_word(&self, index: usize) -> bool {
+        matches!(self.kind(index), Kind::Other)
+            && is_known(self.lower(index))
+            && !self.is(index, b"do")
+    }
+
+    /// Whether what may be between two words of a run is at an index: a mark, a percentage, or a long number.
+    fn is_within_run(&self, index: usize) -> bool {
+        self.is(index, b"/")
+            || self.is(index, b"&")
+            || self.is(index, b"%")
+            || self.is_percentage(index)
+            || matches!(self.kind(index), Kind::BadNumber)
+    }
+}
