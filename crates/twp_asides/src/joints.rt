@@ -159,6 +159,17 @@ impl<'a> Pieces<'a> {
         self.is(index, b"-") && self.is_joined(index) && self.has_before(plus(index, 1), b'\n')
     }
 
+    /// The index after a word for a section at an index that a line end divides, with a hyphen.
+    pub fn end_of_divided_section(&self, index: usize) -> Option<usize> {
+        let hyphen = plus(index, 1);
+        let rest = plus(index, 2);
+        let is_divided = matches!(self.kind(index), Kind::Sec)
+            && self.is_hyphen_at_line_end(hyphen)
+            && self.start(rest) == plus(self.end(hyphen), 1)
+            && self.is(rest, b"tion");
+        if is_divided { Some(plus(rest, 1)) } else { None }
+    }
+
     /// Whether the second word for a corner is at an index.
     pub fn is_second_word(&self, index: usize) -> bool {
         self.is(index, b"east") || self.is(index, b"west")

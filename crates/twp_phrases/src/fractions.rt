@@ -97,6 +97,9 @@ impl<'a> Finder<'a> {
         if self.is_hyphenated(index, size) {
             return Some(plus(index, 3));
         }
+        if self.is_worn_slash(index, size) {
+            return Some(next);
+        }
         let is_letter = size == Size::Quarter && pieces.is(next, b"a") && pieces.is_joined(next);
         if is_letter && pieces.is(index, b"1") && pieces.is_joined(index) {
             return Some(plus(index, 2));
@@ -251,6 +254,19 @@ impl<'a> Finder<'a> {
             && pieces.is(next, b"-")
             && pieces.is_joined(next)
             && self.is_digit(digit, size)
+    }
+
+    /// Whether a fraction whose slash was read as a `1` is at an index, as in `NE 114 of the SW 114`: with an `of` before
+    /// or after its letters, since it may be acreage.
+    fn is_worn_slash(&self, index: usize, size: Size) -> bool {
+        let pieces = &self.draft.pieces;
+        let is_of = pieces.is(plus(index, 1), b"of")
+            || pieces.is_back(index, 2, b"of")
+            || pieces.is_back(index, 3, b"of");
+        match size {
+            Size::Half => is_of && pieces.is(index, b"112"),
+            Size::Quarter => is_of && pieces.is(index, b"114"),
+        }
     }
 
     /// Whether the piece at an index is the digit that people write for a half or a quarter, joined to what

@@ -18,6 +18,9 @@ impl<'a> Finder<'a> {
         if self.draft.pieces.is_damaged_section_word(word) {
             return self.damaged_section(word);
         }
+        if let Some(next) = self.draft.pieces.end_of_divided_section(word) {
+            return self.divided_section(index, word, next);
+        }
         let is_worn = self.is_worn_word(word);
         if !is_worn && !self.is_section_word(word) {
             return None;
@@ -131,6 +134,18 @@ impl<'a> Finder<'a> {
         let again = self.draft.phrase(Names::Sections, index, end, from);
         self.draft.add_phrase(Phrase { numbers, ..again });
         Some(end)
+    }
+
+    /// The section at an index whose word a line end divides: its number is at a later index.
+    fn divided_section(&mut self, index: usize, word: usize, next: usize) -> Option<usize> {
+        let from = self.draft.extent();
+        let number = self.section_number(next)?;
+        self.draft.leave_out_each(index, word, Rule::Word);
+        let start = self.draft.pieces.start(word);
+        let end = self.draft.pieces.end_before(next);
+        self.draft.write(start, end, b"sec", Rule::SectionWord);
+        self.draft.write_numeral(number);
+        Some(self.draft.add(Names::Sections, index, number.end, from))
     }
 
     /// The section at an index whose word begins with such a digit.

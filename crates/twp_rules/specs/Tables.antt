@@ -87,7 +87,7 @@ halves = all_as (texts (codes "2|/2|half|one-half|one half")) (codes "1/2")
 -- and what scanning, or a slip of the pen, leaves of a half
 abbrev pub worn_halves : List Entry
 worn_halves = all_as (words (codes "l/2 i/2 '/2") ++ (right_quote ++ codes "/2") ∷ []) (codes "1/2")
-    ++ all_as (words (codes "]/2 !/2 |/2 1/ 2/2 1/z v2 y2 % }") ++ pound_sign ∷ (195 ∷ 130 ∷ half_sign) ∷ [])
+    ++ all_as (words (codes "]/2 !/2 |/2 1/ 2/2 1/z v2 y2 % } 112") ++ pound_sign ∷ (195 ∷ 130 ∷ half_sign) ∷ [])
     (codes "1/2")
 
 -- QUARTER: after NE, NW, SW, or SE, and white space, if any
@@ -99,7 +99,7 @@ quarters = all_as (texts (codes "|4|/4|quarter|one-quarter|one quarter")) (codes
 -- and what scanning, or a slip of the pen, leaves of a quarter
 abbrev pub worn_quarters : List Entry
 worn_quarters = all_as (words (codes "^ l/4 i/4 '/4") ++ (right_quote ++ codes "/4") ∷ []) (codes "1/4")
-    ++ all_as (words (codes "]/4 !/4 |/4 1/ v4 y4 % quater i a 1a }") ++ pound_sign ∷ []) (codes "1/4")
+    ++ all_as (words (codes "]/4 !/4 |/4 1/ v4 y4 % quater i a 1a } 114") ++ pound_sign ∷ []) (codes "1/4")
     ++ all_as ((codes "quar-" ++ 10 ∷ codes "ter") ∷ (195 ∷ 130 ∷ quarter_sign) ∷ []) (codes "1/4")
 
 -- or abbreviated
@@ -164,7 +164,7 @@ section_words = pairs (texts (codes "=sec. |=secs. |s=sec. |sect=sec"))
 abbrev pub worn_section_words : List Entry
 worn_section_words =
     all_as (words (codes "scc sce seo secton sectlon sectoin seciton sectiou seclion seotion sectior"))
-    (codes "sec")
+    (codes "sec") ++ all_as ((codes "sec-" ++ 10 ∷ codes "tion") ∷ []) (codes "sec")
 
 -- LOT: the words for lots
 abbrev pub lot_words : List Entry

@@ -24,23 +24,24 @@ pub(crate) fn is_in_halves(seen: &[u8], written: &[u8]) -> bool
 }
 
 /// The table `worn_halves` of the specification.
-static WORN_HALVES: [[u8; 12]; 16] = [
-    *b"l/2=1/2_____",
-    *b"i/2=1/2_____",
-    *b"'/2=1/2_____",
-    *b"\xE2\x80\x99/2=1/2___",
-    *b"]/2=1/2_____",
-    *b"!/2=1/2_____",
-    *b"|/2=1/2_____",
-    *b"1/=1/2______",
-    *b"2/2=1/2_____",
-    *b"1/z=1/2_____",
-    *b"v2=1/2______",
-    *b"y2=1/2______",
-    *b"%=1/2_______",
-    *b"}=1/2_______",
-    *b"\xC2\xA3=1/2______",
-    *b"\xC3\x82\xC2\xBD=1/2____",
+static WORN_HALVES: [[u8; 9]; 17] = [
+    *b"l/2=1/2__",
+    *b"i/2=1/2__",
+    *b"'/2=1/2__",
+    *b"\xE2\x80\x99/2=1/2",
+    *b"]/2=1/2__",
+    *b"!/2=1/2__",
+    *b"|/2=1/2__",
+    *b"1/=1/2___",
+    *b"2/2=1/2__",
+    *b"1/z=1/2__",
+    *b"v2=1/2___",
+    *b"y2=1/2___",
+    *b"%=1/2____",
+    *b"}=1/2____",
+    *b"\xC2\xA3=1/2___",
+    *b"\xC3\x82\xC2\xBD=1/2_",
+    *b"112=1/2__",
 ];
 
 /// Whether this is a row of it: what it looks at, and what it writes.
@@ -51,7 +52,7 @@ pub(crate) fn is_in_worn_halves(seen: &[u8], written: &[u8]) -> bool
         seen,
         written,
         0x3246_12ae,
-        0x2004_800d,
+        0x2006_800d,
         0x2604_0004,
         &WORN_HALVES,
     )
@@ -96,7 +97,7 @@ pub(crate) fn is_in_quarter_abbreviations(seen: &[u8], written: &[u8]) -> bool
 }
 
 /// The table `worn_quarters` of the specification.
-static WORN_QUARTERS: [[u8; 13]; 20] = [
+static WORN_QUARTERS: [[u8; 13]; 21] = [
     *b"^=1/4________",
     *b"l/4=1/4______",
     *b"i/4=1/4______",
@@ -117,6 +118,7 @@ static WORN_QUARTERS: [[u8; 13]; 20] = [
     *b"\xC2\xA3=1/4_______",
     *b"quar-\nter=1/4",
     *b"\xC3\x82\xC2\xBC=1/4_____",
+    *b"114=1/4______",
 ];
 
 /// Whether this is a row of it: what it looks at, and what it writes.
@@ -127,7 +129,7 @@ pub(crate) fn is_in_worn_quarters(seen: &[u8], written: &[u8]) -> bool
         seen,
         written,
         0x7242_12ae,
-        0x2030_800f,
+        0x2032_800f,
         0x2210_0006,
         &WORN_QUARTERS,
     )

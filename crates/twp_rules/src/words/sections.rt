@@ -57,7 +57,7 @@ pub(crate) fn is_in_column_words(word: &[u8]) -> bool
 }
 
 /// The texts `moved_section_words` of the specification.
-static MOVED_SECTION_WORDS: [[u8; 10]; 36] = [
+static MOVED_SECTION_WORDS: [[u8; 10]; 37] = [
     *b"sec_______",
     *b"secs______",
     *b"section___",
@@ -94,6 +94,7 @@ static MOVED_SECTION_WORDS: [[u8; 10]; 36] = [
     *b"to________",
     *b"thru______",
     *b"through___",
+    *b"tion______",
 ];
 
 /// Whether a word is one of them.
@@ -103,7 +104,7 @@ pub(crate) fn is_in_moved_section_words(word: &[u8]) -> bool
     is_one_of(
         word,
         0x0018_c266,
-        0x8024_d16a,
+        0x8024_d36a,
         0x801c_b23a,
         &MOVED_SECTION_WORDS,
     )
@@ -155,7 +156,7 @@ pub(crate) fn is_in_moved_heading_words(word: &[u8]) -> bool
 }
 
 /// The texts `section_names` of the specification.
-static SECTION_NAMES: [[u8; 10]; 22] = [
+static SECTION_NAMES: [[u8; 10]; 23] = [
     *b"sec_______",
     *b"secs______",
     *b"sect______",
@@ -178,13 +179,14 @@ static SECTION_NAMES: [[u8; 10]; 22] = [
     *b"sectior___",
     *b"frstdivno_",
     *b"frstdivlab",
+    *b"tion______",
 ];
 
 /// Whether a word is one of them.
 pub(crate) fn is_in_section_names(word: &[u8]) -> bool
     ensures { result ≡ is_one_of word.now section_names }
 {
-    is_one_of(word, 0x0008_0060, 0x0004_4028, 0x8018_8028, &SECTION_NAMES)
+    is_one_of(word, 0x0018_0060, 0x0004_4228, 0x8018_8028, &SECTION_NAMES)
 }
 
 /// The texts `list_words` of the specification.
