@@ -241,7 +241,13 @@ impl<'a> Pieces<'a> {
         let is_in_row = self.follows_quoted_cell(index)
             && (number > SECTIONS || has_decimals)
             && (end == self.len() || self.is(end, b","));
-        if (is_last && index > 0 && (has_decimals || is_cell)) || is_in_row {
+        // The last field of a row, without a space before it.
+        let is_field = self.follows(index, b",")
+            && self.is_joined(index)
+            && has_decimals
+            && number > SECTIONS
+            && self.begins_line(end);
+        if (is_last && index > 0 && (has_decimals || is_cell)) || is_in_row || is_field {
             Some(end)
         } else {
             None
@@ -277,6 +283,7 @@ impl<'a> Pieces<'a> {
             Kind::Corner(_) | Kind::Half | Kind::Quarter
         ) || ((self.is(before, b"2") || self.is(before, b"4")) && self.is_joined(before))
             || are_corners(self.lower(before))
+            || (self.is(before, b")") && self.is_figure_with_decimals(index))
     }
 
     /// Whether a number with decimals is at an index.

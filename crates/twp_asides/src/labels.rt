@@ -9,6 +9,9 @@ use twp_words::{
 /// The most pieces of a label.
 const PIECES_MOST: usize = 24;
 
+/// The number of a township's last section.
+const SECTIONS: u16 = 36;
+
 impl<'a> Pieces<'a> {
     /// Where the label at an index ends.
     pub fn end_of_label(&self, index: usize) -> Option<usize> {
@@ -286,6 +289,27 @@ impl<'a> Pieces<'a> {
             }
         }
         None
+    }
+
+    /// Where the number of a row ends, which is in the first field of its line, before a township, and too large for a
+    /// section.
+    pub fn end_of_row_id(&self, index: usize) -> Option<usize> {
+        let comma = plus(index, 1);
+        let tier = plus(comma, 1);
+        let is_large = match self.kind(index) {
+            Kind::Number(number) => number > SECTIONS,
+            Kind::BadNumber => true,
+            _ => false,
+        };
+        let is_field = self.begins_line(index)
+            && self.is(comma, b",")
+            && self.is_joined(comma)
+            && self.is_joined(tier);
+        if is_large && is_field && self.begins_tier(tier) {
+            Some(comma)
+        } else {
+            None
+        }
     }
 
     /// Whether a township begins at an index: the word for it, or a number with its side.
