@@ -108,6 +108,9 @@ impl<'a> Finder<'a> {
                 return Some(found);
             }
         }
+        if let Some(end) = pieces.end_of_item_number(index) {
+            return Some((LeftOut::Label, end));
+        }
         if let Some(end) = pieces.end_of_row_id(index) {
             return Some((LeftOut::Label, end));
         }
