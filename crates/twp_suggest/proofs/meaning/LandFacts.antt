@@ -1,16 +1,17 @@
 -- The land of a text: it is read as one list of items, which names one set of places.
-use Rattle.std.proofs.Common.{◌≡◌, ◌↔◌, ℕ, Bool, List, IsTrue, false, subst, sym, ap}
+use Rattle.std.proofs.Common.{◌≡◌, ◌↔◌, ◌⊎◌, inl, inr, ℕ, Bool, true, List, IsTrue, false, subst, sym, ap}
 use Rattle.std.proofs.lemmas.Bool.{false≢true}
 use Rattle.std.proofs.Common.{◌∙◌}
 use Rattle.twp_grid.specs.Townships.{Designation}
-use Rattle.twp_grid.specs.Lands.{Lotting, ContainsAll, SamePlaces, difference}
+use Rattle.twp_grid.specs.Lands.{Lotting, ContainsAll, HasWholeLots, SamePlaces, difference}
 use Rattle.twp_grammar.specs.declared.item.Item.{Item}
 use Rattle.twp_grammar.specs.ItemPlaces.{parts_of, land_of}
 use Rattle.twp_grammar.specs.OnPlat.{AreOnPlat, IsLandOfItems}
 use Rattle.twp_grammar.specs.Sentences.{IsReadAs}
 use Rattle.twp_spell.specs.CanonicalText.{IsCanonicalText}
 use Rattle.twp_suggest.specs.Descriptions.{AreExcepted, IsLandOfText, IsOnlyLandOfText, IsRemainder}
-use Rattle.twp_suggest.specs.Descriptions.{NamesNoLand, as_written}
+use Rattle.twp_suggest.specs.Descriptions.{IsSomeLandOfItems, IsSomeLandOfText, NamesNoLand, NamesTownship}
+use Rattle.twp_suggest.specs.Descriptions.{as_written}
 use Rattle.twp_suggest.specs.Excepting.{IsParted}
 use Rattle.twp_suggest.specs.declared.meaning.wording.Excepted.{Excepted}
 
@@ -39,12 +40,30 @@ no_land lots township text items only on_plat places is =
     (subst (λ (its : List Item). AreOnPlat lots township its) (sym (only is.items is.read))
     is.land.on_plat))
 
+-- the land of items on the plat, or by parts that include whole lots
+pub land_on_plat : (lots : Lotting) (township : Designation) (items : List Item) (places : ℕ → ℕ → ℕ → Bool)
+    → IsLandOfItems lots township items places → IsSomeLandOfItems lots township items places
+land_on_plat lots township items places land = inl land
+
+pub land_with_lots : (lots : Lotting) (township : Designation) (items : List Item) (places : ℕ → ℕ → ℕ → Bool)
+    → NamesTownship items township → places ≡ land_of lots (parts_of items) → HasWholeLots lots places
+    → ((section column row : ℕ) → places section column row ≡ true → lots.has_land section column row ≡ true)
+    → IsSomeLandOfItems lots township items places
+land_with_lots lots township items places of_township named whole on_land =
+    inr record { of_township = of_township; places_are = named; whole = whole; on_land = on_land }
+
+pub is_some_land : (lots : Lotting) (township : Designation) (text : List ℕ) (items : List Item)
+    (places : ℕ → ℕ → ℕ → Bool)
+    → IsReadAs text items → IsSomeLandOfItems lots township items places
+    → IsSomeLandOfText lots township text places
+is_some_land lots township text items places read land = record { items = items; read = read; land = land }
+
 -- what is left of a text without its exception
 pub is_remainder : (lots : Lotting) (made whole excepted : List ℕ) (at : ℕ) (text full : List ℕ)
     (items : List Item)
     (township : Designation)
     (places less : ℕ → ℕ → ℕ → Bool) → ((others : List Item) → IsReadAs whole others → items ≡ others)
-    → IsLandOfText lots township whole places → IsLandOfText lots township excepted less
+    → IsSomeLandOfText lots township whole places → IsSomeLandOfText lots township excepted less
     → ContainsAll places less → ¬ SamePlaces places less
     → IsCanonicalText lots township (difference places less) full → text ≡ as_written items full
     → IsParted made whole excepted at → IsRemainder lots made text

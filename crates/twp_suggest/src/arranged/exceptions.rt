@@ -3,6 +3,7 @@
 use crate::arranged::plan::Plan;
 use twp_asides::plus;
 use twp_draft::{Names, Phrase, Placed};
+use twp_grammar::Kind;
 
 /// The most phrases among which a part is looked for that is excepted as a whole.
 const PHRASES_MOST: usize = 64;
@@ -33,6 +34,47 @@ impl<'a> Plan<'a> {
                 }
             }
         }
+    }
+
+    /// Doubts a part after `and` and a list of lots that are excepted from a part, if that list has an `and` of its own,
+    /// as in `N/2 less Lots 1 & 2 and S/2NE/4`: the part may be kept.
+    pub(crate) fn doubt_part_after_lots(&mut self, list: &[Placed]) {
+        let mut is_excepting = false;
+        let mut has_part = false;
+        let mut lots: Option<usize> = None;
+        for index in 0..list.len() {
+            let phrase = list[index].phrase;
+            let is_joined = match lots {
+                Some(end) => self.has_kind(end, phrase.first, Kind::And),
+                None => false,
+            };
+            match phrase.names {
+                Names::Except => is_excepting = true,
+                Names::Sections => {
+                    is_excepting = false;
+                    has_part = false;
+                }
+                Names::Part if is_excepting && is_joined && has_part => self.draft.doubt(),
+                Names::Part if !is_excepting => has_part = true,
+                _ => {}
+            }
+            lots = if phrase.names == Names::Lots && self.lists_by_and(phrase) {
+                Some(phrase.end)
+            } else {
+                None
+            };
+        }
+    }
+
+    /// Whether `and`, or its sign, is in a phrase.
+    fn lists_by_and(&self, phrase: Phrase) -> bool {
+        let pieces = &self.draft.pieces;
+        for index in phrase.first..phrase.end {
+            if matches!(pieces.kind(index), Kind::And) || pieces.is(index, b"&") {
+                return true;
+            }
+        }
+        false
     }
 
     /// Doubts an excepted part that includes a part from which it is excepted, as in `N/2 and SE/4, except

@@ -1,10 +1,11 @@
 //! The description that comes of a changed text: the text, or the canonical description of what is left
 //! without the land that it excepts.
-ghost use Rattle.std.specs.Prelude.{◌≡◌, ◌≤◌, ◌++◌, IfOk, IfSome, IsTrue, OnOk, drop, length};
+ghost use Rattle.std.specs.Prelude.{◌≡◌, ◌≤◌, ◌++◌, IfOk, IfSome, IsTrue, OnOk, drop, false, length};
+ghost use Rattle.twp_grid.specs.Townships.{Designation};
 ghost use Rattle.twp_grid.specs.Lands.{ContainsAll, SamePlaces, lotting};
 ghost use Rattle.twp_grammar.specs.Sentences.{IsReadAs};
 ghost use Rattle.twp_suggest.specs.Descriptions.{AreItemsOf, AreLotsNamed, IsAccepted, IsDescribed};
-ghost use Rattle.twp_suggest.specs.Descriptions.{IsRemainder, NamesTownship};
+ghost use Rattle.twp_suggest.specs.Descriptions.{IsRemainder, IsSomeLandOfItems, NamesTownship};
 ghost use Rattle.twp_suggest.specs.Descriptions.{as_written};
 ghost use Rattle.twp_suggest.specs.Excepting.{IsParted, except};
 ghost use Rattle.twp_suggest.specs.Descriptions.{without_first_line};
@@ -261,15 +262,14 @@ fn remainder<P: Lotting>(
     let Some(township) = first_township(description.items()) else {
         return Err(Unread::Refused);
     };
-    let Ok(()) = resolve_into(&mut land, &description, township, lots) else {
-        return Err(why_unread(&description, lots));
-    };
+    find_some_land(&description, township, &mut land, lots)?;
     let Some(items) = read(alloc, excepted)? else {
         return Err(Unread::Refused);
     };
-    let Ok(()) = resolve_into(&mut less, &items, township, lots) else {
-        return Err(why_unread(&items, lots));
-    };
+    if names_heading(&items) {
+        return Err(Unread::Refused);
+    }
+    find_some_land(&items, township, &mut less, lots)?;
     if !is_proper_part(&less, &land) {
         return Err(Unread::Unfit);
     }
@@ -282,6 +282,38 @@ fn remainder<P: Lotting>(
         items: description,
         excepted: Some(Excepted { items, at }),
     })
+}
+
+/// Finds the land of a description in a township, also by aliquot parts that include whole lots, which `land` is then.
+#[tactic(auto, using(crate::proofs::meaning::LandFacts::land_on_plat, crate::proofs::meaning::LandFacts::land_with_lots))]
+fn find_some_land<P: Lotting>(
+    description: &Description,
+    township: Township,
+    land: &mut Lanes,
+    lots: &P,
+) -> Result<(), Unread>
+    requires { NamesTownship description.now township }
+    ensures { OnOk result (IsSomeLandOfItems (lotting (P.layout lots.now)) township description.now
+        (⟦<Lanes as PlaceSet>⟧.places land.new)) }
+{
+    if let Ok(()) = resolve_into(land, description, township, lots) {
+        return Ok(());
+    }
+    let is_named = find_with_lots(description, land, lots);
+    if !is_named {
+        return Err(why_unread(description, lots));
+    }
+    Ok(())
+}
+
+/// Whether a description begins with a township.
+fn names_heading(description: &Description) -> bool
+    ensures { result ≡ false → (township : Designation) → NamesTownship description.now township }
+{
+    matches!(
+        description.items().first(),
+        Some(Item::Heading { .. })
+    )
 }
 
 /// Whether land lies in other land, and isn't all of it.

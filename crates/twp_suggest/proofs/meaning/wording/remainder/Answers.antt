@@ -1,5 +1,5 @@
 use Rattle.twp_grid.specs.Lands.{lotting}
-use Rattle.twp_suggest.proofs.meaning.LandFacts.{is_land, is_remainder}
+use Rattle.twp_suggest.proofs.meaning.LandFacts.{is_some_land, is_remainder}
 use Rattle.twp_suggest.proofs.meaning.wording.remainder.Goals as goal
 
 pub returns-clause-described : goal.returns-clause-described
@@ -8,11 +8,11 @@ returns-clause-described g c =
     let read = rw c.in-Some.is at c.in_ok-description.ensures.read in
     let only = rw c.in-Some.is at c.in_ok-description.ensures.only in
     let land =
-    is_land lots c.in-Some-first_township.township c.args.whole.now _ _ read (c.in-Ok.ensures.land) in
+    is_some_land lots c.in-Some-first_township.township c.args.whole.now _ _ read (c.in_ok-find_some_land.ensures) in
     let read_less = rw c.in-Some-2.is at c.in_ok-items.ensures.read in
     let less =
-    is_land lots c.in-Some-first_township.township c.args.excepted.now _ _ read_less
-    (c.in-Ok-resolve_into.ensures.land) in
+    is_some_land lots c.in-Some-first_township.township c.args.excepted.now _ _ read_less
+    (c.in_ok-find_some_land-2.ensures) in
     is_remainder lots c.args._made.now c.args.whole.now c.args.excepted.now c.args.at c.in_ok-text.text.items
     c.in_ok-full.full.items _ _ _ _
     only land less (c.is_proper_part.ensures.inside c.if-not-is_proper_part.false)
