@@ -2,7 +2,7 @@
 
 use crate::pieces::{Pieces, plus};
 use twp_grammar::Kind;
-use twp_words::is_known;
+use twp_words::{is_known, is_of_label};
 
 /// The most pieces of such a run.
 const PIECES_MOST: usize = 8;
@@ -37,10 +37,30 @@ impl<'a> Pieces<'a> {
         None
     }
 
+    /// Whether some pieces are a label before a mark, of which a word is known, as `Allotment No. 00412, Pickles Butte:`.
+    pub fn is_known_label(&self, first: usize, end: usize) -> bool {
+        let is_marked = self.follows(end, b":") || (self.is_dash(end) && !self.is_joined(end));
+        if !is_marked {
+            return false;
+        }
+        for index in first..end {
+            if self.is_known_word(index) || is_of_label(self.lower(index)) {
+                return true;
+            }
+        }
+        false
+    }
+
+    /// Whether some pieces are a date with slashes, as `5/11/32`.
+    pub fn is_slashed_date(&self, first: usize, end: usize) -> bool {
+        end == plus(first, 5) && self.is(plus(first, 1), b"/") && self.is(plus(first, 3), b"/")
+    }
+
     /// Whether a word at an index is known to say nothing of which land is meant.
     fn is_known_word(&self, index: usize) -> bool {
+        let is_mineral = self.is(index, b"mineral") || self.is(index, b"minerals");
         matches!(self.kind(index), Kind::Other)
-            && is_known(self.lower(index))
+            && (is_known(self.lower(index)) || is_mineral)
             && !self.is(index, b"do")
     }
 

@@ -3,7 +3,7 @@
 use crate::pieces::{Pieces, plus};
 use twp_grammar::Kind;
 use twp_words::{
-    begins_request, is_acres, is_column, is_field, is_of_request, is_same, is_township_word,
+    begins_request, begins_terms, is_acres, is_column, is_field, is_of_request, is_same, is_township_word,
 };
 
 /// The most pieces of a label.
@@ -137,9 +137,21 @@ impl<'a> Pieces<'a> {
                     && self.is_before_column(plus(index, 1))
             }
             [b'l', ..] => label > 0 && (is_same(word, b"legal") || is_same(word, b"lgl")),
-            [b'q', ..] => is_same(word, b"qtr") && self.is_after_section(index),
+            [b'q', ..] => {
+                (is_same(word, b"qtr") && self.is_after_section(index))
+                    || self.is_column_of_quarters(index)
+            }
             _ => false,
         }
+    }
+
+    /// Whether `QQ:`, or a name like it, is at an index, before a quarter of a quarter.
+    fn is_column_of_quarters(&self, index: usize) -> bool {
+        let mark = plus(index, 1);
+        let value = plus(mark, 1);
+        let is_name = self.is(index, b"qq") || self.is(index, b"qqsec") || self.is(index, b"qtrqtr");
+        let has_mark = self.is(mark, b":") || self.is(mark, b"=");
+        is_name && has_mark && self.size(value) == 4 && self.begins_part(value)
     }
 
     /// Whether `Aliquot Part:` is at an index.
@@ -265,7 +277,9 @@ impl<'a> Pieces<'a> {
 
     /// Whether the question mark at the end of a request is at an index.
     pub fn is_question_mark(&self, index: usize) -> bool {
-        self.is(index, b"?") && plus(index, 1) == self.len() && self.end_of_request(0).is_some()
+        let next = plus(index, 1);
+        let is_last = next == self.len() || begins_terms(self.lower(next));
+        self.is(index, b"?") && is_last && self.end_of_request(0).is_some()
     }
 
     /// Where the number of a row ends, which is alone in the first cell: the row names a section with a word

@@ -13,6 +13,7 @@ pub(crate) fn is_known_at(pieces: &Pieces<'_>, index: usize) -> bool {
         || is_middle_initial(pieces, index)
         || is_date_with_month(pieces, index)
         || pieces.is(index, b">")
+        || pieces.is(index, b"$")
         || pieces.is_date(index)
         || pieces.is_percentage(index)
         || pieces.is_share(index)

@@ -177,6 +177,7 @@ fn begins_remark(pieces: &Pieces<'_>, index: usize, position: Position) -> bool 
         _ => matches!(pieces.lower(index), [b'a'..=b'z', _, ..])
             || is_initial(pieces, index)
             || pieces.begins_title(index)
+            || pieces.end_of_file_number(index).is_some()
             || begins_oil_and_gas(pieces, index)
             || pieces.is(index, b"$")
             || pieces.end_of_code(index).is_some(),
@@ -202,6 +203,7 @@ fn is_name_of_value(pieces: &Pieces<'_>, index: usize) -> bool {
 fn is_after_mark_of_label(pieces: &Pieces<'_>, index: usize) -> bool {
     pieces.follows(index, b",")
         || pieces.follows(index, b"=")
+        || (pieces.is_after_dash(index) && !pieces.is_joined(index))
         || (pieces.follows(index, b":") && !pieces.is_joined(index))
 }
 
@@ -232,6 +234,7 @@ fn ends_remark(pieces: &Pieces<'_>, index: usize, position: Position) -> bool {
                     && !matches!(pieces.kind(next), Kind::All))
                 || matches!(pieces.lower_back(index, 1), Some(word) if is_of_covering(word))
                 || is_after_record(pieces, index)
+                || is_end_of_sentence(pieces, index)
                 || pieces.is_for_before_land(index)
                 || matches!(pieces.kind(index), Kind::Semicolon)
                 || pieces.begins_register(index)
@@ -242,6 +245,15 @@ fn ends_remark(pieces: &Pieces<'_>, index: usize, position: Position) -> bool {
     let is_colon = position == Position::BeforeLand
         && (matches!(pieces.kind(index), Kind::Colon) || pieces.is(index, b"="));
     is_mark || is_colon || pieces.begins_column(index)
+}
+
+/// Whether the period of a sentence is at an index, and a section or a township after it.
+fn is_end_of_sentence(pieces: &Pieces<'_>, index: usize) -> bool {
+    let next = plus(index, 1);
+    pieces.is(index, b".")
+        && pieces.is_joined(index)
+        && !pieces.is_joined(next)
+        && (matches!(pieces.kind(next), Kind::Sec) || pieces.begins_tier(next))
 }
 
 /// Whether the number of a record is before an index, and land after it, as in `WD BK 14 PG 22 INST 36115 E2NE`.
@@ -332,7 +344,7 @@ fn end_of_parentheses(pieces: &Pieces<'_>, index: usize) -> Option<usize> {
         if pieces.is(place, b")") {
             return if is_sure { Some(plus(place, 1)) } else { None };
         }
-        is_sure = is_sure || is_known_at(pieces, place);
+        is_sure = is_sure || is_known_at(pieces, place) || pieces.is(place, b"file");
         let is_beyond = is_beyond_remark(pieces, place)
             || is_boundary(pieces.lower(place))
             || names_parcel(pieces.lower(place))

@@ -40,7 +40,9 @@ pub fn end_of_trailer(pieces: &Pieces<'_>, index: usize) -> Option<usize> {
     for place in index..pieces.len() {
         let is_apart = matches!(pieces.kind(place), Kind::Semicolon)
             || (pieces.has_before(place, b'\n') && place > index);
-        if is_apart && trailer == Trailer::Terms {
+        let is_before_heading = matches!(pieces.kind(place), Kind::Comma)
+            && pieces.begins_tier(plus(place, 1));
+        if (is_apart || is_before_heading) && trailer == Trailer::Terms {
             return Some(place);
         }
         let is_after_survey = trailer == Trailer::Survey
@@ -185,7 +187,10 @@ fn trailer_with_next(pieces: &Pieces<'_>, word: &[u8], next: usize) -> Option<Tr
     if is_reservation(pieces, word, next) {
         return Some(Trailer::Reserved);
     }
-    if is_same(word, b"together") && pieces.is(next, b"with") {
+    let is_granted = (is_same(word, b"together") && pieces.is(next, b"with"))
+        || (is_same(word, b"with")
+            && (pieces.is(next, b"all") || (pieces.is(next, b"the") && !pieces.is(plus(next, 1), b"exception"))));
+    if is_granted {
         return Some(Trailer::Granted);
     }
     if are_depths(pieces, word, next) {

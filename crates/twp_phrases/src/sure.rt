@@ -94,10 +94,13 @@ impl<'a> Finder<'a> {
         let is_beside = self.draft.last_names() == Some(Names::Sections);
         let has_lots = is_beside && !self.draft.pieces.has_word(index, end)
             || (position == Position::BeforeLand && self.may_be_plat(index, end));
-        if has_lots || self.draft.pieces.are_small_numbers(index, end) {
+        let has_small = self.draft.pieces.are_small_numbers(index, end)
+            && !self.draft.pieces.is_slashed_date(index, end);
+        if has_lots || has_small {
             return None;
         }
-        let is_label = self.draft.pieces.is_label_of_tract(index);
+        let is_label = self.draft.pieces.is_label_of_tract(index)
+            || (position == Position::BeforeLand && self.draft.pieces.is_known_label(index, end));
         self.draft.has_remark = self.draft.has_remark || !is_label;
         self.has_depths = self.has_depths
             || (self.draft.pieces.is(index, b"(")
@@ -120,6 +123,7 @@ impl<'a> Finder<'a> {
         let back: usize = if pieces.follows(end, b":") { 2 } else { 1 };
         matches!(pieces.kind(next), Kind::Lot)
             && !pieces.is_label_of_tract(first)
+            && !pieces.is_slashed_date(first, end)
             && !(pieces.is_back(end, back, b"land") || pieces.is_back(end, back, b"lands"))
             && !pieces.is_company_back(end, back)
             && !pieces.has_long_number(first, end)

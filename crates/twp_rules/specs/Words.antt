@@ -128,6 +128,8 @@ abbrev pub column_words : List (List ℕ)
 column_words = words (codes "mer meridian twp township t rng range r sec section stype type nr no suff")
     ++ words (codes "survey subdivision legal desc description aliquot aliquots lots acres ac gross net")
     ++ words (codes "district field office county state st mgmt agency tract school")
+    ++ words (codes "rge rg tp twn name remarks notes grantor grantee date book page inst status parcel pin")
+    ++ words (codes "id use value mi int interest tr qq qqsec qsec instrument acreage owner")
 
 -- the words of a section that is written elsewhere, or that was named before
 abbrev pub moved_section_words : List (List ℕ)

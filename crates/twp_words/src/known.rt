@@ -27,25 +27,26 @@ pub fn is_known(word: &[u8]) -> bool {
         ),
         4 => is_among(
             word,
-            0x596230_0039e02a,
-            "aums case corp cult elev mgmt mins npri open orri paid srhe term usfs",
+            0x596330_0039e02a,
+            "aums case cash corp cult elev mgmt mins npri open orri paid srhe term usfs",
         ),
         5 => is_among(
             word,
-            0xc5b20_0018908e,
-            "adams boise bonus clark gross latah lemhi owner state taxes teton total",
+            0xd5b20_001890ce,
+            "adams boise bonus clark final gross latah lemhi owner scrip state taxes teton \
+             total",
         ),
         6 => is_among(
             word,
-            0x3c503a_0015942e,
-            "active annual blaine bureau canyon cassia closed custer elmore jerome lessee \
-             lessor office oneida owyhee patent payout public rental thanks",
+            0x3c503a_0015943e,
+            "active annual blaine bureau canyon cassia closed custer desert elmore jerome \
+             lessee lessor office oneida owyhee patent payout public rental thanks",
         ),
         7 => is_among(
             word,
             0x23068a0_000520cc,
             "bannock bingham caribou fremont gooding grantee grazing madison minimum \
-             payette primary private royalty",
+             payette primary private receipt royalty",
         ),
         8 => is_among(
             word,

@@ -9,7 +9,7 @@ use crate::rows::is_one_of;
 use crate::same::is_text;
 
 /// The texts `column_words` of the specification.
-static COLUMN_WORDS: [[u8; 11]; 37] = [
+static COLUMN_WORDS: [[u8; 11]; 66] = [
     *b"mer________",
     *b"meridian___",
     *b"twp________",
@@ -47,13 +47,42 @@ static COLUMN_WORDS: [[u8; 11]; 37] = [
     *b"agency_____",
     *b"tract______",
     *b"school_____",
+    *b"rge________",
+    *b"rg_________",
+    *b"tp_________",
+    *b"twn________",
+    *b"name_______",
+    *b"remarks____",
+    *b"notes______",
+    *b"grantor____",
+    *b"grantee____",
+    *b"date_______",
+    *b"book_______",
+    *b"page_______",
+    *b"inst_______",
+    *b"status_____",
+    *b"parcel_____",
+    *b"pin________",
+    *b"id_________",
+    *b"use________",
+    *b"value______",
+    *b"mi_________",
+    *b"int________",
+    *b"interest___",
+    *b"tr_________",
+    *b"qq_________",
+    *b"qqsec______",
+    *b"qsec_______",
+    *b"instrument_",
+    *b"acreage____",
+    *b"owner______",
 ];
 
 /// Whether a word is one of them.
 pub(crate) fn is_in_column_words(word: &[u8]) -> bool
     ensures { result ≡ is_one_of word.now column_words }
 {
-    is_one_of(word, 0x001c_f0da, 0x82b4_d2ea, 0x82bd_e3ee, &COLUMN_WORDS)
+    is_one_of(word, 0x007f_f2de, 0x82bf_d2fa, 0x82bd_f3ee, &COLUMN_WORDS)
 }
 
 /// The texts `moved_section_words` of the specification.
