@@ -124,6 +124,7 @@ fn is_of_instrument(pieces: &Pieces<'_>, index: usize) -> bool {
         || is_type_of_case(pieces, index)
         || matches!(index.checked_sub(2), Some(row) if is_type_of_case(pieces, row));
     is_part
+        || is_exempt(pieces, index)
         || is_only
         || is_estate
         || is_proposed
@@ -131,4 +132,10 @@ fn is_of_instrument(pieces: &Pieces<'_>, index: usize) -> bool {
         || is_base
         || is_release
         || is_row
+}
+
+/// Whether `exempt` ends its column, as in `AG EXEMPT`: the land pays no tax.
+pub(crate) fn is_exempt(pieces: &Pieces<'_>, index: usize) -> bool {
+    let next = plus(index, 1);
+    pieces.is(index, b"exempt") && (pieces.is(next, b")") || pieces.begins_column(next))
 }

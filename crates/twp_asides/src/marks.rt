@@ -1,6 +1,7 @@
 //! What is looked at in a remark: names of wells, tracts, and persons, words that are known, and titles of
 //! other land.
 
+use crate::limits::is_exempt;
 use crate::pieces::{Pieces, plus};
 use twp_grammar::Kind;
 use twp_words::{is_acres, is_company, is_doubtful_title, is_feature, is_known, is_month, is_same};
@@ -14,6 +15,7 @@ pub(crate) fn is_known_at(pieces: &Pieces<'_>, index: usize) -> bool {
         || is_date_with_month(pieces, index)
         || pieces.is(index, b">")
         || pieces.is(index, b"$")
+        || is_exempt(pieces, index)
         || pieces.is_date(index)
         || pieces.is_percentage(index)
         || pieces.is_share(index)

@@ -235,6 +235,7 @@ fn ends_remark(pieces: &Pieces<'_>, index: usize, position: Position) -> bool {
                 || matches!(pieces.lower_back(index, 1), Some(word) if is_of_covering(word))
                 || is_after_record(pieces, index)
                 || is_end_of_sentence(pieces, index)
+                || is_after_conveyance(pieces, index)
                 || pieces.is_for_before_land(index)
                 || matches!(pieces.kind(index), Kind::Semicolon)
                 || pieces.begins_register(index)
@@ -245,6 +246,24 @@ fn ends_remark(pieces: &Pieces<'_>, index: usize, position: Position) -> bool {
     let is_colon = position == Position::BeforeLand
         && (matches!(pieces.kind(index), Kind::Colon) || pieces.is(index, b"="));
     is_mark || is_colon || pieces.begins_column(index)
+}
+
+/// Whether `the` is at an index, and an aliquot part after it, after who conveys land, or has it, as in
+/// `Grantor conveys to Grantee the SW1/4`.
+fn is_after_conveyance(pieces: &Pieces<'_>, index: usize) -> bool {
+    if !matches!(pieces.kind(index), Kind::The) || !pieces.begins_part(index) {
+        return false;
+    }
+    let is_verb = |count: usize| {
+        pieces.is_back(index, count, b"conveys")
+            || pieces.is_back(index, count, b"conveyed")
+            || pieces.is_back(index, count, b"grants")
+            || pieces.is_back(index, count, b"quitclaims")
+            || pieces.is_back(index, count, b"owns")
+            || pieces.is_back(index, count, b"own")
+            || pieces.is_back(index, count, b"need")
+    };
+    is_verb(1) || (pieces.is_back(index, 2, b"to") && is_verb(3))
 }
 
 /// Whether the period of a sentence is at an index, and a section or a township after it.

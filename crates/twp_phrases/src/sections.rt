@@ -76,7 +76,18 @@ impl<'a> Finder<'a> {
     /// Whether what scanning makes of a word for sections is at an index.
     fn is_worn_word(&self, index: usize) -> bool {
         let pieces = &self.draft.pieces;
-        !matches!(pieces.kind(index), Kind::Sec) && is_worn_section(pieces.lower(index))
+        !matches!(pieces.kind(index), Kind::Sec)
+            && (is_worn_section(pieces.lower(index)) || self.is_worn_abbreviation(index))
+    }
+
+    /// Whether `See.` is at an index, as scanning leaves `Sec.`, and a number after it.
+    fn is_worn_abbreviation(&self, index: usize) -> bool {
+        let pieces = &self.draft.pieces;
+        let point = plus(index, 1);
+        pieces.is(index, b"see")
+            && pieces.is(point, b".")
+            && pieces.is_joined(point)
+            && self.section_number(plus(point, 1)).is_some()
     }
 
     /// Whether a word for sections is at an index, as in a description or otherwise.

@@ -163,7 +163,7 @@ section_words = pairs (texts (codes "=sec. |=secs. |s=sec. |sect=sec"))
 -- and what a slip of the pen, or scanning, leaves of them
 abbrev pub worn_section_words : List Entry
 worn_section_words =
-    all_as (words (codes "scc sce seo secton sectlon sectoin seciton sectiou seclion seotion sectior"))
+    all_as (words (codes "scc sce seo see secton sectlon sectoin seciton sectiou seclion seotion sectior"))
     (codes "sec") ++ all_as ((codes "sec-" ++ 10 ∷ codes "tion") ∷ []) (codes "sec")
 
 -- LOT: the words for lots

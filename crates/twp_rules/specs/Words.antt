@@ -133,7 +133,7 @@ column_words = words (codes "mer meridian twp township t rng range r sec section
 
 -- the words of a section that is written elsewhere, or that was named before
 abbrev pub moved_section_words : List (List ℕ)
-moved_section_words = words (codes "sec secs section sections sect sects s sn scc sce seo ec ection secton")
+moved_section_words = words (codes "sec secs section sections sect sects s sn scc sce seo see ec ection secton")
     ++ words (codes "sectlon sectoin seciton sectiou seclion seotion sectior tion numbered no nos said same all")
     ++ words (codes "both fractional in of the and to thru through")
 
@@ -167,7 +167,7 @@ cell_marks = codes "|" ∷ (9 ∷ []) ∷ []
 
 -- the words for a section, with slips, that of a register, and the names of its column in maps of the survey
 abbrev pub section_names : List (List ℕ)
-section_names = words (codes "sec secs sect sects section sections scc sce seo ec ection sn secton sectlon")
+section_names = words (codes "sec secs sect sects section sections scc sce seo see ec ection sn secton sectlon")
     ++ words (codes "sectoin seciton sectiou seclion seotion sectior tion frstdivno frstdivlab")
 
 -- the words between the numbers of a list of sections, or before them

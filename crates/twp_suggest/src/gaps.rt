@@ -204,7 +204,8 @@ impl<'p, 'a> ChangeWriter<'p, 'a> {
             if index < next {
                 continue;
             }
-            let is_lost = gap.first == 0 && self.leads_on(index);
+            let is_between = next == index && is_next_left_out(rest, index);
+            let is_lost = gap.first == 0 && self.leads_on(index) && !is_between;
             if is_lost || (self.is_word(index) && !self.may_leave_out(index, gap, rest)) {
                 self.plan.draft.doubt();
             }
@@ -351,4 +352,12 @@ fn is_unsure_of_three(other: &Placed, shared: Shared, parts: &mut Parts<'_>) -> 
     parts.has_head = shared == Shared::Head;
     parts.has_tail = shared == Shared::Tail;
     is_after_head || is_after_part
+}
+
+/// Whether a phrase that is left out follows the piece at an index.
+fn is_next_left_out(rest: &[Placed], index: usize) -> bool {
+    match rest {
+        [placed, ..] => placed.phrase.first == plus(index, 1),
+        [] => false,
+    }
 }

@@ -93,7 +93,7 @@ pub(crate) fn is_in_section_words(seen: &[u8], written: &[u8]) -> bool
 }
 
 /// The table `worn_section_words` of the specification.
-static WORN_SECTION_WORDS: [[u8; 13]; 12] = [
+static WORN_SECTION_WORDS: [[u8; 13]; 13] = [
     *b"scc=sec______",
     *b"sce=sec______",
     *b"seo=sec______",
@@ -106,6 +106,7 @@ static WORN_SECTION_WORDS: [[u8; 13]; 12] = [
     *b"seotion=sec__",
     *b"sectior=sec__",
     *b"sec-\ntion=sec",
+    *b"see=sec______",
 ];
 
 /// Whether this is a row of it: what it looks at, and what it writes.

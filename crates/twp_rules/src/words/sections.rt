@@ -86,7 +86,7 @@ pub(crate) fn is_in_column_words(word: &[u8]) -> bool
 }
 
 /// The texts `moved_section_words` of the specification.
-static MOVED_SECTION_WORDS: [[u8; 10]; 37] = [
+static MOVED_SECTION_WORDS: [[u8; 10]; 38] = [
     *b"sec_______",
     *b"secs______",
     *b"section___",
@@ -124,6 +124,7 @@ static MOVED_SECTION_WORDS: [[u8; 10]; 37] = [
     *b"thru______",
     *b"through___",
     *b"tion______",
+    *b"see_______",
 ];
 
 /// Whether a word is one of them.
@@ -185,7 +186,7 @@ pub(crate) fn is_in_moved_heading_words(word: &[u8]) -> bool
 }
 
 /// The texts `section_names` of the specification.
-static SECTION_NAMES: [[u8; 10]; 23] = [
+static SECTION_NAMES: [[u8; 10]; 24] = [
     *b"sec_______",
     *b"secs______",
     *b"sect______",
@@ -209,6 +210,7 @@ static SECTION_NAMES: [[u8; 10]; 23] = [
     *b"frstdivno_",
     *b"frstdivlab",
     *b"tion______",
+    *b"see_______",
 ];
 
 /// Whether a word is one of them.
