@@ -81,8 +81,14 @@ impl<'a> Pieces<'a> {
             Kind::Other => index,
             _ => return index,
         };
-        let next = plus(word, 1);
-        if self.is(word, b"fractional") && self.begins_land(next) {
+        let stop = plus(word, 1);
+        let has_stop = self.is(stop, b".") && self.is_joined(stop);
+        let is_short = self.is(word, b"frl")
+            || self.is(word, b"fract")
+            || self.is(word, b"fractl")
+            || (has_stop && (self.is(word, b"fr") || self.is(word, b"frac")));
+        let next = plus(stop, usize::from(has_stop && is_short));
+        if (is_short || self.is(word, b"fractional")) && self.begins_land(next) {
             next
         } else {
             index

@@ -13,7 +13,11 @@ impl<'a> Pieces<'a> {
         if !self.is(index, b"(") {
             return self.end_of_known_words(index);
         }
-        let end = self.end_of_known_words(plus(index, 1))?;
+        let first = plus(index, 1);
+        if self.is(first, b"fractional") && self.is(plus(first, 1), b")") {
+            return Some(plus(first, 2));
+        }
+        let end = self.end_of_known_words(first)?;
         if self.is(end, b")") {
             Some(plus(end, 1))
         } else {

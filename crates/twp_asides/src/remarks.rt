@@ -87,6 +87,7 @@ fn may_end_remark(pieces: &Pieces<'_>, index: usize, place: usize, position: Pos
     let last = place - 1;
     match position {
         Position::BeforeLand if place >= pieces.len() => false,
+        Position::BeforeLand if is_after_conveyance(pieces, place) => true,
         Position::BeforeLand if is_title_of_other(pieces, last) => is_type_of_case(pieces, index),
         _ => place <= plus(index, 1) || !points_into(pieces.lower(last)),
     }
@@ -263,7 +264,8 @@ fn is_after_conveyance(pieces: &Pieces<'_>, index: usize) -> bool {
             || pieces.is_back(index, count, b"own")
             || pieces.is_back(index, count, b"need")
     };
-    is_verb(1) || (pieces.is_back(index, 2, b"to") && is_verb(3))
+    let is_described = pieces.follows(index, b"as") && pieces.is_back(index, 2, b"described");
+    is_described || is_verb(1) || (pieces.is_back(index, 2, b"to") && is_verb(3))
 }
 
 /// Whether the period of a sentence is at an index, and a section or a township after it.

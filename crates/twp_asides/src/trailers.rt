@@ -41,7 +41,8 @@ pub fn end_of_trailer(pieces: &Pieces<'_>, index: usize) -> Option<usize> {
         let is_apart = matches!(pieces.kind(place), Kind::Semicolon)
             || (pieces.has_before(place, b'\n') && place > index);
         let is_before_heading = matches!(pieces.kind(place), Kind::Comma)
-            && pieces.begins_tier(plus(place, 1));
+            && (pieces.begins_tier(plus(place, 1))
+                || matches!(pieces.kind(plus(place, 1)), Kind::Sec));
         if (is_apart || is_before_heading) && trailer == Trailer::Terms {
             return Some(place);
         }

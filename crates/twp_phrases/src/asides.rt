@@ -232,14 +232,17 @@ impl<'a> Finder<'a> {
     /// Where a number in parentheses at an index ends, which is the acreage of the part before it.
     fn end_of_figure(&self, index: usize) -> Option<usize> {
         let pieces = &self.draft.pieces;
-        if !pieces.is(index, b"(") || self.draft.last_names() != Some(Names::Part) {
+        let close_mark: &'static [u8] = if pieces.is(index, b"[") { b"]" } else { b")" };
+        if !(pieces.is(index, b"(") || pieces.is(index, b"["))
+            || self.draft.last_names() != Some(Names::Part)
+        {
             return None;
         }
         let first = plus(index, 1);
         let close = pieces.end_of_decimal(first)?;
         let is_figure = pieces.is_figure_with_decimals(first)
             || pieces.number(first).unwrap_or(0) > SECTIONS;
-        if is_figure && pieces.is(close, b")") {
+        if is_figure && pieces.is(close, close_mark) {
             Some(plus(close, 1))
         } else {
             None

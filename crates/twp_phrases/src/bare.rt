@@ -84,6 +84,20 @@ impl<'a> Finder<'a> {
             || (is_list && is_before_colon)
             || pieces.is_section_before_land(index)
             || self.is_section_after_land(index)
+            || self.is_letter_before_colon(index)
+    }
+
+    /// Whether the letter and the number at an index are before a colon and land, and no half has such a number.
+    fn is_letter_before_colon(&self, index: usize) -> bool {
+        let pieces = &self.draft.pieces;
+        let digits = plus(index, 1);
+        let colon = plus(digits, 1);
+        let may_be_half = pieces.is(digits, b"2")
+            || pieces.is(digits, b"4")
+            || pieces.is(digits, b"12");
+        pieces.is(colon, b":")
+            && !may_be_half
+            && (pieces.begins_land(plus(colon, 1)) || pieces.is(plus(colon, 1), b"l"))
     }
 
     /// Whether the letter and the number at an index are a section that ends an item, after land, as in

@@ -178,6 +178,11 @@ impl<'a> Finder<'a> {
             self.draft.leave_out(next, plus(next, 1), Rule::Heading);
             return plus(next, 1);
         }
+        let stop = plus(next, 1);
+        if self.draft.pieces.is(next, b"no") && self.draft.pieces.is(stop, b".") {
+            self.draft.leave_out(next, plus(stop, 1), Rule::Heading);
+            return plus(stop, 1);
+        }
         match self.draft.pieces.kind(next) {
             Kind::Stop if is_letter => plus(next, 1),
             Kind::Stop | Kind::Colon | Kind::Comma => {

@@ -129,7 +129,11 @@ impl<'a> Finder<'a> {
             return false;
         }
         match self.draft.last_names() {
-            Some(Names::Sections) => pieces.begins_land(next) || self.after_except(next).is_some(),
+            Some(Names::Sections) => {
+                pieces.begins_land(next)
+                    || self.after_except(next).is_some()
+                    || pieces.begins_tier(next)
+            }
             Some(Names::Part | Names::All) => {
                 self.after_except(next).is_some()
                     || pieces.begins_tier(next)

@@ -179,6 +179,14 @@ impl<'a> Finder<'a> {
             self.draft.leave_out(next, plus(next, 1), Rule::Word);
             return plus(next, 1);
         }
+        let stop = plus(next, 1);
+        if self.draft.pieces.is(next, b"no")
+            && self.draft.pieces.is(stop, b".")
+            && self.draft.pieces.is_joined(stop)
+        {
+            self.draft.leave_out(next, plus(stop, 1), Rule::Word);
+            return plus(stop, 1);
+        }
         if let Some(value) = self.draft.pieces.after_bar_and_name(next, b"frstdivno") {
             self.leave_out_name(next);
             return value;

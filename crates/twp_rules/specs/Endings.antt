@@ -5,7 +5,7 @@ use Rattle.twp_rules.specs.Tables.{em_dash, en_dash, half_sign, quarter_sign}
 
 -- what the land is before of which HALF is written
 abbrev pub sides : List (List ℕ)
-sides = words (codes "n s e w n. s. e. w. north south east west")
+sides = words (codes "n s e w n. s. e. w. north south east west no. so.")
 
 -- what the land is before of which QUARTER is written, or the last word of it
 abbrev pub corners : List (List ℕ)

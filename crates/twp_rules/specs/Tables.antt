@@ -104,7 +104,7 @@ worn_quarters = all_as (words (codes "^ l/4 i/4 '/4") ++ (right_quote ++ codes "
 
 -- or abbreviated
 abbrev pub quarter_abbreviations : List Entry
-quarter_abbreviations = all_as (words (codes "qr. . qtr qtr.")) (codes "1/4")
+quarter_abbreviations = all_as (words (codes "qr. . qtr qtr. quar quar.")) (codes "1/4")
 
 -- DAMAGE: letters that scanning makes of digits, and digits of letters
 abbrev pub damages : List Entry
@@ -121,7 +121,7 @@ exceptions = all_as (words (codes "less except excepting excluding save exc excl
 -- DIRECTION: words for sides and corners
 abbrev pub directions : List Entry
 directions = pairs (words (codes "north=N south=S east=E west=W northeast=NE northwest=NW southeast=SE"))
-    ++ pairs (texts (codes "southwest=SW|north east=NE|north west=NW|south east=SE|south west=SW"))
+    ++ pairs (texts (codes "southwest=SW|north east=NE|north west=NW|south east=SE|south west=SW|no.=N|so.=S"))
 
 -- and such words with a letter missing, or two letters in each other's place
 abbrev pub worn_directions : List Entry
@@ -148,7 +148,7 @@ headings = pairs (texts (codes "=T. |= R. |=R. |= |= N., R. |= S., R. |= E., |= 
 abbrev pub heading_words : List Entry
 heading_words = all_as (words (codes "township twp tp twsp")) (codes "T.")
     ++ all_as (words (codes "range rng rge rg")) (codes "R.")
-    ++ pairs (texts (codes "in=|of=|0sn=, sec. |a=|numbered=|aliquot part:=|aliquot part=|twn=T."))
+    ++ pairs (texts (codes "in=|of=|0sn=, sec. |a=|numbered=|aliquot part:=|aliquot part=|twn=T.|no.="))
 
 -- and the marks in them
 abbrev pub heading_marks : List Entry
@@ -214,10 +214,10 @@ little_words = all_left_out (words (codes "the of in and said all entire section
 
 abbrev pub more_little_words : List Entry
 more_little_words = all_left_out (words (codes "public domain federal land lands fractional thereof except"))
-    ++ all_left_out (words (codes "excepting for therefrom &"))
+    ++ all_left_out (words (codes "excepting for therefrom & fr. frl frl. frac. fract fract. fractl fractl."))
 
 abbrev pub joining_words : List Entry
-joining_words = all_left_out (words (codes "also together with not exception inclusive incl both numbered"))
+joining_words = all_left_out (words (codes "also together with not exception inclusive incl both numbered no."))
     ++ pairs (codes "everything=all" ∷ [])
 
 -- ZEROS: before the other digits of a number

@@ -23,6 +23,8 @@ pub(crate) fn has_sides(seen: &[u8]) -> bool
         || ends_with(seen, b"south")
         || ends_with(seen, b"east")
         || ends_with(seen, b"west")
+        || ends_with(seen, b"no.")
+        || ends_with(seen, b"so.")
 }
 
 /// Whether a text ends with one of the texts `corners` of the specification.

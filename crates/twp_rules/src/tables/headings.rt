@@ -23,7 +23,7 @@ pub(crate) fn is_in_headings(seen: &[u8], written: &[u8]) -> bool
 }
 
 /// The table `heading_words` of the specification.
-static HEADING_WORDS: [[u8; 14]; 16] = [
+static HEADING_WORDS: [[u8; 14]; 17] = [
     *b"township=T.___",
     *b"twp=T.________",
     *b"tp=T._________",
@@ -40,6 +40,7 @@ static HEADING_WORDS: [[u8; 14]; 16] = [
     *b"aliquot part:=",
     *b"aliquot part=_",
     *b"twn=T.________",
+    *b"no.=__________",
 ];
 
 /// Whether this is a row of it: what it looks at, and what it writes.

@@ -75,11 +75,13 @@ pub(crate) fn is_in_quarters(seen: &[u8], written: &[u8]) -> bool
 }
 
 /// The table `quarter_abbreviations` of the specification.
-static QUARTER_ABBREVIATIONS: [[u8; 8]; 4] = [
-    *b"qr.=1/4_",
-    *b".=1/4___",
-    *b"qtr=1/4_",
-    *b"qtr.=1/4",
+static QUARTER_ABBREVIATIONS: [[u8; 9]; 6] = [
+    *b"qr.=1/4__",
+    *b".=1/4____",
+    *b"qtr=1/4__",
+    *b"qtr.=1/4_",
+    *b"quar=1/4_",
+    *b"quar.=1/4",
 ];
 
 /// Whether this is a row of it: what it looks at, and what it writes.
@@ -90,8 +92,8 @@ pub(crate) fn is_in_quarter_abbreviations(seen: &[u8], written: &[u8]) -> bool
         seen,
         written,
         0x0002_4000,
-        0x2014_0000,
-        0x2004_4000,
+        0x2034_0000,
+        0x2004_4002,
         &QUARTER_ABBREVIATIONS,
     )
 }
@@ -136,7 +138,7 @@ pub(crate) fn is_in_worn_quarters(seen: &[u8], written: &[u8]) -> bool
 }
 
 /// The table `directions` of the specification.
-static DIRECTIONS: [[u8; 13]; 12] = [
+static DIRECTIONS: [[u8; 13]; 14] = [
     *b"north=N______",
     *b"south=S______",
     *b"east=E_______",
@@ -149,6 +151,8 @@ static DIRECTIONS: [[u8; 13]; 12] = [
     *b"north west=NW",
     *b"south east=SE",
     *b"south west=SW",
+    *b"no.=N________",
+    *b"so.=S________",
 ];
 
 /// Whether this is a row of it: what it looks at, and what it writes.
@@ -160,7 +164,7 @@ pub(crate) fn is_in_directions(seen: &[u8], written: &[u8]) -> bool
         written,
         0x0088_4020,
         0x0000_8022,
-        0x002c_0000,
+        0x002c_4000,
         &DIRECTIONS,
     )
 }
