@@ -319,12 +319,37 @@ impl<'a> Finder<'a> {
             Some(section) => matches!(pieces.kind(section.first), Kind::Number(_)),
             None => false,
         };
+        if self.is_next_item(index) {
+            return Some(true);
+        }
         let is_next = is_list
             && is_after_semicolon
             && matches!(last, Some(Names::Part | Names::All))
             && pieces.begins_land(next)
             && !pieces.is_joined(next);
         if is_next { Some(true) } else { None }
+    }
+
+    /// Whether the number at an index, of two digits, begins an item with a hyphen and land after it, after a semicolon and
+    /// the land of a section with a hyphen, as in `14-NENE; 15-S2; 22-ALL`.
+    fn is_next_item(&self, index: usize) -> bool {
+        let pieces = &self.draft.pieces;
+        let next = plus(index, 1);
+        let Some(section) = self.draft.last_section else {
+            return false;
+        };
+        let is_dashed = pieces.is_dash(plus(section.first, 1)) && pieces.is_dash(next);
+        let is_after_land = matches!(
+            self.draft.last_names(),
+            Some(Names::Part | Names::All | Names::Lots)
+        );
+        is_dashed
+            && is_after_land
+            && section.numbers.end == plus(section.numbers.first, 1)
+            && pieces.follows(index, b";")
+            && pieces.has_digits(index, 2)
+            && !pieces.is_joined(index)
+            && pieces.begins_land(plus(next, 1))
     }
 
     /// Whether the place of the number at an index says that it is that of a section, or that it isn't: after
