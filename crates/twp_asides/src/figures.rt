@@ -44,13 +44,40 @@ impl<'a> Pieces<'a> {
             || self.follows(index, b";");
         let next = plus(index, 1);
         let is_short = self.is(index, b"tr") && self.is(next, b".") && self.is_joined(next);
-        let place = plus(next, usize::from(is_short));
+        let place = self.after_no(plus(next, usize::from(is_short)));
         let mark = plus(place, 1);
         let number = self.number(place).unwrap_or(0);
-        if is_apart && number <= SECTIONS && self.is(mark, b":") {
-            Some(plus(mark, 1))
+        if !is_apart || number > SECTIONS {
+            return None;
+        }
+        if self.is(mark, b":") {
+            return Some(plus(mark, 1));
+        }
+        let is_dashed = self.is_dash(mark) && !self.is_joined(mark) && !self.is_joined(plus(mark, 1));
+        let is_line = self.has_before(mark, b'\n') && self.begins_line(index);
+        if (is_dashed || is_line) && self.is_letter_or_digits(place) {
+            Some(mark)
         } else {
             None
+        }
+    }
+
+    /// The index after `No.`, if that is at an index.
+    fn after_no(&self, index: usize) -> usize {
+        let stop = plus(index, 1);
+        if self.is(index, b"no") && self.is(stop, b".") {
+            plus(stop, 1)
+        } else {
+            index
+        }
+    }
+
+    /// Whether a letter that is no side, or a number, is at an index.
+    fn is_letter_or_digits(&self, index: usize) -> bool {
+        match self.kind(index) {
+            Kind::Number(_) => true,
+            Kind::Other => self.size(index) == 1,
+            _ => false,
         }
     }
 
@@ -201,8 +228,12 @@ impl<'a> Pieces<'a> {
         if !self.is_joined(next) {
             return false;
         }
+        let is_bank = self.is(second, b"natl")
+            || self.is(second, b"national")
+            || self.is(second, b"security")
+            || self.is(second, b"bank");
         let is_day = is_ending_of_ordinal(self.lower(next))
-            && (self.is(second, b"day") || self.follows(index, b"the"));
+            && (is_bank || self.is(second, b"day") || self.follows(index, b"the"));
         let is_eighths = self.is(next, b"/")
             && self.is_joined(second)
             && (self.is(second, b"8") || self.is(second, b"16"));

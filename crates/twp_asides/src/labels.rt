@@ -83,6 +83,9 @@ impl<'a> Pieces<'a> {
         if !matches!(self.kind(index), Kind::Other) {
             return None;
         }
+        if let Some(end) = self.end_of_quarter_of_quarter(index) {
+            return Some(end);
+        }
         if self.is_label_of_part(index) {
             return Some(plus(index, if self.is(plus(index, 2), b":") { 3 } else { 2 }));
         }
@@ -142,6 +145,21 @@ impl<'a> Pieces<'a> {
                     || self.is_column_of_quarters(index)
             }
             _ => false,
+        }
+    }
+
+    /// Where `Qtr/Qtr:` at an index ends, before a quarter of a quarter.
+    fn end_of_quarter_of_quarter(&self, index: usize) -> Option<usize> {
+        let mark = plus(index, 3);
+        let value = plus(mark, 1);
+        let is_name = self.is(index, b"qtr")
+            && self.is(plus(index, 1), b"/")
+            && self.is(plus(index, 2), b"qtr");
+        let has_mark = self.is(mark, b":") || self.is(mark, b"=");
+        if is_name && has_mark && self.size(value) == 4 && self.begins_part(value) {
+            Some(value)
+        } else {
+            None
         }
     }
 
@@ -323,10 +341,14 @@ impl<'a> Pieces<'a> {
         }
     }
 
-    /// Whether a number of one or two digits is at an index, with a period or a parenthesis joined to it.
+    /// Whether a number of one or two digits, or a letter, is at an index, with a period or a parenthesis joined to it.
     fn is_number_with_mark(&self, index: usize) -> bool {
         let mark = plus(index, 1);
-        (self.has_digits(index, 1) || self.has_digits(index, 2))
+        let is_letter = self.size(index) == 1
+            && matches!(self.kind(index), Kind::Other)
+            && self.begins_with_letter(index)
+            && self.is(mark, b")");
+        (self.has_digits(index, 1) || self.has_digits(index, 2) || is_letter)
             && self.is_joined(mark)
             && (self.is(mark, b".") || self.is(mark, b")"))
     }

@@ -37,7 +37,7 @@ pub enum Position {
 /// Where the remark at an index ends: with its cell, or at a mark. None if a word of it may name land, or
 /// limit it.
 pub fn end_of_remark(pieces: &Pieces<'_>, index: usize, position: Position) -> Option<usize> {
-    if pieces.is(index, b"(") {
+    if pieces.is(index, b"(") || pieces.is(index, b"[") {
         return end_of_parentheses(pieces, index);
     }
     if let Some(end) = pieces.end_of_tract(index) {
@@ -249,6 +249,17 @@ fn ends_remark(pieces: &Pieces<'_>, index: usize, position: Position) -> bool {
     is_mark || is_colon || pieces.begins_column(index)
 }
 
+/// Whether a book and a page of three digits are at an index, as `31/406`.
+fn is_book_and_page(pieces: &Pieces<'_>, index: usize) -> bool {
+    let slash = plus(index, 1);
+    let page = plus(slash, 1);
+    pieces.number(index).is_some()
+        && pieces.is(slash, b"/")
+        && pieces.is_joined(slash)
+        && pieces.has_digits(page, 3)
+        && pieces.is_joined(page)
+}
+
 /// Whether `the` is at an index, and an aliquot part after it, after who conveys land, or has it, as in
 /// `Grantor conveys to Grantee the SW1/4`.
 fn is_after_conveyance(pieces: &Pieces<'_>, index: usize) -> bool {
@@ -288,7 +299,8 @@ fn is_after_record(pieces: &Pieces<'_>, index: usize) -> bool {
         || pieces.follows(number, b"page")
         || pieces.follows(number, b"inst")
         || pieces.follows(number, b"#")
-        || (pieces.follows(number, b"no") && pieces.size(number) >= 4);
+        || (pieces.follows(number, b"no") && pieces.size(number) >= 4)
+        || matches!(number.checked_sub(2), Some(book) if is_book_and_page(pieces, book));
     is_number && is_record && pieces.begins_place(index)
 }
 
@@ -339,6 +351,7 @@ fn is_other_figure(pieces: &Pieces<'_>, index: usize) -> bool {
 fn end_of_parentheses(pieces: &Pieces<'_>, index: usize) -> Option<usize> {
     let next = plus(index, 1);
     let first = pieces.lower(next);
+    let mark: &'static [u8] = if pieces.is(index, b"(") { b")" } else { b"]" };
     if let Some(close) = end_of_depths(pieces, next) {
         return if pieces.is(close, b")") {
             Some(plus(close, 1))
@@ -362,7 +375,7 @@ fn end_of_parentheses(pieces: &Pieces<'_>, index: usize) -> Option<usize> {
         || begins_terms(first)
         || after_acreage > next;
     for place in after_acreage..plus(after_acreage, PARENTHESES_MOST) {
-        if pieces.is(place, b")") {
+        if pieces.is(place, mark) {
             return if is_sure { Some(plus(place, 1)) } else { None };
         }
         is_sure = is_sure || is_known_at(pieces, place) || pieces.is(place, b"file");

@@ -85,6 +85,18 @@ impl<'a> Finder<'a> {
             || pieces.is_section_before_land(index)
             || self.is_section_after_land(index)
             || self.is_letter_before_colon(index)
+            || self.is_letter_in_cell(index)
+    }
+
+    /// Whether the letter and the number at an index fill a cell after a township, and no half has such a number.
+    fn is_letter_in_cell(&self, index: usize) -> bool {
+        let pieces = &self.draft.pieces;
+        let digits = plus(index, 1);
+        let may_be_half = pieces.is(digits, b"2") || pieces.is(digits, b"4");
+        self.draft.last_names() == Some(Names::Heading)
+            && pieces.begins_cell(index)
+            && pieces.begins_cell(plus(digits, 1))
+            && !may_be_half
     }
 
     /// Whether the letter and the number at an index are before a colon and land, and no half has such a number.

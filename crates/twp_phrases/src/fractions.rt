@@ -241,7 +241,7 @@ impl<'a> Finder<'a> {
     }
 
     /// Whether a fraction with a hyphen is at an index, as in `W 1-2 of SE 1-4`: with an `of` before or after
-    /// its letters, since `SE 1-4` may be of four sections.
+    /// its letters, since `SE 1-4` may be of four sections, or with periods, as in `S.W. 1-4`.
     fn is_hyphenated(&self, index: usize, size: Size) -> bool {
         let pieces = &self.draft.pieces;
         let next = plus(index, 1);
@@ -249,7 +249,7 @@ impl<'a> Finder<'a> {
         let is_of = pieces.is(plus(index, 3), b"of")
             || pieces.is_back(index, 2, b"of")
             || pieces.is_back(index, 3, b"of");
-        is_of
+        (is_of || pieces.follows(index, b"."))
             && pieces.is(index, b"1")
             && pieces.is(next, b"-")
             && pieces.is_joined(next)

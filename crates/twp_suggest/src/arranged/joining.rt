@@ -56,19 +56,6 @@ impl<'a> Plan<'a> {
         joining
     }
 
-    /// Whether two lots each have their letter, as in `L1 L2`.
-    fn are_lots_of_letters(&self, before: &Phrase, after: &Phrase) -> bool {
-        self.is_lot_of_letter(before) && self.is_lot_of_letter(after)
-    }
-
-    /// Whether a lot has its letter, joined to its number.
-    fn is_lot_of_letter(&self, lot: &Phrase) -> bool {
-        let pieces = &self.draft.pieces;
-        lot.names == Names::Lots
-            && pieces.is(lot.first, b"l")
-            && pieces.is_joined(plus(lot.first, 1))
-    }
-
     /// Whether it isn't sure what the pieces between two phrases mean.
     pub fn is_unsure_gap(
         &self,
@@ -114,7 +101,7 @@ impl<'a> Plan<'a> {
             }
             Joining::Nothing if are_parts && is_left_out_after(before, left_out, LeftOut::Label) =>
                 { !self.are_tracts(before) }
-            Joining::Nothing if self.are_lots_of_letters(before, after) => false,
+            Joining::Nothing if before.names == Names::Lots && after.names == Names::Lots => false,
             Joining::Nothing => !has_section(left_out),
             Joining::Stop
                 if before.names == Names::Lots
