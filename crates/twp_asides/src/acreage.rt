@@ -125,7 +125,8 @@ impl<'a> Pieces<'a> {
         }
         // A total may have no other unit, as in `240.00 gross`.
         let is_total = (self.is_figure_with_decimals(end) && self.begins_column(plus(next, 1)))
-            || self.is(plus(next, 1), b")");
+            || self.is(plus(next, 1), b")")
+            || self.is_before_other_total(plus(next, 1));
         if self.is_kind_of_acreage(next) && is_total {
             return Some(plus(next, 1));
         }
@@ -147,6 +148,17 @@ impl<'a> Pieces<'a> {
             next = plus(next, 1);
         }
         Some(next)
+    }
+
+    /// Whether a slash, a number, and `net` or `gross` are at an index, as after `320 gross` in `320 gross/160 net`, or the
+    /// end of such a pair is there.
+    fn is_before_other_total(&self, index: usize) -> bool {
+        let is_pair = self.is(index, b"/")
+            && self.number(plus(index, 1)).is_some()
+            && is_net_or_gross(self.lower(plus(index, 2)));
+        let is_second = self.is_back(index, 3, b"/")
+            && matches!(self.lower_back(index, 4), Some(word) if is_net_or_gross(word));
+        is_pair || is_second
     }
 
     /// Whether `net` or `gross` at an index is of the acreage before it, and doesn't name the next one with a colon.

@@ -8,7 +8,7 @@ use twp_grammar::Kind;
 const WORDS_MOST: usize = 51;
 
 /// Words before land, in lowercase, filled up with `_`.
-static WORDS_BEFORE: [[u8; WORDS_MOST]; 51] = [
+static WORDS_BEFORE: [[u8; WORDS_MOST]; 57] = [
     *b"pod________________________________________________",
     *b"pou________________________________________________",
     *b"diversion__________________________________________",
@@ -60,6 +60,12 @@ static WORDS_BEFORE: [[u8; WORDS_MOST]; 51] = [
     *b"fyi________________________________________________",
     *b"described lands____________________________________",
     *b"mineral interest in________________________________",
+    *b"point of diversion_________________________________",
+    *b"points of diversion________________________________",
+    *b"legal description__________________________________",
+    *b"description________________________________________",
+    *b"lands involved_____________________________________",
+    *b"lands covered______________________________________",
 ];
 
 /// Words after land, in lowercase, filled up with `_`.

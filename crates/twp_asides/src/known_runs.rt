@@ -25,6 +25,22 @@ impl<'a> Pieces<'a> {
         }
     }
 
+    /// Where acreage in parentheses with a known word before it ends, as `(public 1,280 ac)`: with less than a thousand
+    /// acres, the text may mean a part of the land.
+    pub fn end_of_known_acreage(&self, index: usize) -> Option<usize> {
+        let word = plus(index, 1);
+        let is_large = self.is(plus(word, 2), b",") && self.is_joined(plus(word, 2));
+        if !self.is(index, b"(") || !self.is_known_word(word) || !is_large {
+            return None;
+        }
+        let end = self.end_of_acreage(plus(word, 1))?;
+        if self.is(end, b")") {
+            Some(plus(end, 1))
+        } else {
+            None
+        }
+    }
+
     /// Where such a run at an index ends.
     fn end_of_known_words(&self, index: usize) -> Option<usize> {
         let mut has_word = false;

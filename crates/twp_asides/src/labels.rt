@@ -333,7 +333,8 @@ impl<'a> Pieces<'a> {
             && !self.is_joined(next);
         let is_place = self.begins_tier(next)
             || matches!(self.kind(next), Kind::Sec)
-            || self.is_label_of_tract(next);
+            || self.is_label_of_tract(next)
+            || self.end_of_words_before(next).is_some();
         if is_item && is_place && self.names_section_of_line(next) {
             Some(next)
         } else {
@@ -446,7 +447,7 @@ impl<'a> Pieces<'a> {
         if self.is(index, b"a") && self.is(plus(index, 1), b"/") && self.is(plus(index, 3), b"/") {
             return plus(index, 5);
         }
-        if self.is(index, b"being") || self.is(index, b"aka") {
+        if self.is(index, b"being") || self.is(index, b"aka") || self.is(index, b"=") {
             return plus(index, 1);
         }
         if self.is(index, b"also")

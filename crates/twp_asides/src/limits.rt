@@ -32,7 +32,8 @@ pub(crate) fn is_beyond_remark(pieces: &Pieces<'_>, index: usize) -> bool {
             && !matches!(index.checked_sub(1), Some(before) if pieces.is_date(before)))
         || (pieces.is(index, b"tract") && pieces.number(plus(index, 1)).unwrap_or(0) > SECTIONS)
         || ((is_partial(pieces.lower(index)) || is_beyond_label(pieces.lower(index)))
-            && !is_of_instrument(pieces, index))
+            && !is_of_instrument(pieces, index)
+            && !pieces.is_percentage(plus(index, 1)))
 }
 
 /// Whether a date, or a month, is at an index.

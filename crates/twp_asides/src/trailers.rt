@@ -1,7 +1,7 @@
 //! What is said after land, and isn't land: `limited to the Lance formation`, `recorded in Book 3`, `HBP`.
 
 use crate::limits::is_size_or_acreage;
-use crate::marks::is_metes_and_bounds;
+use crate::marks::{is_metes_and_bounds, is_of_well};
 use crate::pieces::{Pieces, plus};
 use twp_grammar::Kind;
 use twp_words::{
@@ -104,8 +104,9 @@ fn is_beyond_trailer(pieces: &Pieces<'_>, trailer: Trailer, index: usize) -> boo
     };
     // `$2.00/acre` is a price.
     let is_parcel = names_parcel(word) && !pieces.follows(index, b"/");
+    let is_well = trailer == Trailer::Terms && is_of_well(pieces, index);
     let is_part = trailer != Trailer::Office
-        && (is_parcel || is_partial(word) || pieces.may_be_section(index));
+        && (is_parcel || is_partial(word) || (pieces.may_be_section(index) && !is_well));
     let is_beyond = match trailer {
         Trailer::Terms => {
             is_beyond_terms(word)
@@ -201,9 +202,11 @@ fn trailer_with_next(pieces: &Pieces<'_>, word: &[u8], next: usize) -> Option<Tr
         && pieces.is(next, b"shown")
         && is_soon(pieces, next, b"official");
     let is_filed = is_same(word, b"has") && pieces.is(next, b"filed");
+    let is_priced = (is_same(word, b"appraised") && pieces.is(next, b"at"))
+        || (is_same(word, b"sold") && pieces.is(next, b"for"));
     let is_end = is_same(word, b"only")
         && matches!(pieces.kind(next), Kind::Stop | Kind::Semicolon);
-    if is_shown || is_end || is_filed {
+    if is_shown || is_end || is_filed || is_priced {
         return Some(Trailer::Terms);
     }
     None

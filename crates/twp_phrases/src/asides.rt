@@ -54,6 +54,8 @@ impl<'a> Finder<'a> {
             has_more = self.is_before_more_land(land);
             end = plus(land, usize::from(has_more));
         }
+        let said = end;
+        end = self.after_of_said_section(end);
         let is_closed = self.draft.pieces.is(end, b")");
         if is_closed != is_in_parentheses || !(is_closed || self.is_last_of_item(end)) {
             return None;
@@ -61,8 +63,20 @@ impl<'a> Finder<'a> {
         let last = plus(end, usize::from(is_closed));
         self.draft
             .add(Names::Nothing(LeftOut::Repeated), index, last, from);
-        self.draft.add_said(first, end, from);
+        self.draft.add_said(first, said, from);
         Some(last)
+    }
+
+    /// The index after `of said Section`, if that is at an index.
+    fn after_of_said_section(&self, index: usize) -> usize {
+        let pieces = &self.draft.pieces;
+        let said = plus(index, 1);
+        let section = plus(said, 1);
+        let is_said = pieces.is(index, b"of")
+            && pieces.is(said, b"said")
+            && matches!(pieces.kind(section), Kind::Sec)
+            && pieces.number(plus(section, 1)).is_none();
+        if is_said { plus(section, 1) } else { index }
     }
 
     /// Where the lots or the aliquot part at an index end, which aren't added as a phrase.
@@ -138,6 +152,9 @@ impl<'a> Finder<'a> {
             } else {
                 Some((LeftOut::Acreage, end))
             };
+        }
+        if let Some(end) = pieces.end_of_known_acreage(index) {
+            return Some((LeftOut::Acreage, end));
         }
         if let Some(end) = pieces.end_of_first_serial(index) {
             return Some((LeftOut::Label, end));

@@ -132,7 +132,7 @@ parenthesis_ends = words (codes ") ]")
 
 -- land that was named before, without parentheses, begins with, after white space
 abbrev pub being_fronts : List (List ℕ)
-being_fronts = words (codes "being aka a/")
+being_fronts = texts (codes "being|aka|a/|also known as|also described as")
 
 -- what a word for tens ends with, before that for a number from one to nine
 abbrev pub tens_ends : List (List ℕ)

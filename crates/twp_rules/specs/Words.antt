@@ -130,6 +130,7 @@ column_words = words (codes "mer meridian twp township t rng range r sec section
     ++ words (codes "district field office county state st mgmt agency tract school")
     ++ words (codes "rge rg tp twn name remarks notes grantor grantee date book page inst status parcel pin")
     ++ words (codes "id use value mi int interest tr qq qqsec qsec instrument acreage owner")
+    ++ words (codes "line code action act remark")
 
 -- the words of a section that is written elsewhere, or that was named before
 abbrev pub moved_section_words : List (List ℕ)

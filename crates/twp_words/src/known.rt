@@ -28,13 +28,14 @@ pub fn is_known(word: &[u8]) -> bool {
         4 => is_among(
             word,
             0x596330_0039e02a,
-            "aums case cash corp cult elev mgmt mins npri open orri paid srhe term usfs",
+            "aums case cash corp cult elev mgmt mins npri open orri page paid srhe term \
+             usfs",
         ),
         5 => is_among(
             word,
-            0xd5b20_001890ce,
-            "adams boise bonus clark final gross latah lemhi owner scrip state taxes teton \
-             total",
+            0xd5b30_001890ce,
+            "adams boise bonus clark filed final gross latah lemhi owner scrip state taxes \
+             teton total",
         ),
         6 => is_among(
             word,
@@ -50,14 +51,14 @@ pub fn is_known(word: &[u8]) -> bool {
         ),
         8 => is_among(
             word,
-            0x14403a_00292032,
+            0x14403a_002d2032,
             "assessed assignor district domestic duchesne entryman minidoka patentee \
-             shoshone unfenced",
+             register shoshone unfenced",
         ),
         9 => is_among(
             word,
             0x1040a0_00012420,
-            "endowment jefferson mortgagee producing",
+            "effective endowment jefferson mortgagee producing",
         ),
         10 => is_among(
             word,

@@ -75,13 +75,13 @@ pub fn is_column(word: &[u8]) -> bool {
         2 => is_among(word, 0x178290_001e6200, "id mi no nr qq rg st tp tr"),
         3 => is_among(
             word,
-            0x1540a8_003d7200,
-            "int lot mer net pin rge rng sec snr twn twp use",
+            0x1540a8_003d7202,
+            "act int lot mer net pin rge rng sec snr twn twp use",
         ),
         4 => is_among(
             word,
-            0x1a0868_001b7216,
-            "aliq book date desc inst lots mgmt name page qsec suff type",
+            0x1a0868_001b721e,
+            "aliq book code date desc inst line lots mgmt name page qsec suff type",
         ),
         5 => is_among(
             word,
@@ -90,8 +90,8 @@ pub fn is_column(word: &[u8]) -> bool {
         ),
         6 => is_among(
             word,
-            0x24c1020_0009c00a,
-            "agency county number office parcel status subdiv survey",
+            0x24c5820_000dc00a,
+            "action agency county number office parcel remark status subdiv survey",
         ),
         7 => is_among(
             word,

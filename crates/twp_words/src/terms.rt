@@ -16,7 +16,11 @@ pub fn begins_terms(word: &[u8]) -> bool {
         5 => is_among(word, 0x40020_00001200, "instr lease"),
         6 => is_among(word, 0x81030_001d1000, "leased please rental serial thanks"),
         7 => is_among(word, 0x2081020_00050030, "decimal expires private royalty"),
-        8 => is_among(word, 0x100010_00040210, "document interest recorded"),
+        8 => is_among(
+            word,
+            0x100010_00040230,
+            "document examined interest recorded",
+        ),
         10 => is_among(word, 0x100000_00000200, "instrument"),
         _ => false,
     }

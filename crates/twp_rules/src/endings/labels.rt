@@ -50,7 +50,13 @@ pub(crate) fn has_parenthesis_ends(seen: &[u8]) -> bool
 }
 
 /// The texts `being_fronts` of the specification.
-static BEING_FRONTS: [[u8; 5]; 3] = [*b"being", *b"aka__", *b"a/___"];
+static BEING_FRONTS: [[u8; 17]; 5] = [
+    *b"being____________",
+    *b"aka______________",
+    *b"a/_______________",
+    *b"also known as____",
+    *b"also described as",
+];
 
 /// Whether a text begins with one of them.
 pub(crate) fn has_being_fronts(seen: &[u8]) -> bool

@@ -9,7 +9,7 @@ use crate::rows::is_one_of;
 use crate::same::is_text;
 
 /// The texts `column_words` of the specification.
-static COLUMN_WORDS: [[u8; 11]; 66] = [
+static COLUMN_WORDS: [[u8; 11]; 71] = [
     *b"mer________",
     *b"meridian___",
     *b"twp________",
@@ -76,13 +76,18 @@ static COLUMN_WORDS: [[u8; 11]; 66] = [
     *b"instrument_",
     *b"acreage____",
     *b"owner______",
+    *b"line_______",
+    *b"code_______",
+    *b"action_____",
+    *b"act________",
+    *b"remark_____",
 ];
 
 /// Whether a word is one of them.
 pub(crate) fn is_in_column_words(word: &[u8]) -> bool
     ensures { result ≡ is_one_of word.now column_words }
 {
-    is_one_of(word, 0x007f_f2de, 0x82bf_d2fa, 0x82bd_f3ee, &COLUMN_WORDS)
+    is_one_of(word, 0x007f_f2de, 0x82bf_d2fa, 0x82bd_f3fe, &COLUMN_WORDS)
 }
 
 /// The texts `moved_section_words` of the specification.

@@ -2,7 +2,7 @@
 
 use crate::arranged::plan::Plan;
 use twp_asides::plus;
-use twp_draft::{Names, Phrase, Placed};
+use twp_draft::{Form, Names, Phrase, Placed};
 use twp_grammar::Kind;
 
 /// The most phrases among which a part is looked for that is excepted as a whole.
@@ -17,6 +17,10 @@ impl<'a> Plan<'a> {
         let mut is_first = false;
         for index in 0..list.len() {
             let phrase = list[index].phrase;
+            // An `of` before white space, as in `N/2 of N/2 SW/4, less NWNW`, may end with either part.
+            if phrase.form == Form::WithOf && goes_on(list, index) {
+                self.draft.doubt();
+            }
             match phrase.names {
                 Names::Sections => count = 0,
                 Names::Nothing(_) | Names::Heading => {}
