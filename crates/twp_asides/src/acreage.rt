@@ -52,7 +52,8 @@ impl<'a> Pieces<'a> {
     /// The index after acreage with decimals at an index, and a comma, before more that is said of the land, as
     /// in `(120.00 ac., 60.00 net)`.
     pub(crate) fn after_acreage_in_list(&self, index: usize) -> usize {
-        if !self.is_figure_with_decimals(index) {
+        let is_large = self.is(plus(index, 1), b",") && self.has_digits(plus(index, 2), 3);
+        if !self.is_figure_with_decimals(index) && !is_large {
             return index;
         }
         match self.end_of_figure_and_unit(index) {

@@ -19,6 +19,11 @@ fn is_ending_of_ordinal(word: &[u8]) -> bool {
     is_same(word, b"st") || is_same(word, b"nd") || is_same(word, b"rd") || is_same(word, b"th")
 }
 
+/// Whether a word ends a fraction in words, as in `3/16ths`.
+fn is_ending_of_fraction(word: &[u8]) -> bool {
+    is_same(word, b"ths") || is_same(word, b"th")
+}
+
 impl<'a> Pieces<'a> {
     /// Whether a percentage is at an index, as `12.5%`.
     pub fn is_percentage(&self, index: usize) -> bool {
@@ -199,6 +204,7 @@ impl<'a> Pieces<'a> {
             has_mark = has_mark || is_mark;
             after = plus(place, 1);
         }
+        after = plus(after, usize::from(is_ending_of_fraction(self.lower(after))));
         has_mark && is_of_share(self.lower(after))
     }
 
@@ -249,7 +255,10 @@ impl<'a> Pieces<'a> {
         let word = self.lower(before);
         let is_month_before = self.is(before, b".")
             && matches!(self.lower_back(before, 1), Some(month) if is_month(month));
+        let is_lease = self.is(before, b"#")
+            && matches!(self.lower_back(before, 1), Some(label) if is_of_label(label));
         let is_record = is_month_before
+            || is_lease
             || (self.is(before, b".") && self.follows(before, b"no"))
             || is_of_label(word)
             || is_instrument(word)

@@ -49,7 +49,9 @@ impl<'a> Pieces<'a> {
                 || is_same(word, b"minerals")
                 || is_same(word, b"mineral")
                 || is_same(word, b"royalty")
-                || is_of_share(word);
+                || is_of_share(word)
+                || is_same(word, b"oil")
+                || is_same(word, b"gas");
             let is_of_lands = self.follows(place, b"lands") || self.follows(place, b"land");
             let is_in = (is_same(word, b"in") && !is_of_lands)
                 || is_same(word, b"wit")

@@ -70,6 +70,7 @@ impl<'a> Pieces<'a> {
     pub(crate) fn is_for_before_land(&self, index: usize) -> bool {
         let next = plus(index, 1);
         let is_after_entry = matches!(self.kind_before(index), Some(Kind::BadNumber))
+            || matches!(self.lower_back(index, 1), Some(word) if is_of_request(word))
             || matches!(index.checked_sub(1), Some(entry) if self.has_digits(entry, 4));
         self.is(index, b"for")
             && (self.begins_line(index) || self.follows(index, b",") || is_after_entry)

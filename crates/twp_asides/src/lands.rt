@@ -16,7 +16,10 @@ impl<'a> Pieces<'a> {
                     && !self.is_of_title(index)
             }
             Kind::EastWest(_) => !self.begins_number(index) && !self.is_of_title(index),
-            Kind::All => !is_of_right(self.lower(plus(index, 1))),
+            Kind::All => {
+                let next = plus(index, 1);
+                !is_of_right(self.lower(next)) && !self.is(next, b"men")
+            }
             Kind::Other => self.begins_step(index) || begins_exception(self.lower(index)),
             _ => false,
         }

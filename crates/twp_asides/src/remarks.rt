@@ -10,11 +10,14 @@ use crate::trailers::end_of_depths;
 use twp_grammar::Kind;
 use twp_words::{
     adds_land, begins_reference, begins_terms, is_acres, is_boundary, is_instrument, is_more,
-    is_of_covering, is_of_time, is_of_water, is_state, names_parcel, points_into,
+    is_of_covering, is_of_time, is_of_water, is_same, is_state, names_parcel, points_into,
 };
 
 /// The most pieces of a remark.
 const PIECES_MOST: usize = 64;
+
+/// The most pieces between who conveys land and the land, as in `conveys to Wm. Harker the SW1/4`.
+const CONVEYANCE_MOST: usize = 8;
 
 /// The most pieces of a remark in parentheses.
 const PARENTHESES_MOST: usize = 16;
@@ -52,7 +55,8 @@ pub fn end_of_remark(pieces: &Pieces<'_>, index: usize, position: Position) -> O
         || is_row_of_table(pieces, index)
         || begins_address(pieces, index)
         || is_name_of_value(pieces, index)
-        || is_homesite_of_acreage(pieces, index);
+        || is_homesite_of_acreage(pieces, index)
+        || begins_question(pieces, index);
     let mut next = index;
     for place in index..plus(index, PIECES_MOST) {
         if place > index && (place >= pieces.len() || ends_remark(pieces, place, position)) {
@@ -70,6 +74,9 @@ pub fn end_of_remark(pieces: &Pieces<'_>, index: usize, position: Position) -> O
             is_sure = true;
             continue;
         }
+        if is_end_of_question(pieces, index, place) {
+            continue;
+        }
         if leaves_remark(pieces, index, place, position) {
             return None;
         }
@@ -77,6 +84,25 @@ pub fn end_of_remark(pieces: &Pieces<'_>, index: usize, position: Position) -> O
         is_sure = is_sure || is_known_at(pieces, place);
     }
     None
+}
+
+/// Whether a question or a request after land begins at an index, as in `Do we have a lease on this?`
+fn begins_question(pieces: &Pieces<'_>, index: usize) -> bool {
+    pieces.is(index, b"do")
+        || pieces.is(index, b"does")
+        || pieces.is(index, b"can")
+        || pieces.is(index, b"could")
+        || pieces.is(index, b"please")
+        || pieces.is(index, b"let")
+        || pieces.is(index, b"call")
+        || pieces.is(index, b"sorry")
+}
+
+/// Whether the mark of a question that begins at an index ends its line at a later place.
+fn is_end_of_question(pieces: &Pieces<'_>, index: usize, place: usize) -> bool {
+    pieces.is(place, b"?")
+        && begins_question(pieces, index)
+        && pieces.begins_line(plus(place, 1))
 }
 
 /// Whether a remark from an index may end at a later place: more would follow the end of the text, or its
@@ -266,17 +292,35 @@ fn is_after_conveyance(pieces: &Pieces<'_>, index: usize) -> bool {
     if !matches!(pieces.kind(index), Kind::The) || !pieces.begins_part(index) {
         return false;
     }
-    let is_verb = |count: usize| {
-        pieces.is_back(index, count, b"conveys")
-            || pieces.is_back(index, count, b"conveyed")
-            || pieces.is_back(index, count, b"grants")
-            || pieces.is_back(index, count, b"quitclaims")
-            || pieces.is_back(index, count, b"owns")
-            || pieces.is_back(index, count, b"own")
-            || pieces.is_back(index, count, b"need")
-    };
     let is_described = pieces.follows(index, b"as") && pieces.is_back(index, 2, b"described");
-    is_described || is_verb(1) || (pieces.is_back(index, 2, b"to") && is_verb(3))
+    if is_described {
+        return true;
+    }
+    for count in 1..CONVEYANCE_MOST {
+        let Some(word) = pieces.lower_back(index, count) else {
+            return false;
+        };
+        if is_verb_of_conveyance(word) {
+            return true;
+        }
+        if points_into(word) {
+            return false;
+        }
+    }
+    false
+}
+
+/// Whether a word says that somebody conveys land, or has it.
+fn is_verb_of_conveyance(word: &[u8]) -> bool {
+    is_same(word, b"convey")
+        || is_same(word, b"conveys")
+        || is_same(word, b"conveyed")
+        || is_same(word, b"grants")
+        || is_same(word, b"quitclaim")
+        || is_same(word, b"quitclaims")
+        || is_same(word, b"owns")
+        || is_same(word, b"own")
+        || is_same(word, b"need")
 }
 
 /// Whether the period of a sentence is at an index, and a section or a township after it.

@@ -174,6 +174,7 @@ impl<'a> Finder<'a> {
         if self.names_land {
             let unsaid = pieces
                 .end_of_intent(index)
+                .or(pieces.end_of_parcel_number(index))
                 .or(pieces.end_of_gross_acreage(index));
             if let Some(end) = unsaid {
                 return Some((LeftOut::Label, end));

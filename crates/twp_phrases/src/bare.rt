@@ -320,6 +320,7 @@ impl<'a> Finder<'a> {
             || pieces.follows(index, b",")
             || pieces.is_after_dash(index)
             || pieces.follows(index, b"|")
+            || (pieces.follows(index, b":") && !self.names_land)
             || pieces.begins_line(index);
         if pieces.is(next, b":") && (is_first || is_apart) {
             return Some(plus(next, 1) < pieces.len());

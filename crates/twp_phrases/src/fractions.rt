@@ -256,16 +256,17 @@ impl<'a> Finder<'a> {
             && self.is_digit(digit, size)
     }
 
-    /// Whether a fraction whose slash was read as a `1` is at an index, as in `NE 114 of the SW 114`: with an `of` before
-    /// or after its letters, since it may be acreage.
+    /// Whether a fraction whose slash was read as a `1` is at an index, as in `NE114`, or `NE 114 of the SW 114`: with an
+    /// `of` before or after its letters, or joined to them, since it may be acreage.
     fn is_worn_slash(&self, index: usize, size: Size) -> bool {
         let pieces = &self.draft.pieces;
-        let is_of = pieces.is(plus(index, 1), b"of")
+        let is_sure = pieces.is_joined(index)
+            || pieces.is(plus(index, 1), b"of")
             || pieces.is_back(index, 2, b"of")
             || pieces.is_back(index, 3, b"of");
         match size {
-            Size::Half => is_of && pieces.is(index, b"112"),
-            Size::Quarter => is_of && pieces.is(index, b"114"),
+            Size::Half => is_sure && pieces.is(index, b"112"),
+            Size::Quarter => is_sure && pieces.is(index, b"114"),
         }
     }
 

@@ -33,9 +33,9 @@ pub fn is_known(word: &[u8]) -> bool {
         ),
         5 => is_among(
             word,
-            0xd5b30_001890ce,
-            "adams boise bonus clark filed final gross latah lemhi owner scrip state taxes \
-             teton total",
+            0xd5bb0_001892ce,
+            "adams boise bonus clark filed final gross irrig latah lemhi owner scrip state \
+             taxes teton total",
         ),
         6 => is_among(
             word,

@@ -15,7 +15,11 @@ pub fn begins_terms(word: &[u8]) -> bool {
         4 => is_among(word, 0x104a00_00008204, "book inst open orri"),
         5 => is_among(word, 0x40020_00001200, "instr lease"),
         6 => is_among(word, 0x81030_001d1000, "leased please rental serial thanks"),
-        7 => is_among(word, 0x2081020_00050030, "decimal expires private royalty"),
+        7 => is_among(
+            word,
+            0x2081020_00050030,
+            "decimal expires primary private royalty",
+        ),
         8 => is_among(
             word,
             0x100010_00040230,
