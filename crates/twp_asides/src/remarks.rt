@@ -102,7 +102,7 @@ fn begins_question(pieces: &Pieces<'_>, index: usize) -> bool {
 fn is_end_of_question(pieces: &Pieces<'_>, index: usize, place: usize) -> bool {
     pieces.is(place, b"?")
         && begins_question(pieces, index)
-        && pieces.begins_line(plus(place, 1))
+        && pieces.begins_column(plus(place, 1))
 }
 
 /// Whether a remark from an index may end at a later place: more would follow the end of the text, or its
@@ -303,7 +303,8 @@ fn is_after_conveyance(pieces: &Pieces<'_>, index: usize) -> bool {
         if is_verb_of_conveyance(word) {
             return true;
         }
-        if points_into(word) {
+        let is_grantee = count > 1 && is_same(word, b"to");
+        if points_into(word) && !is_grantee {
             return false;
         }
     }
