@@ -277,7 +277,7 @@ impl<'a> Pieces<'a> {
     fn is_number_of_section(&self, index: usize) -> bool {
         let next = plus(index, 1);
         match self.kind(index) {
-            Kind::Number(number) => number >= 1 && number <= SECTIONS,
+            Kind::Number(number) => number >= 1 && number <= SECTIONS && self.size(index) < 4,
             Kind::Other if is_numeral(self.lower(index)) => {
                 let is_followed = matches!(self.lower(next), [b'a'..=b'z', ..])
                     || self.is_dash(next);

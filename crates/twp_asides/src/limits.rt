@@ -67,8 +67,10 @@ pub(crate) fn is_size_or_acreage(pieces: &Pieces<'_>, index: usize) -> bool {
         pieces.lower_back(index, 1),
         Some(label) if is_of_label(label) || is_instrument(label) || is_of_record(label)
     );
+    let is_use = pieces.is(next, b"aums") || pieces.is(next, b"aum");
     let is_called = is_round_acreage(pieces.number(index).unwrap_or(0))
         && !is_record
+        && !is_use
         && (!pieces.is_joined(index) || pieces.follows(index, b"("))
         && (!pieces.is_joined(next) || pieces.is(next, b")"));
     is_size || is_called

@@ -193,6 +193,7 @@ fn begins_remark(pieces: &Pieces<'_>, index: usize, position: Position) -> bool 
         Kind::Number(number) => {
             number > SECTIONS
                 || number == 0
+                || pieces.size(index) >= 4
                 || pieces.is_date(index)
                 || pieces.end_of_code(index).is_some()
                 || is_of_time(pieces.lower(plus(index, 1)))

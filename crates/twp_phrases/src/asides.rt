@@ -4,6 +4,10 @@ use crate::finder::Finder;
 use twp_asides::{end_of_trailer, plus};
 use twp_draft::{LeftOut, Names};
 use twp_grammar::Kind;
+use twp_rules::Rule;
+
+/// The most lots and parts in parentheses.
+const LANDS_MOST: usize = 12;
 
 /// The number of a township's last section: a number up to this in parentheses isn't acreage.
 const SECTIONS: u16 = 36;
@@ -95,7 +99,7 @@ impl<'a> Finder<'a> {
         let pieces = &self.draft.pieces;
         let next = plus(index, 1);
         (pieces.is(index, b",") || pieces.is(index, b"and"))
-            && (pieces.begins_part(next) || matches!(pieces.kind(next), Kind::Lot))
+            && (pieces.begins_part(next) || self.is_lot_at(next))
     }
 
     /// Whether an item or a line ends before an index.
@@ -275,7 +279,7 @@ impl<'a> Finder<'a> {
         let land = if matches!(self.draft.pieces.kind(first), Kind::All) {
             plus(first, 1)
         } else {
-            self.part_in_pieces(first)?
+            self.lands_in_pieces(first)?
         };
         let acreage = if self.draft.pieces.is(land, b",") {
             self.draft.pieces.end_of_acreage(plus(land, 1))
@@ -299,6 +303,35 @@ impl<'a> Finder<'a> {
             self.draft
                 .add(Names::Nothing(LeftOut::Repeated), index, end, from),
         )
+    }
+
+    /// Where the lots and parts at an index end, which commas, `and`, or white space divide, as in `(L1 L2 E2NW, NE)`; or
+    /// one part, of which white space may be between two steps.
+    fn lands_in_pieces(&mut self, index: usize) -> Option<usize> {
+        let is_list = self.is_lot_at(index);
+        if !is_list {
+            return self.part_in_pieces(index);
+        }
+        let mut end = self.end_of_land(index)?;
+        for _ in 0..LANDS_MOST {
+            let next = plus(end, usize::from(self.is_before_more_land(end)));
+            if next == end {
+                if !(self.is_lot_at(end) || self.draft.pieces.begins_part(end)) {
+                    break;
+                }
+                let place = self.draft.pieces.end_before(end);
+                self.draft.write(place, place, b",", Rule::Comma);
+            }
+            end = self.end_of_land(next)?;
+        }
+        Some(end)
+    }
+
+    /// Whether a word for lots, or their letter, is at an index.
+    fn is_lot_at(&self, index: usize) -> bool {
+        let pieces = &self.draft.pieces;
+        matches!(pieces.kind(index), Kind::Lot)
+            || (pieces.is(index, b"l") && pieces.number(plus(index, 1)).is_some())
     }
 
     /// Where the aliquot part at an index ends, of which white space may be between two steps, as in
