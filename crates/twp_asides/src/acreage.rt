@@ -178,6 +178,14 @@ impl<'a> Pieces<'a> {
             && !(self.is_joined(point) && matches!(self.kind_before(point), Some(Kind::Other)))
     }
 
+    /// Whether one of the two pieces of `con-`, a line end, and `taining` is at an index.
+    fn is_divided_lead(&self, index: usize) -> bool {
+        (self.is(index, b"con")
+            && self.is_hyphen_at_line_end(plus(index, 1))
+            && self.is(plus(index, 2), b"taining"))
+            || (self.is(index, b"taining") && self.is_back(index, 2, b"con"))
+    }
+
     /// Words before acreage, at an index.
     fn lead_of_acreage(&self, index: usize) -> Lead {
         let mut lead = Lead {
@@ -190,7 +198,7 @@ impl<'a> Pieces<'a> {
         let mut has_word = false;
         for place in index..plus(index, WORDS_MOST) {
             let word = self.lower(place);
-            let is_lead = is_acreage_lead(word);
+            let is_lead = is_acreage_lead(word) || self.is_divided_lead(place);
             let is_unit = is_acres(word) || is_same(word, b"acreage");
             let is_mark = (self.is(place, b":")
                 || self.is(place, b".")
@@ -198,7 +206,8 @@ impl<'a> Pieces<'a> {
                 || self.after_quoted_name(place).is_some())
                 && place > index
                 && !self.is_after_point(plus(place, 1));
-            if !is_lead && !is_unit && !is_mark && !is_area_word(word) {
+            let is_hyphen = self.is_hyphen_at_line_end(place) && self.is_divided_lead(plus(place, 1));
+            if !is_lead && !is_unit && !is_mark && !is_hyphen && !is_area_word(word) {
                 break;
             }
             has_word = has_word || is_lead || is_unit;

@@ -68,7 +68,7 @@ impl<'a> Pieces<'a> {
     }
 
     /// The index after `No.`, if that is at an index.
-    fn after_no(&self, index: usize) -> usize {
+    pub(crate) fn after_no(&self, index: usize) -> usize {
         let stop = plus(index, 1);
         if self.is(index, b"no") && self.is(stop, b".") {
             plus(stop, 1)

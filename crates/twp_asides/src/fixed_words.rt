@@ -8,7 +8,7 @@ use twp_grammar::Kind;
 const WORDS_MOST: usize = 51;
 
 /// Words before land, in lowercase, filled up with `_`.
-static WORDS_BEFORE: [[u8; WORDS_MOST]; 57] = [
+static WORDS_BEFORE: [[u8; WORDS_MOST]; 61] = [
     *b"pod________________________________________________",
     *b"pou________________________________________________",
     *b"diversion__________________________________________",
@@ -66,10 +66,14 @@ static WORDS_BEFORE: [[u8; WORDS_MOST]; 57] = [
     *b"description________________________________________",
     *b"lands involved_____________________________________",
     *b"lands covered______________________________________",
+    *b"placer claim_______________________________________",
+    *b"placer_____________________________________________",
+    *b"legal land description_____________________________",
+    *b"real property______________________________________",
 ];
 
 /// Words after land, in lowercase, filled up with `_`.
-static WORDS_AFTER: [[u8; WORDS_MOST]; 20] = [
+static WORDS_AFTER: [[u8; WORDS_MOST]; 23] = [
     *b"for recreation or public purposes__________________",
     *b"for purposes of calculating rentals________________",
     *b"for calculating rentals____________________________",
@@ -90,6 +94,9 @@ static WORDS_AFTER: [[u8; WORDS_MOST]; 20] = [
     *b"patented w/mins____________________________________",
     *b"patented with minerals_____________________________",
     *b"no minerals reserved_______________________________",
+    *b"formerly lease no__________________________________",
+    *b"county records_____________________________________",
+    *b"records of said county_____________________________",
 ];
 
 /// What is before the filling of a row.
@@ -114,6 +121,9 @@ impl<'a> Pieces<'a> {
         let end = self.end_of_some_words(index, &WORDS_BEFORE)?;
         let is_marked = self.is(end, b":") || (self.is_dash(end) && !self.is_joined(end));
         let next = plus(end, usize::from(is_marked));
+        if self.is(end, b",") && !self.is_joined(plus(end, 1)) {
+            return Some(end);
+        }
         if is_marked || self.begins_column(next) || self.begins_place(next) || self.begins_part(next)
         {
             Some(next)

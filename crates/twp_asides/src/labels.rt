@@ -3,11 +3,14 @@
 use crate::pieces::{Pieces, plus};
 use twp_grammar::Kind;
 use twp_words::{
-    begins_request, begins_terms, is_acres, is_column, is_field, is_of_request, is_same, is_township_word,
+    alters_land, begins_request, begins_terms, is_acres, is_of_covering, is_column, is_field, is_of_request, is_same, is_township_word,
 };
 
 /// The most pieces of a label.
 const PIECES_MOST: usize = 24;
+
+/// The most pieces of depths before land.
+const LIMITS_MOST: usize = 48;
 
 /// The number of a township's last section.
 const SECTIONS: u16 = 36;
@@ -37,6 +40,9 @@ impl<'a> Pieces<'a> {
             return Some(end);
         }
         if let Some(end) = self.end_of_farm_unit(index) {
+            return Some(end);
+        }
+        if let Some(end) = self.end_of_limits(index) {
             return Some(end);
         }
         if let Some(end) = self.end_of_property(index) {
@@ -106,6 +112,9 @@ impl<'a> Pieces<'a> {
                 None
             };
         }
+        if let Some(end) = self.end_of_numbered_field(index) {
+            return Some(end);
+        }
         let mut end: Option<usize> = None;
         let mut next = index;
         for place in index..plus(index, 6) {
@@ -147,6 +156,18 @@ impl<'a> Pieces<'a> {
             }
             _ => false,
         }
+    }
+
+    /// Where the name of a column with a number ends, as `LEGAL1:`.
+    fn end_of_numbered_field(&self, index: usize) -> Option<usize> {
+        let number = plus(index, 1);
+        let mark = plus(number, 1);
+        let is_named = is_field(self.lower(index)) && self.begins_column(index);
+        let is_numbered = self.has_digits(number, 1)
+            && self.is_joined(number)
+            && self.is(mark, b":")
+            && self.is_joined(mark);
+        if is_named && is_numbered { Some(plus(mark, 1)) } else { None }
     }
 
     /// Where `Qtr/Qtr:` at an index ends, before a quarter of a quarter.
@@ -272,6 +293,31 @@ impl<'a> Pieces<'a> {
                 return if is_land { Some(land) } else { None };
             }
             if !self.is_of_farm_unit(place) {
+                return None;
+            }
+        }
+        None
+    }
+
+    /// Where depths to which a lease is limited end, before the land that it covers, as in `Limited to those depths from the
+    /// surface to the base of the Lance Formation, insofar as the lease covers`.
+    fn end_of_limits(&self, index: usize) -> Option<usize> {
+        if !self.is(index, b"limited") || !self.is(plus(index, 1), b"to") {
+            return None;
+        }
+        for place in plus(index, 2)..plus(index, LIMITS_MOST) {
+            if is_of_covering(self.lower(place)) {
+                let land = plus(place, 1);
+                return if self.begins_place(land) || self.begins_part(land) {
+                    Some(land)
+                } else {
+                    None
+                };
+            }
+            let is_limit = self.may_be_land(place)
+                || self.may_be_section(place)
+                || alters_land(self.lower(place));
+            if is_limit {
                 return None;
             }
         }

@@ -34,7 +34,8 @@ pub(crate) fn is_beyond_remark(pieces: &Pieces<'_>, index: usize) -> bool {
         || (pieces.is(index, b"tract") && pieces.number(plus(index, 1)).unwrap_or(0) > SECTIONS)
         || ((is_partial(pieces.lower(index)) || is_beyond_label(pieces.lower(index)))
             && !is_of_instrument(pieces, index)
-            && !pieces.is_percentage(plus(index, 1)))
+            && !pieces.is_percentage(plus(index, 1))
+            && !is_of_formula(pieces, index))
 }
 
 /// Whether a date, or a month, is at an index.
@@ -142,4 +143,10 @@ fn is_of_instrument(pieces: &Pieces<'_>, index: usize) -> bool {
 pub(crate) fn is_exempt(pieces: &Pieces<'_>, index: usize) -> bool {
     let next = plus(index, 1);
     pieces.is(index, b"exempt") && (pieces.is(next, b")") || pieces.begins_column(next))
+}
+
+/// Whether the word at an index is of `IT IS FURTHER ORDERED`, or the value of a column, as in `SURVTYPTXT=Original`.
+fn is_of_formula(pieces: &Pieces<'_>, index: usize) -> bool {
+    (pieces.is(index, b"further") && pieces.is(plus(index, 1), b"ordered"))
+        || (pieces.is(index, b"original") && pieces.follows(index, b"="))
 }

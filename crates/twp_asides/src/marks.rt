@@ -46,7 +46,7 @@ pub(crate) fn is_of_well(pieces: &Pieces<'_>, index: usize) -> bool {
 
 /// Whether a tract begins a line, in the cells after which is its land.
 pub(crate) fn begins_tract(pieces: &Pieces<'_>, index: usize) -> bool {
-    let next = plus(index, 2);
+    let next = plus(pieces.after_no(plus(index, 1)), 1);
     (pieces.is(index, b"tract") || pieces.is(index, b"parcel"))
         && pieces.has_before(index, b'\n')
         && pieces.has_before(next, b'\t')

@@ -36,6 +36,7 @@ numbered_words = words (codes "tract tr parcel no nos number bk book vol pg page
     ++ words (codes "permit entry cat idi meridian mer jan january feb february mar march apr april may jun")
     ++ words (codes "june jul july aug august sep sept september oct october nov november dec december row")
     ++ words (codes "mch patent pat cert certificate application contract agreement order list paragraph roll code account acct allot report form")
+    ++ words (codes "waste dry irr grz past crop")
     ++ codes "pasture" ∷ []
 
 -- words for what a number before them counts, and for a meridian

@@ -169,7 +169,15 @@ fn is_digit_at(text: &[u8], start: usize, at: usize) -> bool
 {
     byte_at(text, at).is_ascii_digit()
         && (!byte_before(text, at).is_ascii_digit() || at == start)
-        && !begins_with(rest_of(text, at), b"0sn")
+        && !is_in_word(rest_of(text, at))
+}
+
+/// Whether the digit with which a text begins is of a word for a section: that of a register, or one with a damaged
+/// letter.
+fn is_in_word(rest: &[u8]) -> bool
+    ensures { result ≡ begins_with_one rest.now (words (codes "0sn 5ec 8ec")) }
+{
+    begins_with(rest, b"0sn") || begins_with(rest, b"5ec") || begins_with(rest, b"8ec")
 }
 
 /// The place of the first digit of a number that isn't 0, or of its first 0 if it has no other digit, or of the word

@@ -18,7 +18,11 @@ pub fn is_company(word: &[u8]) -> bool {
 /// Words of which a remark after land has at least one, if it has no number of a lease or a record.
 pub fn is_known(word: &[u8]) -> bool {
     match word.len() {
-        2 => is_among(word, 0x10d8290_02a51152, "ag do fo hd lp pd ps ri ux wi yr"),
+        2 => is_among(
+            word,
+            0x10d8290_02a53152,
+            "ag do fo hd lp mi pd ps ri ux wi yr",
+        ),
         3 => is_among(
             word,
             0x73df23a_027573fe,
@@ -33,9 +37,9 @@ pub fn is_known(word: &[u8]) -> bool {
         ),
         5 => is_among(
             word,
-            0xd5bb0_001892ce,
+            0xd5bb0_009892ce,
             "adams boise bonus clark filed final gross irrig latah lemhi owner scrip state \
-             taxes teton total",
+             taxes teton total waste",
         ),
         6 => is_among(
             word,

@@ -87,15 +87,15 @@ pub fn is_of_record(word: &[u8]) -> bool {
     match word.len() {
         3 => is_among(
             word,
-            0x255518c_0049e452,
-            "apr aug dec feb jan jul jun mar may mch nov oct par pat sep vol",
+            0x655518c_0049e6d2,
+            "apr aug dec dry feb grz irr jan jul jun mar may mch nov oct par pat sep vol",
         ),
         4 => is_among(
             word,
-            0x2103028_000c744a,
-            "acct cert code form july june list misc note roll sept",
+            0x2113028_000d744a,
+            "acct cert code crop form july june list misc note past roll sept",
         ),
-        5 => is_among(word, 0x141100_0000a002, "allot april march order"),
+        5 => is_among(word, 0x141120_0080a002, "allot april march order waste"),
         6 => is_among(word, 0x100000_00050002, "august patent report"),
         7 => is_among(word, 0x2140000_0000840a, "account comment january october"),
         8 => is_among(

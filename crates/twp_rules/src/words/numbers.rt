@@ -8,7 +8,7 @@ ghost use Rattle.twp_rules.specs.Words.{numeral_words};
 use crate::rows::is_one_of;
 
 /// The texts `numbered_words` of the specification.
-static NUMBERED_WORDS: [[u8; 11]; 80] = [
+static NUMBERED_WORDS: [[u8; 11]; 86] = [
     *b"tract______",
     *b"tr_________",
     *b"parcel_____",
@@ -89,13 +89,19 @@ static NUMBERED_WORDS: [[u8; 11]; 80] = [
     *b"allot______",
     *b"report_____",
     *b"form_______",
+    *b"waste______",
+    *b"dry________",
+    *b"irr________",
+    *b"grz________",
+    *b"past_______",
+    *b"crop_______",
 ];
 
 /// Whether a word is one of them.
 pub(crate) fn is_in_numbered_words(word: &[u8]) -> bool
     ensures { result ≡ is_one_of word.now numbered_words }
 {
-    is_one_of(word, 0x007d_f67e, 0x81bd_daba, 0x82dd_f3be, &NUMBERED_WORDS)
+    is_one_of(word, 0x00fd_f6fe, 0x81bd_daba, 0x86dd_f3be, &NUMBERED_WORDS)
 }
 
 /// The texts `units` of the specification.
