@@ -280,7 +280,8 @@ impl<'p, 'a> ChangeWriter<'p, 'a> {
         let is_of = pieces.is(index, b"of") && !pieces.follows(index, b"all");
         let is_first = gap.first == 0
             && !(is_of || pieces.is(index, b"and") || pieces.is(index, b"&"));
-        is_before_moved || is_and || is_the || is_first
+        let is_after_all = pieces.is(index, b"of") && pieces.follows(index, b"all") && rest.is_empty();
+        is_before_moved || is_and || is_the || is_first || (is_after_all && gap.end == plus(index, 1))
     }
 
     /// Leaves out a phrase, with the white space before it, but for words that a rule looks at as a whole.
@@ -296,7 +297,7 @@ impl<'p, 'a> ChangeWriter<'p, 'a> {
             && pieces.number(first).is_some()
             && pieces.has_before(first, b'\n');
         let start = match rule {
-            Rule::Heading | Rule::Label => pieces.start(first),
+            Rule::Heading | Rule::Label | Rule::Word => pieces.start(first),
             _ if is_figure_on_line => pieces.start(first),
             _ => self.plan.draft.pieces.end_before(first),
         };
