@@ -40,6 +40,51 @@ impl<'a> Plan<'a> {
         }
     }
 
+    /// Whether the part at an index, after a comma, can't be excepted with the land before it, as in
+    /// `W/2E/2 less SWSE, E/2W/2`: the parts from which that is excepted have no land in common with it.
+    pub(crate) fn is_land_after_exception(&self, list: &[Placed], index: usize) -> bool {
+        let (Some(placed), Some(before)) = (list.get(index), index.checked_sub(1)) else {
+            return false;
+        };
+        let Some(last) = list.get(before) else {
+            return false;
+        };
+        let phrase = placed.phrase;
+        phrase.names == Names::Part
+            && last.phrase.names == Names::Part
+            && !goes_on(list, index)
+            && self.draft.pieces.is(last.phrase.end, b",")
+            && phrase.first == plus(last.phrase.end, 1)
+            && self.is_apart_from_whole(&list[..before], phrase)
+    }
+
+    /// Whether an exception is among the last phrases, and the parts of its section before it, of which there are some,
+    /// have no land in common with a part.
+    fn is_apart_from_whole(&self, list: &[Placed], part: Phrase) -> bool {
+        let mut is_excepted = true;
+        let mut has_part = false;
+        for placed in list.iter().rev().take(PHRASES_MOST) {
+            let phrase = placed.phrase;
+            match phrase.names {
+                // A comma before the exception sets it apart, with all that is listed after it.
+                Names::Except if is_excepted && !self.draft.pieces.follows(phrase.first, b",") => {
+                    is_excepted = false;
+                }
+                Names::Except => return false,
+                Names::Part if !is_excepted => {
+                    if self.draft.do_overlap(phrase, part) {
+                        return false;
+                    }
+                    has_part = true;
+                }
+                Names::Lots | Names::All if !is_excepted => return false,
+                Names::Sections => return !is_excepted && has_part,
+                _ => {}
+            }
+        }
+        false
+    }
+
     /// Doubts a part after `and` and a list of lots that are excepted from a part, if that list has an `and` of its own,
     /// as in `N/2 less Lots 1 & 2 and S/2NE/4`: the part may be kept.
     pub(crate) fn doubt_part_after_lots(&mut self, list: &[Placed]) {
