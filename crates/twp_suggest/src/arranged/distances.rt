@@ -237,12 +237,17 @@ impl<'a> Plan<'a> {
         found.await_land(far);
     }
 
-    /// Whether a section and the one before it each begin a line: what is before the line is of the section before.
+    /// Whether a section and the one before it, each with its word, begin a line: what is before the line is of the
+    /// section before.
     fn are_in_lines(&self, before: Option<Phrase>, section: Phrase) -> bool {
         let pieces = &self.draft.pieces;
         match before {
             Some(before) => {
-                pieces.begins_line(before.first) && pieces.has_before(section.first, b'\n')
+                let are_named = matches!(pieces.kind(before.first), Kind::Sec)
+                    && matches!(pieces.kind(section.first), Kind::Sec);
+                are_named
+                    && pieces.begins_line(before.first)
+                    && pieces.has_before(section.first, b'\n')
             }
             None => false,
         }
