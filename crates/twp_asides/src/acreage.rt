@@ -206,7 +206,8 @@ impl<'a> Pieces<'a> {
                 || self.after_quoted_name(place).is_some())
                 && place > index
                 && !self.is_after_point(plus(place, 1));
-            let is_hyphen = self.is_hyphen_at_line_end(place) && self.is_divided_lead(plus(place, 1));
+            let is_hyphen = self.is_hyphen_at_line_end(place)
+                && self.is_divided_lead(plus(place, 1));
             if !is_lead && !is_unit && !is_mark && !is_hyphen && !is_area_word(word) {
                 break;
             }

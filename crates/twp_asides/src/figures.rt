@@ -58,7 +58,9 @@ impl<'a> Pieces<'a> {
         if self.is(mark, b":") {
             return Some(plus(mark, 1));
         }
-        let is_dashed = self.is_dash(mark) && !self.is_joined(mark) && !self.is_joined(plus(mark, 1));
+        let is_dashed = self.is_dash(mark)
+            && !self.is_joined(mark)
+            && !self.is_joined(plus(mark, 1));
         let is_line = self.has_before(mark, b'\n') && self.begins_line(index);
         if (is_dashed || is_line) && self.is_letter_or_digits(place) {
             Some(mark)

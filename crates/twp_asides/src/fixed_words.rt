@@ -124,7 +124,10 @@ impl<'a> Pieces<'a> {
         if self.is(end, b",") && !self.is_joined(plus(end, 1)) {
             return Some(end);
         }
-        if is_marked || self.begins_column(next) || self.begins_place(next) || self.begins_part(next)
+        if is_marked
+            || self.begins_column(next)
+            || self.begins_place(next)
+            || self.begins_part(next)
         {
             Some(next)
         } else {

@@ -4,8 +4,8 @@
 use crate::pieces::{Pieces, plus};
 use twp_grammar::Kind;
 use twp_words::{
-    begins_property, is_acres, is_of_interest, is_of_property, is_of_share, is_owner, is_same, is_whose,
-    names_property, points_into,
+    begins_property, is_acres, is_of_interest, is_of_property, is_of_share, is_owner, is_same,
+    is_whose, names_property, points_into,
 };
 
 /// The most pieces of an interest, or of words for a property.

@@ -173,7 +173,11 @@ impl<'a> Pieces<'a> {
             && self.is_hyphen_at_line_end(hyphen)
             && self.start(rest) == plus(self.end(hyphen), 1)
             && self.is(rest, b"tion");
-        if is_divided { Some(plus(rest, 1)) } else { None }
+        if is_divided {
+            Some(plus(rest, 1))
+        } else {
+            None
+        }
     }
 
     /// Whether the second word for a corner is at an index.

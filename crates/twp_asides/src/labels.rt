@@ -3,17 +3,12 @@
 use crate::pieces::{Pieces, plus};
 use twp_grammar::Kind;
 use twp_words::{
-    alters_land, begins_request, begins_terms, is_acres, is_of_covering, is_column, is_field, is_of_request, is_same, is_township_word,
+    begins_request, begins_terms, is_acres, is_column, is_field, is_of_covering, is_of_request,
+    is_same, is_township_word,
 };
 
 /// The most pieces of a label.
 const PIECES_MOST: usize = 24;
-
-/// The most pieces of depths before land.
-const LIMITS_MOST: usize = 48;
-
-/// The number of a township's last section.
-const SECTIONS: u16 = 36;
 
 impl<'a> Pieces<'a> {
     /// Where the label at an index ends.
@@ -158,42 +153,6 @@ impl<'a> Pieces<'a> {
         }
     }
 
-    /// Where the name of a column with a number ends, as `LEGAL1:`.
-    fn end_of_numbered_field(&self, index: usize) -> Option<usize> {
-        let number = plus(index, 1);
-        let mark = plus(number, 1);
-        let is_named = is_field(self.lower(index)) && self.begins_column(index);
-        let is_numbered = self.has_digits(number, 1)
-            && self.is_joined(number)
-            && self.is(mark, b":")
-            && self.is_joined(mark);
-        if is_named && is_numbered { Some(plus(mark, 1)) } else { None }
-    }
-
-    /// Where `Qtr/Qtr:` at an index ends, before a quarter of a quarter.
-    fn end_of_quarter_of_quarter(&self, index: usize) -> Option<usize> {
-        let mark = plus(index, 3);
-        let value = plus(mark, 1);
-        let is_name = self.is(index, b"qtr")
-            && self.is(plus(index, 1), b"/")
-            && self.is(plus(index, 2), b"qtr");
-        let has_mark = self.is(mark, b":") || self.is(mark, b"=");
-        if is_name && has_mark && self.size(value) == 4 && self.begins_part(value) {
-            Some(value)
-        } else {
-            None
-        }
-    }
-
-    /// Whether `QQ:`, or a name like it, is at an index, before a quarter of a quarter.
-    fn is_column_of_quarters(&self, index: usize) -> bool {
-        let mark = plus(index, 1);
-        let value = plus(mark, 1);
-        let is_name = self.is(index, b"qq") || self.is(index, b"qqsec") || self.is(index, b"qtrqtr");
-        let has_mark = self.is(mark, b":") || self.is(mark, b"=");
-        is_name && has_mark && self.size(value) == 4 && self.begins_part(value)
-    }
-
     /// Whether `Aliquot Part:` is at an index.
     fn is_label_of_part(&self, index: usize) -> bool {
         let part = plus(index, 1);
@@ -299,31 +258,6 @@ impl<'a> Pieces<'a> {
         None
     }
 
-    /// Where depths to which a lease is limited end, before the land that it covers, as in `Limited to those depths from the
-    /// surface to the base of the Lance Formation, insofar as the lease covers`.
-    fn end_of_limits(&self, index: usize) -> Option<usize> {
-        if !self.is(index, b"limited") || !self.is(plus(index, 1), b"to") {
-            return None;
-        }
-        for place in plus(index, 2)..plus(index, LIMITS_MOST) {
-            if is_of_covering(self.lower(place)) {
-                let land = plus(place, 1);
-                return if self.begins_place(land) || self.begins_part(land) {
-                    Some(land)
-                } else {
-                    None
-                };
-            }
-            let is_limit = self.may_be_land(place)
-                || self.may_be_section(place)
-                || alters_land(self.lower(place));
-            if is_limit {
-                return None;
-            }
-        }
-        None
-    }
-
     /// Whether the piece at an index is of the name of a farm unit: its letter, in quotes, or its plat.
     fn is_of_farm_unit(&self, index: usize) -> bool {
         let is_letter = self.size(index) == 1 && self.begins_with_letter(index);
@@ -368,71 +302,6 @@ impl<'a> Pieces<'a> {
             }
         }
         None
-    }
-
-    /// Where the number of an item at the beginning of a line ends, with its mark, as `2.`, or `1)`: a township, a section,
-    /// or a tract follows it, and the text begins with such a number.
-    pub fn end_of_item_number(&self, index: usize) -> Option<usize> {
-        let next = plus(index, 2);
-        let is_item = self.is_number_with_mark(index)
-            && self.begins_line(index)
-            && self.is_number_with_mark(0)
-            && !self.is_joined(next);
-        let is_place = self.begins_tier(next)
-            || matches!(self.kind(next), Kind::Sec)
-            || self.is_label_of_tract(next)
-            || self.end_of_words_before(next).is_some();
-        if is_item && is_place && self.names_section_of_line(next) {
-            Some(next)
-        } else {
-            None
-        }
-    }
-
-    /// Whether a number of one or two digits, or a letter, is at an index, with a period or a parenthesis joined to it.
-    fn is_number_with_mark(&self, index: usize) -> bool {
-        let mark = plus(index, 1);
-        let is_letter = self.size(index) == 1
-            && matches!(self.kind(index), Kind::Other)
-            && self.begins_with_letter(index)
-            && self.is(mark, b")");
-        (self.has_digits(index, 1) || self.has_digits(index, 2) || is_letter)
-            && self.is_joined(mark)
-            && (self.is(mark, b".") || self.is(mark, b")"))
-    }
-
-    /// Whether the word for a section is in the line that has an index.
-    fn names_section_of_line(&self, index: usize) -> bool {
-        for place in index..self.len() {
-            if matches!(self.kind(place), Kind::Sec) {
-                return true;
-            }
-            if place > index && self.has_before(place, b'\n') {
-                return false;
-            }
-        }
-        false
-    }
-
-    /// Where the number of a row ends, which is in the first field of its line, before a township, and too large for a
-    /// section.
-    pub fn end_of_row_id(&self, index: usize) -> Option<usize> {
-        let comma = plus(index, 1);
-        let tier = plus(comma, 1);
-        let is_large = match self.kind(index) {
-            Kind::Number(number) => number > SECTIONS,
-            Kind::BadNumber => true,
-            _ => false,
-        };
-        let is_field = self.begins_line(index)
-            && self.is(comma, b",")
-            && self.is_joined(comma)
-            && self.is_joined(tier);
-        if is_large && is_field && self.begins_tier(tier) {
-            Some(comma)
-        } else {
-            None
-        }
     }
 
     /// Whether a township begins at an index: the word for it, or a number with its side.

@@ -11,9 +11,7 @@ impl<'a> Pieces<'a> {
             Kind::Sec | Kind::Lot | Kind::Corner(_) => true,
             Kind::Half | Kind::Quarter => !self.is_in_date(index),
             Kind::NorthSouth(_) => {
-                !self.is_possessive(index)
-                    && !self.begins_number(index)
-                    && !self.is_of_title(index)
+                !self.is_possessive(index) && !self.begins_number(index) && !self.is_of_title(index)
             }
             Kind::EastWest(_) => !self.begins_number(index) && !self.is_of_title(index),
             Kind::All => {

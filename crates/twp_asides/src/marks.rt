@@ -77,7 +77,14 @@ fn is_name(pieces: &Pieces<'_>, index: usize) -> bool {
 
 /// Whether a date with the name of its month is at an index, as `Apr 3 1908`.
 fn is_date_with_month(pieces: &Pieces<'_>, index: usize) -> bool {
-    let day = plus(index, if pieces.is(plus(index, 1), b".") { 2 } else { 1 });
+    let day = plus(
+        index,
+        if pieces.is(plus(index, 1), b".") {
+            2
+        } else {
+            1
+        },
+    );
     let year = plus(day, if pieces.is(plus(day, 1), b",") { 2 } else { 1 });
     is_month(pieces.lower(index)) && pieces.number(day).is_some() && pieces.has_digits(year, 4)
 }

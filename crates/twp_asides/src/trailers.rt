@@ -5,9 +5,9 @@ use crate::marks::{is_metes_and_bounds, is_of_well};
 use crate::pieces::{Pieces, plus};
 use twp_grammar::Kind;
 use twp_words::{
-    alters_land, begins_exception, begins_terms, is_beyond_depths, is_beyond_terms, is_boundary, is_conveyance,
-    is_land_by_name, is_of_appurtenance, is_of_depth, is_of_estate, is_of_survey, is_of_town,
-    is_partial, is_same, is_site, is_word_for_depths, limits_land, names_parcel,
+    alters_land, begins_exception, begins_terms, is_beyond_depths, is_beyond_terms, is_boundary,
+    is_conveyance, is_land_by_name, is_of_appurtenance, is_of_depth, is_of_estate, is_of_survey,
+    is_of_town, is_partial, is_same, is_site, is_word_for_depths, limits_land, names_parcel,
 };
 
 /// The most pieces of depths in parentheses.
@@ -199,7 +199,8 @@ fn trailer_with_next(pieces: &Pieces<'_>, word: &[u8], next: usize) -> Option<Tr
     }
     let is_granted = (is_same(word, b"together") && pieces.is(next, b"with"))
         || (is_same(word, b"with")
-            && (pieces.is(next, b"all") || (pieces.is(next, b"the") && !pieces.is(plus(next, 1), b"exception"))));
+            && (pieces.is(next, b"all")
+                || (pieces.is(next, b"the") && !pieces.is(plus(next, 1), b"exception"))));
     if is_granted {
         return Some(Trailer::Granted);
     }

@@ -10,6 +10,7 @@ mod exceptions;
 mod finder;
 mod fractions;
 mod headings;
+mod letters;
 mod lots;
 mod numbered;
 mod parts;

@@ -41,7 +41,10 @@ impl<'a> Finder<'a> {
         let pieces = &self.draft.pieces;
         let second = plus(index, 1);
         let mark = plus(second, 1);
-        let third = plus(mark, usize::from(pieces.is(mark, b"&") || pieces.is(mark, b"and")));
+        let third = plus(
+            mark,
+            usize::from(pieces.is(mark, b"&") || pieces.is(mark, b"and")),
+        );
         pieces.follows(index, b"l")
             && !pieces.is_joined(index)
             && self.is_next_digit(index, second)

@@ -8,7 +8,8 @@ use Rattle.std.specs.Int.{is_in_range}
 use Rattle.twp_rules.specs.Edges.{byte_before}
 use Rattle.twp_rules.specs.Naming.{begins_number, begins_word, is_explained_at, name_after, names_land_at}
 use Rattle.twp_rules.specs.Naming.{has_no_bare_number, has_no_land, word_of}
-use Rattle.twp_rules.specs.Sayings.{begins_whole_word, has_no_limit, has_no_limit_from, is_of_title, is_possessive}
+use Rattle.twp_rules.specs.Sayings.{begins_whole_word, has_no_limit, has_no_limit_from, is_of_title}
+use Rattle.twp_rules.specs.Sayings.{is_possessive}
 use Rattle.twp_rules.specs.Sayings.{is_remark, limits_land, may_contain}
 use Rattle.twp_rules.specs.declared.saying.Saying.{Saying}
 use Rattle.twp_rules.specs.declared.saying.Saying.TheVariants.{Remark}

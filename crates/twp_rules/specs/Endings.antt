@@ -101,8 +101,8 @@ depths = texts (codes "from the|below|above|down to|all depths")
 abbrev pub estates : List (List ℕ)
 estates = texts (codes "depths|surface|from surf|mineral|oil|only")
 
--- titles of entries, deeds, and offices, and what is said of water, in which a word that limits land doesn't: what
--- they begin with,
+-- titles of entries, deeds, and offices, and what is said of water, in which a word that limits land doesn't:
+-- what they begin with,
 abbrev pub title_fronts : List (List ℕ)
 title_fronts = texts (codes "e.o.|w.d.|point of diversion|formerly lease|tax deed|survey type|survey number")
 

@@ -132,8 +132,8 @@ abbrev pub is_copied_by : List Change → ℕ → Bool
 is_copied_by [] at = false
 is_copied_by (change ∷ changes) at = copies_place at change.rule || is_copied_by changes at
 
--- the place of the first digit of a number that isn't 0, or of its first 0 if it has no other digit, or of the
--- word for it
+-- the place of the first digit of a number that isn't 0, or of its first 0 if it has no other digit, or of
+-- the word for it
 abbrev pub first_place : List ℕ → ℕ → ℕ
 first_place text at =
     if is_ascii_digit (slice_index text at) && is_ascii_digit (slice_index (without_zeros (drop at text)) 0)

@@ -44,13 +44,15 @@ is_possessive seen at =
     (byte_before seen at == 39) && is_ascii_alphabetic (byte_before seen (at - 1))
     && is_one_of (word_of (drop at seen)) (codes "s" ∷ [])
 
--- the word at a place begins a title in which no word limits land, or ends one, as in `H.E.` for a homestead entry
+-- the word at a place begins a title in which no word limits land, or ends one, as in `H.E.` for a homestead
+-- entry
 abbrev pub is_of_title : List ℕ → ℕ → Bool
 is_of_title seen at =
     begins_with_one (drop at seen) title_fronts
     || ends_with_one (take (at + length (word_of (drop at seen))) seen) title_ends
 
--- a word begins at a place, after neither a letter nor a digit, isn't the S of a possessive, and is of no such title
+-- a word begins at a place, after neither a letter nor a digit, isn't the S of a possessive, and is of no
+-- such title
 abbrev pub begins_whole_word : List ℕ → ℕ → Bool
 begins_whole_word seen at =
     is_ascii_alphabetic (slice_index seen at) && not (is_ascii_alphanumeric (byte_before seen at))

@@ -87,7 +87,8 @@ halves = all_as (texts (codes "2|/2|half|one-half|one half")) (codes "1/2")
 -- and what scanning, or a slip of the pen, leaves of a half
 abbrev pub worn_halves : List Entry
 worn_halves = all_as (words (codes "l/2 i/2 '/2") ++ (right_quote ++ codes "/2") ∷ []) (codes "1/2")
-    ++ all_as (words (codes "]/2 !/2 |/2 1/ 2/2 1/z v2 y2 % } 112") ++ pound_sign ∷ (195 ∷ 130 ∷ half_sign) ∷ [])
+    ++ all_as
+    (words (codes "]/2 !/2 |/2 1/ 2/2 1/z v2 y2 % } 112") ++ pound_sign ∷ (195 ∷ 130 ∷ half_sign) ∷ [])
     (codes "1/2")
 
 -- QUARTER: after NE, NW, SW, or SE, and white space, if any
@@ -121,7 +122,8 @@ exceptions = all_as (words (codes "less except excepting excluding save exc excl
 -- DIRECTION: words for sides and corners
 abbrev pub directions : List Entry
 directions = pairs (words (codes "north=N south=S east=E west=W northeast=NE northwest=NW southeast=SE"))
-    ++ pairs (texts (codes "southwest=SW|north east=NE|north west=NW|south east=SE|south west=SW|no.=N|so.=S"))
+    ++ pairs
+    (texts (codes "southwest=SW|north east=NE|north west=NW|south east=SE|south west=SW|no.=N|so.=S"))
 
 -- and such words with a letter missing, or two letters in each other's place
 abbrev pub worn_directions : List Entry
@@ -217,7 +219,8 @@ more_little_words = all_left_out (words (codes "public domain federal land lands
     ++ all_left_out (words (codes "excepting for therefrom & fr. frl frl. frac. fract fract. fractl fractl."))
 
 abbrev pub joining_words : List Entry
-joining_words = all_left_out (words (codes "also together with not exception inclusive incl both numbered no."))
+joining_words =
+    all_left_out (words (codes "also together with not exception inclusive incl both numbered no."))
     ++ pairs (codes "everything=all" ∷ [])
 
 -- ZEROS: before the other digits of a number

@@ -35,8 +35,8 @@ numbered_words = words (codes "tract tr parcel no nos number bk book vol pg page
     ++ words (codes "case exhibit item comment allotment owner unit property prop psc lease lse est probate")
     ++ words (codes "permit entry cat idi meridian mer jan january feb february mar march apr april may jun")
     ++ words (codes "june jul july aug august sep sept september oct october nov november dec december row")
-    ++ words (codes "mch patent pat cert certificate application contract agreement order list paragraph roll code account acct allot report form")
-    ++ words (codes "waste dry irr grz past crop")
+    ++ words (codes "mch patent pat cert certificate application contract agreement order list paragraph roll")
+    ++ words (codes "code account acct allot report form waste dry irr grz past crop")
     ++ codes "pasture" ∷ []
 
 -- words for what a number before them counts, and for a meridian
@@ -135,8 +135,10 @@ column_words = words (codes "mer meridian twp township t rng range r sec section
 
 -- the words of a section that is written elsewhere, or that was named before
 abbrev pub moved_section_words : List (List ℕ)
-moved_section_words = words (codes "sec secs section sections sect sects s sn scc sce seo see ec ection secton")
-    ++ words (codes "sectlon sectoin seciton sectiou seclion seotion sectior tion numbered no nos said same all")
+moved_section_words =
+    words (codes "sec secs section sections sect sects s sn scc sce seo see ec ection secton")
+    ++ words
+    (codes "sectlon sectoin seciton sectiou seclion seotion sectior tion numbered no nos said same all")
     ++ words (codes "both fractional in of the and to thru through")
 
 -- the words of a township and range that are
@@ -169,7 +171,8 @@ cell_marks = codes "|" ∷ (9 ∷ []) ∷ []
 
 -- the words for a section, with slips, that of a register, and the names of its column in maps of the survey
 abbrev pub section_names : List (List ℕ)
-section_names = words (codes "sec secs sect sects section sections scc sce seo see ec ection sn secton sectlon")
+section_names =
+    words (codes "sec secs sect sects section sections scc sce seo see ec ection sn secton sectlon")
     ++ words (codes "sectoin seciton sectiou seclion seotion sectior tion frstdivno frstdivlab")
 
 -- the words between the numbers of a list of sections, or before them

@@ -14,9 +14,7 @@ use crate::endings::beside::*;
 use crate::endings::labels::*;
 use crate::endings::meridians::*;
 use crate::endings::parts::*;
-use crate::figures::{
-    from, has_no_digit, is_figure, is_figure_of_acres, is_white, without_white,
-};
+use crate::figures::{from, has_no_digit, is_figure, is_figure_of_acres, is_white, without_white};
 use crate::moved::Moved;
 use crate::moving::is_only_of;
 use crate::naming::*;

@@ -84,7 +84,8 @@ IsSomeLandOfItems lots township items places =
     IsLandOfItems lots township items places ⊎ AreItemsWithLots lots township items places
 
 -- the text is read as items, of which these are the places
-pub record IsSomeLandOfText (lots : Lotting) (township : Designation) (text : List ℕ) (places : ℕ → ℕ → ℕ → Bool)
+pub record IsSomeLandOfText (lots : Lotting) (township : Designation) (text : List ℕ)
+    (places : ℕ → ℕ → ℕ → Bool)
     : Type 0 where
   pub items : List Item
   pub read : IsReadAs text items

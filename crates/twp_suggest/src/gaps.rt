@@ -280,8 +280,14 @@ impl<'p, 'a> ChangeWriter<'p, 'a> {
         let is_of = pieces.is(index, b"of") && !pieces.follows(index, b"all");
         let is_first = gap.first == 0
             && !(is_of || pieces.is(index, b"and") || pieces.is(index, b"&"));
-        let is_after_all = pieces.is(index, b"of") && pieces.follows(index, b"all") && rest.is_empty();
-        is_before_moved || is_and || is_the || is_first || (is_after_all && gap.end == plus(index, 1))
+        let is_after_all = pieces.is(index, b"of")
+            && pieces.follows(index, b"all")
+            && rest.is_empty();
+        is_before_moved
+            || is_and
+            || is_the
+            || is_first
+            || (is_after_all && gap.end == plus(index, 1))
     }
 
     /// Leaves out a phrase, with the white space before it, but for words that a rule looks at as a whole.

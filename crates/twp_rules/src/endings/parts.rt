@@ -70,25 +70,8 @@ pub(crate) fn has_section_ends(seen: &[u8]) -> bool
 
 /// The texts `worn_section_ends` of the specification.
 static WORN_SECTION_ENDS: [[u8; 3]; 19] = [
-    *b"_1l",
-    *b"_1i",
-    *b"_1o",
-    *b"_2l",
-    *b"_2i",
-    *b"_2o",
-    *b"_3l",
-    *b"_3i",
-    *b"_3o",
-    *b" ll",
-    *b" li",
-    *b" il",
-    *b" lo",
-    *b" io",
-    *b".ll",
-    *b".li",
-    *b".il",
-    *b".lo",
-    *b".io",
+    *b"_1l", *b"_1i", *b"_1o", *b"_2l", *b"_2i", *b"_2o", *b"_3l", *b"_3i", *b"_3o", *b" ll",
+    *b" li", *b" il", *b" lo", *b" io", *b".ll", *b".li", *b".il", *b".lo", *b".io",
 ];
 
 /// Whether a text ends with one of them.

@@ -203,14 +203,7 @@ pub(crate) fn is_in_worn_directions(seen: &[u8], written: &[u8]) -> bool
 
 /// The table `damages` of the specification.
 static DAMAGES: [[u8; 5]; 8] = [
-    *b"l=1__",
-    *b"i=1__",
-    *b"o=0__",
-    *b"ll=11",
-    *b"li=11",
-    *b"il=11",
-    *b"lo=10",
-    *b"io=10",
+    *b"l=1__", *b"i=1__", *b"o=0__", *b"ll=11", *b"li=11", *b"il=11", *b"lo=10", *b"io=10",
 ];
 
 /// Whether this is a row of it: what it looks at, and what it writes.

@@ -310,10 +310,7 @@ fn find_some_land<P: Lotting>(
 fn names_heading(description: &Description) -> bool
     ensures { result ≡ false → (township : Designation) → NamesTownship description.now township }
 {
-    matches!(
-        description.items().first(),
-        Some(Item::Heading { .. })
-    )
+    matches!(description.items().first(), Some(Item::Heading { .. }))
 }
 
 /// Whether land lies in other land, and isn't all of it.

@@ -8,7 +8,8 @@ returns-clause-described g c =
     let read = rw c.in-Some.is at c.in_ok-description.ensures.read in
     let only = rw c.in-Some.is at c.in_ok-description.ensures.only in
     let land =
-    is_some_land lots c.in-Some-first_township.township c.args.whole.now _ _ read (c.in_ok-find_some_land.ensures) in
+    is_some_land lots c.in-Some-first_township.township c.args.whole.now _ _ read
+    (c.in_ok-find_some_land.ensures) in
     let read_less = rw c.in-Some-2.is at c.in_ok-items.ensures.read in
     let less =
     is_some_land lots c.in-Some-first_township.township c.args.excepted.now _ _ read_less
