@@ -3,8 +3,8 @@
 use crate::pieces::{Pieces, plus};
 use twp_grammar::Kind;
 use twp_words::{
-    begins_request, begins_terms, is_acres, is_column, is_field, is_of_covering, is_of_request,
-    is_same, is_township_word,
+    begins_request, begins_terms, is_acres, is_column, is_field, is_of_request, is_same,
+    is_township_word,
 };
 
 /// The most pieces of a label.

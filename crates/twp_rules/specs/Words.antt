@@ -35,8 +35,8 @@ numbered_words = words (codes "tract tr parcel no nos number bk book vol pg page
     ++ words (codes "case exhibit item comment allotment owner unit property prop psc lease lse est probate")
     ++ words (codes "permit entry cat idi meridian mer jan january feb february mar march apr april may jun")
     ++ words (codes "june jul july aug august sep sept september oct october nov november dec december row")
-    ++ words (codes "mch patent pat cert certificate application contract agreement order list paragraph roll")
-    ++ words (codes "code account acct allot report form waste dry irr grz past crop")
+    ++ words (codes "mch patent pat cert certificate application contract agreement order list paragraph")
+    ++ words (codes "roll code account acct allot report form waste dry irr grz past crop")
     ++ codes "pasture" ∷ []
 
 -- words for what a number before them counts, and for a meridian
