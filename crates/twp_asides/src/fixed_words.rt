@@ -42,16 +42,17 @@ static WORDS_BEFORE: [[u8; WORDS_MOST]; 61] = [
     *b"do hereby grant, bargain and sell__________________",
     *b"reclamation withdrawal_____________________________",
     *b"minerals under_____________________________________",
-    *b"minerals in________________________________________",
     *b"minerals in and under______________________________",
+    *b"minerals in________________________________________",
     *b"all minerals under_________________________________",
     *b"all minerals in and under__________________________",
     *b"all oil, gas and other minerals in and under_______",
     *b"all of the oil, gas and other minerals in and under",
-    *b"oil and gas in_____________________________________",
     *b"oil and gas in and under___________________________",
+    *b"oil and gas in_____________________________________",
     *b"surface____________________________________________",
     *b"minerals___________________________________________",
+    *b"mineral interest in________________________________",
     *b"mineral____________________________________________",
     *b"oil & gas__________________________________________",
     *b"oil and gas________________________________________",
@@ -59,7 +60,6 @@ static WORDS_BEFORE: [[u8; WORDS_MOST]; 61] = [
     *b"subject land_______________________________________",
     *b"fyi________________________________________________",
     *b"described lands____________________________________",
-    *b"mineral interest in________________________________",
     *b"point of diversion_________________________________",
     *b"points of diversion________________________________",
     *b"legal description__________________________________",
@@ -169,9 +169,15 @@ impl<'a> Pieces<'a> {
 
     /// Where the words of a row end that are at an index.
     fn end_of_some_words(&self, index: usize, rows: &[[u8; WORDS_MOST]]) -> Option<usize> {
+        let [first, ..] = self.lower(index) else {
+            return None;
+        };
         for row in rows {
-            if let Some(end) = self.end_of_text(index, front_of(row)) {
-                return Some(end);
+            // Most rows begin with another byte.
+            if row[0] == *first {
+                if let Some(end) = self.end_of_text(index, front_of(row)) {
+                    return Some(end);
+                }
             }
         }
         None
