@@ -277,7 +277,9 @@ impl<'a> Pieces<'a> {
     /// Whether the question mark at the end of a request is at an index.
     pub fn is_question_mark(&self, index: usize) -> bool {
         let next = plus(index, 1);
-        let is_last = next == self.len() || begins_terms(self.lower(next));
+        let is_last = next == self.len()
+            || begins_terms(self.lower(next))
+            || self.end_of_words_after(next).is_some();
         self.is(index, b"?") && is_last && self.end_of_request(0).is_some()
     }
 

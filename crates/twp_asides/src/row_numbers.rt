@@ -51,6 +51,25 @@ impl<'a> Pieces<'a> {
         false
     }
 
+    /// Whether the code of a meridian is at an index, in a cell of its own before those of a township, a range, and a
+    /// section, as `08,2N,3W,026`.
+    pub fn is_meridian_cell(&self, index: usize) -> bool {
+        let township = plus(index, 2);
+        let range = plus(index, 5);
+        self.has_digits(index, 2)
+            && matches!(self.lower(index), [b'0', ..])
+            && self.is_number_of_cell(township)
+            && self.is_north_south(plus(township, 1))
+            && self.is_number_of_cell(range)
+            && self.is_east_west(plus(range, 1))
+            && self.is_number_of_cell(plus(range, 3))
+    }
+
+    /// Whether a number is at an index, with the comma of the cell before it joined to it.
+    fn is_number_of_cell(&self, index: usize) -> bool {
+        self.number(index).is_some() && self.is_joined(index) && self.follows(index, b",")
+    }
+
     /// Where the number of a row ends, which is in the first field of its line, before a township, and too large for a
     /// section.
     pub fn end_of_row_id(&self, index: usize) -> Option<usize> {

@@ -152,6 +152,13 @@ is_township rest =
     nat_le 1 (length (digits_of rest)) && nat_le (length (digits_of rest)) 4
     && is_one_of (mark_after_digits rest ∷ []) north_south
 
+-- a township follows a code: after white space; or, after a code that begins with 0, in the next cell
+abbrev pub is_before_township : List ℕ → List ℕ → Bool
+is_before_township code after =
+    is_township (without_white after)
+    || begins_with (without_white code) (codes "0") && begins_with after (codes ",")
+    && is_township (drop 1 after)
+
 -- a meridian, a state, or a county: its name, or the code of a register before a township
 abbrev pub is_meridian : List ℕ → List ℕ → Bool
 is_meridian seen after =
@@ -160,7 +167,7 @@ is_meridian seen after =
     || begins_with_one (without_white seen) meridian_labels)
     && has_no_land seen
     && (has_no_limit Remark seen || is_one_of (without_white seen) meridian_letters)
-    && (has_no_bare_number seen || ends_with_one seen digits && is_township (without_white after))
+    && (has_no_bare_number seen || ends_with_one seen digits && is_before_township seen after)
 
 -- stated acreage
 abbrev pub is_acreage : List ℕ → Bool

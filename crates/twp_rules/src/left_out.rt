@@ -5,11 +5,11 @@ ghost use Rattle.twp_rules.specs.Edges.{ends_with_one, is_one_of, without_white}
 ghost use Rattle.twp_rules.specs.Endings.{digits, meridian_letters};
 ghost use Rattle.twp_rules.specs.Naming.{has_no_bare_number, has_no_land};
 ghost use Rattle.twp_rules.specs.Rules.{is_acreage, is_meridian, is_moved_heading, is_moved_section, is_no_land_word};
-ghost use Rattle.twp_rules.specs.Rules.{is_apart_from_digit, is_item_number, is_place_name, is_row_number, is_township};
+ghost use Rattle.twp_rules.specs.Rules.{is_apart_from_digit, is_before_township, is_item_number, is_place_name, is_row_number};
 ghost use Rattle.twp_rules.specs.Rules.{may_be_left_out};
 ghost use Rattle.twp_rules.specs.Sayings.{has_no_limit};
 
-use crate::context::{is_township, less, without_spaces};
+use crate::context::{is_before_township, less, without_spaces};
 use crate::endings::beside::*;
 use crate::endings::labels::*;
 use crate::endings::meridians::*;
@@ -123,14 +123,14 @@ fn names_only_place(seen: &[u8], after: &[u8]) -> bool
     ensures { result ≡ (has_no_land seen.now
         && (has_no_limit Remark seen.now || is_one_of (without_white seen.now) meridian_letters)
         && (has_no_bare_number seen.now
-        || ends_with_one seen.now digits && is_township (without_white after.now))) }
+        || ends_with_one seen.now digits && is_before_township seen.now after.now)) }
 {
     if is_remark(seen) {
         return true;
     }
     has_no_land(seen)
         && (has_no_limit(Saying::Remark, seen) || is_in_meridian_letters(without_white(seen)))
-        && (has_no_bare_number(seen) || (has_digits(seen) && is_township(without_white(after))))
+        && (has_no_bare_number(seen) || (has_digits(seen) && is_before_township(seen, after)))
 }
 
 /// Whether a text is stated acreage.
