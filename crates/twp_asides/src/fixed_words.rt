@@ -73,7 +73,7 @@ static WORDS_BEFORE: [[u8; WORDS_MOST]; 61] = [
 ];
 
 /// Words after land, in lowercase, filled up with `_`.
-static WORDS_AFTER: [[u8; WORDS_MOST]; 23] = [
+static WORDS_AFTER: [[u8; WORDS_MOST]; 28] = [
     *b"for recreation or public purposes__________________",
     *b"for purposes of calculating rentals________________",
     *b"for calculating rentals____________________________",
@@ -97,6 +97,11 @@ static WORDS_AFTER: [[u8; WORDS_MOST]; 23] = [
     *b"formerly lease no__________________________________",
     *b"county records_____________________________________",
     *b"records of said county_____________________________",
+    *b"together with all accretions thereto_______________",
+    *b"surveyed___________________________________________",
+    *b"as surveyed________________________________________",
+    *b"survey type: a_____________________________________",
+    *b"survey type: l_____________________________________",
 ];
 
 /// What is before the filling of a row.
@@ -114,7 +119,10 @@ impl<'a> Pieces<'a> {
     /// Where fixed words before land end, with a colon or a dash after them: before land, its section, or its
     /// township, or at the end of a column.
     pub fn end_of_words_before(&self, index: usize) -> Option<usize> {
-        let is_word = matches!(self.kind(index), Kind::Other | Kind::All);
+        let is_word = matches!(
+            self.kind(index),
+            Kind::Other | Kind::All | Kind::NorthSouth(_)
+        );
         if !is_word || !self.is_after_mark_or_column(index) {
             return None;
         }
@@ -135,13 +143,24 @@ impl<'a> Pieces<'a> {
         }
     }
 
-    /// Where fixed words after land end: at a mark, or with their column.
+    /// Where fixed words after land end, also with parentheses: at a mark, or with their column.
     pub fn end_of_words_after(&self, index: usize) -> Option<usize> {
-        let is_word = matches!(self.kind(index), Kind::Other | Kind::All);
-        if !is_word || !self.is_after_mark_or_column(index) {
+        if self.is(index, b"(") {
+            let end = self.end_of_some_words(plus(index, 1), &WORDS_AFTER)?;
+            return if self.is(end, b")") {
+                Some(plus(end, 1))
+            } else {
+                None
+            };
+        }
+        if !matches!(self.kind(index), Kind::Other | Kind::All) {
             return None;
         }
         let end = self.end_of_some_words(index, &WORDS_AFTER)?;
+        let is_verb = self.is(index, b"is");
+        if !is_verb && !self.is_after_mark_or_column(index) {
+            return None;
+        }
         if self.is_mark(end) || self.begins_column(end) {
             Some(end)
         } else {

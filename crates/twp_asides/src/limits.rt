@@ -106,7 +106,7 @@ pub(crate) fn is_type_of_case(pieces: &Pieces<'_>, index: usize) -> bool {
         && (pieces.is_back(index, 3, b"type") || pieces.is_back(index, 4, b"type"))
 }
 
-/// Whether the word at an index is of `made a part of`, `only insofar`, `Fee minerals:`,
+/// Whether the word at an index is of `made a part of`, `by and between`, `only insofar`, `Fee minerals:`,
 /// `Proposed Reinstatement of Terminated Oil and Gas Lease`, `Row 14`, or `Case Type 281001: ROW-ROADS`, which limit
 /// no land.
 fn is_of_instrument(pieces: &Pieces<'_>, index: usize) -> bool {
@@ -114,6 +114,9 @@ fn is_of_instrument(pieces: &Pieces<'_>, index: usize) -> bool {
         && pieces.follows(index, b"a")
         && pieces.is_back(index, 2, b"made");
     let next = plus(index, 1);
+    let is_between = pieces.is(index, b"between")
+        && pieces.follows(index, b"and")
+        && pieces.is_back(index, 2, b"by");
     let is_only = pieces.is(index, b"only")
         && (pieces.is(next, b"insofar") || pieces.follows(index, b"int"));
     let is_estate = pieces.is(index, b"minerals") && pieces.is(next, b":");
@@ -129,6 +132,7 @@ fn is_of_instrument(pieces: &Pieces<'_>, index: usize) -> bool {
         || is_type_of_case(pieces, index)
         || matches!(index.checked_sub(2), Some(row) if is_type_of_case(pieces, row));
     is_part
+        || is_between
         || is_exempt(pieces, index)
         || is_only
         || is_estate

@@ -105,10 +105,13 @@ estates = texts (codes "depths|surface|from surf|mineral|oil|only")
 -- what they begin with,
 abbrev pub title_fronts : List (List ℕ)
 title_fronts = texts (codes "e.o.|w.d.|point of diversion|formerly lease|tax deed|survey type|survey number")
+    ++ texts (codes "part of that certain oil|part of that certain lease|part of that certain paid")
+    ++ texts (codes "part of that certain memorandum|part of that certain assignment")
+    ++ texts (codes "part of the oil and gas lease|s-t-r")
 
 -- and what they end with
 abbrev pub title_ends : List (List ℕ)
-title_ends = texts (codes "u.s|u. s|h.e|h. e|d.l.e|c.e|d.e|placer claim|placer claims")
+title_ends = texts (codes "u.s|u. s|h.e|h. e|d.l.e|c.e|d.e|placer claim|placer claims|by and between")
 
 -- or the number of a lease, or of a parcel
 abbrev pub number_fronts : List (List ℕ)

@@ -154,14 +154,21 @@ pub(crate) fn has_estates(seen: &[u8]) -> bool
 }
 
 /// The texts `title_fronts` of the specification.
-static TITLE_FRONTS: [[u8; 18]; 7] = [
-    *b"e.o.______________",
-    *b"w.d.______________",
-    *b"point of diversion",
-    *b"formerly lease____",
-    *b"tax deed__________",
-    *b"survey type_______",
-    *b"survey number_____",
+static TITLE_FRONTS: [[u8; 31]; 14] = [
+    *b"e.o.___________________________",
+    *b"w.d.___________________________",
+    *b"point of diversion_____________",
+    *b"formerly lease_________________",
+    *b"tax deed_______________________",
+    *b"survey type____________________",
+    *b"survey number__________________",
+    *b"part of that certain oil_______",
+    *b"part of that certain lease_____",
+    *b"part of that certain paid______",
+    *b"part of that certain memorandum",
+    *b"part of that certain assignment",
+    *b"part of the oil and gas lease__",
+    *b"s-t-r__________________________",
 ];
 
 /// Whether a text begins with one of them.
@@ -172,23 +179,24 @@ pub(crate) fn has_title_fronts(seen: &[u8]) -> bool
 }
 
 /// The texts `title_ends` of the specification.
-static TITLE_ENDS: [[u8; 13]; 9] = [
-    *b"__________u.s",
-    *b"_________u. s",
-    *b"__________h.e",
-    *b"_________h. e",
-    *b"________d.l.e",
-    *b"__________c.e",
-    *b"__________d.e",
-    *b"_placer claim",
-    *b"placer claims",
+static TITLE_ENDS: [[u8; 14]; 10] = [
+    *b"___________u.s",
+    *b"__________u. s",
+    *b"___________h.e",
+    *b"__________h. e",
+    *b"_________d.l.e",
+    *b"___________c.e",
+    *b"___________d.e",
+    *b"__placer claim",
+    *b"_placer claims",
+    *b"by and between",
 ];
 
 /// Whether a text ends with one of them.
 pub(crate) fn has_title_ends(seen: &[u8]) -> bool
     ensures { result ≡ ends_with_one seen.now title_ends }
 {
-    ends_with_one(seen, 0x0008_2020, &TITLE_ENDS)
+    ends_with_one(seen, 0x0008_6020, &TITLE_ENDS)
 }
 
 /// The texts `number_fronts` of the specification.
