@@ -103,7 +103,7 @@ pub fn beyond_of(alloc: Global, text: &[u8]) -> Result<Option<Beyond>, AllocErro
     for index in 0..pieces.len() {
         let heading = pieces.heading_at(index);
         let found = if are_different(first, heading) {
-            Some((plus(index, 1), SEVERAL_TOWNSHIPS))
+            Some((pieces.end_of_township(index), SEVERAL_TOWNSHIPS))
         } else {
             pieces.beyond_at(index)
         };
@@ -145,9 +145,10 @@ fn are_different(first: Option<NamedTownship>, heading: Option<NamedTownship>) -
 #[derive(Clone, Copy, PartialEq, Eq)]
 struct NamedTownship {
     township: u16,
-    north_south: Kind,
+    /// The letters with which the sides begin, in lowercase.
+    north_south: u8,
     range: u16,
-    east_west: Kind,
+    east_west: u8,
 }
 
 impl<'a> Pieces<'a> {
@@ -298,32 +299,84 @@ impl<'a> Pieces<'a> {
         }
     }
 
-    /// The township that a heading at an index names.
+    /// The township that a heading at an index names: with its letters, or as numbers with their sides joined to
+    /// them, as in `2N-3W`.
     fn heading_at(&self, index: usize) -> Option<NamedTownship> {
-        if !matches!(self.kind(index), Kind::T) {
-            return None;
-        }
-        let township = self.place_after(index);
+        let has_letters = matches!(self.kind(index), Kind::T);
+        let township = if has_letters {
+            self.place_after(index)
+        } else {
+            index
+        };
         let north_south = self.place_after(township);
-        let r = self.place_after(north_south);
-        let range = self.place_after(r);
+        let next = self.place_after(north_south);
+        let range = if has_letters {
+            self.place_after(next)
+        } else {
+            next
+        };
         let east_west = self.place_after(range);
-        if !matches!(self.kind(r), Kind::R) {
+        let is_heading = if has_letters {
+            matches!(self.kind(next), Kind::R)
+        } else {
+            self.is_number_with_side(township) && self.is_number_with_side(range)
+        };
+        if !is_heading || !self.is_north_south(north_south) || !self.is_east_west(east_west) {
             return None;
         }
         Some(NamedTownship {
-            township: self.number(township)?,
-            north_south: self.kind(north_south),
-            range: self.number(range)?,
-            east_west: self.kind(east_west),
+            township: self.number_without_fraction(township)?,
+            north_south: self.first_letter(north_south)?,
+            range: self.number_without_fraction(range)?,
+            east_west: self.first_letter(east_west)?,
         })
     }
 
-    /// The index of the piece after another, past commas and periods.
+    /// Whether a number is at an index, with the letter of a side joined to it.
+    fn is_number_with_side(&self, index: usize) -> bool {
+        let side = plus(index, 1);
+        self.number(index).is_some()
+            && self.is_joined(side)
+            && (self.is_north_south(side) || self.is_east_west(side))
+    }
+
+    /// Where the heading at an index ends, which names a township.
+    fn end_of_township(&self, index: usize) -> usize {
+        let count: usize = if matches!(self.kind(index), Kind::T) {
+            5
+        } else {
+            3
+        };
+        let mut last = index;
+        for _ in 0..count {
+            last = self.place_after(last);
+        }
+        plus(last, 1)
+    }
+
+    /// The first byte of the piece at an index, with a letter in lowercase.
+    fn first_letter(&self, index: usize) -> Option<u8> {
+        match self.lower(index) {
+            [first, ..] => Some(*first),
+            [] => None,
+        }
+    }
+
+    /// The number of a township or a range at an index. With four digits, the last one is that of fractions.
+    fn number_without_fraction(&self, index: usize) -> Option<u16> {
+        let number = self.number(index)?;
+        if self.has_digits(index, 4) {
+            Some(number / 10)
+        } else {
+            Some(number)
+        }
+    }
+
+    /// The index of the piece after another, past commas, periods, and dashes.
     fn place_after(&self, index: usize) -> usize {
         let mut place = plus(index, 1);
         for _ in 0..2 {
-            if self.is_passed_over(place) {
+            if self.is_passed_over(place) || self.is_dash(place) {
                 place = plus(place, 1);
             }
         }

@@ -5,6 +5,7 @@
 
 mod asides;
 mod bare;
+mod bare_sections;
 mod dotted;
 mod exceptions;
 mod finder;

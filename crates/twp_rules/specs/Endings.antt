@@ -107,7 +107,7 @@ abbrev pub title_fronts : List (List ℕ)
 title_fronts = texts (codes "e.o.|w.d.|point of diversion|formerly lease|tax deed|survey type|survey number")
     ++ texts (codes "part of that certain oil|part of that certain lease|part of that certain paid")
     ++ texts (codes "part of that certain memorandum|part of that certain assignment")
-    ++ texts (codes "part of the oil and gas lease|s-t-r")
+    ++ texts (codes "part of the oil and gas lease|s-t-r|w/min|w/o min")
 
 -- and what they end with
 abbrev pub title_ends : List (List ℕ)

@@ -154,7 +154,7 @@ pub(crate) fn has_estates(seen: &[u8]) -> bool
 }
 
 /// The texts `title_fronts` of the specification.
-static TITLE_FRONTS: [[u8; 31]; 14] = [
+static TITLE_FRONTS: [[u8; 31]; 16] = [
     *b"e.o.___________________________",
     *b"w.d.___________________________",
     *b"point of diversion_____________",
@@ -169,6 +169,8 @@ static TITLE_FRONTS: [[u8; 31]; 14] = [
     *b"part of that certain assignment",
     *b"part of the oil and gas lease__",
     *b"s-t-r__________________________",
+    *b"w/min__________________________",
+    *b"w/o min________________________",
 ];
 
 /// Whether a text begins with one of them.
