@@ -19,6 +19,7 @@ mod limits;
 mod lowercase;
 mod marks;
 mod meridians;
+mod parcel_numbers;
 mod pieces;
 mod quarter_columns;
 mod remark_ends;

@@ -208,9 +208,10 @@ fn is_name_of_value(pieces: &Pieces<'_>, index: usize) -> bool {
     is_value || pieces.after_quoted_name(mark).is_some()
 }
 
-/// Whether a colon, with white space after it, or a comma is before an index.
+/// Whether a colon, with white space after it, a comma, or a semicolon is before an index.
 fn is_after_mark_of_label(pieces: &Pieces<'_>, index: usize) -> bool {
     pieces.follows(index, b",")
+        || pieces.follows(index, b";")
         || pieces.follows(index, b"=")
         || (pieces.is_after_dash(index) && !pieces.is_joined(index))
         || (pieces.follows(index, b":") && !pieces.is_joined(index))

@@ -136,12 +136,18 @@ impl<'a> Finder<'a> {
             return Some((LeftOut::Label, end));
         }
         let fixed = if self.names_land {
-            pieces.end_of_words_after(index)
+            pieces
+                .end_of_words_after(index)
+                .or(pieces.end_of_tax_parcel(index))
+                .or(pieces.end_of_net(index))
         } else {
             pieces.end_of_words_before(index)
         };
         if let Some(end) = fixed {
             return Some((LeftOut::Label, end));
+        }
+        if let Some(end) = pieces.end_of_gross(index) {
+            return Some((LeftOut::Acreage, end));
         }
         if let Some(end) = pieces.end_of_acreage(index) {
             let is_after_dash = pieces.is_after_dash(index);
@@ -178,7 +184,7 @@ impl<'a> Finder<'a> {
         if self.names_land {
             let unsaid = pieces
                 .end_of_intent(index)
-                .or(pieces.end_of_parcel_number(index))
+                .or(pieces.end_of_tax_parcel(index))
                 .or(pieces.end_of_gross_acreage(index));
             if let Some(end) = unsaid {
                 return Some((LeftOut::Label, end));

@@ -135,6 +135,7 @@ impl<'a> Finder<'a> {
                     || self.after_except(next).is_some()
                     || pieces.begins_tier(next)
             }
+            Some(Names::Lots) => self.after_except(next).is_some(),
             Some(Names::Part | Names::All) => {
                 self.after_except(next).is_some()
                     || pieces.begins_tier(next)
