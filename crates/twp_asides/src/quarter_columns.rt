@@ -39,7 +39,8 @@ impl<'a> Pieces<'a> {
     pub(crate) fn is_column_of_quarters(&self, index: usize) -> bool {
         let mark = plus(index, 1);
         let value = plus(mark, 1);
-        let is_name = self.is(index, b"qq")
+        let is_name = self.is(index, b"q")
+            || self.is(index, b"qq")
             || self.is(index, b"qqsec")
             || self.is(index, b"qtrqtr");
         let has_mark = self.is(mark, b":") || self.is(mark, b"=");
