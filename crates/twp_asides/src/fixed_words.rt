@@ -73,7 +73,7 @@ static WORDS_BEFORE: [[u8; WORDS_MOST]; 61] = [
 ];
 
 /// Words after land, in lowercase, filled up with `_`.
-static WORDS_AFTER: [[u8; WORDS_MOST]; 28] = [
+static WORDS_AFTER: [[u8; WORDS_MOST]; 31] = [
     *b"for recreation or public purposes__________________",
     *b"for purposes of calculating rentals________________",
     *b"for calculating rentals____________________________",
@@ -102,6 +102,9 @@ static WORDS_AFTER: [[u8; WORDS_MOST]; 28] = [
     *b"as surveyed________________________________________",
     *b"survey type: a_____________________________________",
     *b"survey type: l_____________________________________",
+    *b"asap_______________________________________________",
+    *b"thank you__________________________________________",
+    *b"thanks_____________________________________________",
 ];
 
 /// What is before the filling of a row.
@@ -157,7 +160,7 @@ impl<'a> Pieces<'a> {
             return None;
         }
         let end = self.end_of_some_words(index, &WORDS_AFTER)?;
-        let is_verb = self.is(index, b"is");
+        let is_verb = self.is(index, b"is") || self.is(index, b"asap");
         if !is_verb && !self.is_after_mark_or_column(index) {
             return None;
         }

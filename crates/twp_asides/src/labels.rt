@@ -10,6 +10,9 @@ use twp_words::{
 /// The most pieces of a label.
 const PIECES_MOST: usize = 24;
 
+/// The most pieces of a greeting before a request, as `Jim -`.
+const GREETING_MOST: usize = 3;
+
 impl<'a> Pieces<'a> {
     /// Where the label at an index ends.
     pub fn end_of_label(&self, index: usize) -> Option<usize> {
@@ -28,11 +31,11 @@ impl<'a> Pieces<'a> {
         if self.begins_quoted_cell(index) {
             return self.end_of_columns(index);
         }
-        if !self.begins_line(index) && !is_after_mark {
-            return None;
-        }
         if let Some(end) = self.end_of_request(index) {
             return Some(end);
+        }
+        if !self.begins_line(index) && !is_after_mark {
+            return None;
         }
         if let Some(end) = self.end_of_farm_unit(index) {
             return Some(end);
@@ -224,7 +227,9 @@ impl<'a> Pieces<'a> {
     /// Where a request ends that a text begins with, as `can you run`: its words say nothing of land, which
     /// follows them.
     fn end_of_request(&self, index: usize) -> Option<usize> {
-        if index > 0 || !begins_request(self.lower(index)) {
+        let is_first = index == 0
+            || (index <= GREETING_MOST && (self.is_after_dash(index) || self.follows(index, b",")));
+        if !is_first || !begins_request(self.lower(index)) {
             return None;
         }
         for place in plus(index, 1)..plus(index, PIECES_MOST) {
@@ -280,7 +285,17 @@ impl<'a> Pieces<'a> {
         let is_last = next == self.len()
             || begins_terms(self.lower(next))
             || self.end_of_words_after(next).is_some();
-        self.is(index, b"?") && is_last && self.end_of_request(0).is_some()
+        self.is(index, b"?") && is_last && self.has_request()
+    }
+
+    /// Whether the text begins with a request, or with a greeting and one.
+    fn has_request(&self) -> bool {
+        for index in 0..plus(GREETING_MOST, 1) {
+            if self.end_of_request(index).is_some() {
+                return true;
+            }
+        }
+        false
     }
 
     /// Where the number of a row ends, which is alone in the first cell: the row names a section with a word

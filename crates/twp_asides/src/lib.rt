@@ -15,6 +15,7 @@ mod known_runs;
 mod labels;
 mod lands;
 mod lease_limits;
+mod lease_terms;
 mod limits;
 mod lowercase;
 mod marks;

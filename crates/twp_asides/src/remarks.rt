@@ -146,6 +146,7 @@ fn may_be_parcel(pieces: &Pieces<'_>, index: usize, place: usize) -> bool {
         && names_parcel(pieces.lower(place))
         && !pieces.is(index, b"total")
         && !pieces.follows(place, b"/")
+        && !pieces.follows(place, b"per")
 }
 
 /// Whether a number in a remark that begins at an index may be of the name of a well: before land, and not

@@ -140,6 +140,8 @@ impl<'a> Finder<'a> {
                 .end_of_words_after(index)
                 .or(pieces.end_of_tax_parcel(index))
                 .or(pieces.end_of_net(index))
+                .or(pieces.end_of_years(index))
+                .or(pieces.end_of_lettered_share(index))
         } else {
             pieces.end_of_words_before(index)
         };

@@ -20,8 +20,8 @@ pub fn begins_request(word: &[u8]) -> bool {
 /// The words that may follow: who asks, what is to be done, and with what.
 pub fn is_of_request(word: &[u8]) -> bool {
     match word.len() {
-        1 => is_among(word, 0x4000200_04000200, ": i"),
-        2 => is_among(word, 0x2194020_00a0a206, "at by is it me on up us we"),
+        1 => is_among(word, 0x4000202_04000202, ": a i"),
+        2 => is_among(word, 0x2194020_00a0a206, "an at by is it me on up us we"),
         3 => is_among(
             word,
             0x3c4020_021501ca,
@@ -34,21 +34,29 @@ pub fn is_of_request(word: &[u8]) -> bool {
         ),
         5 => is_among(
             word,
-            0x2081830_00181008,
-            "check could lands lease still these title today",
+            0x20c1830_00189008,
+            "check could lands lease order still these title today",
         ),
         6 => is_among(
             word,
-            0x2080030_000d2040,
-            "friday monday please record status",
+            0x2180030_000d3040,
+            "friday leased monday please record report status",
         ),
-        7 => is_among(word, 0x2081000_00142000, "mineral records tuesday"),
+        7 => is_among(
+            word,
+            0x2081010_0014a000,
+            "mineral ordered records reports tuesday",
+        ),
         8 => is_among(
             word,
             0x2980000_00142000,
             "minerals runsheet thursday tomorrow",
         ),
-        9 => is_among(word, 0x2090000_00848000, "ownership runsheets wednesday"),
+        9 => is_among(
+            word,
+            0x2090080_00848040,
+            "following ownership runsheets wednesday",
+        ),
         _ => false,
     }
 }

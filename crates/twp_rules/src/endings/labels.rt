@@ -181,7 +181,7 @@ pub(crate) fn has_title_fronts(seen: &[u8]) -> bool
 }
 
 /// The texts `title_ends` of the specification.
-static TITLE_ENDS: [[u8; 14]; 10] = [
+static TITLE_ENDS: [[u8; 14]; 12] = [
     *b"___________u.s",
     *b"__________u. s",
     *b"___________h.e",
@@ -192,13 +192,15 @@ static TITLE_ENDS: [[u8; 14]; 10] = [
     *b"__placer claim",
     *b"_placer claims",
     *b"by and between",
+    *b"______per acre",
+    *b"________per ac",
 ];
 
 /// Whether a text ends with one of them.
 pub(crate) fn has_title_ends(seen: &[u8]) -> bool
     ensures { result ≡ ends_with_one seen.now title_ends }
 {
-    ends_with_one(seen, 0x0008_6020, &TITLE_ENDS)
+    ends_with_one(seen, 0x0008_6028, &TITLE_ENDS)
 }
 
 /// The texts `number_fronts` of the specification.
