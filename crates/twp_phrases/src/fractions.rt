@@ -131,6 +131,9 @@ impl<'a> Finder<'a> {
         if is_letter && size == Size::Quarter && pieces.is_joined(index) {
             return Some(next);
         }
+        if size == Size::Quarter && self.is_letter_before_of(index) {
+            return Some(next);
+        }
         if let Some(end) = self.end_of_divided_word(index, size) {
             return Some(end);
         }
@@ -158,8 +161,10 @@ impl<'a> Finder<'a> {
                 None
             };
         }
-        if is_joined && pieces.is(index, b"^") && size == Size::Quarter {
-            return Some(next);
+        if is_joined && size == Size::Quarter {
+            if let Some(end) = self.end_of_marked_quarter(index) {
+                return Some(end);
+            }
         }
         if self.is_before_slash(index) && self.is_slashed(index, size) {
             return Some(plus(index, 3));
@@ -176,6 +181,33 @@ impl<'a> Finder<'a> {
             || pieces.is(index, b"}")
             || pieces.is(index, b"\xC2\xA3");
         if is_joined && is_worn {
+            return Some(next);
+        }
+        None
+    }
+
+    /// Whether a letter that scanning makes of the fraction of a quarter is at an index, apart, and `of` or `and` after it,
+    /// as in `S E J of the N W i of`.
+    fn is_letter_before_of(&self, index: usize) -> bool {
+        let pieces = &self.draft.pieces;
+        let next = plus(index, 1);
+        (pieces.is(index, b"i") || pieces.is(index, b"j"))
+            && (pieces.is(next, b"of") || pieces.is(next, b"and"))
+    }
+
+    /// Where the mark at an index ends that scanning makes of the fraction of a quarter, with a digit or a letter, if any.
+    fn end_of_marked_quarter(&self, index: usize) -> Option<usize> {
+        let pieces = &self.draft.pieces;
+        let next = plus(index, 1);
+        let is_followed = pieces.is_joined(next);
+        if pieces.is(index, b"'") && is_followed && pieces.is(next, b"a") {
+            return Some(plus(next, 1));
+        }
+        let is_mark = pieces.is(index, b"!") || pieces.is(index, b"^");
+        if is_mark && is_followed && pieces.is(next, b"4") {
+            return Some(plus(next, 1));
+        }
+        if pieces.is(index, b"^") {
             return Some(next);
         }
         None

@@ -102,6 +102,7 @@ abbrev pub worn_quarters : List Entry
 worn_quarters = all_as (words (codes "^ l/4 i/4 '/4") ++ (right_quote ++ codes "/4") ∷ []) (codes "1/4")
     ++ all_as (words (codes "]/4 !/4 |/4 1/ v4 y4 % quater i a 1a } 114") ++ pound_sign ∷ []) (codes "1/4")
     ++ all_as ((codes "quar-" ++ 10 ∷ codes "ter") ∷ (195 ∷ 130 ∷ quarter_sign) ∷ []) (codes "1/4")
+    ++ all_as (words (codes "'a !4 ^4 j")) (codes "1/4")
 
 -- or abbreviated
 abbrev pub quarter_abbreviations : List Entry

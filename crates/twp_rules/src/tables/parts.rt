@@ -99,7 +99,7 @@ pub(crate) fn is_in_quarter_abbreviations(seen: &[u8], written: &[u8]) -> bool
 }
 
 /// The table `worn_quarters` of the specification.
-static WORN_QUARTERS: [[u8; 13]; 21] = [
+static WORN_QUARTERS: [[u8; 13]; 25] = [
     *b"^=1/4________",
     *b"l/4=1/4______",
     *b"i/4=1/4______",
@@ -121,6 +121,10 @@ static WORN_QUARTERS: [[u8; 13]; 21] = [
     *b"quar-\nter=1/4",
     *b"\xC3\x82\xC2\xBC=1/4_____",
     *b"114=1/4______",
+    *b"'a=1/4_______",
+    *b"!4=1/4_______",
+    *b"^4=1/4_______",
+    *b"j=1/4________",
 ];
 
 /// Whether this is a row of it: what it looks at, and what it writes.
@@ -130,7 +134,7 @@ pub(crate) fn is_in_worn_quarters(seen: &[u8], written: &[u8]) -> bool
     is_among(
         seen,
         written,
-        0x7242_12ae,
+        0x7242_16ae,
         0x2032_800f,
         0x2210_0006,
         &WORN_QUARTERS,
