@@ -73,7 +73,7 @@ static WORDS_BEFORE: [[u8; WORDS_MOST]; 61] = [
 ];
 
 /// Words after land, in lowercase, filled up with `_`.
-static WORDS_AFTER: [[u8; WORDS_MOST]; 31] = [
+static WORDS_AFTER: [[u8; WORDS_MOST]; 34] = [
     *b"for recreation or public purposes__________________",
     *b"for purposes of calculating rentals________________",
     *b"for calculating rentals____________________________",
@@ -105,6 +105,9 @@ static WORDS_AFTER: [[u8; WORDS_MOST]; 31] = [
     *b"asap_______________________________________________",
     *b"thank you__________________________________________",
     *b"thanks_____________________________________________",
+    *b"as shown on the official plat thereof______________",
+    *b"as shown on the official plat______________________",
+    *b"as shown on the plat_______________________________",
 ];
 
 /// What is before the filling of a row.
