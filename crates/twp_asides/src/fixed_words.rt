@@ -73,7 +73,7 @@ static WORDS_BEFORE: [[u8; WORDS_MOST]; 61] = [
 ];
 
 /// Words after land, in lowercase, filled up with `_`.
-static WORDS_AFTER: [[u8; WORDS_MOST]; 34] = [
+static WORDS_AFTER: [[u8; WORDS_MOST]; 43] = [
     *b"for recreation or public purposes__________________",
     *b"for purposes of calculating rentals________________",
     *b"for calculating rentals____________________________",
@@ -108,6 +108,15 @@ static WORDS_AFTER: [[u8; WORDS_MOST]; 34] = [
     *b"as shown on the official plat thereof______________",
     *b"as shown on the official plat______________________",
     *b"as shown on the plat_______________________________",
+    *b"unleased___________________________________________",
+    *b"see map____________________________________________",
+    *b"see plat___________________________________________",
+    *b"see attached map___________________________________",
+    *b"title good_________________________________________",
+    *b"title ok___________________________________________",
+    *b"nothing of record__________________________________",
+    *b"no lease of record_________________________________",
+    *b"not leased_________________________________________",
 ];
 
 /// What is before the filling of a row.

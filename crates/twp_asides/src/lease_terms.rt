@@ -25,6 +25,19 @@ impl<'a> Pieces<'a> {
         }
     }
 
+    /// Where a sum of money ends that fills a column from an index on, as `$1.50`.
+    pub fn end_of_money(&self, index: usize) -> Option<usize> {
+        if !self.is(index, b"$") || !self.begins_column(index) {
+            return None;
+        }
+        let end = self.end_of_decimal(plus(index, 1))?;
+        if self.begins_column(end) {
+            Some(end)
+        } else {
+            None
+        }
+    }
+
     /// The index after `paid-up`, or `primary term`.
     fn after_kind_of_term(&self, index: usize) -> usize {
         let next = plus(index, 1);
