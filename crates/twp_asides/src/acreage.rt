@@ -121,6 +121,10 @@ impl<'a> Pieces<'a> {
         if self.is(hundredths, b"hundredths") && is_acres(self.lower(plus(hundredths, 1))) {
             next = plus(hundredths, 1);
         }
+        // The next column may be of other acreage.
+        if has_unit && is_net_or_gross(self.lower(next)) && self.begins_column(next) {
+            return Some(next);
+        }
         if is_net_or_gross(self.lower(next)) && is_acres(self.lower(plus(next, 1))) {
             next = plus(next, 1);
         }
@@ -211,7 +215,8 @@ impl<'a> Pieces<'a> {
             if !is_lead && !is_unit && !is_mark && !is_hyphen && !is_area_word(word) {
                 break;
             }
-            has_word = has_word || is_lead || is_unit;
+            let is_in_all = is_same(word, b"all") && self.follows(place, b"in");
+            has_word = has_word || is_lead || is_unit || is_in_all;
             let is_named = is_net_or_gross(word) && self.is(plus(place, 1), b":");
             lead.has_unit = lead.has_unit || is_unit || is_named;
             lead.end = plus(place, 1);
@@ -247,10 +252,11 @@ impl<'a> Pieces<'a> {
         let end = self.end_of_decimal(index)?;
         let has_decimals = end > plus(index, 2) && self.is_back(end, 2, b".");
         let number = self.number(index).unwrap_or(0);
-        let is_cell = (self.begins_column(index) || self.is_after_part(index))
+        let is_sum = self.follows(index, b"=");
+        let is_cell = (self.begins_column(index) || self.is_after_part(index) || is_sum)
             && number > SECTIONS
             && number <= SECTION_ACRES;
-        let is_apart = self.begins_column(index) || self.is_after_part(index);
+        let is_apart = self.begins_column(index) || self.is_after_part(index) || is_sum;
         // After a mark, a number up to that of the last section may be of one, with a point for a comma.
         let is_marked = self.follows(index, b",")
             || self.follows(index, b";")

@@ -75,7 +75,7 @@ acreage_ends = words (codes "acres acre ac acres. ac. less m/l ) pooled total ne
 
 -- or begins with, after white space
 abbrev pub acreage_fronts : List (List ℕ)
-acreage_fronts = texts (codes "acres|acreage|ac|gross|net|total|containing|the area")
+acreage_fronts = texts (codes "acres|acreage|ac|gross|net|total|containing|the area|gr ac|gr. ac|in all")
 
 -- what is said of land begins with, if it isn't a remark: rights,
 abbrev pub rights : List (List ℕ)

@@ -21,7 +21,7 @@ pub(crate) fn has_acreage_ends(seen: &[u8]) -> bool
 }
 
 /// The texts `acreage_fronts` of the specification.
-static ACREAGE_FRONTS: [[u8; 10]; 8] = [
+static ACREAGE_FRONTS: [[u8; 10]; 11] = [
     *b"acres_____",
     *b"acreage___",
     *b"ac________",
@@ -30,13 +30,16 @@ static ACREAGE_FRONTS: [[u8; 10]; 8] = [
     *b"total_____",
     *b"containing",
     *b"the area__",
+    *b"gr ac_____",
+    *b"gr. ac____",
+    *b"in all____",
 ];
 
 /// Whether a text begins with one of them.
 pub(crate) fn has_acreage_fronts(seen: &[u8]) -> bool
     ensures { result ≡ begins_with_one seen.now acreage_fronts }
 {
-    begins_with_one(seen, 0x0010_408a, &ACREAGE_FRONTS)
+    begins_with_one(seen, 0x0010_428a, &ACREAGE_FRONTS)
 }
 
 /// The texts `parenthesis_ends` of the specification.
