@@ -8,7 +8,7 @@ use twp_grammar::Kind;
 const WORDS_MOST: usize = 51;
 
 /// Words before land, in lowercase, filled up with `_`.
-static WORDS_BEFORE: [[u8; WORDS_MOST]; 61] = [
+static WORDS_BEFORE: [[u8; WORDS_MOST]; 78] = [
     *b"pod________________________________________________",
     *b"pou________________________________________________",
     *b"diversion__________________________________________",
@@ -70,6 +70,23 @@ static WORDS_BEFORE: [[u8; WORDS_MOST]; 61] = [
     *b"placer_____________________________________________",
     *b"legal land description_____________________________",
     *b"real property______________________________________",
+    *b"amended description________________________________",
+    *b"corrected description______________________________",
+    *b"amended legal______________________________________",
+    *b"corrected legal____________________________________",
+    *b"legal______________________________________________",
+    *b"communication site_________________________________",
+    *b"location___________________________________________",
+    *b"tract description__________________________________",
+    *b"lands in lease_____________________________________",
+    *b"leased lands_______________________________________",
+    *b"leased premises____________________________________",
+    *b"the following lands________________________________",
+    *b"the following described lands______________________",
+    *b"the following described land_______________________",
+    *b"lands described as_________________________________",
+    *b"land described as__________________________________",
+    *b"described as_______________________________________",
 ];
 
 /// Words after land, in lowercase, filled up with `_`.
@@ -176,7 +193,9 @@ impl<'a> Pieces<'a> {
         if !is_verb && !self.is_after_mark_or_column(index) {
             return None;
         }
-        if self.is_mark(end) || self.begins_column(end) {
+        // Before a colon and more, they name what follows.
+        let is_name = self.is(end, b":") && plus(end, 1) < self.len();
+        if (self.is_mark(end) || self.begins_column(end)) && !is_name {
             Some(end)
         } else {
             None

@@ -228,7 +228,10 @@ impl<'a> Pieces<'a> {
     /// follows them.
     fn end_of_request(&self, index: usize) -> Option<usize> {
         let is_first = index == 0
-            || (index <= GREETING_MOST && (self.is_after_dash(index) || self.follows(index, b",")));
+            || (index <= GREETING_MOST
+                && matches!(self.kind(0), Kind::Other)
+                && !self.begins_land(0)
+                && (self.is_after_dash(index) || self.follows(index, b",")));
         if !is_first || !begins_request(self.lower(index)) {
             return None;
         }
