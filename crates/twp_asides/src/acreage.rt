@@ -291,17 +291,6 @@ impl<'a> Pieces<'a> {
         self.is(comma, b",") && self.is_joined(index) && self.follows(comma, b"\"")
     }
 
-    /// Where a share ends that is alone in a cell, as `0.125`.
-    pub fn end_of_share_in_cell(&self, index: usize) -> Option<usize> {
-        let end = self.end_of_decimal(index)?;
-        let is_share = self.is(index, b"0") && self.is_figure_with_decimals(index);
-        if is_share && self.begins_line(index) && self.begins_column(end) {
-            Some(end)
-        } else {
-            None
-        }
-    }
-
     /// Whether an aliquot part ends before an index.
     fn is_after_part(&self, index: usize) -> bool {
         let Some(before) = index.checked_sub(1) else {

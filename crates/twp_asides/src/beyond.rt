@@ -1,5 +1,6 @@
 //! Land that lots and aliquot parts can't describe.
 
+use crate::named_townships::are_different;
 use crate::pieces::{Pieces, plus};
 use std::alloc::{AllocError, Global};
 use twp_grammar::Kind;
@@ -131,24 +132,6 @@ fn may_have_row(word: &[u8]) -> bool {
         (b'a'..=b'z', length @ 0..=15) => (LENGTHS[usize::from(letter - b'a')] >> length) & 1 == 1,
         _ => false,
     }
-}
-
-/// Whether two headings name different townships.
-fn are_different(first: Option<NamedTownship>, heading: Option<NamedTownship>) -> bool {
-    match (first, heading) {
-        (Some(first), Some(heading)) => first != heading,
-        _ => false,
-    }
-}
-
-/// A township as a heading names it.
-#[derive(Clone, Copy, PartialEq, Eq)]
-struct NamedTownship {
-    township: u16,
-    /// The letters with which the sides begin, in lowercase.
-    north_south: u8,
-    range: u16,
-    east_west: u8,
 }
 
 impl<'a> Pieces<'a> {
@@ -299,81 +282,8 @@ impl<'a> Pieces<'a> {
         }
     }
 
-    /// The township that a heading at an index names: with its letters, or as numbers with their sides joined to
-    /// them, as in `2N-3W`.
-    fn heading_at(&self, index: usize) -> Option<NamedTownship> {
-        let has_letters = matches!(self.kind(index), Kind::T);
-        let township = if has_letters {
-            self.place_after(index)
-        } else {
-            index
-        };
-        let north_south = self.place_after(township);
-        let next = self.place_after(north_south);
-        let range = if has_letters {
-            self.place_after(next)
-        } else {
-            next
-        };
-        let east_west = self.place_after(range);
-        let is_heading = if has_letters {
-            matches!(self.kind(next), Kind::R)
-        } else {
-            self.is_number_with_side(township) && self.is_number_with_side(range)
-        };
-        if !is_heading || !self.is_north_south(north_south) || !self.is_east_west(east_west) {
-            return None;
-        }
-        Some(NamedTownship {
-            township: self.number_without_fraction(township)?,
-            north_south: self.first_letter(north_south)?,
-            range: self.number_without_fraction(range)?,
-            east_west: self.first_letter(east_west)?,
-        })
-    }
-
-    /// Whether a number is at an index, with the letter of a side joined to it.
-    fn is_number_with_side(&self, index: usize) -> bool {
-        let side = plus(index, 1);
-        self.number(index).is_some()
-            && self.is_joined(side)
-            && (self.is_north_south(side) || self.is_east_west(side))
-    }
-
-    /// Where the heading at an index ends, which names a township.
-    fn end_of_township(&self, index: usize) -> usize {
-        let count: usize = if matches!(self.kind(index), Kind::T) {
-            5
-        } else {
-            3
-        };
-        let mut last = index;
-        for _ in 0..count {
-            last = self.place_after(last);
-        }
-        plus(last, 1)
-    }
-
-    /// The first byte of the piece at an index, with a letter in lowercase.
-    fn first_letter(&self, index: usize) -> Option<u8> {
-        match self.lower(index) {
-            [first, ..] => Some(*first),
-            [] => None,
-        }
-    }
-
-    /// The number of a township or a range at an index. With four digits, the last one is that of fractions.
-    fn number_without_fraction(&self, index: usize) -> Option<u16> {
-        let number = self.number(index)?;
-        if self.has_digits(index, 4) {
-            Some(number / 10)
-        } else {
-            Some(number)
-        }
-    }
-
     /// The index of the piece after another, past commas, periods, and dashes.
-    fn place_after(&self, index: usize) -> usize {
+    pub(crate) fn place_after(&self, index: usize) -> usize {
         let mut place = plus(index, 1);
         for _ in 0..2 {
             if self.is_passed_over(place) || self.is_dash(place) {

@@ -1,4 +1,4 @@
-//! Terms of leases after land, and shares after it by their letters: `5 yr paid-up`, `NMA 60.0`.
+//! Terms of leases after land, and shares and money after it: `5 yr paid-up`, `NMA 60.0`, `0.125`, `$1.50`.
 
 use crate::pieces::{Pieces, plus};
 
@@ -68,11 +68,25 @@ impl<'a> Pieces<'a> {
             return None;
         }
         let mark = plus(index, 1);
-        let figure = plus(mark, usize::from(self.is(mark, b":") || self.is(mark, b"=")));
+        let figure = plus(
+            mark,
+            usize::from(self.is(mark, b":") || self.is(mark, b"=")),
+        );
         let has_point = self.is(figure, b".") || self.is(plus(figure, 1), b".");
         let number = plus(figure, usize::from(self.is(figure, b".")));
         let end = self.end_of_decimal(number)?;
         if has_point && (self.is_mark(end) || self.begins_column(end)) {
+            Some(end)
+        } else {
+            None
+        }
+    }
+
+    /// Where a share ends that is alone in a cell, as `0.125`.
+    pub fn end_of_share_in_cell(&self, index: usize) -> Option<usize> {
+        let end = self.end_of_decimal(index)?;
+        let is_share = self.is(index, b"0") && self.is_figure_with_decimals(index);
+        if is_share && self.begins_line(index) && self.begins_column(end) {
             Some(end)
         } else {
             None

@@ -20,6 +20,7 @@ mod limits;
 mod lowercase;
 mod marks;
 mod meridians;
+mod named_townships;
 mod parcel_numbers;
 mod pieces;
 mod quarter_columns;

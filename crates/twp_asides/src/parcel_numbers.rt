@@ -38,7 +38,9 @@ impl<'a> Pieces<'a> {
     fn end_of_parcel(&self, index: usize) -> Option<usize> {
         let first = plus(index, usize::from(self.is(index, b"tax")));
         let name = plus(first, 1);
-        let has_number_word = self.is(name, b"no") || self.is(name, b"#") || self.is(name, b"number");
+        let has_number_word = self.is(name, b"no")
+            || self.is(name, b"#")
+            || self.is(name, b"number");
         let is_named = self.is(first, b"apn")
             || self.is(first, b"pin")
             || (self.is(first, b"parcel") && has_number_word);

@@ -81,9 +81,7 @@ impl<'a> Finder<'a> {
             None => false,
         };
         (self.draft.last_names() == Some(Names::Heading)
-            && (is_before_colon
-                || pieces.is(digits, b":")
-                || pieces.bytes(digits).len() >= 2))
+            && (is_before_colon || pieces.is(digits, b":") || pieces.bytes(digits).len() >= 2))
             || (is_list && is_before_colon)
             || pieces.is_section_before_land(index)
             || self.is_section_after_land(index)

@@ -261,7 +261,10 @@ impl<'a> Finder<'a> {
     fn is_of_two_numbers(&self, index: usize, side: usize) -> bool {
         let pieces = &self.draft.pieces;
         let next = plus(side, 1);
-        let range = plus(next, usize::from(pieces.is(next, b",") || pieces.is_dash(next)));
+        let range = plus(
+            next,
+            usize::from(pieces.is(next, b",") || pieces.is_dash(next)),
+        );
         pieces.has_digits(index, 3) && !pieces.has_digits(range, 3)
     }
 

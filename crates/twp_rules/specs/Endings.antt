@@ -111,7 +111,8 @@ title_fronts = texts (codes "e.o.|w.d.|point of diversion|formerly lease|tax dee
 
 -- and what they end with
 abbrev pub title_ends : List (List ℕ)
-title_ends = texts (codes "u.s|u. s|h.e|h. e|d.l.e|c.e|d.e|placer claim|placer claims|by and between|per acre|per ac")
+title_ends = texts (codes "u.s|u. s|h.e|h. e|d.l.e|c.e|d.e|placer claim|placer claims|by and between")
+    ++ texts (codes "per acre|per ac")
 
 -- or the number of a lease, or of a parcel
 abbrev pub number_fronts : List (List ℕ)
