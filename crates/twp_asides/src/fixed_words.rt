@@ -8,7 +8,7 @@ use twp_grammar::Kind;
 const WORDS_MOST: usize = 51;
 
 /// Words before land, in lowercase, filled up with `_`.
-static WORDS_BEFORE: [[u8; WORDS_MOST]; 78] = [
+static WORDS_BEFORE: [[u8; WORDS_MOST]; 99] = [
     *b"pod________________________________________________",
     *b"pou________________________________________________",
     *b"diversion__________________________________________",
@@ -25,6 +25,7 @@ static WORDS_BEFORE: [[u8; WORDS_MOST]; 78] = [
     *b"he owns____________________________________________",
     *b"she owns___________________________________________",
     *b"we own_____________________________________________",
+    *b"its legal is_______________________________________",
     *b"its________________________________________________",
     *b"it's_______________________________________________",
     *b"we still need______________________________________",
@@ -74,6 +75,7 @@ static WORDS_BEFORE: [[u8; WORDS_MOST]; 78] = [
     *b"corrected description______________________________",
     *b"amended legal______________________________________",
     *b"corrected legal____________________________________",
+    *b"legal is___________________________________________",
     *b"legal______________________________________________",
     *b"communication site_________________________________",
     *b"location___________________________________________",
@@ -87,6 +89,25 @@ static WORDS_BEFORE: [[u8; WORDS_MOST]; 78] = [
     *b"lands described as_________________________________",
     *b"land described as__________________________________",
     *b"described as_______________________________________",
+    *b"the unit consists of_______________________________",
+    *b"the parcel is______________________________________",
+    *b"our interest is in_________________________________",
+    *b"our acreage is_____________________________________",
+    *b"our lands are______________________________________",
+    *b"we hold leases on__________________________________",
+    *b"the legal is_______________________________________",
+    *b"see legal below____________________________________",
+    *b"see below__________________________________________",
+    *b"attached is the lease on___________________________",
+    *b"attached is our opinion on_________________________",
+    *b"the well will be drilled in________________________",
+    *b"the property is____________________________________",
+    *b"the land is________________________________________",
+    *b"the lands are______________________________________",
+    *b"we have leased_____________________________________",
+    *b"they want__________________________________________",
+    *b"he wants___________________________________________",
+    *b"she wants__________________________________________",
 ];
 
 /// Words after land, in lowercase, filled up with `_`.
@@ -153,7 +174,7 @@ impl<'a> Pieces<'a> {
     pub fn end_of_words_before(&self, index: usize) -> Option<usize> {
         let is_word = matches!(
             self.kind(index),
-            Kind::Other | Kind::All | Kind::NorthSouth(_)
+            Kind::Other | Kind::All | Kind::The | Kind::NorthSouth(_)
         );
         if !is_word || !self.is_after_mark_or_column(index) {
             return None;

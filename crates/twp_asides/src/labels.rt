@@ -226,7 +226,7 @@ impl<'a> Pieces<'a> {
 
     /// Where a request ends that a text begins with, as `can you run`: its words say nothing of land, which
     /// follows them.
-    fn end_of_request(&self, index: usize) -> Option<usize> {
+    pub(crate) fn end_of_request(&self, index: usize) -> Option<usize> {
         let is_first = index == 0
             || (index <= GREETING_MOST
                 && matches!(self.kind(0), Kind::Other)

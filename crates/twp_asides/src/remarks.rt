@@ -246,6 +246,8 @@ fn ends_remark(pieces: &Pieces<'_>, index: usize, position: Position) -> bool {
                     && pieces.begins_place(next)
                     && !matches!(pieces.kind(next), Kind::All))
                 || pieces.is_meridian_cell(next)
+                || (matches!(pieces.kind(index), Kind::Comma)
+                    && pieces.end_of_request(next).is_some())
                 || matches!(pieces.lower_back(index, 1), Some(word) if is_of_covering(word))
                 || is_after_record(pieces, index)
                 || is_end_of_sentence(pieces, index)
