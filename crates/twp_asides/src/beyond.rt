@@ -44,6 +44,7 @@ road rd highway hwy railroad|<side> north south east west northerly;of||a portio
 canal ditch creek river|<side> north south east west northerly;of;the||a portion needs a survey
 road rd highway hwy railroad|<side> north south east west northerly;of;the||a portion needs a survey
 corner cor|||a corner is a point
+block blocks blk|protraction||the land is unsurveyed
 block blocks blk||<n>|it names lots of a town plat
 addition subdivision|<lot>;<n>;<w>||it names lots of a town plat
 addition subdivision|<lot>;<n>;<w>;<w>||it names lots of a town plat
@@ -68,7 +69,7 @@ except excepting excluding exception||the that;<land>|
 except excepting excluding exception||therefrom;<land>|
 except excepting excluding exception||therefrom;the that;<land>|
 except excepting excluding exception|||exceptions of other land than lots and aliquot parts are not located
-less||road rd row right-of-way canal ditch railroad|a right-of-way needs a survey
+less ls ex exc excl||road rd row right-of-way canal ditch railroad rr hwy highway|a right-of-way needs a survey
 rs||<n>;and & , <n>|it is in several townships
 tps||<n>|it is in several townships
 row||-|
@@ -83,7 +84,7 @@ out||of|it is described by acreage
 /// For each letter, a bit for each length of the words in `PHRASES` that begin with it: bit 4 for a word of
 /// four letters. For most words of a text, this rules out all rows.
 const LENGTHS: [u16; 26] = [
-    0x134, 0x268, 0x468, 0x120, 0x240, 0x014, 0, 0x088, 0, 0, 0, 0x030, 0x00e, 0, 0x208, 0x19c, 0,
+    0x134, 0x268, 0x468, 0x120, 0x25c, 0x014, 0, 0x088, 0, 0, 0, 0x034, 0x00e, 0, 0x208, 0x19c, 0,
     0x13c, 0x8e8, 0x16c, 0x400, 0, 0x008, 0, 0, 0,
 ];
 
