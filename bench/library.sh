@@ -2,11 +2,11 @@
 # Prints how many instructions a call of the library takes: notes to a plat, and on a kept plat descriptions of one
 # part, of a lot or two and a part in two sections, of parts in three sections, of three whole sections, of land named
 # twice, and of 50 and 100 parts; the canonical text of two of them; a description to land, and land of one section
-# combined with other land and compared to it; and the readings of texts. A count is that of 2,000 calls less that of
-# 1,000, by valgrind's callgrind. Beside it are the count in bench/expected-library and the ratio of the two; the status
-# is 1 if a ratio is over 1.02, or if the last 50 parts take over 1.05 times as many as the 49 before them. It then
-# prints how many descriptions are answered per second on one core, from C and from Python. It builds lib/ as `make lib`
-# does, unless the first word is `built`.
+# combined with other land and compared to it; the readings of texts; and calls by lot tables. A count is that of 2,000
+# calls less that of 1,000, by valgrind's callgrind. Beside it are the count in bench/expected-library and the ratio of
+# the two; the status is 1 if a ratio is over 1.02, or if the last 50 parts take over 1.05 times as many as the 49
+# before them. It then prints how many descriptions are answered per second on one core, from C and from Python. It
+# builds lib/ as `make lib` does, unless the first word is `built`.
 set -eu
 [ "${1:-}" = built ] || sh tools/library.sh > /dev/null
 work=$(mktemp -d)
@@ -21,7 +21,7 @@ count() {
 }
 too_much=0
 row() {
-    found=$((($(count samples/b1.csv "$2" 2000) - $(count samples/b1.csv "$2" 1000)) / 1000))
+    found=$((($(count "${3:-samples/b1.csv}" "$2" 2000) - $(count "${3:-samples/b1.csv}" "$2" 1000)) / 1000))
     expected=$(awk -v name="$1" 'substr($0, index($0, " ") + 1) == name { print $1 }' bench/expected-library)
     ratio=new
     if [ -n "$expected" ]; then
@@ -31,7 +31,7 @@ row() {
             ratio="$ratio: too much"
         fi
     fi
-    printf '%-48s %10s  %s\n' "$1" "$found" "$ratio"
+    printf '%-56s %10s  %s\n' "$1" "$found" "$ratio"
 }
 row 'field notes to a plat' read
 row 'one part' one
@@ -55,6 +55,19 @@ row 'land compared to other land' compare
 row 'the readings of a description' same
 row 'the readings of a text of a lease' 'a lease'
 row 'the readings of white space between parts' ways
+# Calls by a lot table. The lots of the second table are the standard ones, too, but it says where they lie, so calls by
+# it take the way of any plat: at most 1.3 times as many instructions. The third has halves of quarter-quarters.
+for table in standard own; do
+    of="by a table of the plat's own lots"
+    [ "$table" = own ] || of='by a table of the standard lots'
+    row "two sections, $of" table-two "bench/lots-$table.csv"
+    row "three whole sections, $of" table-whole "bench/lots-$table.csv"
+    row "land of two sections, $of" table-land "bench/lots-$table.csv"
+    row "canonical text, $of" table-text "bench/lots-$table.csv"
+done
+row 'a table of the standard lots to lots' table-read bench/lots-standard.csv
+row 'a table with land to lots' table-read bench/lots-own.csv
+row 'a table with land and lakes to lots' table-read bench/lots-lake.csv
 
 "$work/library" samples/b1.csv one 1000000 |
     awk '{ printf "%-48s %10.0f a second\n", "one part, from C", 1000000 / $3 }'

@@ -52,7 +52,8 @@ impl<'a> Pieces<'a> {
     /// The index after acreage with decimals at an index, and a comma, before more that is said of the land, as
     /// in `(120.00 ac., 60.00 net)`.
     pub(crate) fn after_acreage_in_list(&self, index: usize) -> usize {
-        if !self.is_figure_with_decimals(index) {
+        let is_large = self.is(plus(index, 1), b",") && self.has_digits(plus(index, 2), 3);
+        if !self.is_figure_with_decimals(index) && !is_large {
             return index;
         }
         match self.end_of_figure_and_unit(index) {
@@ -120,12 +121,17 @@ impl<'a> Pieces<'a> {
         if self.is(hundredths, b"hundredths") && is_acres(self.lower(plus(hundredths, 1))) {
             next = plus(hundredths, 1);
         }
+        // The next column may be of other acreage.
+        if has_unit && is_net_or_gross(self.lower(next)) && self.begins_column(next) {
+            return Some(next);
+        }
         if is_net_or_gross(self.lower(next)) && is_acres(self.lower(plus(next, 1))) {
             next = plus(next, 1);
         }
         // A total may have no other unit, as in `240.00 gross`.
         let is_total = (self.is_figure_with_decimals(end) && self.begins_column(plus(next, 1)))
-            || self.is(plus(next, 1), b")");
+            || self.is(plus(next, 1), b")")
+            || self.is_before_other_total(plus(next, 1));
         if self.is_kind_of_acreage(next) && is_total {
             return Some(plus(next, 1));
         }
@@ -149,6 +155,17 @@ impl<'a> Pieces<'a> {
         Some(next)
     }
 
+    /// Whether a slash, a number, and `net` or `gross` are at an index, as after `320 gross` in `320 gross/160 net`, or the
+    /// end of such a pair is there.
+    fn is_before_other_total(&self, index: usize) -> bool {
+        let is_pair = self.is(index, b"/")
+            && self.number(plus(index, 1)).is_some()
+            && is_net_or_gross(self.lower(plus(index, 2)));
+        let is_second = self.is_back(index, 3, b"/")
+            && matches!(self.lower_back(index, 4), Some(word) if is_net_or_gross(word));
+        is_pair || is_second
+    }
+
     /// Whether `net` or `gross` at an index is of the acreage before it, and doesn't name the next one with a colon.
     fn is_kind_of_acreage(&self, index: usize) -> bool {
         is_net_or_gross(self.lower(index)) && !self.is(plus(index, 1), b":")
@@ -165,6 +182,14 @@ impl<'a> Pieces<'a> {
             && !(self.is_joined(point) && matches!(self.kind_before(point), Some(Kind::Other)))
     }
 
+    /// Whether one of the two pieces of `con-`, a line end, and `taining` is at an index.
+    fn is_divided_lead(&self, index: usize) -> bool {
+        (self.is(index, b"con")
+            && self.is_hyphen_at_line_end(plus(index, 1))
+            && self.is(plus(index, 2), b"taining"))
+            || (self.is(index, b"taining") && self.is_back(index, 2, b"con"))
+    }
+
     /// Words before acreage, at an index.
     fn lead_of_acreage(&self, index: usize) -> Lead {
         let mut lead = Lead {
@@ -177,18 +202,21 @@ impl<'a> Pieces<'a> {
         let mut has_word = false;
         for place in index..plus(index, WORDS_MOST) {
             let word = self.lower(place);
-            let is_lead = is_acreage_lead(word);
+            let is_lead = is_acreage_lead(word) || self.is_divided_lead(place);
             let is_unit = is_acres(word) || is_same(word, b"acreage");
-            let is_mark = (self.is(place, b":")
-                || self.is(place, b".")
-                || self.is(place, b"=")
-                || self.after_quoted_name(place).is_some())
-                && place > index
+            let is_mark = place > index
+                && (self.is(place, b":")
+                    || self.is(place, b".")
+                    || self.is(place, b"=")
+                    || self.after_quoted_name(place).is_some())
                 && !self.is_after_point(plus(place, 1));
-            if !is_lead && !is_unit && !is_mark && !is_area_word(word) {
+            let is_hyphen = self.is_hyphen_at_line_end(place)
+                && self.is_divided_lead(plus(place, 1));
+            if !is_lead && !is_unit && !is_mark && !is_hyphen && !is_area_word(word) {
                 break;
             }
-            has_word = has_word || is_lead || is_unit;
+            let is_in_all = is_same(word, b"all") && self.follows(place, b"in");
+            has_word = has_word || is_lead || is_unit || is_in_all;
             let is_named = is_net_or_gross(word) && self.is(plus(place, 1), b":");
             lead.has_unit = lead.has_unit || is_unit || is_named;
             lead.end = plus(place, 1);
@@ -224,10 +252,11 @@ impl<'a> Pieces<'a> {
         let end = self.end_of_decimal(index)?;
         let has_decimals = end > plus(index, 2) && self.is_back(end, 2, b".");
         let number = self.number(index).unwrap_or(0);
-        let is_cell = (self.begins_column(index) || self.is_after_part(index))
+        let is_sum = self.follows(index, b"=");
+        let is_cell = (self.begins_column(index) || self.is_after_part(index) || is_sum)
             && number > SECTIONS
             && number <= SECTION_ACRES;
-        let is_apart = self.begins_column(index) || self.is_after_part(index);
+        let is_apart = self.begins_column(index) || self.is_after_part(index) || is_sum;
         // After a mark, a number up to that of the last section may be of one, with a point for a comma.
         let is_marked = self.follows(index, b",")
             || self.follows(index, b";")
@@ -241,7 +270,13 @@ impl<'a> Pieces<'a> {
         let is_in_row = self.follows_quoted_cell(index)
             && (number > SECTIONS || has_decimals)
             && (end == self.len() || self.is(end, b","));
-        if (is_last && index > 0 && (has_decimals || is_cell)) || is_in_row {
+        // The last field of a row, without a space before it.
+        let is_field = self.follows(index, b",")
+            && self.is_joined(index)
+            && has_decimals
+            && number > SECTIONS
+            && self.begins_line(end);
+        if (is_last && index > 0 && (has_decimals || is_cell)) || is_in_row || is_field {
             Some(end)
         } else {
             None
@@ -256,17 +291,6 @@ impl<'a> Pieces<'a> {
         self.is(comma, b",") && self.is_joined(index) && self.follows(comma, b"\"")
     }
 
-    /// Where a share ends that is alone in a cell, as `0.125`.
-    pub fn end_of_share_in_cell(&self, index: usize) -> Option<usize> {
-        let end = self.end_of_decimal(index)?;
-        let is_share = self.is(index, b"0") && self.is_figure_with_decimals(index);
-        if is_share && self.begins_line(index) && self.begins_column(end) {
-            Some(end)
-        } else {
-            None
-        }
-    }
-
     /// Whether an aliquot part ends before an index.
     fn is_after_part(&self, index: usize) -> bool {
         let Some(before) = index.checked_sub(1) else {
@@ -277,6 +301,7 @@ impl<'a> Pieces<'a> {
             Kind::Corner(_) | Kind::Half | Kind::Quarter
         ) || ((self.is(before, b"2") || self.is(before, b"4")) && self.is_joined(before))
             || are_corners(self.lower(before))
+            || (self.is(before, b")") && self.is_figure_with_decimals(index))
     }
 
     /// Whether a number with decimals is at an index.

@@ -1,5 +1,6 @@
 //! Land that lots and aliquot parts can't describe.
 
+use crate::named_townships::are_different;
 use crate::pieces::{Pieces, plus};
 use std::alloc::{AllocError, Global};
 use twp_grammar::Kind;
@@ -43,6 +44,7 @@ road rd highway hwy railroad|<side> north south east west northerly;of||a portio
 canal ditch creek river|<side> north south east west northerly;of;the||a portion needs a survey
 road rd highway hwy railroad|<side> north south east west northerly;of;the||a portion needs a survey
 corner cor|||a corner is a point
+block blocks blk|protraction||the land is unsurveyed
 block blocks blk||<n>|it names lots of a town plat
 addition subdivision|<lot>;<n>;<w>||it names lots of a town plat
 addition subdivision|<lot>;<n>;<w>;<w>||it names lots of a town plat
@@ -67,7 +69,7 @@ except excepting excluding exception||the that;<land>|
 except excepting excluding exception||therefrom;<land>|
 except excepting excluding exception||therefrom;the that;<land>|
 except excepting excluding exception|||exceptions of other land than lots and aliquot parts are not located
-less||road rd row right-of-way canal ditch railroad|a right-of-way needs a survey
+less ls ex exc excl||road rd row right-of-way canal ditch railroad rr hwy highway|a right-of-way needs a survey
 rs||<n>;and & , <n>|it is in several townships
 tps||<n>|it is in several townships
 row||-|
@@ -82,7 +84,7 @@ out||of|it is described by acreage
 /// For each letter, a bit for each length of the words in `PHRASES` that begin with it: bit 4 for a word of
 /// four letters. For most words of a text, this rules out all rows.
 const LENGTHS: [u16; 26] = [
-    0x134, 0x268, 0x468, 0x120, 0x240, 0x014, 0, 0x088, 0, 0, 0, 0x030, 0x00e, 0, 0x208, 0x19c, 0,
+    0x134, 0x268, 0x468, 0x120, 0x25c, 0x014, 0, 0x088, 0, 0, 0, 0x034, 0x00e, 0, 0x208, 0x19c, 0,
     0x13c, 0x8e8, 0x16c, 0x400, 0, 0x008, 0, 0, 0,
 ];
 
@@ -103,7 +105,7 @@ pub fn beyond_of(alloc: Global, text: &[u8]) -> Result<Option<Beyond>, AllocErro
     for index in 0..pieces.len() {
         let heading = pieces.heading_at(index);
         let found = if are_different(first, heading) {
-            Some((plus(index, 1), SEVERAL_TOWNSHIPS))
+            Some((pieces.end_of_township(index), SEVERAL_TOWNSHIPS))
         } else {
             pieces.beyond_at(index)
         };
@@ -131,23 +133,6 @@ fn may_have_row(word: &[u8]) -> bool {
         (b'a'..=b'z', length @ 0..=15) => (LENGTHS[usize::from(letter - b'a')] >> length) & 1 == 1,
         _ => false,
     }
-}
-
-/// Whether two headings name different townships.
-fn are_different(first: Option<NamedTownship>, heading: Option<NamedTownship>) -> bool {
-    match (first, heading) {
-        (Some(first), Some(heading)) => first != heading,
-        _ => false,
-    }
-}
-
-/// A township as a heading names it.
-#[derive(Clone, Copy, PartialEq, Eq)]
-struct NamedTownship {
-    township: u16,
-    north_south: Kind,
-    range: u16,
-    east_west: Kind,
 }
 
 impl<'a> Pieces<'a> {
@@ -298,32 +283,11 @@ impl<'a> Pieces<'a> {
         }
     }
 
-    /// The township that a heading at an index names.
-    fn heading_at(&self, index: usize) -> Option<NamedTownship> {
-        if !matches!(self.kind(index), Kind::T) {
-            return None;
-        }
-        let township = self.place_after(index);
-        let north_south = self.place_after(township);
-        let r = self.place_after(north_south);
-        let range = self.place_after(r);
-        let east_west = self.place_after(range);
-        if !matches!(self.kind(r), Kind::R) {
-            return None;
-        }
-        Some(NamedTownship {
-            township: self.number(township)?,
-            north_south: self.kind(north_south),
-            range: self.number(range)?,
-            east_west: self.kind(east_west),
-        })
-    }
-
-    /// The index of the piece after another, past commas and periods.
-    fn place_after(&self, index: usize) -> usize {
+    /// The index of the piece after another, past commas, periods, and dashes.
+    pub(crate) fn place_after(&self, index: usize) -> usize {
         let mut place = plus(index, 1);
         for _ in 0..2 {
-            if self.is_passed_over(place) {
+            if self.is_passed_over(place) || self.is_dash(place) {
                 place = plus(place, 1);
             }
         }

@@ -19,6 +19,11 @@ fn is_ending_of_ordinal(word: &[u8]) -> bool {
     is_same(word, b"st") || is_same(word, b"nd") || is_same(word, b"rd") || is_same(word, b"th")
 }
 
+/// Whether a word ends a fraction in words, as in `3/16ths`.
+fn is_ending_of_fraction(word: &[u8]) -> bool {
+    is_same(word, b"ths") || is_same(word, b"th")
+}
+
 impl<'a> Pieces<'a> {
     /// Whether a percentage is at an index, as `12.5%`.
     pub fn is_percentage(&self, index: usize) -> bool {
@@ -44,13 +49,42 @@ impl<'a> Pieces<'a> {
             || self.follows(index, b";");
         let next = plus(index, 1);
         let is_short = self.is(index, b"tr") && self.is(next, b".") && self.is_joined(next);
-        let place = plus(next, usize::from(is_short));
+        let place = self.after_no(plus(next, usize::from(is_short)));
         let mark = plus(place, 1);
         let number = self.number(place).unwrap_or(0);
-        if is_apart && number <= SECTIONS && self.is(mark, b":") {
-            Some(plus(mark, 1))
+        if !is_apart || number > SECTIONS {
+            return None;
+        }
+        if self.is(mark, b":") {
+            return Some(plus(mark, 1));
+        }
+        let is_dashed = self.is_dash(mark)
+            && !self.is_joined(mark)
+            && !self.is_joined(plus(mark, 1));
+        let is_line = self.has_before(mark, b'\n') && self.begins_line(index);
+        if (is_dashed || is_line) && self.is_letter_or_digits(place) {
+            Some(mark)
         } else {
             None
+        }
+    }
+
+    /// The index after `No.`, if that is at an index.
+    pub(crate) fn after_no(&self, index: usize) -> usize {
+        let stop = plus(index, 1);
+        if self.is(index, b"no") && self.is(stop, b".") {
+            plus(stop, 1)
+        } else {
+            index
+        }
+    }
+
+    /// Whether a letter that is no side, or a number, is at an index.
+    fn is_letter_or_digits(&self, index: usize) -> bool {
+        match self.kind(index) {
+            Kind::Number(_) => true,
+            Kind::Other => self.size(index) == 1,
+            _ => false,
         }
     }
 
@@ -172,6 +206,7 @@ impl<'a> Pieces<'a> {
             has_mark = has_mark || is_mark;
             after = plus(place, 1);
         }
+        after = plus(after, usize::from(is_ending_of_fraction(self.lower(after))));
         has_mark && is_of_share(self.lower(after))
     }
 
@@ -201,8 +236,12 @@ impl<'a> Pieces<'a> {
         if !self.is_joined(next) {
             return false;
         }
+        let is_bank = self.is(second, b"natl")
+            || self.is(second, b"national")
+            || self.is(second, b"security")
+            || self.is(second, b"bank");
         let is_day = is_ending_of_ordinal(self.lower(next))
-            && (self.is(second, b"day") || self.follows(index, b"the"));
+            && (is_bank || self.is(second, b"day") || self.follows(index, b"the"));
         let is_eighths = self.is(next, b"/")
             && self.is_joined(second)
             && (self.is(second, b"8") || self.is(second, b"16"));
@@ -216,7 +255,13 @@ impl<'a> Pieces<'a> {
             return false;
         };
         let word = self.lower(before);
-        let is_record = (self.is(before, b".") && self.follows(before, b"no"))
+        let is_month_before = self.is(before, b".")
+            && matches!(self.lower_back(before, 1), Some(month) if is_month(month));
+        let is_lease = self.is(before, b"#")
+            && matches!(self.lower_back(before, 1), Some(label) if is_of_label(label));
+        let is_record = is_month_before
+            || is_lease
+            || (self.is(before, b".") && self.follows(before, b"no"))
             || is_of_label(word)
             || is_instrument(word)
             || is_of_record(word);
@@ -234,7 +279,7 @@ impl<'a> Pieces<'a> {
     fn is_number_of_section(&self, index: usize) -> bool {
         let next = plus(index, 1);
         match self.kind(index) {
-            Kind::Number(number) => number >= 1 && number <= SECTIONS,
+            Kind::Number(number) => number >= 1 && number <= SECTIONS && self.size(index) < 4,
             Kind::Other if is_numeral(self.lower(index)) => {
                 let is_followed = matches!(self.lower(next), [b'a'..=b'z', ..])
                     || self.is_dash(next);

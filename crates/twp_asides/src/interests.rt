@@ -4,8 +4,8 @@
 use crate::pieces::{Pieces, plus};
 use twp_grammar::Kind;
 use twp_words::{
-    begins_property, is_acres, is_of_interest, is_of_property, is_owner, is_same, is_whose,
-    names_property, points_into,
+    begins_property, is_acres, is_of_interest, is_of_property, is_of_share, is_owner, is_same,
+    is_whose, names_property, points_into,
 };
 
 /// The most pieces of an interest, or of words for a property.
@@ -48,14 +48,17 @@ impl<'a> Pieces<'a> {
                 || is_interest
                 || is_same(word, b"minerals")
                 || is_same(word, b"mineral")
-                || is_same(word, b"royalty");
+                || is_same(word, b"royalty")
+                || is_of_share(word)
+                || is_same(word, b"oil")
+                || is_same(word, b"gas");
             let is_of_lands = self.follows(place, b"lands") || self.follows(place, b"land");
             let is_in = (is_same(word, b"in") && !is_of_lands)
                 || is_same(word, b"wit")
                 || is_same(word, b"under")
                 || (is_same(word, b"to") && self.follows(place, b"and"));
             let is_of = is_undivided && end.is_none() && self.is_of_share(place);
-            if is_interest || (is_in && has_interest) || is_of {
+            if is_interest || is_of_share(word) || (is_in && has_interest) || is_of {
                 end = Some(self.after_stop_of_word(plus(place, 1)));
             }
         }
@@ -132,7 +135,10 @@ impl<'a> Pieces<'a> {
         match self.kind(index) {
             Kind::Number(_) | Kind::BadNumber | Kind::Half | Kind::Quarter | Kind::All => true,
             Kind::NorthSouth(_) => self.is_possessive(index),
-            _ => is_of_interest(self.lower(index)) || is_owner(self.lower(index)),
+            _ => {
+                let word = self.lower(index);
+                is_of_interest(word) || is_owner(word) || is_of_share(word)
+            }
         }
     }
 

@@ -81,8 +81,14 @@ impl<'a> Pieces<'a> {
             Kind::Other => index,
             _ => return index,
         };
-        let next = plus(word, 1);
-        if self.is(word, b"fractional") && self.begins_land(next) {
+        let stop = plus(word, 1);
+        let has_stop = self.is(stop, b".") && self.is_joined(stop);
+        let is_short = self.is(word, b"frl")
+            || self.is(word, b"fract")
+            || self.is(word, b"fractl")
+            || (has_stop && (self.is(word, b"fr") || self.is(word, b"frac")));
+        let next = plus(stop, usize::from(has_stop && is_short));
+        if (is_short || self.is(word, b"fractional")) && self.begins_land(next) {
             next
         } else {
             index
@@ -157,6 +163,21 @@ impl<'a> Pieces<'a> {
     /// Whether a hyphen that divides a part is at an index, at the end of its line.
     pub fn is_hyphen_at_line_end(&self, index: usize) -> bool {
         self.is(index, b"-") && self.is_joined(index) && self.has_before(plus(index, 1), b'\n')
+    }
+
+    /// The index after a word for a section at an index that a line end divides, with a hyphen.
+    pub fn end_of_divided_section(&self, index: usize) -> Option<usize> {
+        let hyphen = plus(index, 1);
+        let rest = plus(index, 2);
+        let is_divided = matches!(self.kind(index), Kind::Sec)
+            && self.is_hyphen_at_line_end(hyphen)
+            && self.start(rest) == plus(self.end(hyphen), 1)
+            && self.is(rest, b"tion");
+        if is_divided {
+            Some(plus(rest, 1))
+        } else {
+            None
+        }
     }
 
     /// Whether the second word for a corner is at an index.

@@ -3,11 +3,15 @@
 use crate::pieces::{Pieces, plus};
 use twp_grammar::Kind;
 use twp_words::{
-    begins_request, is_acres, is_column, is_field, is_of_request, is_same, is_township_word,
+    begins_request, begins_terms, is_acres, is_column, is_field, is_of_request, is_same,
+    is_township_word,
 };
 
 /// The most pieces of a label.
 const PIECES_MOST: usize = 24;
+
+/// The most pieces of a greeting before a request, as `Jim -`.
+const GREETING_MOST: usize = 3;
 
 impl<'a> Pieces<'a> {
     /// Where the label at an index ends.
@@ -27,13 +31,16 @@ impl<'a> Pieces<'a> {
         if self.begins_quoted_cell(index) {
             return self.end_of_columns(index);
         }
-        if !self.begins_line(index) && !is_after_mark {
-            return None;
-        }
         if let Some(end) = self.end_of_request(index) {
             return Some(end);
         }
+        if !self.begins_line(index) && !is_after_mark {
+            return None;
+        }
         if let Some(end) = self.end_of_farm_unit(index) {
+            return Some(end);
+        }
+        if let Some(end) = self.end_of_limits(index) {
             return Some(end);
         }
         if let Some(end) = self.end_of_property(index) {
@@ -62,11 +69,15 @@ impl<'a> Pieces<'a> {
         if is_whole { Some(end) } else { None }
     }
 
-    /// Whether `for` is at an index, as a patent begins, or after a comma, and land after it.
-    fn is_for_before_land(&self, index: usize) -> bool {
+    /// Whether `for` is at an index, as a patent begins, or after a comma, or the number of an entry, and land after
+    /// it.
+    pub(crate) fn is_for_before_land(&self, index: usize) -> bool {
         let next = plus(index, 1);
+        let is_after_entry = matches!(self.kind_before(index), Some(Kind::BadNumber))
+            || matches!(self.lower_back(index, 1), Some(word) if is_of_request(word))
+            || matches!(index.checked_sub(1), Some(entry) if self.has_digits(entry, 4));
         self.is(index, b"for")
-            && (self.begins_line(index) || self.follows(index, b","))
+            && (self.begins_line(index) || self.follows(index, b",") || is_after_entry)
             && (self.begins_part(next)
                 || (self.is(next, b"the") && matches!(self.kind(plus(next, 1)), Kind::Lot))
                 || matches!(self.kind(next), Kind::Lot))
@@ -76,6 +87,9 @@ impl<'a> Pieces<'a> {
     pub fn end_of_column_label(&self, index: usize) -> Option<usize> {
         if !matches!(self.kind(index), Kind::Other) {
             return None;
+        }
+        if let Some(end) = self.end_of_quarter_of_quarter(index) {
+            return Some(end);
         }
         if self.is_label_of_part(index) {
             return Some(plus(index, if self.is(plus(index, 2), b":") { 3 } else { 2 }));
@@ -95,6 +109,9 @@ impl<'a> Pieces<'a> {
             } else {
                 None
             };
+        }
+        if let Some(end) = self.end_of_numbered_field(index) {
+            return Some(end);
         }
         let mut end: Option<usize> = None;
         let mut next = index;
@@ -131,7 +148,10 @@ impl<'a> Pieces<'a> {
                     && self.is_before_column(plus(index, 1))
             }
             [b'l', ..] => label > 0 && (is_same(word, b"legal") || is_same(word, b"lgl")),
-            [b'q', ..] => is_same(word, b"qtr") && self.is_after_section(index),
+            [b'q', ..] => {
+                (is_same(word, b"qtr") && self.is_after_section(index))
+                    || self.is_column_of_quarters(index)
+            }
             _ => false,
         }
     }
@@ -206,8 +226,13 @@ impl<'a> Pieces<'a> {
 
     /// Where a request ends that a text begins with, as `can you run`: its words say nothing of land, which
     /// follows them.
-    fn end_of_request(&self, index: usize) -> Option<usize> {
-        if index > 0 || !begins_request(self.lower(index)) {
+    pub(crate) fn end_of_request(&self, index: usize) -> Option<usize> {
+        let is_first = index == 0
+            || (index <= GREETING_MOST
+                && matches!(self.kind(0), Kind::Other)
+                && !self.begins_land(0)
+                && (self.is_after_dash(index) || self.follows(index, b",")));
+        if !is_first || !begins_request(self.lower(index)) {
             return None;
         }
         for place in plus(index, 1)..plus(index, PIECES_MOST) {
@@ -259,7 +284,21 @@ impl<'a> Pieces<'a> {
 
     /// Whether the question mark at the end of a request is at an index.
     pub fn is_question_mark(&self, index: usize) -> bool {
-        self.is(index, b"?") && plus(index, 1) == self.len() && self.end_of_request(0).is_some()
+        let next = plus(index, 1);
+        let is_last = next == self.len()
+            || begins_terms(self.lower(next))
+            || self.end_of_words_after(next).is_some();
+        self.is(index, b"?") && is_last && self.has_request()
+    }
+
+    /// Whether the text begins with a request, or with a greeting and one.
+    fn has_request(&self) -> bool {
+        for index in 0..plus(GREETING_MOST, 1) {
+            if self.end_of_request(index).is_some() {
+                return true;
+            }
+        }
+        false
     }
 
     /// Where the number of a row ends, which is alone in the first cell: the row names a section with a word
@@ -344,7 +383,7 @@ impl<'a> Pieces<'a> {
         if self.is(index, b"a") && self.is(plus(index, 1), b"/") && self.is(plus(index, 3), b"/") {
             return plus(index, 5);
         }
-        if self.is(index, b"being") || self.is(index, b"aka") {
+        if self.is(index, b"being") || self.is(index, b"aka") || self.is(index, b"=") {
             return plus(index, 1);
         }
         if self.is(index, b"also")

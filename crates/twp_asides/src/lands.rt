@@ -10,9 +10,14 @@ impl<'a> Pieces<'a> {
         match self.kind(index) {
             Kind::Sec | Kind::Lot | Kind::Corner(_) => true,
             Kind::Half | Kind::Quarter => !self.is_in_date(index),
-            Kind::NorthSouth(_) => !self.is_possessive(index) && !self.begins_number(index),
-            Kind::EastWest(_) => !self.begins_number(index),
-            Kind::All => !is_of_right(self.lower(plus(index, 1))),
+            Kind::NorthSouth(_) => {
+                !self.is_possessive(index) && !self.begins_number(index) && !self.is_of_title(index)
+            }
+            Kind::EastWest(_) => !self.begins_number(index) && !self.is_of_title(index),
+            Kind::All => {
+                let next = plus(index, 1);
+                !is_of_right(self.lower(next)) && !self.is(next, b"men")
+            }
             Kind::Other => self.begins_step(index) || begins_exception(self.lower(index)),
             _ => false,
         }

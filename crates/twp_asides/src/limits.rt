@@ -19,7 +19,8 @@ pub(crate) fn is_beyond_remark(pieces: &Pieces<'_>, index: usize) -> bool {
         || pieces.is_township_word(index)
         || pieces.is(index, b"?")
         || (pieces.is(index, b"'") && matches!(pieces.kind_before(index), Some(Kind::Number(_))))
-        || may_be_corners(pieces.lower(index))
+        || (may_be_corners(pieces.lower(index))
+            && !(pieces.is(index, b"sell") || pieces.is(index, b"need")))
         || (alters_land(pieces.lower(index))
             && !is_homesite_of_acreage(pieces, index)
             && !is_of_instrument(pieces, index))
@@ -32,7 +33,9 @@ pub(crate) fn is_beyond_remark(pieces: &Pieces<'_>, index: usize) -> bool {
             && !matches!(index.checked_sub(1), Some(before) if pieces.is_date(before)))
         || (pieces.is(index, b"tract") && pieces.number(plus(index, 1)).unwrap_or(0) > SECTIONS)
         || ((is_partial(pieces.lower(index)) || is_beyond_label(pieces.lower(index)))
-            && !is_of_instrument(pieces, index))
+            && !is_of_instrument(pieces, index)
+            && !pieces.is_percentage(plus(index, 1))
+            && !is_of_formula(pieces, index))
 }
 
 /// Whether a date, or a month, is at an index.
@@ -65,8 +68,10 @@ pub(crate) fn is_size_or_acreage(pieces: &Pieces<'_>, index: usize) -> bool {
         pieces.lower_back(index, 1),
         Some(label) if is_of_label(label) || is_instrument(label) || is_of_record(label)
     );
+    let is_use = pieces.is(next, b"aums") || pieces.is(next, b"aum");
     let is_called = is_round_acreage(pieces.number(index).unwrap_or(0))
         && !is_record
+        && !is_use
         && (!pieces.is_joined(index) || pieces.follows(index, b"("))
         && (!pieces.is_joined(next) || pieces.is(next, b")"));
     is_size || is_called
@@ -101,7 +106,7 @@ pub(crate) fn is_type_of_case(pieces: &Pieces<'_>, index: usize) -> bool {
         && (pieces.is_back(index, 3, b"type") || pieces.is_back(index, 4, b"type"))
 }
 
-/// Whether the word at an index is of `made a part of`, `only insofar`, `Fee minerals:`,
+/// Whether the word at an index is of `made a part of`, `by and between`, `only insofar`, `Fee minerals:`,
 /// `Proposed Reinstatement of Terminated Oil and Gas Lease`, `Row 14`, or `Case Type 281001: ROW-ROADS`, which limit
 /// no land.
 fn is_of_instrument(pieces: &Pieces<'_>, index: usize) -> bool {
@@ -109,6 +114,9 @@ fn is_of_instrument(pieces: &Pieces<'_>, index: usize) -> bool {
         && pieces.follows(index, b"a")
         && pieces.is_back(index, 2, b"made");
     let next = plus(index, 1);
+    let is_between = pieces.is(index, b"between")
+        && pieces.follows(index, b"and")
+        && pieces.is_back(index, 2, b"by");
     let is_only = pieces.is(index, b"only")
         && (pieces.is(next, b"insofar") || pieces.follows(index, b"int"));
     let is_estate = pieces.is(index, b"minerals") && pieces.is(next, b":");
@@ -124,6 +132,8 @@ fn is_of_instrument(pieces: &Pieces<'_>, index: usize) -> bool {
         || is_type_of_case(pieces, index)
         || matches!(index.checked_sub(2), Some(row) if is_type_of_case(pieces, row));
     is_part
+        || is_between
+        || is_exempt(pieces, index)
         || is_only
         || is_estate
         || is_proposed
@@ -131,4 +141,16 @@ fn is_of_instrument(pieces: &Pieces<'_>, index: usize) -> bool {
         || is_base
         || is_release
         || is_row
+}
+
+/// Whether `exempt` ends its column, as in `AG EXEMPT`: the land pays no tax.
+pub(crate) fn is_exempt(pieces: &Pieces<'_>, index: usize) -> bool {
+    let next = plus(index, 1);
+    pieces.is(index, b"exempt") && (pieces.is(next, b")") || pieces.begins_column(next))
+}
+
+/// Whether the word at an index is of `IT IS FURTHER ORDERED`, or the value of a column, as in `SURVTYPTXT=Original`.
+fn is_of_formula(pieces: &Pieces<'_>, index: usize) -> bool {
+    (pieces.is(index, b"further") && pieces.is(plus(index, 1), b"ordered"))
+        || (pieces.is(index, b"original") && pieces.follows(index, b"="))
 }

@@ -1,15 +1,21 @@
 //! What is looked at in a remark: names of wells, tracts, and persons, words that are known, and titles of
 //! other land.
 
+use crate::limits::is_exempt;
 use crate::pieces::{Pieces, plus};
 use twp_grammar::Kind;
-use twp_words::{is_acres, is_company, is_doubtful_title, is_feature, is_known, is_same};
+use twp_words::{is_acres, is_company, is_doubtful_title, is_feature, is_known, is_month, is_same};
 
 /// Whether the piece at an index is known to say nothing of which land is meant, as a date, a share, or an
 /// agency.
 pub(crate) fn is_known_at(pieces: &Pieces<'_>, index: usize) -> bool {
     is_known(pieces.lower(index))
+        || pieces.begins_title(index)
+        || is_middle_initial(pieces, index)
+        || is_date_with_month(pieces, index)
         || pieces.is(index, b">")
+        || pieces.is(index, b"$")
+        || is_exempt(pieces, index)
         || pieces.is_date(index)
         || pieces.is_percentage(index)
         || pieces.is_share(index)
@@ -40,7 +46,7 @@ pub(crate) fn is_of_well(pieces: &Pieces<'_>, index: usize) -> bool {
 
 /// Whether a tract begins a line, in the cells after which is its land.
 pub(crate) fn begins_tract(pieces: &Pieces<'_>, index: usize) -> bool {
-    let next = plus(index, 2);
+    let next = plus(pieces.after_no(plus(index, 1)), 1);
     (pieces.is(index, b"tract") || pieces.is(index, b"parcel"))
         && pieces.has_before(index, b'\n')
         && pieces.has_before(next, b'\t')
@@ -52,6 +58,35 @@ pub(crate) fn begins_tract(pieces: &Pieces<'_>, index: usize) -> bool {
 pub(crate) fn is_initial(pieces: &Pieces<'_>, index: usize) -> bool {
     let next = plus(index, 1);
     matches!(pieces.kind(index), Kind::Other) && pieces.is(next, b".") && pieces.is_joined(next)
+}
+
+/// Whether the initial between two names of a person is at an index, as in `John Q. Hamer`.
+fn is_middle_initial(pieces: &Pieces<'_>, index: usize) -> bool {
+    let is_after_name = matches!(index.checked_sub(1), Some(first) if is_name(pieces, first));
+    is_initial(pieces, index)
+        && pieces.size(index) == 1
+        && is_after_name
+        && is_name(pieces, plus(index, 2))
+}
+
+/// Whether a word with a capital, and more letters that are none, is at an index.
+fn is_name(pieces: &Pieces<'_>, index: usize) -> bool {
+    matches!(pieces.kind(index), Kind::Other)
+        && matches!(pieces.bytes(index), [b'A'..=b'Z', b'a'..=b'z', ..])
+}
+
+/// Whether a date with the name of its month is at an index, as `Apr 3 1908`.
+fn is_date_with_month(pieces: &Pieces<'_>, index: usize) -> bool {
+    let day = plus(
+        index,
+        if pieces.is(plus(index, 1), b".") {
+            2
+        } else {
+            1
+        },
+    );
+    let year = plus(day, if pieces.is(plus(day, 1), b",") { 2 } else { 1 });
+    is_month(pieces.lower(index)) && pieces.number(day).is_some() && pieces.has_digits(year, 4)
 }
 
 /// Whether `homesite` alone is after acreage at the end of its cell, as in `5.00 AC HOMESITE`: the acreage is

@@ -123,6 +123,16 @@ impl<'a> Pieces<'a> {
         }
     }
 
+    /// Whether the text from the piece at an index on, in lowercase, begins with another.
+    pub(crate) fn begins_as(&self, index: usize, text: &[u8]) -> bool {
+        self.begins_at(self.start(index), text)
+    }
+
+    /// Whether the text at a place, in lowercase, begins with another.
+    pub(crate) fn begins_at(&self, place: usize, text: &[u8]) -> bool {
+        self.lower.get(place..plus(place, text.len())) == Some(text)
+    }
+
     /// Whether the piece before an index is this text. The first piece is after none.
     #[inline(always)]
     pub fn follows(&self, index: usize, text: &[u8]) -> bool {

@@ -6,6 +6,9 @@ use crate::marks::{
     begins_tract, is_homesite_of_acreage, is_initial, is_known_at, is_of_well, is_title_of_other,
 };
 use crate::pieces::{Pieces, plus};
+use crate::remark_ends::{
+    begins_question, is_after_conveyance, is_after_record, is_end_of_question, is_end_of_sentence,
+};
 use crate::trailers::end_of_depths;
 use twp_grammar::Kind;
 use twp_words::{
@@ -37,7 +40,7 @@ pub enum Position {
 /// Where the remark at an index ends: with its cell, or at a mark. None if a word of it may name land, or
 /// limit it.
 pub fn end_of_remark(pieces: &Pieces<'_>, index: usize, position: Position) -> Option<usize> {
-    if pieces.is(index, b"(") {
+    if pieces.is(index, b"(") || pieces.is(index, b"[") {
         return end_of_parentheses(pieces, index);
     }
     if let Some(end) = pieces.end_of_tract(index) {
@@ -52,7 +55,8 @@ pub fn end_of_remark(pieces: &Pieces<'_>, index: usize, position: Position) -> O
         || is_row_of_table(pieces, index)
         || begins_address(pieces, index)
         || is_name_of_value(pieces, index)
-        || is_homesite_of_acreage(pieces, index);
+        || is_homesite_of_acreage(pieces, index)
+        || begins_question(pieces, index);
     let mut next = index;
     for place in index..plus(index, PIECES_MOST) {
         if place > index && (place >= pieces.len() || ends_remark(pieces, place, position)) {
@@ -68,6 +72,9 @@ pub fn end_of_remark(pieces: &Pieces<'_>, index: usize, position: Position) -> O
             next = end;
             has_word = true;
             is_sure = true;
+            continue;
+        }
+        if is_end_of_question(pieces, index, place) {
             continue;
         }
         if leaves_remark(pieces, index, place, position) {
@@ -87,6 +94,7 @@ fn may_end_remark(pieces: &Pieces<'_>, index: usize, place: usize, position: Pos
     let last = place - 1;
     match position {
         Position::BeforeLand if place >= pieces.len() => false,
+        Position::BeforeLand if is_after_conveyance(pieces, place) => true,
         Position::BeforeLand if is_title_of_other(pieces, last) => is_type_of_case(pieces, index),
         _ => place <= plus(index, 1) || !points_into(pieces.lower(last)),
     }
@@ -110,7 +118,9 @@ fn leaves_remark(pieces: &Pieces<'_>, index: usize, place: usize, position: Posi
         }
     };
     is_limit
-        || (pieces.may_be_section(place) && !may_be_well(pieces, index, place, position))
+        || (pieces.may_be_section(place)
+            && !may_be_well(pieces, index, place, position)
+            && !(position == Position::BeforeLand && pieces.follows(place, b"#")))
         || (is_beyond_remark(pieces, place) && !is_name_of_water(pieces, place, position))
 }
 
@@ -138,6 +148,7 @@ fn may_be_parcel(pieces: &Pieces<'_>, index: usize, place: usize) -> bool {
         && names_parcel(pieces.lower(place))
         && !pieces.is(index, b"total")
         && !pieces.follows(place, b"/")
+        && !pieces.follows(place, b"per")
 }
 
 /// Whether a number in a remark that begins at an index may be of the name of a well: before land, and not
@@ -166,6 +177,7 @@ fn begins_remark(pieces: &Pieces<'_>, index: usize, position: Position) -> bool 
         Kind::Number(number) => {
             number > SECTIONS
                 || number == 0
+                || pieces.size(index) >= 4
                 || pieces.is_date(index)
                 || pieces.end_of_code(index).is_some()
                 || is_of_time(pieces.lower(plus(index, 1)))
@@ -176,6 +188,8 @@ fn begins_remark(pieces: &Pieces<'_>, index: usize, position: Position) -> bool 
         Kind::To => position == Position::BeforeLand,
         _ => matches!(pieces.lower(index), [b'a'..=b'z', _, ..])
             || is_initial(pieces, index)
+            || pieces.begins_title(index)
+            || pieces.end_of_file_number(index).is_some()
             || begins_oil_and_gas(pieces, index)
             || pieces.is(index, b"$")
             || pieces.end_of_code(index).is_some(),
@@ -197,10 +211,12 @@ fn is_name_of_value(pieces: &Pieces<'_>, index: usize) -> bool {
     is_value || pieces.after_quoted_name(mark).is_some()
 }
 
-/// Whether a colon, with white space after it, or a comma is before an index.
+/// Whether a colon, with white space after it, a comma, or a semicolon is before an index.
 fn is_after_mark_of_label(pieces: &Pieces<'_>, index: usize) -> bool {
     pieces.follows(index, b",")
+        || pieces.follows(index, b";")
         || pieces.follows(index, b"=")
+        || (pieces.is_after_dash(index) && !pieces.is_joined(index))
         || (pieces.follows(index, b":") && !pieces.is_joined(index))
 }
 
@@ -229,7 +245,14 @@ fn ends_remark(pieces: &Pieces<'_>, index: usize, position: Position) -> bool {
                 || (matches!(pieces.kind(index), Kind::Comma)
                     && pieces.begins_place(next)
                     && !matches!(pieces.kind(next), Kind::All))
+                || pieces.is_meridian_cell(next)
+                || (matches!(pieces.kind(index), Kind::Comma)
+                    && pieces.end_of_request(next).is_some())
                 || matches!(pieces.lower_back(index, 1), Some(word) if is_of_covering(word))
+                || is_after_record(pieces, index)
+                || is_end_of_sentence(pieces, index)
+                || is_after_conveyance(pieces, index)
+                || pieces.is_for_before_land(index)
                 || matches!(pieces.kind(index), Kind::Semicolon)
                 || pieces.begins_register(index)
                 || begins_code_of_state(pieces, index)
@@ -288,6 +311,7 @@ fn is_other_figure(pieces: &Pieces<'_>, index: usize) -> bool {
 fn end_of_parentheses(pieces: &Pieces<'_>, index: usize) -> Option<usize> {
     let next = plus(index, 1);
     let first = pieces.lower(next);
+    let mark: &'static [u8] = if pieces.is(index, b"(") { b")" } else { b"]" };
     if let Some(close) = end_of_depths(pieces, next) {
         return if pieces.is(close, b")") {
             Some(plus(close, 1))
@@ -311,10 +335,10 @@ fn end_of_parentheses(pieces: &Pieces<'_>, index: usize) -> Option<usize> {
         || begins_terms(first)
         || after_acreage > next;
     for place in after_acreage..plus(after_acreage, PARENTHESES_MOST) {
-        if pieces.is(place, b")") {
+        if pieces.is(place, mark) {
             return if is_sure { Some(plus(place, 1)) } else { None };
         }
-        is_sure = is_sure || is_known_at(pieces, place);
+        is_sure = is_sure || is_known_at(pieces, place) || pieces.is(place, b"file");
         let is_beyond = is_beyond_remark(pieces, place)
             || is_boundary(pieces.lower(place))
             || names_parcel(pieces.lower(place))
@@ -336,6 +360,9 @@ fn says_something(pieces: &Pieces<'_>, index: usize) -> bool {
         [b'a'..=b'z', _, ..] => true,
         _ => false,
     };
+    if pieces.begins_title(index) {
+        return true;
+    }
     match pieces.kind(index) {
         Kind::Other => is_word || is_instrument(pieces.lower(index)),
         Kind::BadNumber | Kind::To => true,

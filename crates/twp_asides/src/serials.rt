@@ -81,6 +81,36 @@ impl<'a> Pieces<'a> {
         }
     }
 
+    /// Where the number of a parcel, with a word for it, ends, as `Parcel No. R2988501000`.
+    pub fn end_of_parcel_number(&self, index: usize) -> Option<usize> {
+        let is_word = self.is(index, b"parcel")
+            || self.is(index, b"account")
+            || self.is(index, b"apn")
+            || self.is(index, b"pin");
+        if !is_word {
+            return None;
+        }
+        let mut code = plus(index, 1);
+        for place in code..plus(index, 5) {
+            let is_mark = self.is(place, b"no")
+                || self.is(place, b"number")
+                || self.is(place, b".")
+                || self.is(place, b":")
+                || self.is(place, b"#");
+            if !is_mark {
+                break;
+            }
+            code = plus(place, 1);
+        }
+        if code == plus(index, 1) {
+            return None;
+        }
+        match self.kind(code) {
+            Kind::BadNumber => self.end_of_code(code).or(Some(plus(code, 1))),
+            _ => self.end_of_code(code),
+        }
+    }
+
     /// Where the number of a file at an index ends, as `#30988`: a shorter one may be of a lot.
     pub fn end_of_file_number(&self, index: usize) -> Option<usize> {
         if !self.is(index, b"#") {

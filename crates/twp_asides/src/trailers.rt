@@ -1,17 +1,20 @@
 //! What is said after land, and isn't land: `limited to the Lance formation`, `recorded in Book 3`, `HBP`.
 
 use crate::limits::is_size_or_acreage;
-use crate::marks::is_metes_and_bounds;
+use crate::marks::{is_metes_and_bounds, is_of_well};
 use crate::pieces::{Pieces, plus};
 use twp_grammar::Kind;
 use twp_words::{
-    alters_land, begins_terms, is_beyond_depths, is_beyond_terms, is_boundary, is_conveyance,
-    is_land_by_name, is_of_appurtenance, is_of_depth, is_of_estate, is_of_survey, is_of_town,
-    is_partial, is_same, is_site, is_word_for_depths, limits_land, names_parcel,
+    alters_land, begins_exception, begins_terms, is_beyond_depths, is_beyond_terms, is_boundary,
+    is_conveyance, is_land_by_name, is_of_appurtenance, is_of_depth, is_of_estate, is_of_survey,
+    is_of_town, is_partial, is_same, is_site, is_word_for_depths, limits_land, names_parcel,
 };
 
 /// The most pieces of depths in parentheses.
 const DEPTHS_MOST: usize = 24;
+
+/// The most pieces of an exception.
+const EXCEPTION_MOST: usize = 12;
 
 /// What is said after land.
 #[derive(Clone, Copy, PartialEq, Eq)]
@@ -39,8 +42,11 @@ pub fn end_of_trailer(pieces: &Pieces<'_>, index: usize) -> Option<usize> {
     let mut has_word = false;
     for place in index..pieces.len() {
         let is_apart = matches!(pieces.kind(place), Kind::Semicolon)
-            || (pieces.has_before(place, b'\n') && place > index);
-        if is_apart && trailer == Trailer::Terms {
+            || (place > index && pieces.has_break_before(place) && pieces.has_before(place, b'\n'));
+        let is_before_heading = matches!(pieces.kind(place), Kind::Comma)
+            && (pieces.begins_tier(plus(place, 1))
+                || matches!(pieces.kind(plus(place, 1)), Kind::Sec));
+        if (is_apart || is_before_heading) && trailer == Trailer::Terms {
             return Some(place);
         }
         let is_after_survey = trailer == Trailer::Survey
@@ -101,8 +107,14 @@ fn is_beyond_trailer(pieces: &Pieces<'_>, trailer: Trailer, index: usize) -> boo
     };
     // `$2.00/acre` is a price.
     let is_parcel = names_parcel(word) && !pieces.follows(index, b"/");
+    let is_well = trailer == Trailer::Terms && is_of_well(pieces, index);
+    let is_earlier = trailer == Trailer::Terms
+        && is_same(word, b"conveyed")
+        && (pieces.follows(index, b"heretofore") || pieces.follows(index, b"previously"));
     let is_part = trailer != Trailer::Office
-        && (is_parcel || is_partial(word) || pieces.may_be_section(index));
+        && (is_parcel
+            || (is_partial(word) && !is_earlier)
+            || (pieces.may_be_section(index) && !is_well));
     let is_beyond = match trailer {
         Trailer::Terms => {
             is_beyond_terms(word)
@@ -185,7 +197,11 @@ fn trailer_with_next(pieces: &Pieces<'_>, word: &[u8], next: usize) -> Option<Tr
     if is_reservation(pieces, word, next) {
         return Some(Trailer::Reserved);
     }
-    if is_same(word, b"together") && pieces.is(next, b"with") {
+    let is_granted = (is_same(word, b"together") && pieces.is(next, b"with"))
+        || (is_same(word, b"with")
+            && (pieces.is(next, b"all")
+                || (pieces.is(next, b"the") && !pieces.is(plus(next, 1), b"exception"))));
+    if is_granted {
         return Some(Trailer::Granted);
     }
     if are_depths(pieces, word, next) {
@@ -194,12 +210,31 @@ fn trailer_with_next(pieces: &Pieces<'_>, word: &[u8], next: usize) -> Option<Tr
     let is_shown = is_same(word, b"as")
         && pieces.is(next, b"shown")
         && is_soon(pieces, next, b"official");
+    let is_filed = is_same(word, b"has") && pieces.is(next, b"filed");
+    let is_earlier = (is_same(word, b"heretofore") || is_same(word, b"previously"))
+        && pieces.is(next, b"conveyed")
+        && is_after_exception(pieces, next);
+    let is_priced = is_earlier
+        || (is_same(word, b"appraised") && pieces.is(next, b"at"))
+        || (is_same(word, b"sold") && pieces.is(next, b"for"));
     let is_end = is_same(word, b"only")
         && matches!(pieces.kind(next), Kind::Stop | Kind::Semicolon);
-    if is_shown || is_end {
+    if is_shown || is_end || is_filed || is_priced {
         return Some(Trailer::Terms);
     }
     None
+}
+
+/// Whether a word for an exception is among the pieces before an index, in its sentence.
+fn is_after_exception(pieces: &Pieces<'_>, index: usize) -> bool {
+    for count in 1..EXCEPTION_MOST {
+        match pieces.lower_back(index, count) {
+            Some(b";") | None => return false,
+            Some(word) if begins_exception(word) => return true,
+            Some(_) => {}
+        }
+    }
+    false
 }
 
 /// Whether a word begins what is reserved, with what follows it at an index.

@@ -58,8 +58,8 @@ impl<'a> Draft<'a> {
         let pieces = &self.pieces;
         let found = match pieces.kind(index) {
             Kind::Number(value) if pieces.size(index) <= 3 => one_piece(index, value),
-            Kind::Other => match self.damaged_digit(index) {
-                Some(digit) => one_piece(index, digit),
+            Kind::Other => match self.damaged_digit(index).or(self.damaged_number(index)) {
+                Some(value) => one_piece(index, value),
                 None => self.numeral_in_words(index)?,
             },
             _ => return None,
@@ -84,6 +84,26 @@ impl<'a> Draft<'a> {
             b"l" | b"I" => Some(1),
             b"O" => Some(0),
             _ => None,
+        }
+    }
+
+    /// The number of two digits that scanning makes letters of, at an index. `II` may be 2.
+    fn damaged_number(&self, index: usize) -> Option<u16> {
+        match self.pieces.bytes(index) {
+            b"ll" | b"lI" | b"Il" => Some(11),
+            b"lO" | b"IO" => Some(10),
+            _ => None,
+        }
+    }
+
+    /// What is written for the letters at an index that scanning makes of digits.
+    fn mended(&self, index: usize) -> Option<&'static [u8]> {
+        match (self.damaged_digit(index), self.damaged_number(index)) {
+            (Some(0), _) => Some(b"0"),
+            (Some(_), _) => Some(b"1"),
+            (None, Some(10)) => Some(b"10"),
+            (None, Some(_)) => Some(b"11"),
+            (None, None) => None,
         }
     }
 
@@ -189,16 +209,14 @@ impl<'a> Draft<'a> {
     fn is_damaged(&self, number: WrittenNumber) -> bool {
         let WrittenNumber { first, last, .. } = number;
         let is_one = first == last && matches!(self.pieces.kind(first), Kind::Number(_));
-        !is_one && (self.damaged_digit(first).is_some() || self.damaged_digit(last).is_some())
+        !is_one && (self.mended(first).is_some() || self.mended(last).is_some())
     }
 
     /// Writes the digits that are letters, from one index up to another.
     fn mend_digits(&mut self, first: usize, end: usize) {
         for index in first..end {
-            match self.damaged_digit(index) {
-                Some(0) => self.replace(index, b"0", Rule::Damage),
-                Some(_) => self.replace(index, b"1", Rule::Damage),
-                None => {}
+            if let Some(digits) = self.mended(index) {
+                self.replace(index, digits, Rule::Damage);
             }
         }
     }
@@ -208,9 +226,8 @@ impl<'a> Draft<'a> {
     fn copy_damaged(&mut self, place: usize, first: usize, end: usize) {
         for index in first..end {
             let (from, to) = (self.pieces.start(index), self.pieces.end(index));
-            match self.damaged_digit(index) {
-                Some(0) => self.write(place, place, b"0", Rule::Copied(from, to)),
-                Some(_) => self.write(place, place, b"1", Rule::Copied(from, to)),
+            match self.mended(index) {
+                Some(digits) => self.write(place, place, digits, Rule::Copied(from, to)),
                 None => self.copy(place, from, to),
             }
         }

@@ -11,6 +11,12 @@ use Rattle.twp_grid.proofs.TotalFacts.{total-next, total-zero}
 use Rattle.twp_land.specs.LotMaps.{NO_LAND, mark_in}
 use Rattle.twp_land.specs.LotMarks.{HasMarks, all_below, are_alike, is_divided, divided_count}
 
+-- one more number
+pub all_next : (n : ℕ) (test : ℕ → Bool) → all_below (n + 1) test ≡ (all_below n test && test n)
+all_next n test =
+    let next : n + 1 ≡ suc n = omega arith in
+    ap (λ m. all_below m test) next
+
 -- a test that holds for all numbers below one, and for it
 pub all_more : (n : ℕ) (test : ℕ → Bool) → all_below n test ≡ true → test n ≡ true
     → all_below (n + 1) test ≡ true

@@ -24,12 +24,15 @@ pub mod CombinedLots
 pub mod CompareFacts
 pub mod DividingFacts
 pub mod PaintFacts
+pub mod TilePaint
 pub mod PlatLayouts
 pub mod RelationFacts
 pub mod LotSections
 pub mod MadeLands
 pub mod MarkedFacts
+pub mod MaskFacts
 pub mod MarkedLoops
 pub mod MarkedLots
+pub mod SectionMarks
 pub mod WholeDecided
 pub mod OneSections

@@ -170,14 +170,14 @@ in_position n start place some most divides aligned least less =
           absurd (omega (arith, whole, ends, start_is, aligned))
     ]
 
-along_position : (span : Interval) (place : ℕ) → IsDyadic PLACE_DIGITS span → span.len ≤ POSITION
+pub along_position : (span : Interval) (place : ℕ) → IsDyadic PLACE_DIGITS span → span.len ≤ POSITION
     → in_span span place ≡ true → position_along PLACE_DIGITS place ≡ position_along PLACE_DIGITS span.start
 along_position span place dyadic most inside =
     let both = and_parts (nat_le span.start place) (nat_lt place (span.start + span.len)) inside in
     in_position span.len span.start place dyadic.some most dyadic.divides dyadic.aligned
     (grind (arith, nat_tests)) (grind (arith, nat_tests))
 
-first_in : (span : Interval) → 0 < span.len → in_span span span.start ≡ true
+pub first_in : (span : Interval) → 0 < span.len → in_span span span.start ≡ true
 first_in span some = grind (arith, nat_tests)
 
 pub small_holds : (section : ℕ) (block : Rectangle) → IsDyadic PLACE_DIGITS block.columns

@@ -6,16 +6,17 @@ use Rattle.std.proofs.Common.{refl, sym, ap, subst, ◌∙◌, ◌⊎◌, inl, i
 use Rattle.std.proofs.Common.{if◌then◌else◌}
 use Rattle.std.proofs.Math.Path.{fun_ext}
 use Rattle.std.specs.Option.{option_map_or}
-use Rattle.std.proofs.lemmas.Bool.{cases_Bool, eqb-true, eq-eqb}
+use Rattle.std.proofs.lemmas.Bool.{and_parts, cases_Bool, eqb-true, eq-eqb}
 use Rattle.std.proofs.lemmas.Bool.Decides.{nat_tests}
 use Rattle.twp_grid.specs.Winding.{IsSection}
+use Rattle.twp_land.specs.steps.Marked.{in_section}
 use Rattle.twp_land.specs.steps.StandardLots.{standard_are_lots}
 use Rattle.twp_grid.specs.Lots.{position_of_lot, number_of_lots}
 use Rattle.twp_grid.specs.Places.{PLACE_DIGITS, is_place, position_along}
 use Rattle.twp_grid.specs.Spans.{Rectangle, in_rectangle, whole_block}
 use Rattle.twp_grid.proofs.PlaceTests.{place_of_test, test_of_place, whole_is_place}
 use Rattle.twp_grid.specs.Lands.{STANDARD_LOTS, HasLot, HasLots, IsLotHeld, Meets, SharePlace}
-use Rattle.twp_grid.specs.Lands.{lot_of_place}
+use Rattle.twp_grid.specs.Lands.{ContainsAll, lot_of_place}
 use Rattle.twp_grid.specs.Lands.{lot_places, block_places, section_places, HasLand, HoldsEach, HoldsAll}
 use Rattle.twp_grid.proofs.LotFacts.{count_by_code, position_of_lot_is, lot_count_is}
 use Rattle.twp_land.proofs.LotFacts.{fills, inside, has_lot, block_of}
@@ -182,3 +183,15 @@ meets_of_held s n held block range most is lot = record {
   inside = (in_lot_block s n block range most is lot.column lot.row).1 lot.of_lot;
   is_held = lot.is_held;
 }
+
+-- a set contains each place of another set in one section
+pub contains_held : (places : ℕ → ℕ → ℕ → Bool) (s : ℕ) (held : ℕ → ℕ → Bool) (set : ℕ → ℕ → ℕ → Bool)
+    → in_section s held ≡ set
+    → ((c r : ℕ) → held c r ≡ true → places s c r ≡ true) ↔ ContainsAll places set
+contains_held places s held set is = (
+  λ each o c r there.
+      let parts = and_parts (s == o) (held c r) (ap (λ p. p o c r) is ∙ there) in
+      let same : s ≡ o = eqb-true s o parts.0 in
+      ap (λ n. places n c r) (sym same) ∙ each c r parts.1,
+  λ all c r here. all s c r (sym (ap (λ p. p s c r) is) ∙ rw (eq-eqb s s refl, here) refl),
+)

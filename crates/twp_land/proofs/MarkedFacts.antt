@@ -1,7 +1,7 @@
 -- The places of a section in the order of their numbers, and the blocks of those with marks in a range.
 use Rattle.std.proofs.Common.{◌≡◌, ℕ, ◌+◌, ◌-◌, ◌*◌, ◌/◌, ◌%◌, ◌<◌, ◌≤◌, ◌&&◌, true, false, List}
 use Rattle.std.proofs.Common.{get_or}
-use Rattle.std.proofs.Common.{nat_le, nat_lt, refl, sym, ap, ◌∙◌, inl, inr, arith}
+use Rattle.std.proofs.Common.{nat_le, refl, sym, ap, ◌∙◌, inl, inr, arith}
 use Rattle.std.proofs.lemmas.Bool.{and_parts, cases_lt}
 use Rattle.std.proofs.lemmas.Bool.Decides.{nat_tests}
 use Rattle.twp_grid.specs.Places.{PLACE_DIGITS, IsPlace, is_place}
@@ -43,15 +43,13 @@ is_marked positions divided s least most c r place low high =
     let upper : nat_le mark most ≡ true = grind (arith, nat_tests, high) in
     rw (test_of_place PLACE_DIGITS c r place, lower, upper) refl
 
--- a position that isn't divided has one mark
-position_mark : (positions divided : List ℕ) (s at position number : ℕ)
-    → position ≡ get_or positions ((s - 1) * 16 + at / 64) 0 → position ≤ 100 → number / 64 ≡ at / 64
-    → (within : ℕ) → mark_of positions divided s number ≡ mark_in divided position within
-position_mark positions divided s at position number is whole same within =
-    let there : get_or positions ((s - 1) * 16 + number / 64) 0 ≡ position =
-    ap (λ n. get_or positions ((s - 1) * 16 + n) 0) same ∙ sym is in
-    let low : nat_lt 100 position ≡ false = grind (arith, nat_tests, whole) in
-    rw (there, low) refl
+-- a place of the position that contains another
+pub position_mark : (positions divided : List ℕ) (s at position number : ℕ)
+    → position ≡ get_or positions ((s - 1) * 16 + at / 64) 0 → number / 64 ≡ at / 64
+    → mark_of positions divided s number ≡ mark_in divided position (number % 64)
+position_mark positions divided s at position number is same =
+    ap (λ n. mark_in divided (get_or positions ((s - 1) * 16 + n) 0) (number % 64)) same
+    ∙ ap (λ b. mark_in divided b (number % 64)) (sym is)
 
 -- a single place
 place_mark : (positions divided : List ℕ) (s at position : ℕ)
@@ -64,13 +62,20 @@ abbrev pub ArePassed : List ℕ → List ℕ → ℕ → ℕ → ℕ → ℕ →
 ArePassed positions divided s least most from at = (c r : ℕ)
     → marked positions divided s least most c r ≡ true → from ≤ place_number c r → at ≤ place_number c r
 
+-- the marks of a position are from a least to a greatest, or none is
+abbrev pub AreMarks : List ℕ → ℕ → ℕ → ℕ → Type 0
+AreMarks divided position least most = (within : ℕ) → within < 64
+    → (least ≤ mark_in divided position within) × (mark_in divided position within ≤ most)
+
+abbrev pub AreOtherMarks : List ℕ → ℕ → ℕ → ℕ → Type 0
+AreOtherMarks divided position least most = (within : ℕ) → within < 64
+    → least ≤ mark_in divided position within → ¬ (mark_in divided position within ≤ most)
+
 pub position_passed : (positions divided : List ℕ) (s least most from at position : ℕ) → at % 64 ≡ 0
-    → position ≡ get_or positions ((s - 1) * 16 + at / 64) 0 → position ≤ 100
-    → (nat_le least (mark_in divided position (at % 64)) && nat_le (mark_in divided position (at % 64)) most)
-    ≡ false
+    → position ≡ get_or positions ((s - 1) * 16 + at / 64) 0 → AreOtherMarks divided position least most
     → ArePassed positions divided s least most from at
     → ArePassed positions divided s least most from (at + 64)
-position_passed positions divided s least most from at position first is whole other passed c r here after =
+position_passed positions divided s least most from at position first is other passed c r here after =
     let parts = marked_parts positions divided s least most c r here in
     let number = place_number c r in
     let least-is = passed c r here after in
@@ -78,8 +83,9 @@ position_passed positions divided s least most from at position first is whole o
       | inr beyond ↦ omega arith
       | inl inside ↦
           let same : number / 64 ≡ at / 64 = omega arith in
-          let mark = position_mark positions divided s at position number is whole same (at % 64) in
-          absurd (grind (arith, nat_tests, parts.1, parts.2, mark, other))
+          let mark = position_mark positions divided s at position number is same in
+          absurd
+          (other (number % 64) (omega arith) (omega (arith, parts.1, mark)) (omega (arith, parts.2, mark)))
     ]
 
 pub place_passed : (positions divided : List ℕ) (s least most from at position : ℕ)
@@ -132,10 +138,10 @@ number_in_position at c r less place same =
         grind (arith, nat_tests, west, east, north, south)
 
 -- the place with a number
-abbrev column_at : ℕ → ℕ
+abbrev pub column_at : ℕ → ℕ
 column_at at = at / 64 % 4 * 8 + at % 8
 
-abbrev row_at : ℕ → ℕ
+abbrev pub row_at : ℕ → ℕ
 row_at at = at / 64 / 4 * 8 + at % 64 / 8
 
 in_place : (at c r : ℕ) → in_rectangle (place_block (column_at at) (row_at at)) c r ≡ true
@@ -145,7 +151,7 @@ in_place at c r inside = only (column_at at) (row_at at) inside
     only : (p q : ℕ) → in_rectangle (place_block p q) c r ≡ true → (c ≡ p) × (r ≡ q)
     only p q inside = grind (arith, nat_tests, inside)
 
-place_at_number : (at : ℕ) → at < PLACES
+pub place_at_number : (at : ℕ) → at < PLACES
     → IsPlace PLACE_DIGITS (column_at at) (row_at at) × (place_number (column_at at) (row_at at) ≡ at)
 place_at_number at less = ((omega arith, omega arith), omega arith)
 
@@ -160,14 +166,14 @@ number_at_place at c r place same =
     only : (p q : ℕ) → c ≡ p → r ≡ q → in_rectangle (place_block p q) c r ≡ true
     only p q across upward = grind (arith, nat_tests, across, upward)
 
--- a position whose mark is in the range
+-- a position whose marks are in the range
 pub position_next : (positions divided : List ℕ) (s least most from at position : ℕ) → at < PLACES
-    → at % 64 ≡ 0 → position ≡ get_or positions ((s - 1) * 16 + at / 64) 0 → position ≤ 100
-    → least ≤ mark_in divided position (at % 64) → mark_in divided position (at % 64) ≤ most → from ≤ at
+    → at % 64 ≡ 0 → position ≡ get_or positions ((s - 1) * 16 + at / 64) 0
+    → AreMarks divided position least most → from ≤ at
     → ArePassed positions divided s least most from at
     → IsNext (marked positions divided s least most) from
     (position_block PLACE_DIGITS (at / 64 % 4) (at / 64 / 4)) (at + 64)
-position_next positions divided s least most from at position less first is whole low high order passed =
+position_next positions divided s least most from at position less first is marks order passed =
     record {
       more = omega arith;
       within = omega arith;
@@ -177,10 +183,10 @@ position_next positions divided s least most from at position less first is whol
           number_in_position at (at / 64 % 4 * 8) (at / 64 / 4 * 8) less place number;
       is_set = λ c r inside.
           let there = in_position at c r less inside in
-          let mark =
-          position_mark positions divided s at position (place_number c r) is whole there.1 (at % 64) in
-          is_marked positions divided s least most c r there.0 (omega (arith, mark, low))
-          (omega (arith, mark, high));
+          let mark = position_mark positions divided s at position (place_number c r) is there.1 in
+          let range = marks (place_number c r % 64) (omega arith) in
+          is_marked positions divided s least most c r there.0 (omega (arith, mark, range.0))
+          (omega (arith, mark, range.1));
       numbered = λ c r inside.
           let there = in_position at c r less inside in
           (omega (arith, there.1), omega (arith, there.1));

@@ -1,6 +1,6 @@
 -- Marks that are painted place by place and row by row.
-use Rattle.std.proofs.Common.{◌≡◌, ◌≢◌, ℕ, ◌+◌, ◌<◌, ◌≤◌, ◌&&◌, Bool, true, false, List, get_or, set, length}
-use Rattle.std.proofs.Common.{nat_le, nat_lt, if◌then◌else◌, refl, sym, ap, subst, ◌-◌, ◌∙◌, inl, inr, arith}
+use Rattle.std.proofs.Common.{◌≡◌, ◌≢◌, ℕ, ◌+◌, ◌<◌, ◌≤◌, Bool, true, false, List, get_or, set, length}
+use Rattle.std.proofs.Common.{if◌then◌else◌, refl, sym, ap, subst, ◌-◌, ◌∙◌, inl, inr, arith}
 use Rattle.std.proofs.Common.{◌⊎◌, zero, suc, [], replicate}
 use Rattle.std.proofs.lemmas.List.{get_or-set_same, get_or-set_other}
 use Rattle.std.proofs.lemmas.Bool.{cases_Bool}
@@ -19,11 +19,11 @@ same_place c r c' r' place place' same =
     (omega arith, omega arith)
 
 -- a mark that a painted block has, or that was there before
-is_new : (b : Bool) (mark was now : ℕ) → now ≡ (if b then mark else was) → b ≡ true → now ≡ mark
+pub is_new : (b : Bool) (mark was now : ℕ) → now ≡ (if b then mark else was) → b ≡ true → now ≡ mark
 is_new true mark was now is here = is
 is_new false mark was now is here = cc here
 
-is_old : (b : Bool) (mark was now : ℕ) → now ≡ (if b then mark else was) → b ≡ false → now ≡ was
+pub is_old : (b : Bool) (mark was now : ℕ) → now ≡ (if b then mark else was) → b ≡ false → now ≡ was
 is_old true mark was now is elsewhere = cc elsewhere
 is_old false mark was now is elsewhere = is
 

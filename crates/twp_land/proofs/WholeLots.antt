@@ -4,11 +4,11 @@ use Rattle.std.proofs.Common.{refl}
 use Rattle.std.proofs.Common.{sym, ◌∙◌, subst, inl, inr, arith}
 use Rattle.std.specs.Option.{option_map_or}
 use Rattle.std.proofs.lemmas.Bool.{and_parts, cases_Bool, cases_lt, eqb-true, eq-eqb, false≢true}
-use Rattle.twp_grid.specs.Winding.{IsSection}
-use Rattle.twp_grid.specs.Places.{IsPlace, is_place}
-use Rattle.twp_grid.specs.Lands.{AreLots, ContainsAll, HasLot, HasWholeLots, IsLastLot, IsLotHeld, IsNextLot}
-use Rattle.twp_grid.specs.Lands.{IsWholeOrNot, Lotting, LieWithin, lot_places}
-use Rattle.twp_grid.proofs.PlaceTests.{place_of_test, test_of_place}
+use Rattle.twp_grid.specs.Places.{PLACE_DIGITS, IsPlace, is_place}
+use Rattle.twp_grid.specs.Spans.{whole_block}
+use Rattle.twp_grid.specs.Lands.{AreLots, ContainsAll, HasLot, IsLastLot, IsLotHeld, IsNextLot}
+use Rattle.twp_grid.specs.Lands.{IsWholeOrNot, Lotting, LieWithin, Meets, lot_places}
+use Rattle.twp_grid.proofs.PlaceTests.{test_of_place, whole_is_place}
 use Rattle.twp_land.specs.steps.Relating.{HoldsWholeLots}
 
 -- each lot up to this number is contained wholly or not at all
@@ -126,3 +126,18 @@ empty_whole lots places first last section lie out lot = record {
             | inr above ↦ absurd (omega (arith, above, range.1))
           ]
     ]
+
+-- a set that contains no place of a section
+pub untouched_whole : (lots : Lotting) (section : ℕ) (held : ℕ → ℕ → Bool) → lots.digits ≡ PLACE_DIGITS
+    → AreLots lots → ¬ Meets held (whole_block PLACE_DIGITS) → HoldsWholeLots lots section held
+untouched_whole lots section held digits are none lot =
+    unmet_whole lots section lot held are
+    (λ met. none (record {
+      column = met.column;
+      row = met.row;
+      inside =
+          whole_is_place met.column met.row
+          ∙ test_of_place PLACE_DIGITS met.column met.row
+          (subst (λ g. IsPlace g met.column met.row) digits met.place);
+      is_held = met.is_held;
+    }))

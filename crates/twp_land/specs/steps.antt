@@ -5,6 +5,7 @@ pub mod Crossing
 pub mod Exchanges
 pub mod Relating
 pub mod StandardLots
+pub mod LotBytes
 pub mod Marked
 pub mod LotMapLots
 pub mod PlatLotsLots

@@ -55,17 +55,18 @@ fn at_most(mark: u8) -> u8
     mark
 }
 
-/// Whether the places of a position have the same mark, by the number of the first of them.
+/// Whether the places of a position have the same mark, by the number of the first of them. The loop
+/// has no early exit, so LLVM compares many places at once.
 fn are_alike(marks: &[u8; PLACES], first: usize) -> bool
     requires { first + 64 ≤ PLACES }
     ensures { result ≡ are_alike marks.now first }
 {
+    let mark = marks[first];
+    let mut alike = true;
     for within in 0..PLACES_OF_POSITION {
-        if marks[first + within] != marks[first] {
-            return false;
-        }
+        alike = alike & (marks[first + within] == mark);
     }
-    true
+    alike
 }
 
 /// Copies the marks of a position, by the number of its first place.

@@ -1,13 +1,16 @@
-ghost use Rattle.std.specs.Prelude.{◌≡◌, ◌+◌, ◌-◌, ◌*◌, ◌%◌, ◌/◌, ◌≤◌, ◌<◌, ◌↔◌, ℕ, IsTrue, true, false, MatchOption, IfSome, get_or};
-ghost use Rattle.twp_grid.specs.Places.{PLACE_DIGITS};
-ghost use Rattle.twp_grid.specs.Lands.{SharePlace, Meets, HoldsAll, union};
-ghost use Rattle.twp_grid.specs.Spans.{place_block, position_block, in_rectangle};
-ghost use Rattle.twp_land.specs.LotMaps.{mark_of, mark_in, place_number, layout_of_bytes};
-ghost use Rattle.twp_land.specs.steps.Marked.{PLACES, marked, in_section, NoneLeft, IsNext};
+ghost use Rattle.std.specs.Prelude.{◌≡◌, ◌+◌, ◌-◌, ◌*◌, ◌%◌, ◌/◌, ◌≤◌, ◌<◌, ◌↔◌, ℕ, IsTrue, true, false};
+ghost use Rattle.std.specs.Prelude.{get_or};
+ghost use Rattle.twp_grid.specs.Lands.{SharePlace, union};
+ghost use Rattle.twp_land.specs.LotMaps.{mark_in, layout_of_bytes};
+ghost use Rattle.twp_land.specs.steps.Marked.{PLACES, marked, in_section};
 
-use crate::lots::share_place;
+mod bytes;
+mod marks;
+mod searching;
+
 use crate::lotting::Lotting;
 use crate::place_set::PlaceSet;
+use bytes::has_byte;
 use twp_grid::{Block, PLACES_TO_POSITION, SECTIONS, Section};
 
 /// The number of positions in a section.
@@ -42,14 +45,6 @@ pub const DIVIDED_BYTES: usize = 128 * PLACES_OF_POSITION;
 pub struct LotMap {
     positions: [u8; POSITION_BYTES],
     divided: [u8; DIVIDED_BYTES],
-}
-
-/// A block of places with the same mark, and the number after those of its places.
-#[derive(Clone, Copy)]
-struct Marked {
-    block: Block,
-    mark: u8,
-    end: usize,
 }
 
 impl LotMap {
@@ -92,66 +87,12 @@ impl LotMap {
         self.divided[index]
     }
 
-    /// The first block of a section, from a place's number on, whose places have marks from a least
-    /// to a greatest: a whole position, or a single place. `None` if no such place is left.
-    fn next(&self, section: Section, from: usize, least: u8, most: u8) -> Option<Marked>
-        ensures next { MatchOption result
-            (NoneLeft (marked self.now.positions self.now.divided section least most) from)
-            (λ found. IsNext (marked self.now.positions self.now.divided section least most) from
-            found.block found.end) }
-        ensures mark { IfSome result (λ found. (column row : ℕ)
-            → in_rectangle found.block column row ≡ true
-            → mark_of self.now.positions self.now.divided section (place_number column row)
-            ≡ found.mark) }
-    {
-        let mut at = from;
-        'places: while at < PLACES {
-            let position = self.position(section, at);
-            let mark = self.mark(position, at);
-            let is_sought = least <= mark && mark <= most;
-            if position <= NO_LAND && at % PLACES_OF_POSITION == 0 {
-                if is_sought {
-                    return Some(Marked {
-                        block: position_at(at),
-                        mark,
-                        end: at + PLACES_OF_POSITION,
-                    });
-                }
-                at += PLACES_OF_POSITION;
-            } else {
-                if is_sought {
-                    return Some(Marked {
-                        block: place_at(at),
-                        mark,
-                        end: at + 1,
-                    });
-                }
-                at += 1;
-            }
-        }
-        None
-    }
-
-    /// Whether a block of a section contains a place with a mark from a least to a greatest.
-    fn meets(&self, section: Section, block: Block, least: u8, most: u8) -> bool
-        ensures { IsTrue result
-            ↔ Meets (marked self.now.positions self.now.divided section least most) block }
-    {
-        let mut from = 0;
-        while let Some(found) = self.next(section, from, least, most) {
-            if share_place(found.block, block) {
-                return true;
-            }
-            from = found.end;
-        }
-        false
-    }
-
     /// Adds the places of a section with marks from a least to a greatest to a set, unless the set
     /// contains one of them. Returns whether it contained none; if it did, its content has no
     /// meaning.
     fn add<S: PlaceSet>(&self, set: &mut S, section: Section, least: u8, most: u8) -> bool
-        requires { IsTrue (S.has_room set.old section) }
+        requires room { IsTrue (S.has_room set.old section) }
+        requires range { least ≤ most }
         ensures apart { IsTrue result → ¬ SharePlace (S.places set.old)
             (in_section section (marked self.now.positions self.now.divided section least most)) }
         ensures met { result ≡ false → SharePlace (S.places set.old)
@@ -172,6 +113,7 @@ impl LotMap {
 
     /// Whether a set contains each place of a section with a mark from a least to a greatest.
     fn is_held<S: PlaceSet>(&self, set: &S, section: Section, least: u8, most: u8) -> bool
+        requires { least ≤ most }
         ensures { IsTrue result ↔ ((column row : ℕ)
             → marked self.now.positions self.now.divided section least most column row ≡ true
             → S.places set.now section column row ≡ true) }
@@ -203,10 +145,16 @@ impl Lotting for LotMap {
     }
 
     fn add_section<S: PlaceSet>(&self, set: &mut S, section: Section) -> bool {
+        if self.has_none_from(section, NO_LAND) {
+            return set.add_apart(section, Block::whole());
+        }
         self.add(set, section, 0, LOT_MOST)
     }
 
     fn holds_section<S: PlaceSet>(&self, set: &S, section: Section) -> bool {
+        if self.has_none_from(section, NO_LAND) {
+            return set.full(section, Block::whole());
+        }
         self.is_held(set, section, 0, LOT_MOST)
     }
 
@@ -215,7 +163,10 @@ impl Lotting for LotMap {
             return false;
         }
         let lot = number as u8;
-        self.next(section, 0, lot, lot).is_some()
+        match self.next_lot(section, lot - 1) {
+            Some(next) => next == lot,
+            None => false,
+        }
     }
 
     fn has_lots(&self, section: Section, first: u16, last: u16) -> bool {
@@ -250,12 +201,13 @@ impl Lotting for LotMap {
         if after >= LOT_MOST {
             return None;
         }
-        let mut lot = NO_LAND;
-        let mut from = 0;
-        while let Some(found) = self.next(section, from, after + 1, lot - 1) {
-            lot = found.mark;
-            from = found.end;
+        if self.has_none_from(section, after + 1) {
+            return None;
         }
+        if has_byte(&self.positions, section, after + 1) {
+            return Some(after + 1);
+        }
+        let lot = self.lowest(section, after);
         if lot == NO_LAND {
             return None;
         }
@@ -273,9 +225,16 @@ impl Lotting for LotMap {
         false
     }
 
+    fn holds_lot<S: PlaceSet>(&self, set: &S, section: Section, number: u8) -> bool {
+        self.is_held(set, section, number, number)
+    }
+
     // What is marked as a lot, or as no land, is subtracted.
     fn off_lots_count<S: PlaceSet>(&self, set: &S, section: Section) -> u32 {
         let mut count = set.count(section, Block::whole());
+        if self.has_none_from(section, 1) {
+            return count;
+        }
         let mut from = 0;
         while let Some(found) = self.next(section, from, 1, NO_LAND) {
             count -= set.count(section, found.block);
@@ -283,26 +242,4 @@ impl Lotting for LotMap {
         }
         count
     }
-}
-
-/// The position whose places are numbered from this on.
-fn position_at(number: usize) -> Block
-    requires { number < PLACES }
-    ensures { result ≡ position_block PLACE_DIGITS (number / 64 % 4) (number / 64 / 4) }
-{
-    let position = number / PLACES_OF_POSITION;
-    Block::position((position % 4) as u8, (position / 4) as u8).unwrap()
-}
-
-/// The place with this number.
-fn place_at(number: usize) -> Block
-    requires { number < PLACES }
-    ensures { result ≡ place_block (number / 64 % 4 * 8 + number % 8)
-        (number / 64 / 4 * 8 + number % 64 / 8) }
-{
-    let position = number / PLACES_OF_POSITION;
-    let within = number % PLACES_OF_POSITION;
-    let column = position % 4 * 8 + within % 8;
-    let row = position / 4 * 8 + within / 8;
-    Block::place(column as u8, row as u8).unwrap()
 }

@@ -1,14 +1,18 @@
-ghost use Rattle.std.specs.Prelude.{◌≡◌, ◌≢◌, ◌+◌, ◌-◌, ◌≤◌, ◌<◌, ℕ, IsTrue, false, get_or, []};
+ghost use Rattle.std.specs.Prelude.{◌≡◌, ◌≢◌, ◌+◌, ◌-◌, ◌*◌, ◌≤◌, ◌<◌, ℕ, IsTrue, false};
+ghost use Rattle.std.specs.Prelude.{get_or, []};
 ghost use Rattle.twp_grid.specs.Winding.{SECTION_COUNT};
 ghost use Rattle.twp_grid.specs.Spans.{rectangle, span_from};
 ghost use Rattle.twp_land.specs.LotMaps.{place_number};
 ghost use Rattle.twp_land.specs.LotMarks.{HasMark, IsPainted, mark_at, marks_of};
 ghost use Rattle.twp_land.specs.steps.Marked.{PLACES};
 
-use twp_grid::{Block, SECTIONS, Section};
+use twp_grid::{Block, PLACES_TO_POSITION, SECTIONS, Section};
 
 /// The number of places in a section.
 pub(crate) const PLACES: usize = 1024;
+
+/// The number of places in a position.
+const PLACES_OF_POSITION: usize = 64;
 
 /// A mark for each place of a township: 0 for land in no lot, 1 to 99 for land in the lot with this
 /// number, and 100 for no land.
@@ -60,11 +64,15 @@ impl LotMarks {
     }
 }
 
-/// The same for the marks of one section.
+/// The same for the marks of one section. A block with eight columns and rows, or more, is made up of
+/// whole positions.
 fn paint_block(marks: &mut [u8; PLACES], block: Block, mark: u8) -> bool
     ensures painted { IsTrue result → IsPainted block mark marks.old marks.new }
     ensures taken { result ≡ false → HasMark marks.old block }
 {
+    if block.width() >= PLACES_TO_POSITION && block.height() >= PLACES_TO_POSITION {
+        return paint_positions(marks, block, mark);
+    }
     let start = block.column();
     let end = start + block.width();
     for row in block.row()..block.row() + block.height() {
@@ -73,6 +81,76 @@ fn paint_block(marks: &mut [u8; PLACES], block: Block, mark: u8) -> bool
         }
     }
     true
+}
+
+/// The same for a block of whole positions.
+fn paint_positions(marks: &mut [u8; PLACES], block: Block, mark: u8) -> bool
+    requires width { 8 ≤ block.columns.len }
+    requires height { 8 ≤ block.rows.len }
+    ensures painted { IsTrue result → IsPainted block mark marks.old marks.new }
+    ensures taken { result ≡ false → HasMark marks.old block }
+{
+    let start = block.column() / PLACES_TO_POSITION;
+    let end = start + block.width() / PLACES_TO_POSITION;
+    let first = block.row() / PLACES_TO_POSITION;
+    for row in first..first + block.height() / PLACES_TO_POSITION {
+        if !paint_tier(marks, row, start, end, mark) {
+            return false;
+        }
+    }
+    true
+}
+
+/// The same for the positions of one row, by their columns from the east.
+fn paint_tier(marks: &mut [u8; PLACES], row: u8, start: u8, end: u8, mark: u8) -> bool
+    requires row { row < 4 }
+    requires start { start ≤ end }
+    requires end { end ≤ 4 }
+    ensures painted { IsTrue result → IsPainted
+        (rectangle (span_from (start * 8) ((end - start) * 8)) (span_from (row * 8) 8)) mark marks.old marks.new }
+    ensures taken { result ≡ false → HasMark marks.old
+        (rectangle (span_from (start * 8) ((end - start) * 8)) (span_from (row * 8) 8)) }
+{
+    for column in start..end {
+        if !paint_position(marks, column, row, mark) {
+            return false;
+        }
+    }
+    true
+}
+
+/// The same for one position. The loops have no early exit, so LLVM handles many places at once.
+fn paint_position(marks: &mut [u8; PLACES], column: u8, row: u8, mark: u8) -> bool
+    requires column { column < 4 }
+    requires row { row < 4 }
+    ensures painted { IsTrue result → IsPainted
+        (rectangle (span_from (column * 8) 8) (span_from (row * 8) 8)) mark marks.old marks.new }
+    ensures taken { result ≡ false → HasMark marks.old
+        (rectangle (span_from (column * 8) 8) (span_from (row * 8) 8)) }
+{
+    let first = usize::from(row * 4 + column) * PLACES_OF_POSITION;
+    if has_marks(marks, first) {
+        return false;
+    }
+    for within in 0..PLACES_OF_POSITION {
+        marks[first + within] = mark;
+    }
+    true
+}
+
+/// Whether one of the places of a position, from a first number on, has a mark.
+fn has_marks(marks: &[u8; PLACES], first: usize) -> bool
+    requires { first + 64 ≤ PLACES }
+    ensures marked { IsTrue result
+        → (within : ℕ) × (within < 64) × (get_or marks.now (first + within) 0 ≢ 0) }
+    ensures free { result ≡ false
+        → (within : ℕ) → within < 64 → get_or marks.now (first + within) 0 ≡ 0 }
+{
+    let mut is_marked = false;
+    for within in 0..PLACES_OF_POSITION {
+        is_marked = is_marked | (marks[first + within] != 0);
+    }
+    is_marked
 }
 
 /// The same for the places of one row.
@@ -96,7 +174,7 @@ fn paint_row(marks: &mut [u8; PLACES], row: u8, start: u8, end: u8, mark: u8) ->
 }
 
 /// The number of a place in its section.
-fn place_number(column: u8, row: u8) -> usize
+pub(crate) fn place_number(column: u8, row: u8) -> usize
     requires column { column < 32 }
     requires row { row < 32 }
     ensures number { result ≡ place_number column row }

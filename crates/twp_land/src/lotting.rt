@@ -3,7 +3,7 @@ ghost use Rattle.twp_grid.specs.Places.{PLACE_DIGITS};
 ghost use Rattle.twp_grid.specs.Lands.{Layout, STANDARD_LAYOUT, lotting, HasLot, HasLots, HoldsLotPlace};
 ghost use Rattle.twp_grid.specs.Lands.{IsLotHeld, HasLand, IsOfLots, LacksLand, HoldsEach, section_places};
 ghost use Rattle.twp_grid.specs.Lands.{AreLots, IsLastLot, IsNextLot, lot_places, union, SharePlace};
-ghost use Rattle.twp_grid.specs.Lands.{count_held};
+ghost use Rattle.twp_grid.specs.Lands.{ContainsAll, count_held};
 ghost use Rattle.twp_grid.specs.Spans.{whole_block};
 ghost use Rattle.twp_land.specs.LotMaps.{land_off_lots};
 
@@ -84,6 +84,12 @@ pub trait Lotting {
         ensures { IsTrue result
             ↔ IsLotHeld (lotting (layout self.now)) section (S.places set.now section) number };
 
+    /// Whether a set contains each place of a section's lot.
+    fn holds_lot<S: PlaceSet>(&self, set: &S, section: Section, number: u8) -> bool
+        requires { HasLot (lotting (layout self.now)) section number }
+        ensures { IsTrue result ↔ ContainsAll (S.places set.now)
+            (lot_places (lotting (layout self.now)) section number) };
+
     /// How many of the places that a set contains in a section are land in no lot.
     fn off_lots_count<S: PlaceSet>(&self, set: &S, section: Section) -> u32
         ensures { result ≡ count_held (land_off_lots (lotting (layout self.now)) section
@@ -160,6 +166,11 @@ impl Lotting for StandardLots {
     #[inline(always)]
     fn meets_lot<S: PlaceSet>(&self, set: &S, section: Section, number: u8) -> bool {
         set.meets(section, Block::of_lot(section, number).unwrap())
+    }
+
+    #[inline(always)]
+    fn holds_lot<S: PlaceSet>(&self, set: &S, section: Section, number: u8) -> bool {
+        set.full(section, Block::of_lot(section, number).unwrap())
     }
 
     #[inline(always)]

@@ -135,6 +135,14 @@ impl Lotting for PlatLots {
     }
 
     #[inline(always)]
+    fn holds_lot<S: PlaceSet>(&self, set: &S, section: Section, number: u8) -> bool {
+        if self.mapped == 0 {
+            return StandardLots.holds_lot(set, section, number);
+        }
+        self.map.holds_lot(set, section, number)
+    }
+
+    #[inline(always)]
     fn off_lots_count<S: PlaceSet>(&self, set: &S, section: Section) -> u32 {
         if self.mapped == 0 {
             return StandardLots.off_lots_count(set, section);

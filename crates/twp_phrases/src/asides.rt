@@ -4,6 +4,10 @@ use crate::finder::Finder;
 use twp_asides::{end_of_trailer, plus};
 use twp_draft::{LeftOut, Names};
 use twp_grammar::Kind;
+use twp_rules::Rule;
+
+/// The most lots and parts in parentheses.
+const LANDS_MOST: usize = 12;
 
 /// The number of a township's last section: a number up to this in parentheses isn't acreage.
 const SECTIONS: u16 = 36;
@@ -54,6 +58,8 @@ impl<'a> Finder<'a> {
             has_more = self.is_before_more_land(land);
             end = plus(land, usize::from(has_more));
         }
+        let said = end;
+        end = self.after_of_said_section(end);
         let is_closed = self.draft.pieces.is(end, b")");
         if is_closed != is_in_parentheses || !(is_closed || self.is_last_of_item(end)) {
             return None;
@@ -61,8 +67,20 @@ impl<'a> Finder<'a> {
         let last = plus(end, usize::from(is_closed));
         self.draft
             .add(Names::Nothing(LeftOut::Repeated), index, last, from);
-        self.draft.add_said(first, end, from);
+        self.draft.add_said(first, said, from);
         Some(last)
+    }
+
+    /// The index after `of said Section`, if that is at an index.
+    fn after_of_said_section(&self, index: usize) -> usize {
+        let pieces = &self.draft.pieces;
+        let said = plus(index, 1);
+        let section = plus(said, 1);
+        let is_said = pieces.is(index, b"of")
+            && pieces.is(said, b"said")
+            && matches!(pieces.kind(section), Kind::Sec)
+            && pieces.number(plus(section, 1)).is_none();
+        if is_said { plus(section, 1) } else { index }
     }
 
     /// Where the lots or the aliquot part at an index end, which aren't added as a phrase.
@@ -81,7 +99,7 @@ impl<'a> Finder<'a> {
         let pieces = &self.draft.pieces;
         let next = plus(index, 1);
         (pieces.is(index, b",") || pieces.is(index, b"and"))
-            && (pieces.begins_part(next) || matches!(pieces.kind(next), Kind::Lot))
+            && (pieces.begins_part(next) || self.is_lot_at(next))
     }
 
     /// Whether an item or a line ends before an index.
@@ -108,8 +126,31 @@ impl<'a> Finder<'a> {
                 return Some(found);
             }
         }
+        if let Some(end) = pieces.end_of_item_number(index) {
+            return Some((LeftOut::Label, end));
+        }
+        if let Some(end) = pieces.end_of_row_id(index) {
+            return Some((LeftOut::Label, end));
+        }
         if let Some(end) = pieces.end_of_unit(index, self.names_land) {
             return Some((LeftOut::Label, end));
+        }
+        let fixed = if self.names_land {
+            pieces
+                .end_of_words_after(index)
+                .or(pieces.end_of_tax_parcel(index))
+                .or(pieces.end_of_net(index))
+                .or(pieces.end_of_years(index))
+                .or(pieces.end_of_lettered_share(index))
+                .or(pieces.end_of_money(index))
+        } else {
+            pieces.end_of_words_before(index)
+        };
+        if let Some(end) = fixed {
+            return Some((LeftOut::Label, end));
+        }
+        if let Some(end) = pieces.end_of_gross(index) {
+            return Some((LeftOut::Acreage, end));
         }
         if let Some(end) = pieces.end_of_acreage(index) {
             let is_after_dash = pieces.is_after_dash(index);
@@ -124,6 +165,9 @@ impl<'a> Finder<'a> {
             } else {
                 Some((LeftOut::Acreage, end))
             };
+        }
+        if let Some(end) = pieces.end_of_known_acreage(index) {
+            return Some((LeftOut::Acreage, end));
         }
         if let Some(end) = pieces.end_of_first_serial(index) {
             return Some((LeftOut::Label, end));
@@ -143,6 +187,7 @@ impl<'a> Finder<'a> {
         if self.names_land {
             let unsaid = pieces
                 .end_of_intent(index)
+                .or(pieces.end_of_tax_parcel(index))
                 .or(pieces.end_of_gross_acreage(index));
             if let Some(end) = unsaid {
                 return Some((LeftOut::Label, end));
@@ -218,14 +263,17 @@ impl<'a> Finder<'a> {
     /// Where a number in parentheses at an index ends, which is the acreage of the part before it.
     fn end_of_figure(&self, index: usize) -> Option<usize> {
         let pieces = &self.draft.pieces;
-        if !pieces.is(index, b"(") || self.draft.last_names() != Some(Names::Part) {
+        let close_mark: &'static [u8] = if pieces.is(index, b"[") { b"]" } else { b")" };
+        if !(pieces.is(index, b"(") || pieces.is(index, b"["))
+            || self.draft.last_names() != Some(Names::Part)
+        {
             return None;
         }
         let first = plus(index, 1);
         let close = pieces.end_of_decimal(first)?;
         let is_figure = pieces.is_figure_with_decimals(first)
             || pieces.number(first).unwrap_or(0) > SECTIONS;
-        if is_figure && pieces.is(close, b")") {
+        if is_figure && pieces.is(close, close_mark) {
             Some(plus(close, 1))
         } else {
             None
@@ -240,7 +288,7 @@ impl<'a> Finder<'a> {
         let land = if matches!(self.draft.pieces.kind(first), Kind::All) {
             plus(first, 1)
         } else {
-            self.part_in_pieces(first)?
+            self.lands_in_pieces(first)?
         };
         let acreage = if self.draft.pieces.is(land, b",") {
             self.draft.pieces.end_of_acreage(plus(land, 1))
@@ -264,6 +312,35 @@ impl<'a> Finder<'a> {
             self.draft
                 .add(Names::Nothing(LeftOut::Repeated), index, end, from),
         )
+    }
+
+    /// Where the lots and parts at an index end, which commas, `and`, or white space divide, as in `(L1 L2 E2NW, NE)`; or
+    /// one part, of which white space may be between two steps.
+    fn lands_in_pieces(&mut self, index: usize) -> Option<usize> {
+        let is_list = self.is_lot_at(index);
+        if !is_list {
+            return self.part_in_pieces(index);
+        }
+        let mut end = self.end_of_land(index)?;
+        for _ in 0..LANDS_MOST {
+            let next = plus(end, usize::from(self.is_before_more_land(end)));
+            if next == end {
+                if !(self.is_lot_at(end) || self.draft.pieces.begins_part(end)) {
+                    break;
+                }
+                let place = self.draft.pieces.end_before(end);
+                self.draft.write(place, place, b",", Rule::Comma);
+            }
+            end = self.end_of_land(next)?;
+        }
+        Some(end)
+    }
+
+    /// Whether a word for lots, or their letter, is at an index.
+    fn is_lot_at(&self, index: usize) -> bool {
+        let pieces = &self.draft.pieces;
+        matches!(pieces.kind(index), Kind::Lot)
+            || (pieces.is(index, b"l") && pieces.number(plus(index, 1)).is_some())
     }
 
     /// Where the aliquot part at an index ends, of which white space may be between two steps, as in

@@ -43,7 +43,7 @@ impl<'a> Finder<'a> {
     }
 
     /// The index of the number after the letter for a section at an index, and after a period, as in
-    /// `S. 15, T. 2 N.`: no half has such a number.
+    /// `S. 15, T. 2 N.`, or a colon, as in `S:15`: no half has such a number.
     fn digits_of_letter(&self, index: usize) -> usize {
         let pieces = &self.draft.pieces;
         let next = plus(index, 1);
@@ -52,7 +52,8 @@ impl<'a> Finder<'a> {
             && pieces.is_joined(next)
             && !pieces.is_joined(digits)
             && pieces.has_digits(digits, 2);
-        if is_stop { digits } else { next }
+        let is_colon = pieces.is(next, b":") && pieces.is_joined(next) && pieces.is_joined(digits);
+        if is_stop || is_colon { digits } else { next }
     }
 
     /// The number of a section at an index after the letter for it.
@@ -80,10 +81,12 @@ impl<'a> Finder<'a> {
             None => false,
         };
         (self.draft.last_names() == Some(Names::Heading)
-            && (is_before_colon || pieces.bytes(digits).len() >= 2))
+            && (is_before_colon || pieces.is(digits, b":") || pieces.bytes(digits).len() >= 2))
             || (is_list && is_before_colon)
             || pieces.is_section_before_land(index)
             || self.is_section_after_land(index)
+            || self.is_letter_before_colon(index)
+            || self.is_letter_in_cell(index)
     }
 
     /// Whether the letter and the number at an index are a section that ends an item, after land, as in
@@ -294,6 +297,7 @@ impl<'a> Finder<'a> {
             || pieces.follows(index, b",")
             || pieces.is_after_dash(index)
             || pieces.follows(index, b"|")
+            || (pieces.follows(index, b":") && !self.names_land)
             || pieces.begins_line(index);
         if pieces.is(next, b":") && (is_first || is_apart) {
             return Some(plus(next, 1) < pieces.len());
@@ -305,6 +309,9 @@ impl<'a> Finder<'a> {
             Some(section) => matches!(pieces.kind(section.first), Kind::Number(_)),
             None => false,
         };
+        if self.is_next_item(index) {
+            return Some(true);
+        }
         let is_next = is_list
             && is_after_semicolon
             && matches!(last, Some(Names::Part | Names::All))

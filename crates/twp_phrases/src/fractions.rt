@@ -97,6 +97,9 @@ impl<'a> Finder<'a> {
         if self.is_hyphenated(index, size) {
             return Some(plus(index, 3));
         }
+        if self.is_worn_slash(index, size) {
+            return Some(next);
+        }
         let is_letter = size == Size::Quarter && pieces.is(next, b"a") && pieces.is_joined(next);
         if is_letter && pieces.is(index, b"1") && pieces.is_joined(index) {
             return Some(plus(index, 2));
@@ -128,6 +131,9 @@ impl<'a> Finder<'a> {
         if is_letter && size == Size::Quarter && pieces.is_joined(index) {
             return Some(next);
         }
+        if size == Size::Quarter && self.is_letter_before_of(index) {
+            return Some(next);
+        }
         if let Some(end) = self.end_of_divided_word(index, size) {
             return Some(end);
         }
@@ -155,8 +161,10 @@ impl<'a> Finder<'a> {
                 None
             };
         }
-        if is_joined && pieces.is(index, b"^") && size == Size::Quarter {
-            return Some(next);
+        if is_joined && size == Size::Quarter {
+            if let Some(end) = self.end_of_marked_quarter(index) {
+                return Some(end);
+            }
         }
         if self.is_before_slash(index) && self.is_slashed(index, size) {
             return Some(plus(index, 3));
@@ -173,6 +181,33 @@ impl<'a> Finder<'a> {
             || pieces.is(index, b"}")
             || pieces.is(index, b"\xC2\xA3");
         if is_joined && is_worn {
+            return Some(next);
+        }
+        None
+    }
+
+    /// Whether a letter that scanning makes of the fraction of a quarter is at an index, apart, and `of` or `and` after it,
+    /// as in `S E J of the N W i of`.
+    fn is_letter_before_of(&self, index: usize) -> bool {
+        let pieces = &self.draft.pieces;
+        let next = plus(index, 1);
+        (pieces.is(index, b"i") || pieces.is(index, b"j"))
+            && (pieces.is(next, b"of") || pieces.is(next, b"and"))
+    }
+
+    /// Where the mark at an index ends that scanning makes of the fraction of a quarter, with a digit or a letter, if any.
+    fn end_of_marked_quarter(&self, index: usize) -> Option<usize> {
+        let pieces = &self.draft.pieces;
+        let next = plus(index, 1);
+        let is_followed = pieces.is_joined(next);
+        if pieces.is(index, b"'") && is_followed && pieces.is(next, b"a") {
+            return Some(plus(next, 1));
+        }
+        let is_mark = pieces.is(index, b"!") || pieces.is(index, b"^");
+        if is_mark && is_followed && pieces.is(next, b"4") {
+            return Some(plus(next, 1));
+        }
+        if pieces.is(index, b"^") {
             return Some(next);
         }
         None
@@ -238,7 +273,7 @@ impl<'a> Finder<'a> {
     }
 
     /// Whether a fraction with a hyphen is at an index, as in `W 1-2 of SE 1-4`: with an `of` before or after
-    /// its letters, since `SE 1-4` may be of four sections.
+    /// its letters, since `SE 1-4` may be of four sections, or with periods, as in `S.W. 1-4`.
     fn is_hyphenated(&self, index: usize, size: Size) -> bool {
         let pieces = &self.draft.pieces;
         let next = plus(index, 1);
@@ -246,11 +281,25 @@ impl<'a> Finder<'a> {
         let is_of = pieces.is(plus(index, 3), b"of")
             || pieces.is_back(index, 2, b"of")
             || pieces.is_back(index, 3, b"of");
-        is_of
+        (is_of || pieces.follows(index, b"."))
             && pieces.is(index, b"1")
             && pieces.is(next, b"-")
             && pieces.is_joined(next)
             && self.is_digit(digit, size)
+    }
+
+    /// Whether a fraction whose slash was read as a `1` is at an index, as in `NE114`, or `NE 114 of the SW 114`: with an
+    /// `of` before or after its letters, or joined to them, since it may be acreage.
+    fn is_worn_slash(&self, index: usize, size: Size) -> bool {
+        let pieces = &self.draft.pieces;
+        let is_sure = pieces.is_joined(index)
+            || pieces.is(plus(index, 1), b"of")
+            || pieces.is_back(index, 2, b"of")
+            || pieces.is_back(index, 3, b"of");
+        match size {
+            Size::Half => is_sure && pieces.is(index, b"112"),
+            Size::Quarter => is_sure && pieces.is(index, b"114"),
+        }
     }
 
     /// Whether the piece at an index is the digit that people write for a half or a quarter, joined to what

@@ -8,6 +8,9 @@ use twp_grammar::Kind;
 use twp_rules::Rule;
 use twp_words::{is_range_name, is_township_name};
 
+/// Townships of three digits have no larger number, or their ranges have three digits, too.
+const TOWNSHIPS_USUAL: u16 = 36;
+
 impl<'a> Finder<'a> {
     /// The township and range at an index.
     pub(crate) fn heading(&mut self, index: usize) -> Option<usize> {
@@ -178,6 +181,11 @@ impl<'a> Finder<'a> {
             self.draft.leave_out(next, plus(next, 1), Rule::Heading);
             return plus(next, 1);
         }
+        let stop = plus(next, 1);
+        if self.draft.pieces.is(next, b"no") && self.draft.pieces.is(stop, b".") {
+            self.draft.leave_out(next, plus(stop, 1), Rule::Heading);
+            return plus(stop, 1);
+        }
         match self.draft.pieces.kind(next) {
             Kind::Stop if is_letter => plus(next, 1),
             Kind::Stop | Kind::Colon | Kind::Comma => {
@@ -235,6 +243,9 @@ impl<'a> Finder<'a> {
         if !is_side || (!has_word && !is_joined) || number.value == 0 || number.value > 99 {
             return None;
         }
+        if !has_word && number.value > TOWNSHIPS_USUAL && self.is_of_two_numbers(index, side) {
+            return None;
+        }
         self.draft.write_numeral(number);
         if has_dash {
             self.draft.replace(number.end, b" ", Rule::Heading);
@@ -243,6 +254,18 @@ impl<'a> Finder<'a> {
             }
         }
         Some(side)
+    }
+
+    /// Whether a number of three digits before a side may be two that lost the mark between them, as in `082N,3W`: the
+    /// range has other digits.
+    fn is_of_two_numbers(&self, index: usize, side: usize) -> bool {
+        let pieces = &self.draft.pieces;
+        let next = plus(side, 1);
+        let range = plus(
+            next,
+            usize::from(pieces.is(next, b",") || pieces.is_dash(next)),
+        );
+        pieces.has_digits(index, 3) && !pieces.has_digits(range, 3)
     }
 
     /// The number of four digits of a township or a range at an index. A register's last digit is of a

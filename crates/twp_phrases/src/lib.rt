@@ -5,11 +5,13 @@
 
 mod asides;
 mod bare;
+mod bare_sections;
 mod dotted;
 mod exceptions;
 mod finder;
 mod fractions;
 mod headings;
+mod letters;
 mod lots;
 mod numbered;
 mod parts;

@@ -29,9 +29,42 @@ impl<'a> Finder<'a> {
         self.draft.write_numeral(number);
         let is_plural = self.draft.pieces.follows(next, b"lots")
             || self.draft.pieces.follows(next, b"lts")
-            || self.draft.pieces.follows(next, b"iots");
+            || self.draft.pieces.follows(next, b"iots")
+            || self.is_before_row_of_lots(next);
         let end = self.numbers_after(number, Names::Lots, is_plural);
         Some(self.draft.add(Names::Lots, index, end, from))
+    }
+
+    /// Whether three or more numbers, each one more than the last, are at an index, after a letter for lots and white
+    /// space: `L 1 2 3 4`, or `L 5 6 & 7`.
+    fn is_before_row_of_lots(&self, index: usize) -> bool {
+        let pieces = &self.draft.pieces;
+        let second = plus(index, 1);
+        let mark = plus(second, 1);
+        let third = plus(
+            mark,
+            usize::from(pieces.is(mark, b"&") || pieces.is(mark, b"and")),
+        );
+        pieces.follows(index, b"l")
+            && !pieces.is_joined(index)
+            && self.is_next_digit(index, second)
+            && self.is_next_digit(second, third)
+    }
+
+    /// Whether a digit that is one more than another follows white space.
+    fn is_next_digit(&self, index: usize, next: usize) -> bool {
+        let pieces = &self.draft.pieces;
+        match (pieces.number(index), pieces.number(next)) {
+            (Some(number), Some(more)) => {
+                let after = plus(next, 1);
+                let is_mark = matches!(pieces.kind(after), Kind::Comma | Kind::Semicolon);
+                number.checked_add(1) == Some(more)
+                    && pieces.has_digits(next, 1)
+                    && !pieces.is_joined(next)
+                    && (is_mark || !pieces.is_joined(after))
+            }
+            _ => false,
+        }
     }
 
     /// Writes the word for lots at an index: the index after it.

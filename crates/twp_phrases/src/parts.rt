@@ -25,7 +25,12 @@ impl<'a> Finder<'a> {
         let from = self.draft.extent();
         let mut first = self.draft.pieces.after_fractional(index);
         let is_fractional = first > index;
-        self.draft.leave_out_each(index, first, Rule::Word);
+        if is_fractional {
+            let has_article = self.draft.pieces.is(index, b"the");
+            let word = plus(index, usize::from(has_article));
+            self.draft.leave_out_each(index, word, Rule::Word);
+            self.draft.leave_out(word, first, Rule::Word);
+        }
         if !is_fractional && self.draft.pieces.is(index, b"the") {
             self.draft.leave_out(index, plus(index, 1), Rule::Word);
             first = plus(index, 1);

@@ -116,6 +116,7 @@ impl<'a> Finder<'a> {
             || pieces.is(index, b"\xE2\x80\x9C")
             || pieces.is(index, b"\xE2\x80\x9D")
             || pieces.is(index, b"\xE2\x80\xA2")
+            || (pieces.is(index, b"*") && pieces.begins_line(index))
             || pieces.is_brace_of_record(index)
             || (pieces.is(index, b")") && self.has_open)
     }
@@ -129,7 +130,12 @@ impl<'a> Finder<'a> {
             return false;
         }
         match self.draft.last_names() {
-            Some(Names::Sections) => pieces.begins_land(next) || self.after_except(next).is_some(),
+            Some(Names::Sections) => {
+                pieces.begins_land(next)
+                    || self.after_except(next).is_some()
+                    || pieces.begins_tier(next)
+            }
+            Some(Names::Lots) => self.after_except(next).is_some(),
             Some(Names::Part | Names::All) => {
                 self.after_except(next).is_some()
                     || pieces.begins_tier(next)
@@ -175,7 +181,9 @@ impl<'a> Finder<'a> {
         match pieces.kind(index) {
             Kind::Comma | Kind::Semicolon | Kind::Stop | Kind::Colon => Beginning::Nothing,
             Kind::And if !pieces.is(next, b"containing") => Beginning::Nothing,
-            Kind::Half | Kind::Quarter if index > 0 => Beginning::Nothing,
+            Kind::Half | Kind::Quarter if index > 0 && !pieces.is_share(index) => {
+                Beginning::Nothing
+            }
             Kind::Of if self.is_before_land(index) => Beginning::Nothing,
             Kind::BadByte if !pieces.may_begin_phrase(index) => Beginning::Nothing,
             Kind::Other if pieces.is(index, b"in") && self.is_before_land(index) => {

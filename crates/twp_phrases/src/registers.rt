@@ -40,6 +40,10 @@ impl<'a> Finder<'a> {
         let last = self.draft.last_names();
         let pieces = &self.draft.pieces;
         let next = plus(index, 1);
+        if pieces.is_meridian_cell(index) {
+            let names = Names::Nothing(LeftOut::Meridian);
+            return Some(self.draft.add(names, index, next, from));
+        }
         let is_code = pieces.has_digits(index, 1) || pieces.has_digits(index, 2);
         let is_after_label = last == Some(Names::Nothing(LeftOut::Label));
         let tier = if pieces.is(next, b"t") {

@@ -18,6 +18,9 @@ impl<'a> Finder<'a> {
         if self.draft.pieces.is_damaged_section_word(word) {
             return self.damaged_section(word);
         }
+        if let Some(next) = self.draft.pieces.end_of_divided_section(word) {
+            return self.divided_section(index, word, next);
+        }
         let is_worn = self.is_worn_word(word);
         if !is_worn && !self.is_section_word(word) {
             return None;
@@ -73,7 +76,18 @@ impl<'a> Finder<'a> {
     /// Whether what scanning makes of a word for sections is at an index.
     fn is_worn_word(&self, index: usize) -> bool {
         let pieces = &self.draft.pieces;
-        !matches!(pieces.kind(index), Kind::Sec) && is_worn_section(pieces.lower(index))
+        !matches!(pieces.kind(index), Kind::Sec)
+            && (is_worn_section(pieces.lower(index)) || self.is_worn_abbreviation(index))
+    }
+
+    /// Whether `See.` is at an index, as scanning leaves `Sec.`, and a number after it.
+    fn is_worn_abbreviation(&self, index: usize) -> bool {
+        let pieces = &self.draft.pieces;
+        let point = plus(index, 1);
+        pieces.is(index, b"see")
+            && pieces.is(point, b".")
+            && pieces.is_joined(point)
+            && self.section_number(plus(point, 1)).is_some()
     }
 
     /// Whether a word for sections is at an index, as in a description or otherwise.
@@ -133,6 +147,18 @@ impl<'a> Finder<'a> {
         Some(end)
     }
 
+    /// The section at an index whose word a line end divides: its number is at a later index.
+    fn divided_section(&mut self, index: usize, word: usize, next: usize) -> Option<usize> {
+        let from = self.draft.extent();
+        let number = self.section_number(next)?;
+        self.draft.leave_out_each(index, word, Rule::Word);
+        let start = self.draft.pieces.start(word);
+        let end = self.draft.pieces.end_before(next);
+        self.draft.write(start, end, b"sec", Rule::SectionWord);
+        self.draft.write_numeral(number);
+        Some(self.draft.add(Names::Sections, index, number.end, from))
+    }
+
     /// The section at an index whose word begins with such a digit.
     fn damaged_section(&mut self, index: usize) -> Option<usize> {
         let from = self.draft.extent();
@@ -152,6 +178,14 @@ impl<'a> Finder<'a> {
         if self.draft.pieces.is(next, b"numbered") {
             self.draft.leave_out(next, plus(next, 1), Rule::Word);
             return plus(next, 1);
+        }
+        let stop = plus(next, 1);
+        if self.draft.pieces.is(next, b"no")
+            && self.draft.pieces.is(stop, b".")
+            && self.draft.pieces.is_joined(stop)
+        {
+            self.draft.leave_out(next, plus(stop, 1), Rule::Word);
+            return plus(stop, 1);
         }
         if let Some(value) = self.draft.pieces.after_bar_and_name(next, b"frstdivno") {
             self.leave_out_name(next);

@@ -53,9 +53,37 @@ impl<'a> Finder<'a> {
         }
     }
 
-    /// The remark at an index.
+    /// The remark at an index, or the run of known words.
     #[inline(never)]
     pub(crate) fn remark(&mut self, index: usize) -> Option<usize> {
+        if let Some(end) = self.whole_remark(index) {
+            return Some(end);
+        }
+        if !self.names_land || !self.may_be_known_run(index) {
+            return None;
+        }
+        let end = self.draft.pieces.end_of_known_run(index)?;
+        let from = self.draft.extent();
+        Some(
+            self.draft
+                .add(Names::Nothing(LeftOut::Label), index, end, from),
+        )
+    }
+
+    /// Whether a run of known words may begin at an index: after a mark, or what is left out, or in parentheses.
+    fn may_be_known_run(&self, index: usize) -> bool {
+        let pieces = &self.draft.pieces;
+        let is_after_aside = match self.draft.phrases.last() {
+            Some(placed) => {
+                placed.phrase.end == index && matches!(placed.phrase.names, Names::Nothing(_))
+            }
+            None => false,
+        };
+        is_after_aside || pieces.is(index, b"(") || pieces.is_after_mark_or_column(index)
+    }
+
+    /// The remark at an index.
+    fn whole_remark(&mut self, index: usize) -> Option<usize> {
         let position = if self.names_land {
             Position::AfterLand
         } else {
@@ -66,10 +94,13 @@ impl<'a> Finder<'a> {
         let is_beside = self.draft.last_names() == Some(Names::Sections);
         let has_lots = is_beside && !self.draft.pieces.has_word(index, end)
             || (position == Position::BeforeLand && self.may_be_plat(index, end));
-        if has_lots || self.draft.pieces.are_small_numbers(index, end) {
+        let has_small = self.draft.pieces.are_small_numbers(index, end)
+            && !self.draft.pieces.is_slashed_date(index, end);
+        if has_lots || has_small {
             return None;
         }
-        let is_label = self.draft.pieces.is_label_of_tract(index);
+        let is_label = self.draft.pieces.is_label_of_tract(index)
+            || (position == Position::BeforeLand && self.draft.pieces.is_known_label(index, end));
         self.draft.has_remark = self.draft.has_remark || !is_label;
         self.has_depths = self.has_depths
             || (self.draft.pieces.is(index, b"(")
@@ -92,6 +123,7 @@ impl<'a> Finder<'a> {
         let back: usize = if pieces.follows(end, b":") { 2 } else { 1 };
         matches!(pieces.kind(next), Kind::Lot)
             && !pieces.is_label_of_tract(first)
+            && !pieces.is_slashed_date(first, end)
             && !(pieces.is_back(end, back, b"land") || pieces.is_back(end, back, b"lands"))
             && !pieces.is_company_back(end, back)
             && !pieces.has_long_number(first, end)

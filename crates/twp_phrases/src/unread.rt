@@ -28,7 +28,7 @@ use twp_draft::{Draft, Names, Phrase};
 const UNREAD_MOST: usize = 200;
 
 /// The most ambiguous phrases that are told.
-const AMBIGUOUS_MOST: usize = 8;
+pub(crate) const AMBIGUOUS_MOST: usize = 8;
 
 /// The two ways to read an ambiguous phrase.
 #[derive(Clone, Copy, PartialEq, Eq)]
@@ -103,6 +103,9 @@ fn find_all(
         has_open: false,
     };
     finder.find_on(ambiguous)?;
+    if ambiguous.is_empty() {
+        finder.note_bare_sections(ambiguous)?;
+    }
     let pieces = &finder.draft.pieces;
     for placed in &finder.draft.phrases {
         phrases.push(place_of(pieces, placed.phrase))?;
@@ -111,7 +114,7 @@ fn find_all(
 }
 
 /// The place of a phrase.
-fn place_of(pieces: &Pieces<'_>, phrase: Phrase) -> Stretch {
+pub(crate) fn place_of(pieces: &Pieces<'_>, phrase: Phrase) -> Stretch {
     Stretch {
         start: pieces.start(phrase.first),
         end: pieces.end_before(phrase.end),

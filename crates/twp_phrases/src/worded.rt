@@ -3,6 +3,7 @@
 use crate::finder::Finder;
 use crate::fractions::rule_of;
 use twp_asides::{letters_of, plus};
+use twp_grammar::Kind;
 use twp_rules::Rule;
 use twp_words::{Size, written_step};
 
@@ -48,8 +49,15 @@ impl<'a> Finder<'a> {
     /// The side or the corner at an index, in a word or in two, as in `north east`.
     fn direction_in_words(&self, index: usize) -> Option<Direction> {
         let pieces = &self.draft.pieces;
-        let letters = letters_of(pieces.lower(index))?;
         let next = plus(index, 1);
+        if let Some(letters) = self.short_side(index) {
+            return Some(Direction {
+                letters,
+                second: None,
+                end: plus(next, 1),
+            });
+        }
+        let letters = letters_of(pieces.lower(index))?;
         let second = plus(next, usize::from(pieces.is(next, b"-")));
         let is_two = (pieces.is(index, b"north") || pieces.is(index, b"south"))
             && pieces.is_second_word(second);
@@ -67,14 +75,33 @@ impl<'a> Finder<'a> {
         })
     }
 
+    /// The letter of an abbreviation with a period for a side at an index, as in `No. half`.
+    fn short_side(&self, index: usize) -> Option<&'static [u8]> {
+        let pieces = &self.draft.pieces;
+        let stop = plus(index, 1);
+        let half = plus(stop, 1);
+        let is_half = matches!(pieces.kind(half), Kind::Half) || pieces.is(half, b"half");
+        if !pieces.is(stop, b".") || !pieces.is_joined(stop) || !is_half {
+            return None;
+        }
+        if pieces.is(index, b"no") {
+            return Some(b"N");
+        }
+        if pieces.is(index, b"so") {
+            return Some(b"S");
+        }
+        None
+    }
+
     /// Writes the letters of a side or a corner.
     fn write_letters(&mut self, index: usize, direction: &Direction) {
         let pieces = &self.draft.pieces;
         let (start, end) = (pieces.start(index), pieces.end(index));
         let Some(second) = direction.second else {
+            let stop = pieces.end_before(direction.end);
             return self
                 .draft
-                .write(start, end, direction.letters, Rule::Direction);
+                .write(start, stop, direction.letters, Rule::Direction);
         };
         let second_start = pieces.start(second);
         self.write_direction(index);

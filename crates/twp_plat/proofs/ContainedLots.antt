@@ -5,12 +5,12 @@ use Rattle.std.proofs.Common.{Option, refl, sym, ap, ◌∙◌, arith, inl, inr,
 use Rattle.std.specs.Option.{option_map_or}
 use Rattle.std.proofs.lemmas.Bool.{and_parts, cases_Bool, cases_lt, eqb-true, eq-eqb, ne_eqb, false≢true}
 use Rattle.std.proofs.lemmas.Bool.Decides.{nat_tests}
-use Rattle.twp_grid.specs.Places.{IsPlace, is_place}
-use Rattle.twp_grid.specs.Spans.{total}
+use Rattle.twp_grid.specs.Places.{PLACE_DIGITS, IsPlace, is_place}
+use Rattle.twp_grid.specs.Spans.{total, whole_block}
 use Rattle.twp_grid.specs.Lands.{AreLots, HasLot, IsLastLot, IsLotHeld, IsNextLot, IsWholeOrNot}
-use Rattle.twp_grid.specs.Lands.{LOT_NUMBER_MOST}
+use Rattle.twp_grid.specs.Lands.{LOT_NUMBER_MOST, Meets}
 use Rattle.twp_grid.specs.Lands.{Lotting, intersection, lot_places}
-use Rattle.twp_grid.proofs.PlaceTests.{place_of_test, test_of_place}
+use Rattle.twp_grid.proofs.PlaceTests.{place_of_test, test_of_place, whole_is_place}
 use Rattle.twp_grid.proofs.TotalFacts.{total-add, total-all_zero, total-next}
 use Rattle.twp_land.specs.LotMaps.{land_off_lots}
 use Rattle.twp_plat.specs.LotAreas.{Lacks, contains_lot, count_of_lot, count_off_lots, returned_units}
@@ -299,3 +299,18 @@ pub empty_has : (lots : Lotting) (figure : ℕ → ℕ → ℕ) (places : ℕ �
     → ((c r : ℕ) → places section c r ≡ false) → ¬ Lacks lots figure places section number
 empty_has lots figure places section number free lacks =
     false≢true (sym (empty_contains lots places section number free) ∙ lacks.is_held)
+
+-- a set of places in a section that contains none of them
+pub unmet_places : (held : ℕ → ℕ → Bool) → ¬ Meets held (whole_block PLACE_DIGITS)
+    → ((c r : ℕ) → held c r ≡ true → IsPlace PLACE_DIGITS c r) → (c r : ℕ) → held c r ≡ false
+unmet_places held none within c r = elim (cases_Bool (held c r)) [
+  | inr free ↦ free
+  | inl is ↦
+      absurd
+      (none (record {
+        column = c;
+        row = r;
+        inside = whole_is_place c r ∙ test_of_place PLACE_DIGITS c r (within c r is);
+        is_held = is;
+      }))
+]

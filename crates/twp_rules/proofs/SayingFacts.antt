@@ -8,7 +8,8 @@ use Rattle.std.specs.Int.{is_in_range}
 use Rattle.twp_rules.specs.Edges.{byte_before}
 use Rattle.twp_rules.specs.Naming.{begins_number, begins_word, is_explained_at, name_after, names_land_at}
 use Rattle.twp_rules.specs.Naming.{has_no_bare_number, has_no_land, word_of}
-use Rattle.twp_rules.specs.Sayings.{begins_whole_word, has_no_limit, has_no_limit_from, is_possessive}
+use Rattle.twp_rules.specs.Sayings.{begins_whole_word, has_no_limit, has_no_limit_from, is_of_title}
+use Rattle.twp_rules.specs.Sayings.{is_possessive}
 use Rattle.twp_rules.specs.Sayings.{is_remark, limits_land, may_contain}
 use Rattle.twp_rules.specs.declared.saying.Saying.{Saying}
 use Rattle.twp_rules.specs.declared.saying.Saying.TheVariants.{Remark}
@@ -41,7 +42,7 @@ no_whole_word : (seen : List ℕ) (at : ℕ) → begins_word seen at ≡ false �
 no_whole_word seen at h =
     whole_is_word (is_ascii_alphabetic (slice_index seen at)) (is_in_range 48 57 (byte_before seen at))
     (is_in_range 65 90 (byte_before seen at)) (is_in_range 97 122 (byte_before seen at))
-    (is_possessive seen at) h
+    (is_possessive seen at || is_of_title seen at) h
 
 is_passed : (whole limits contained rest : Bool) → contained ≡ false → (whole && limits) ≡ false
     → ((not whole || not limits || contained) && rest) ≡ rest

@@ -5,7 +5,7 @@ use Rattle.twp_rules.specs.Tables.{em_dash, en_dash, half_sign, quarter_sign}
 
 -- what the land is before of which HALF is written
 abbrev pub sides : List (List ℕ)
-sides = words (codes "n s e w n. s. e. w. north south east west")
+sides = words (codes "n s e w n. s. e. w. north south east west no. so.")
 
 -- what the land is before of which QUARTER is written, or the last word of it
 abbrev pub corners : List (List ℕ)
@@ -31,9 +31,10 @@ digits = words (codes "0 1 2 3 4 5 6 7 8 9")
 abbrev pub section_ends : List (List ℕ)
 section_ends = words (codes ") one two three four five six seven eight nine ten eleven twelve teen ty")
 
--- or with a digit that scanning made a letter of
+-- or with a digit that scanning made a letter of, or both
 abbrev pub worn_section_ends : List (List ℕ)
 worn_section_ends = words (codes "1l 1i 1o 2l 2i 2o 3l 3i 3o")
+    ++ texts (codes " ll| li| il| lo| io|.ll|.li|.il|.lo|.io")
 
 -- and the word for one that was named before
 abbrev pub section_again : List (List ℕ)
@@ -74,7 +75,7 @@ acreage_ends = words (codes "acres acre ac acres. ac. less m/l ) pooled total ne
 
 -- or begins with, after white space
 abbrev pub acreage_fronts : List (List ℕ)
-acreage_fronts = texts (codes "acres|acreage|ac|gross|net|total|containing|the area")
+acreage_fronts = texts (codes "acres|acreage|ac|gross|net|total|containing|the area|gr ac|gr. ac|in all")
 
 -- what is said of land begins with, if it isn't a remark: rights,
 abbrev pub rights : List (List ℕ)
@@ -100,6 +101,19 @@ depths = texts (codes "from the|below|above|down to|all depths")
 abbrev pub estates : List (List ℕ)
 estates = texts (codes "depths|surface|from surf|mineral|oil|only")
 
+-- titles of entries, deeds, and offices, and what is said of water, in which a word that limits land doesn't:
+-- what they begin with,
+abbrev pub title_fronts : List (List ℕ)
+title_fronts = texts (codes "e.o.|w.d.|point of diversion|formerly lease|tax deed|survey type|survey number")
+    ++ texts (codes "part of that certain oil|part of that certain lease|part of that certain paid")
+    ++ texts (codes "part of that certain memorandum|part of that certain assignment")
+    ++ texts (codes "part of the oil and gas lease|s-t-r|w/min|w/o min")
+
+-- and what they end with
+abbrev pub title_ends : List (List ℕ)
+title_ends = texts (codes "u.s|u. s|h.e|h. e|d.l.e|c.e|d.e|placer claim|placer claims|by and between")
+    ++ texts (codes "per acre|per ac")
+
 -- or the number of a lease, or of a parcel
 abbrev pub number_fronts : List (List ℕ)
 number_fronts = words (codes "lease rp pin apn")
@@ -122,7 +136,7 @@ parenthesis_ends = words (codes ") ]")
 
 -- land that was named before, without parentheses, begins with, after white space
 abbrev pub being_fronts : List (List ℕ)
-being_fronts = words (codes "being aka a/")
+being_fronts = texts (codes "being|aka|a/|also known as|also described as")
 
 -- what a word for tens ends with, before that for a number from one to nine
 abbrev pub tens_ends : List (List ℕ)

@@ -11,7 +11,8 @@ use Rattle.twp_rules.specs.declared.role.NumberRole.TheVariants.{Nothing, Sectio
 use Rattle.twp_rules.specs.declared.rule.Rule.{Rule}
 use Rattle.twp_rules.specs.declared.rule.Rule.TheVariants.{Copied, MovedSection, MovedHeading}
 use Rattle.twp_rules.specs.Changes.{AreChangesFrom, Change}
-use Rattle.twp_rules.specs.Edges.{begins_with, byte_before, is_one_of}
+use Rattle.twp_rules.specs.Edges.{begins_with_one, byte_before, is_one_of}
+use Rattle.twp_rules.specs.Lists.{words}
 use Rattle.twp_rules.specs.Apart.{first_seam, keep_apart}
 use Rattle.twp_rules.specs.Keeping.{keep_numbers, side_after, without_zeros}
 use Rattle.twp_rules.specs.Naming.{begins_word, digits_of, word_of}
@@ -93,11 +94,11 @@ nothing_named =
     record { next = Nothing; section = 0; tier = 0; tier_side = 0; range = 0; range_side = 0; before = 0 }
 
 -- a digit begins a number: no digit is before it, or what is left out begins there; and it is not the 0 that
--- a register has before a section
+-- a register has before a section, or the damaged letter of a word for a section
 abbrev pub is_digit_at : List ℕ → ℕ → ℕ → Bool
 is_digit_at text start at =
     is_ascii_digit (slice_index text at) && (not (is_ascii_digit (byte_before text at)) || (at == start))
-    && not (begins_with (drop at text) (codes "0sn"))
+    && not (begins_with_one (drop at text) (words (codes "0sn 5ec 8ec")))
 
 -- a number begins at a place: with a digit, or with the word for it
 abbrev pub is_number_at : List ℕ → ℕ → ℕ → Bool
@@ -131,10 +132,12 @@ abbrev pub is_copied_by : List Change → ℕ → Bool
 is_copied_by [] at = false
 is_copied_by (change ∷ changes) at = copies_place at change.rule || is_copied_by changes at
 
--- the place of the first digit of a number that isn't 0, or of the word for it
+-- the place of the first digit of a number that isn't 0, or of its first 0 if it has no other digit, or of
+-- the word for it
 abbrev pub first_place : List ℕ → ℕ → ℕ
 first_place text at =
-    if is_ascii_digit (slice_index text at) then length text - length (without_zeros (drop at text)) else at
+    if is_ascii_digit (slice_index text at) && is_ascii_digit (slice_index (without_zeros (drop at text)) 0)
+    then length text - length (without_zeros (drop at text)) else at
 
 -- a number and the first letter of its side are those that were named last
 abbrev pub is_same_number : ℕ → ℕ → List ℕ → ℕ → Bool

@@ -38,12 +38,13 @@ makes_half rest =
     || begins_with rest (codes "2") && not (is_ascii_digit (slice_index rest 1))
 
 -- the word with which a text begins names land: a section, a lot, a corner, several of them, a half, or the
--- letter of a section, lot, township, or range with its number
+-- letter of a section, lot, township, or range with its number, which has at most four digits
 abbrev pub word_names_land : List ℕ → List ℕ → Bool
 word_names_land word after =
     is_one_of word land_words || not (same_bytes word []) && are_corners_from true word
     || is_one_of word side_names && makes_half (without_white after)
     || is_one_of word number_letters && is_ascii_digit (slice_index after 0)
+    && nat_le (length (digits_of after)) 4
 
 -- the number with which a text begins is that of a township or a range: a side is after its digits
 abbrev pub number_names_township : List ℕ → List ℕ → Bool

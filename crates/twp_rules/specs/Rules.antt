@@ -152,6 +152,13 @@ is_township rest =
     nat_le 1 (length (digits_of rest)) && nat_le (length (digits_of rest)) 4
     && is_one_of (mark_after_digits rest ∷ []) north_south
 
+-- a township follows a code: after white space; or, after a code that begins with 0, in the next cell
+abbrev pub is_before_township : List ℕ → List ℕ → Bool
+is_before_township code after =
+    is_township (without_white after)
+    || begins_with (without_white code) (codes "0") && begins_with after (codes ",")
+    && is_township (drop 1 after)
+
 -- a meridian, a state, or a county: its name, or the code of a register before a township
 abbrev pub is_meridian : List ℕ → List ℕ → Bool
 is_meridian seen after =
@@ -160,7 +167,7 @@ is_meridian seen after =
     || begins_with_one (without_white seen) meridian_labels)
     && has_no_land seen
     && (has_no_limit Remark seen || is_one_of (without_white seen) meridian_letters)
-    && (has_no_bare_number seen || ends_with_one seen digits && is_township (without_white after))
+    && (has_no_bare_number seen || ends_with_one seen digits && is_before_township seen after)
 
 -- stated acreage
 abbrev pub is_acreage : List ℕ → Bool
@@ -193,12 +200,20 @@ abbrev pub is_no_land_word : List ℕ → Bool
 is_no_land_word word =
     not (same_bytes word []) && not (is_one_of word first_words) && not (are_corners_from true word)
 
--- the number of a row: in a cell of its own, before one that doesn't begin with land
+-- the number of an item: a period or a parenthesis ends it, and after white space is no land
+abbrev pub is_item_number : List ℕ → List ℕ → Bool
+is_item_number number after =
+    is_ascii_digit (slice_index number 0)
+    && is_one_of (drop (length (digits_of number)) number) (codes "." ∷ codes ")" ∷ [])
+    && is_white (slice_index after 0) && is_no_land_word (word_of (without_white after))
+
+-- the number of a row: in a cell of its own, before one that doesn't begin with land; or of an item
 abbrev pub is_row_number : List ℕ → List ℕ → Bool
 is_row_number seen after =
     same_bytes (digits_of (without_white seen)) (without_white seen)
     && is_one_of (slice_index (without_spaces after) 0 ∷ []) cell_marks
     && is_no_land_word (word_of (without_white (drop 1 (without_spaces after))))
+    || is_item_number (without_white seen) after
 
 -- no letter ends a phrase before a digit, as the damaged one in I4
 abbrev pub is_apart_from_digit : List ℕ → List ℕ → Bool

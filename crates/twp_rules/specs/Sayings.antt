@@ -1,12 +1,12 @@
 -- What a phrase that names no land says of it, by what it begins with, and which words that limit land it may
 -- contain: they limit a right, a depth, or a share, and not the land.
-use Rattle.std.specs.Prelude.{◌==◌, ◌||◌, ◌&&◌, ℕ, suc, ◌-◌, Bool, true, false, List, [], ◌∷◌, not}
-use Rattle.std.specs.Prelude.{codes, drop, slice_index}
+use Rattle.std.specs.Prelude.{◌==◌, ◌||◌, ◌&&◌, ℕ, suc, ◌+◌, ◌-◌, Bool, true, false, List, [], ◌∷◌, not}
+use Rattle.std.specs.Prelude.{codes, drop, length, nat_le, slice_index, take}
 use Rattle.std.specs.Char.{is_ascii_alphabetic, is_ascii_alphanumeric}
 use Rattle.twp_rules.specs.Edges.{begins_with_one, byte_before, ends_with_one, is_one_of}
 use Rattle.twp_rules.specs.Endings.{depths, estates, interest_fronts, number_fronts, property_fronts}
-use Rattle.twp_rules.specs.Endings.{records, reservations, rights, terms, less_ends}
-use Rattle.twp_rules.specs.Naming.{begins_word, names_no_land, word_of}
+use Rattle.twp_rules.specs.Endings.{records, reservations, rights, terms, less_ends, title_ends, title_fronts}
+use Rattle.twp_rules.specs.Naming.{begins_word, digits_of, names_no_land, word_of}
 use Rattle.twp_rules.specs.Words.{acreage_limits, bound_words, claim_words, column_words, depth_limits}
 use Rattle.twp_rules.specs.Words.{depth_words}
 use Rattle.twp_rules.specs.Words.{lease_limits, measure_words, mineral_words, more_taking_words}
@@ -44,11 +44,23 @@ is_possessive seen at =
     (byte_before seen at == 39) && is_ascii_alphabetic (byte_before seen (at - 1))
     && is_one_of (word_of (drop at seen)) (codes "s" ∷ [])
 
--- a word begins at a place, after neither a letter nor a digit, and isn't the S of a possessive
+-- a text begins with the letter of a code: a hyphen and five digits or more are after it
+abbrev pub begins_code : List ℕ → Bool
+begins_code rest = (slice_index rest 1 == 45) && nat_le 5 (length (digits_of (drop 1 (drop 1 rest))))
+
+-- the word at a place begins a title in which no word limits land, or ends one, as in `H.E.` for a homestead
+-- entry; or it is the letter of a code
+abbrev pub is_of_title : List ℕ → ℕ → Bool
+is_of_title seen at =
+    begins_with_one (drop at seen) title_fronts || begins_code (drop at seen)
+    || ends_with_one (take (at + length (word_of (drop at seen))) seen) title_ends
+
+-- a word begins at a place, after neither a letter nor a digit, isn't the S of a possessive, and is of no
+-- such title
 abbrev pub begins_whole_word : List ℕ → ℕ → Bool
 begins_whole_word seen at =
     is_ascii_alphabetic (slice_index seen at) && not (is_ascii_alphanumeric (byte_before seen at))
-    && not (is_possessive seen at)
+    && not (is_possessive seen at || is_of_title seen at)
 
 -- no word from a place on limits land, but for those that the phrase may contain
 abbrev pub has_no_limit_from : Saying → List ℕ → ℕ → List ℕ → Bool

@@ -87,7 +87,8 @@ halves = all_as (texts (codes "2|/2|half|one-half|one half")) (codes "1/2")
 -- and what scanning, or a slip of the pen, leaves of a half
 abbrev pub worn_halves : List Entry
 worn_halves = all_as (words (codes "l/2 i/2 '/2") ++ (right_quote ++ codes "/2") ∷ []) (codes "1/2")
-    ++ all_as (words (codes "]/2 !/2 |/2 1/ 2/2 1/z v2 y2 % }") ++ pound_sign ∷ (195 ∷ 130 ∷ half_sign) ∷ [])
+    ++ all_as
+    (words (codes "]/2 !/2 |/2 1/ 2/2 1/z v2 y2 % } 112") ++ pound_sign ∷ (195 ∷ 130 ∷ half_sign) ∷ [])
     (codes "1/2")
 
 -- QUARTER: after NE, NW, SW, or SE, and white space, if any
@@ -99,16 +100,17 @@ quarters = all_as (texts (codes "|4|/4|quarter|one-quarter|one quarter")) (codes
 -- and what scanning, or a slip of the pen, leaves of a quarter
 abbrev pub worn_quarters : List Entry
 worn_quarters = all_as (words (codes "^ l/4 i/4 '/4") ++ (right_quote ++ codes "/4") ∷ []) (codes "1/4")
-    ++ all_as (words (codes "]/4 !/4 |/4 1/ v4 y4 % quater i a 1a }") ++ pound_sign ∷ []) (codes "1/4")
+    ++ all_as (words (codes "]/4 !/4 |/4 1/ v4 y4 % quater i a 1a } 114") ++ pound_sign ∷ []) (codes "1/4")
     ++ all_as ((codes "quar-" ++ 10 ∷ codes "ter") ∷ (195 ∷ 130 ∷ quarter_sign) ∷ []) (codes "1/4")
+    ++ all_as (words (codes "'a !4 ^4 j")) (codes "1/4")
 
 -- or abbreviated
 abbrev pub quarter_abbreviations : List Entry
-quarter_abbreviations = all_as (words (codes "qr. . qtr qtr.")) (codes "1/4")
+quarter_abbreviations = all_as (words (codes "qr. . qtr qtr. quar quar.")) (codes "1/4")
 
 -- DAMAGE: letters that scanning makes of digits, and digits of letters
 abbrev pub damages : List Entry
-damages = pairs (words (codes "l=1 i=1 o=0"))
+damages = pairs (words (codes "l=1 i=1 o=0 ll=11 li=11 il=11 lo=10 io=10"))
 
 abbrev pub damaged_corners : List Entry
 damaged_corners = all_as (words (codes "5 8")) (codes "S")
@@ -121,7 +123,8 @@ exceptions = all_as (words (codes "less except excepting excluding save exc excl
 -- DIRECTION: words for sides and corners
 abbrev pub directions : List Entry
 directions = pairs (words (codes "north=N south=S east=E west=W northeast=NE northwest=NW southeast=SE"))
-    ++ pairs (texts (codes "southwest=SW|north east=NE|north west=NW|south east=SE|south west=SW"))
+    ++ pairs
+    (texts (codes "southwest=SW|north east=NE|north west=NW|south east=SE|south west=SW|no.=N|so.=S"))
 
 -- and such words with a letter missing, or two letters in each other's place
 abbrev pub worn_directions : List Entry
@@ -148,7 +151,7 @@ headings = pairs (texts (codes "=T. |= R. |=R. |= |= N., R. |= S., R. |= E., |= 
 abbrev pub heading_words : List Entry
 heading_words = all_as (words (codes "township twp tp twsp")) (codes "T.")
     ++ all_as (words (codes "range rng rge rg")) (codes "R.")
-    ++ pairs (texts (codes "in=|of=|0sn=, sec. |a=|numbered=|aliquot part:=|aliquot part=|twn=T."))
+    ++ pairs (texts (codes "in=|of=|0sn=, sec. |a=|numbered=|aliquot part:=|aliquot part=|twn=T.|no.="))
 
 -- and the marks in them
 abbrev pub heading_marks : List Entry
@@ -163,8 +166,8 @@ section_words = pairs (texts (codes "=sec. |=secs. |s=sec. |sect=sec"))
 -- and what a slip of the pen, or scanning, leaves of them
 abbrev pub worn_section_words : List Entry
 worn_section_words =
-    all_as (words (codes "scc sce seo secton sectlon sectoin seciton sectiou seclion seotion sectior"))
-    (codes "sec")
+    all_as (words (codes "scc sce seo see secton sectlon sectoin seciton sectiou seclion seotion sectior"))
+    (codes "sec") ++ all_as ((codes "sec-" ++ 10 ∷ codes "tion") ∷ []) (codes "sec")
 
 -- LOT: the words for lots
 abbrev pub lot_words : List Entry
@@ -214,10 +217,11 @@ little_words = all_left_out (words (codes "the of in and said all entire section
 
 abbrev pub more_little_words : List Entry
 more_little_words = all_left_out (words (codes "public domain federal land lands fractional thereof except"))
-    ++ all_left_out (words (codes "excepting for therefrom &"))
+    ++ all_left_out (words (codes "excepting for therefrom & fr. frl frl. frac. fract fract. fractl fractl."))
 
 abbrev pub joining_words : List Entry
-joining_words = all_left_out (words (codes "also together with not exception inclusive incl both numbered"))
+joining_words =
+    all_left_out (words (codes "also together with not exception inclusive incl both numbered no."))
     ++ pairs (codes "everything=all" ∷ [])
 
 -- ZEROS: before the other digits of a number

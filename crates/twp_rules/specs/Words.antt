@@ -35,6 +35,8 @@ numbered_words = words (codes "tract tr parcel no nos number bk book vol pg page
     ++ words (codes "case exhibit item comment allotment owner unit property prop psc lease lse est probate")
     ++ words (codes "permit entry cat idi meridian mer jan january feb february mar march apr april may jun")
     ++ words (codes "june jul july aug august sep sept september oct october nov november dec december row")
+    ++ words (codes "mch patent pat cert certificate application contract agreement order list paragraph")
+    ++ words (codes "roll code account acct allot report form waste dry irr grz past crop")
     ++ codes "pasture" ∷ []
 
 -- words for what a number before them counts, and for a meridian
@@ -127,11 +129,16 @@ abbrev pub column_words : List (List ℕ)
 column_words = words (codes "mer meridian twp township t rng range r sec section stype type nr no suff")
     ++ words (codes "survey subdivision legal desc description aliquot aliquots lots acres ac gross net")
     ++ words (codes "district field office county state st mgmt agency tract school")
+    ++ words (codes "rge rg tp twn name remarks notes grantor grantee date book page inst status parcel pin")
+    ++ words (codes "id use value mi int interest tr qq qqsec qsec instrument acreage owner")
+    ++ words (codes "line code action act remark")
 
 -- the words of a section that is written elsewhere, or that was named before
 abbrev pub moved_section_words : List (List ℕ)
-moved_section_words = words (codes "sec secs section sections sect sects s sn scc sce seo ec ection secton")
-    ++ words (codes "sectlon sectoin seciton sectiou seclion seotion sectior numbered no nos said same all")
+moved_section_words =
+    words (codes "sec secs section sections sect sects s sn scc sce seo see ec ection secton")
+    ++ words
+    (codes "sectlon sectoin seciton sectiou seclion seotion sectior tion numbered no nos said same all")
     ++ words (codes "both fractional in of the and to thru through")
 
 -- the words of a township and range that are
@@ -143,6 +150,7 @@ moved_heading_words = words (codes "t tp twp twsp township r rg rge rng range n 
 abbrev pub number_words : List (List ℕ)
 number_words = words (codes "one two three four five six seven eight nine ten eleven twelve thirteen")
     ++ words (codes "fourteen fifteen sixteen seventeen eighteen nineteen twenty thirty l i o")
+    ++ words (codes "ll li il lo io")
 
 -- the words of numbers from one to nine, which follow those for tens
 abbrev pub one_to_nine : List (List ℕ)
@@ -163,8 +171,9 @@ cell_marks = codes "|" ∷ (9 ∷ []) ∷ []
 
 -- the words for a section, with slips, that of a register, and the names of its column in maps of the survey
 abbrev pub section_names : List (List ℕ)
-section_names = words (codes "sec secs sect sects section sections scc sce seo ec ection sn secton sectlon")
-    ++ words (codes "sectoin seciton sectiou seclion seotion sectior frstdivno frstdivlab")
+section_names =
+    words (codes "sec secs sect sects section sections scc sce seo see ec ection sn secton sectlon")
+    ++ words (codes "sectoin seciton sectiou seclion seotion sectior tion frstdivno frstdivlab")
 
 -- the words between the numbers of a list of sections, or before them
 abbrev pub list_words : List (List ℕ)
@@ -211,7 +220,7 @@ words_in_parts = codes "of" ∷ (92 ∷ []) ∷ codes "/" ∷ []
 -- words for numbers
 abbrev pub numeral_words : List (List ℕ)
 numeral_words = words (codes "one two three four five six seven eight nine ten eleven twelve thirteen")
-    ++ words (codes "fourteen fifteen sixteen seventeen eighteen nineteen twenty thirty")
+    ++ words (codes "fourteen fifteen sixteen seventeen eighteen nineteen twenty thirty ll li il lo io")
 
 -- the words before the number of a township, as descriptions have them, and of a range
 abbrev pub tier_words : List (List ℕ)

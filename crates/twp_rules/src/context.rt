@@ -1,13 +1,13 @@
 //! What is beside a change: numbers, marks, and words before it and after it.
 ghost use Rattle.std.specs.Prelude.{◌≡◌, ◌≤◌, ◌-◌, drop, length, take};
 ghost use Rattle.twp_rules.specs.Rules.{are_leading, is_after_three_digits, is_between_numbers, is_fraction_digit};
-ghost use Rattle.twp_rules.specs.Rules.{is_township, is_whole_numeral, is_whole_word, solid_before, without_spaces};
+ghost use Rattle.twp_rules.specs.Rules.{is_before_township, is_township, is_whole_numeral, is_whole_word, solid_before, without_spaces};
 
 use crate::endings::beside::*;
 use crate::figures::{from, is_white, without_white};
 use crate::keeping::rest_of;
 use crate::naming::*;
-use crate::same::ends_with;
+use crate::same::{begins_with, ends_with};
 use crate::words::numbers::*;
 use crate::words::sides::*;
 
@@ -29,6 +29,16 @@ pub(crate) fn is_township(rest: &[u8]) -> bool
 {
     let digits = digits_of(rest);
     digits.len() >= 1 && digits.len() <= 4 && is_north_south(mark_after_digits(rest))
+}
+
+/// Whether a township follows a code, after white space, or in the next cell.
+pub(crate) fn is_before_township(code: &[u8], after: &[u8]) -> bool
+    ensures { result ≡ is_before_township code.now after.now }
+{
+    is_township(without_white(after))
+        || (begins_with(without_white(code), b"0")
+            && begins_with(after, b",")
+            && is_township(rest_after(after)))
 }
 
 /// Whether zeros at a place are before the other digits of a number.

@@ -5,15 +5,16 @@ ghost use Rattle.twp_rules.specs.Edges.{ends_with_one, is_one_of, without_white}
 ghost use Rattle.twp_rules.specs.Endings.{digits, meridian_letters};
 ghost use Rattle.twp_rules.specs.Naming.{has_no_bare_number, has_no_land};
 ghost use Rattle.twp_rules.specs.Rules.{is_acreage, is_meridian, is_moved_heading, is_moved_section, is_no_land_word};
-ghost use Rattle.twp_rules.specs.Rules.{is_apart_from_digit, is_place_name, is_row_number, is_township, may_be_left_out};
+ghost use Rattle.twp_rules.specs.Rules.{is_apart_from_digit, is_before_township, is_item_number, is_place_name, is_row_number};
+ghost use Rattle.twp_rules.specs.Rules.{may_be_left_out};
 ghost use Rattle.twp_rules.specs.Sayings.{has_no_limit};
 
-use crate::context::{is_township, less, without_spaces};
+use crate::context::{is_before_township, less, without_spaces};
 use crate::endings::beside::*;
 use crate::endings::labels::*;
 use crate::endings::meridians::*;
 use crate::endings::parts::*;
-use crate::figures::{has_no_digit, is_figure, is_figure_of_acres, without_white};
+use crate::figures::{from, has_no_digit, is_figure, is_figure_of_acres, is_white, without_white};
 use crate::moved::Moved;
 use crate::moving::is_only_of;
 use crate::naming::*;
@@ -81,15 +82,27 @@ fn is_no_land_word(word: &[u8]) -> bool
     !are_same(word, b"") && !is_in_first_words(word) && !are_corners(word)
 }
 
-/// Whether a text is the number of a row, in a cell of its own.
+/// Whether a text is the number of an item, before what isn't land.
+fn is_item_number(number: &[u8], after: &[u8]) -> bool
+    ensures { result ≡ is_item_number number.now after.now }
+{
+    let mark = from(number, digits_of(number).len());
+    byte_at(number, 0).is_ascii_digit()
+        && (are_same(mark, b".") || are_same(mark, b")"))
+        && is_white(byte_at(after, 0))
+        && is_no_land_word(word_of(without_white(after)))
+}
+
+/// Whether a text is the number of a row, in a cell of its own, or of an item.
 fn is_row_number(seen: &[u8], after: &[u8]) -> bool
     ensures { result ≡ is_row_number seen.now after.now }
 {
     let number = without_white(seen);
     let next = without_spaces(after);
-    are_same(digits_of(number), number)
+    (are_same(digits_of(number), number)
         && is_in_cell_marks(byte_at(next, 0))
-        && is_no_land_word(word_of(without_white(rest_after(next))))
+        && is_no_land_word(word_of(without_white(rest_after(next)))))
+        || is_item_number(number, after)
 }
 
 /// Whether a text is a meridian, a state, or a county.
@@ -110,14 +123,14 @@ fn names_only_place(seen: &[u8], after: &[u8]) -> bool
     ensures { result ≡ (has_no_land seen.now
         && (has_no_limit Remark seen.now || is_one_of (without_white seen.now) meridian_letters)
         && (has_no_bare_number seen.now
-        || ends_with_one seen.now digits && is_township (without_white after.now))) }
+        || ends_with_one seen.now digits && is_before_township seen.now after.now)) }
 {
     if is_remark(seen) {
         return true;
     }
     has_no_land(seen)
         && (has_no_limit(Saying::Remark, seen) || is_in_meridian_letters(without_white(seen)))
-        && (has_no_bare_number(seen) || (has_digits(seen) && is_township(without_white(after))))
+        && (has_no_bare_number(seen) || (has_digits(seen) && is_before_township(seen, after)))
 }
 
 /// Whether a text is stated acreage.

@@ -169,17 +169,25 @@ fn is_digit_at(text: &[u8], start: usize, at: usize) -> bool
 {
     byte_at(text, at).is_ascii_digit()
         && (!byte_before(text, at).is_ascii_digit() || at == start)
-        && !begins_with(rest_of(text, at), b"0sn")
+        && !is_in_word(rest_of(text, at))
 }
 
-/// The place of the first digit of a number that isn't 0, or of the word for it.
+/// Whether the digit with which a text begins is of a word for a section: that of a register, or one with a damaged
+/// letter.
+fn is_in_word(rest: &[u8]) -> bool
+    ensures { result ≡ begins_with_one rest.now (words (codes "0sn 5ec 8ec")) }
+{
+    begins_with(rest, b"0sn") || begins_with(rest, b"5ec") || begins_with(rest, b"8ec")
+}
+
+/// The place of the first digit of a number that isn't 0, or of its first 0 if it has no other digit, or of the word
+/// for it.
 fn first_place(text: &[u8], at: usize) -> usize
     ensures { result ≡ first_place text.now at }
 {
-    if byte_at(text, at).is_ascii_digit() {
-        return text
-            .len()
-            .saturating_sub(without_zeros(rest_of(text, at)).len());
+    let digits = without_zeros(rest_of(text, at));
+    if byte_at(text, at).is_ascii_digit() && byte_at(digits, 0).is_ascii_digit() {
+        return text.len().saturating_sub(digits.len());
     }
     at
 }

@@ -134,7 +134,9 @@ fn word_names_land(word: &[u8], after: &[u8]) -> bool
     is_in_land_words(word)
         || (!are_same(word, b"") && are_corners(word))
         || (is_in_side_names(word) && makes_half(without_white(after)))
-        || (is_in_number_letters(word) && byte_at(after, 0).is_ascii_digit())
+        || (is_in_number_letters(word)
+            && byte_at(after, 0).is_ascii_digit()
+            && digits_of(after).len() <= 4)
 }
 
 /// Whether digits, with what is after them, are the number of a township or a range.

@@ -4,20 +4,23 @@ ghost use Rattle.twp_rules.specs.Naming.{word_of};
 ghost use Rattle.twp_rules.specs.Sayings.{begins_whole_word, has_no_limit, has_only_columns_from, is_mentioned};
 ghost use Rattle.twp_rules.specs.Sayings.{is_more_or_less, is_remark, is_said_of_interests, is_said_of_land, is_said_of_rights};
 ghost use Rattle.twp_rules.specs.Sayings.{is_said_of_terms, limits_land, may_contain, mentions_from, says};
-ghost use Rattle.twp_rules.specs.Sayings.{is_possessive};
+ghost use Rattle.twp_rules.specs.Sayings.{begins_code, is_of_title, is_possessive};
 
-use crate::context::less;
+use crate::context::{before, less};
 use crate::endings::labels::*;
 use crate::figures::from;
 use crate::naming::{
-    begins_nothing, begins_word, byte_at, byte_before, is_explained_at, named_after, names_land_at,
-    names_no_land, word_of,
+    begins_nothing, begins_word, byte_at, byte_before, digits_of, is_explained_at, named_after,
+    names_land_at, names_no_land, rest_after, word_of,
 };
 use crate::same::is_text;
 use crate::saying::Saying;
 use crate::words::limits::*;
 use crate::words::sections::*;
 use crate::words::sides::*;
+
+/// The fewest digits of a code after its letter and a hyphen.
+const CODE_LEAST: usize = 5;
 
 /// Whether a text is a remark. Land, numbers, and limits are looked for at once, where a word or a number begins.
 #[tactic(auto, using(crate::proofs::SayingFacts::nothing_begins, crate::proofs::SayingFacts::goes_on_here, crate::proofs::SayingFacts::land_begins, crate::proofs::SayingFacts::bare_begins, crate::proofs::SayingFacts::limit_begins))]
@@ -185,14 +188,34 @@ fn limits_land(word: &[u8]) -> bool
         || is_in_measure_words(word)
 }
 
-/// Whether a word begins at a place, after neither a letter nor a digit, and isn't the S of a possessive.
+/// Whether a word begins at a place, after neither a letter nor a digit, isn't the S of a possessive, and is of no title
+/// in which it limits no land.
 fn begins_whole_word(seen: &[u8], at: usize) -> bool
     requires { at ≤ length seen.now }
     ensures { result ≡ begins_whole_word seen.now at }
 {
     byte_at(seen, at).is_ascii_alphabetic()
         && !byte_before(seen, at).is_ascii_alphanumeric()
-        && !is_possessive(seen, at)
+        && !(is_possessive(seen, at) || is_of_title(seen, at))
+}
+
+/// Whether a text begins with the letter of a code: a hyphen and five digits or more are after it, as in `E-700123`.
+fn begins_code(rest: &[u8]) -> bool
+    ensures { result ≡ begins_code rest.now }
+{
+    byte_at(rest, 1) == b'-' && digits_of(rest_after(rest_after(rest))).len() >= CODE_LEAST
+}
+
+/// Whether the word at a place begins a title in which no word limits land, or ends one, as in `H.E.` for a homestead
+/// entry; or it is the letter of a code.
+fn is_of_title(seen: &[u8], at: usize) -> bool
+    requires { at ≤ length seen.now }
+    ensures { result ≡ is_of_title seen.now at }
+{
+    let rest = from(seen, at);
+    has_title_fronts(rest)
+        || begins_code(rest)
+        || has_title_ends(before(seen, at + word_of(rest).len()))
 }
 
 /// Whether the S of a possessive is at a place, as in `Lessor's`.

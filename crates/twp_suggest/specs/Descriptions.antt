@@ -1,13 +1,13 @@
 -- What a text describes: whether the reader accepts it, the land that it names, and the description that a
 -- changed text leads to.
-use Rattle.std.specs.Prelude.{◌≡◌, ◌==◌, ℕ, Bool, true, List, [], ◌∷◌, Option, Some, None}
+use Rattle.std.specs.Prelude.{◌≡◌, ◌==◌, ◌⊎◌, ℕ, Bool, true, List, [], ◌∷◌, Option, Some, None}
 use Rattle.std.specs.Prelude.{if◌then◌else◌}
 use Rattle.twp_grid.specs.Townships.{Designation, designation, line_feed}
 use Rattle.twp_grid.specs.Lands.{Lotting, ContainsAll, HasWholeLots, SamePlaces, difference}
 use Rattle.twp_grammar.specs.declared.item.Item.{Item}
 use Rattle.twp_grammar.specs.declared.item.Item.TheVariants.{Heading}
 use Rattle.twp_grammar.specs.ItemPlaces.{land_of, parts_of}
-use Rattle.twp_grammar.specs.OnPlat.{IsLandOfItems}
+use Rattle.twp_grammar.specs.OnPlat.{AreOnPlat, IsLandOfItems}
 use Rattle.twp_grammar.specs.Sentences.{IsReadAs}
 use Rattle.twp_read.specs.Doubts.{HasNoDoubtfulPlace}
 use Rattle.twp_spell.specs.CanonicalText.{IsCanonicalText}
@@ -53,7 +53,8 @@ abbrev pub as_written : List Item → List ℕ → List ℕ
 as_written (Heading number north_south range east_west at ∷ items) text = text
 as_written items text = without_first_line text
 
--- a text doesn't name land that can be excepted from that of another: which lies in it, and isn't all of it
+-- a text doesn't name land on the plat that can be excepted from that of another: which lies in it, and isn't
+-- all of it
 abbrev pub IsNoException : Lotting → Designation → List ℕ → List ℕ → Type 0
 IsNoException lots township land less = (places others : ℕ → ℕ → ℕ → Bool)
     → IsLandOfText lots township land places → IsLandOfText lots township less others
@@ -66,9 +67,47 @@ pub record IsOfDivisions (lots : Lotting) (township : Designation) (made : List 
   pub split : IsSplit made land less
   pub is_none : IsNoException lots township land less
 
+-- the text is read as items, which name these places; an aliquot part may include lots, but the plat has land
+-- at each place
+pub record AreNamed (lots : Lotting) (text : List ℕ) (places : ℕ → ℕ → ℕ → Bool) : Type 0 where
+  pub items : List Item
+  pub read : IsReadAs text items
+  pub places_are : places ≡ land_of lots (parts_of items)
+  pub whole : HasWholeLots lots places
+  pub on_land : (section column row : ℕ) → places section column row ≡ true
+      → lots.has_land section column row ≡ true
+
+-- a township that items begin with is this one
+abbrev pub NamesTownship : List Item → Designation → Type 0
+NamesTownship (Heading number north_south range east_west at ∷ items) township =
+    designation number north_south range east_west ≡ township
+NamesTownship items township = Unit {0}
+
+-- the places of items, in which an aliquot part may include whole lots, and the plat has land at each place
+pub record AreItemsWithLots (lots : Lotting) (township : Designation) (items : List Item)
+    (places : ℕ → ℕ → ℕ → Bool) : Type 0 where
+  pub of_township : NamesTownship items township
+  pub places_are : places ≡ land_of lots (parts_of items)
+  pub whole : HasWholeLots lots places
+  pub on_land : (section column row : ℕ) → places section column row ≡ true
+      → lots.has_land section column row ≡ true
+
+-- these are the places of items on the plat of a township, or of those by which a part may include whole lots
+abbrev pub IsSomeLandOfItems : Lotting → Designation → List Item → (ℕ → ℕ → ℕ → Bool) → Type 0
+IsSomeLandOfItems lots township items places =
+    IsLandOfItems lots township items places ⊎ AreItemsWithLots lots township items places
+
+-- the text is read as items, of which these are the places
+pub record IsSomeLandOfText (lots : Lotting) (township : Designation) (text : List ℕ)
+    (places : ℕ → ℕ → ℕ → Bool)
+    : Type 0 where
+  pub items : List Item
+  pub read : IsReadAs text items
+  pub land : IsSomeLandOfItems lots township items places
+
 -- THE REMAINDER: the canonical text of the land of a text without the land that it excepts, which lies in it,
 -- and isn't all of it; each division is by itself only if what is after the first ` except ` can't be
--- excepted
+-- excepted, and all that the divisions keep lies on the plat without overlapping
 pub record IsRemainder (lots : Lotting) (made text : List ℕ) : Type 0 where
   pub whole : List ℕ
   pub excepted : List ℕ
@@ -78,8 +117,9 @@ pub record IsRemainder (lots : Lotting) (made text : List ℕ) : Type 0 where
   pub by_itself : at ≡ 0 → IsOfDivisions lots township made
   pub places : ℕ → ℕ → ℕ → Bool
   pub less : ℕ → ℕ → ℕ → Bool
-  pub of_whole : IsLandOfText lots township whole places
-  pub of_excepted : IsLandOfText lots township excepted less
+  pub of_whole : IsSomeLandOfText lots township whole places
+  pub on_plat : at ≡ 0 → AreOnPlat lots township of_whole.items
+  pub of_excepted : IsSomeLandOfText lots township excepted less
   pub inside : ContainsAll places less
   pub some_left : ¬ SamePlaces places less
   pub full : List ℕ
@@ -98,22 +138,6 @@ pub record AreExcepted (made : List ℕ) (items : List Item) (part : Excepted) :
 abbrev pub AreItemsOf : List ℕ → List Item → Option Excepted → Type 0
 AreItemsOf made items None = IsReadAs made items
 AreItemsOf made items (Some part) = AreExcepted made items part
-
--- the text is read as items, which name these places; an aliquot part may include lots, but the plat has land
--- at each place
-pub record AreNamed (lots : Lotting) (text : List ℕ) (places : ℕ → ℕ → ℕ → Bool) : Type 0 where
-  pub items : List Item
-  pub read : IsReadAs text items
-  pub places_are : places ≡ land_of lots (parts_of items)
-  pub whole : HasWholeLots lots places
-  pub on_land : (section column row : ℕ) → places section column row ≡ true
-      → lots.has_land section column row ≡ true
-
--- a township that items begin with is this one
-abbrev pub NamesTownship : List Item → Designation → Type 0
-NamesTownship (Heading number north_south range east_west at ∷ items) township =
-    designation number north_south range east_west ≡ township
-NamesTownship items township = Unit {0}
 
 -- LOTS NAMED: the canonical text of the land of a text in which an aliquot part may include whole lots
 pub record AreLotsNamed (lots : Lotting) (made text : List ℕ) : Type 0 where

@@ -17,6 +17,7 @@ mod placed;
 mod plan;
 mod sharing;
 mod together;
+mod whole_first;
 
 pub use joining::{Between, Gap, Joining, is_joint, is_written, mark_between};
 pub use placed::has_except;

@@ -204,7 +204,8 @@ impl<'p, 'a> ChangeWriter<'p, 'a> {
             if index < next {
                 continue;
             }
-            let is_lost = gap.first == 0 && self.leads_on(index);
+            let is_between = next == index && is_next_left_out(rest, index);
+            let is_lost = gap.first == 0 && self.leads_on(index) && !is_between;
             if is_lost || (self.is_word(index) && !self.may_leave_out(index, gap, rest)) {
                 self.plan.draft.doubt();
             }
@@ -279,7 +280,14 @@ impl<'p, 'a> ChangeWriter<'p, 'a> {
         let is_of = pieces.is(index, b"of") && !pieces.follows(index, b"all");
         let is_first = gap.first == 0
             && !(is_of || pieces.is(index, b"and") || pieces.is(index, b"&"));
-        is_before_moved || is_and || is_the || is_first
+        let is_after_all = pieces.is(index, b"of")
+            && pieces.follows(index, b"all")
+            && rest.is_empty();
+        is_before_moved
+            || is_and
+            || is_the
+            || is_first
+            || (is_after_all && gap.end == plus(index, 1))
     }
 
     /// Leaves out a phrase, with the white space before it, but for words that a rule looks at as a whole.
@@ -295,7 +303,7 @@ impl<'p, 'a> ChangeWriter<'p, 'a> {
             && pieces.number(first).is_some()
             && pieces.has_before(first, b'\n');
         let start = match rule {
-            Rule::Heading | Rule::Label => pieces.start(first),
+            Rule::Heading | Rule::Label | Rule::Word => pieces.start(first),
             _ if is_figure_on_line => pieces.start(first),
             _ => self.plan.draft.pieces.end_before(first),
         };
@@ -351,4 +359,12 @@ fn is_unsure_of_three(other: &Placed, shared: Shared, parts: &mut Parts<'_>) -> 
     parts.has_head = shared == Shared::Head;
     parts.has_tail = shared == Shared::Tail;
     is_after_head || is_after_part
+}
+
+/// Whether a phrase that is left out follows the piece at an index.
+fn is_next_left_out(rest: &[Placed], index: usize) -> bool {
+    match rest {
+        [placed, ..] => placed.phrase.first == plus(index, 1),
+        [] => false,
+    }
 }

@@ -37,6 +37,9 @@ impl<'p, 'a> ChangeWriter<'p, 'a> {
         }
         let start = self.plan.draft.pieces.end_before(gap.first);
         let end = self.plan.draft.pieces.start(gap.end);
+        if start < end && self.is_only_of(gap, *one, *other) {
+            return out.add(change(start, end, b"", Rule::OnePart));
+        }
         // A mark between the parts becomes the comma.
         let (stop, stop_end) = if gap.end > gap.first {
             let stop = self.plan.draft.pieces.start(gap.first);
@@ -49,6 +52,26 @@ impl<'p, 'a> ChangeWriter<'p, 'a> {
             out.add_choice(JointWay::Second, change(start, end, b"", Rule::OnePart));
         }
         self.note_joint(out)
+    }
+
+    /// Whether one of two parts is a half, and the other one has land in common with it, as in `E/2 NW/4`: as two parts,
+    /// they would name that land twice. No other part is beside them, nor an exception in the text.
+    fn is_only_of(&self, gap: Gap, one: Phrase, other: Phrase) -> bool {
+        let draft = &self.plan.draft;
+        let is_first = match draft.pieces.kind_before(one.first) {
+            Some(Kind::Comma | Kind::Semicolon | Kind::Colon | Kind::And) | None => true,
+            _ => draft.pieces.has_break_before(one.first),
+        };
+        let is_last = match draft.pieces.kind(other.end) {
+            Kind::Comma | Kind::Semicolon | Kind::And => true,
+            _ => draft.pieces.begins_column(other.end),
+        };
+        self.plan.counts.exceptions == 0
+            && gap.end == gap.first
+            && is_first
+            && is_last
+            && only_step(draft.steps_of(one)).ends_with(b"2")
+            && draft.do_overlap(one, other)
     }
 
     /// Whether two parts are so written that neither way of reading them is sure.

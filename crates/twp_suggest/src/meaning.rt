@@ -6,6 +6,7 @@ mod kept;
 mod manner;
 mod named;
 mod on_plat;
+mod some_land;
 mod unread;
 mod wording;
 

@@ -17,12 +17,13 @@ pub fn is_acres(word: &[u8]) -> bool {
 /// Words that say that acreage follows.
 pub fn is_acreage_lead(word: &[u8]) -> bool {
     match word.len() {
-        3 => is_among(word, 0x100000_00104000, "net tot"),
-        5 => is_among(word, 0x81080_00100084, "being gross total"),
+        2 => is_among(word, 0x40000_00000080, "gr"),
+        3 => is_among(word, 0x100000_00104020, "est net tot"),
+        5 => is_among(word, 0x181080_00100086, "about being gross total"),
         6 => is_among(word, 0x1000000_00000002, "approx"),
         7 => is_among(word, 0x4020_00000088, "contain gisacre"),
         8 => is_among(word, 0x80080_00100088, "contains gisacres totaling"),
-        9 => is_among(word, 0x20_00000002, "aggregate"),
+        9 => is_among(word, 0x30_00000022, "aggregate estimated"),
         10 => is_among(word, 0x80_00000008, "comprising containing"),
         11 => is_among(word, 0x80_00000002, "aggregating"),
         13 => is_among(word, 0x2000000_00000002, "approximately"),

@@ -105,7 +105,7 @@ pub fn is_side_and_meridian(bytes: &[u8]) -> bool {
 pub fn is_damaged_half(bytes: &[u8], rest: Option<&[u8]>) -> bool {
     match bytes {
         [b'N' | b'S' | b'E' | b'W', b'l' | b'I' | b'i'] => matches!(rest, Some([b'/', ..])),
-        [b'N' | b'S' | b'E' | b'W', b'Y' | b'V'] => matches!(rest, Some([b'2', ..])),
+        [b'N' | b'S' | b'E' | b'W', b'Y' | b'V' | b'y' | b'v'] => matches!(rest, Some([b'2', ..])),
         _ => false,
     }
 }

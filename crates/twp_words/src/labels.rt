@@ -9,10 +9,11 @@ pub fn is_of_label(word: &[u8]) -> bool {
         2 => is_among(word, 0x8000_00004000, "no"),
         3 => is_among(word, 0x900000_00040008, "cat row"),
         4 => is_among(word, 0x102020_00200248, "case file item unit"),
-        5 => is_among(word, 0x180020_0010100a, "areas class lease tract"),
+        5 => is_among(word, 0x180020_0010100a, "allot areas class lease tract"),
         6 => is_among(word, 0x41000_00094000, "number parcel serial"),
         7 => is_among(word, 0x100020_00010020, "exhibit pasture"),
         8 => is_among(word, 0x2080000_00010008, "category premises"),
+        9 => is_among(word, 0x100000_00000002, "allotment"),
         _ => false,
     }
 }
@@ -71,25 +72,38 @@ pub fn is_of_covering(word: &[u8]) -> bool {
 pub fn is_column(word: &[u8]) -> bool {
     match word.len() {
         1 => is_among(word, 0x1c0000_001c0000, "r s t"),
-        2 => is_among(word, 0x148000_00084000, "no nr st"),
-        3 => is_among(word, 0x1500a8_001c7000, "lot mer net rge rng sec snr twp"),
-        4 => is_among(word, 0x1a0068_00183012, "aliq desc lots mgmt suff type"),
+        2 => is_among(word, 0x178290_001e6200, "id mi no nr qq rg st tp tr"),
+        3 => is_among(
+            word,
+            0x1540a8_003d7202,
+            "act int lot mer net pin rge rng sec snr twn twp use",
+        ),
+        4 => is_among(
+            word,
+            0x1a0868_001b721e,
+            "aliq book code date desc inst line lots mgmt name page qsec suff type",
+        ),
         5 => is_among(
             word,
-            0x1c1030_001c90c0,
-            "field gross legal owner range state stype tract",
+            0x1c1038_005ed0c0,
+            "field gross legal notes owner qqsec range state stype tract value",
         ),
         6 => is_among(
             word,
-            0x2440020_0008c00a,
-            "agency county number office subdiv survey",
+            0x24c5820_000dc00a,
+            "action agency county number office parcel remark status subdiv survey",
         ),
-        7 => is_among(word, 0x104020_00080002, "aliquot section surtype"),
+        7 => is_among(
+            word,
+            0x1c4020_000c0082,
+            "acreage aliquot grantee grantor remarks section surtype",
+        ),
         8 => is_among(
             word,
-            0x194000_00102012,
-            "aliquots district meridian township",
+            0x194000_00102212,
+            "aliquots district interest meridian township",
         ),
+        10 => is_among(word, 0x100000_00000200, "instrument"),
         11 => is_among(word, 0x4000_00080010, "description subdivision"),
         _ => false,
     }

@@ -87,19 +87,24 @@ pub fn is_of_record(word: &[u8]) -> bool {
     match word.len() {
         3 => is_among(
             word,
-            0x255508c_0049e452,
-            "apr aug dec feb jan jul jun mar may nov oct par sep vol",
+            0x655518c_0049e6d2,
+            "apr aug dec dry feb grz irr jan jul jun mar may mch nov oct par pat sep vol",
         ),
-        4 => is_among(word, 0x2100028_00086400, "july june misc note sept"),
-        5 => is_among(word, 0x1100_00002002, "april march"),
-        6 => is_among(word, 0x100000_00000002, "august"),
-        7 => is_among(word, 0x2140000_00008408, "comment january october"),
+        4 => is_among(
+            word,
+            0x2113028_000d744a,
+            "acct cert code crop form july june list misc note past roll sept",
+        ),
+        5 => is_among(word, 0x141120_0080a002, "allot april march order waste"),
+        6 => is_among(word, 0x100000_00050002, "august patent report"),
+        7 => is_among(word, 0x2140000_0000840a, "account comment january october"),
         8 => is_among(
             word,
-            0x2042000_00004052,
-            "addendum december february november",
+            0x2142000_0000405a,
+            "addendum contract december february november",
         ),
-        9 => is_among(word, 0x40100_00090000, "paragraph september"),
+        9 => is_among(word, 0x140100_00090002, "agreement paragraph september"),
+        11 => is_among(word, 0x4020_0000000a, "application certificate"),
         _ => false,
     }
 }
@@ -109,8 +114,8 @@ pub fn is_month(word: &[u8]) -> bool {
     match word.len() {
         3 => is_among(
             word,
-            0x255508c_0008e452,
-            "apr aug dec feb jan jul jun mar may nov oct sep",
+            0x255518c_0008e452,
+            "apr aug dec feb jan jul jun mar may mch nov oct sep",
         ),
         4 => is_among(word, 0x2100020_00080400, "july june sept"),
         5 => is_among(word, 0x1100_00002002, "april march"),

@@ -1,10 +1,19 @@
 //! Whether two texts are the same, whether a word is in a list, and whether letters are those of corners.
 
 /// Whether two texts are the same. A pattern of bytes would be proved byte by byte, which takes several times
-/// as long. The lengths are compared first: most of them differ, and that takes no call.
+/// as long. The lengths are compared first, and the first bytes: most of them differ, and that takes no call.
 #[inline(always)]
 pub fn is_same(word: &[u8], text: &[u8]) -> bool {
-    word.len() == text.len() && word == text
+    word.len() == text.len() && begin_alike(word, text) && word == text
+}
+
+/// Whether two texts begin with the same byte, or one has none.
+#[inline(always)]
+fn begin_alike(word: &[u8], text: &[u8]) -> bool {
+    match (word, text) {
+        ([one, ..], [other, ..]) => one == other,
+        _ => true,
+    }
 }
 
 /// Whether a word is one of these words, which all have as many bytes as it has, and a space between them. A
@@ -31,11 +40,15 @@ fn has_edges(word: &[u8], edges: u64) -> bool {
     }
 }
 
-/// Whether a word is one of these words.
+/// Whether a word is one of these words. Only a row that begins with its first byte is compared further.
 #[inline(never)]
 fn has_row(word: &[u8], words: &str) -> bool {
-    for row in words.as_bytes().chunks(word.len() + 1) {
-        if is_row(row, word) {
+    let [first, ..] = word else {
+        return false;
+    };
+    let rows = words.as_bytes();
+    for start in (0..rows.len()).step_by(word.len() + 1) {
+        if rows[start] == *first && is_row(&rows[start..], word) {
             return true;
         }
     }

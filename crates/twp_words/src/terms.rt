@@ -10,13 +10,21 @@ pub fn begins_terms(word: &[u8]) -> bool {
         3 => is_among(
             word,
             0x119323a_00714374,
-            "blm dec doc doi exp fed fee hbp int nri pls thx usa vol",
+            "blm dec doc doi exp fed fee hbp int nma nra nri pls thx usa vol",
         ),
-        4 => is_among(word, 0x104a00_00008204, "book inst open orri"),
+        4 => is_among(word, 0x104a00_0000c204, "book inst npri open orri"),
         5 => is_among(word, 0x40020_00001200, "instr lease"),
         6 => is_among(word, 0x81030_001d1000, "leased please rental serial thanks"),
-        7 => is_among(word, 0x2081020_00050030, "decimal expires private royalty"),
-        8 => is_among(word, 0x100010_00040210, "document interest recorded"),
+        7 => is_among(
+            word,
+            0x2081020_00050030,
+            "decimal expires primary private royalty",
+        ),
+        8 => is_among(
+            word,
+            0x100010_00040230,
+            "document examined interest recorded",
+        ),
         10 => is_among(word, 0x100000_00000200, "instrument"),
         _ => false,
     }
@@ -123,8 +131,12 @@ pub fn is_boundary(word: &[u8]) -> bool {
 pub fn is_of_share(word: &[u8]) -> bool {
     match word.len() {
         2 => is_among(word, 0x80200_00a42000, "mi ri us wi"),
-        3 => is_among(word, 0x106232_00206244, "blm fed fee int min nri usa"),
-        4 => is_among(word, 0x200_00008000, "orri"),
+        3 => is_among(
+            word,
+            0x106232_00206244,
+            "blm fed fee int min nma nra nri usa",
+        ),
+        4 => is_among(word, 0x200_0000c000, "npri orri"),
         5 => is_among(word, 0x20_00080000, "state"),
         7 => is_among(word, 0x2001020_00052040, "federal mineral private royalty"),
         8 => is_among(word, 0x180000_00002200, "interest minerals"),

@@ -1,6 +1,6 @@
 -- The search for quarter-quarters that lots and land that is not there do not fill. No public contract cites
 -- this module.
-use Rattle.std.specs.Prelude.{◌≡◌, ℕ, ◌+◌, ◌*◌, ◌≤◌, ◌<◌, List, Option, Some, None, get_or, min}
+use Rattle.std.specs.Prelude.{◌≡◌, ◌≢◌, ℕ, ◌+◌, ◌*◌, ◌≤◌, ◌<◌, List, Option, Some, None, get_or, min}
 use Rattle.twp_grid.specs.Winding.{IsSection}
 use Rattle.twp_grid.specs.Lots.{POSITIONS}
 use Rattle.twp_land.specs.LotMaps.{NO_LAND, PLACES_OF_POSITION}
@@ -38,6 +38,11 @@ IsRecordOf records section mark number = IsLotMark mark × (entered_for records 
 abbrev pub HasFreePlace : List (List ℕ) → ℕ → ℕ → Type 0
 HasFreePlace marks section position =
     (within : ℕ) × (within < PLACES_OF_POSITION) × (mark_within marks section position within ≡ 0)
+
+-- a place of the position has a mark
+abbrev pub HasMarkedPlace : List (List ℕ) → ℕ → ℕ → Type 0
+HasMarkedPlace marks section position =
+    (within : ℕ) × (within < PLACES_OF_POSITION) × (mark_within marks section position within ≢ 0)
 
 -- a place of the position is in the lot whose record has this number
 abbrev pub IsLotRecordAt : List (List ℕ) → List (List ℕ) → ℕ → ℕ → ℕ → Type 0

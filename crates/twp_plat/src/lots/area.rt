@@ -10,7 +10,7 @@ use crate::lots::lacking::LackingLot;
 use crate::lots::returned::ReturnedLots;
 use crate::plat::QUARTER_MILE;
 use twp_grid::{PLACES_TO_POSITION, Section};
-use twp_land::{Land, Lotting};
+use twp_land::{Land, Lotting, PlaceSet};
 use twp_measure::{Area, HUNDREDTH_OF_AN_ACRE};
 
 /// The number of places in a position.
@@ -40,6 +40,9 @@ pub fn area_by_lots<L: Land>(lots: &ReturnedLots, land: &L) -> Result<Area, Lack
     let mut units = 0;
     for number in first.number()..last.number() + 1 {
         let section = Section::new(number).unwrap();
+        if land.is_untouched(section) {
+            continue;
+        }
         match units_in_section(lots, land, section) {
             Ok(more) => units += more,
             Err(lot) => return Err(lot),

@@ -1,6 +1,7 @@
 //! Quarter-quarters that a lot lies in and that also contain land in no part of a record.
 ghost use Rattle.std.specs.Prelude.{◌≡◌, ◌≤◌, ◌<◌, ◌↔◌, IsTrue};
 ghost use Rattle.twp_plat.specs.steps.Unfilled.{IsLeast, earlier_of, mark_within, IsRecordOf, HasFreePlace};
+ghost use Rattle.twp_plat.specs.steps.Unfilled.{HasMarkedPlace};
 ghost use Rattle.twp_plat.specs.steps.Unfilled.{IsLotRecordAt, IsUnfilledAt, IsUnfilledIn, IsUnfilledRecord};
 ghost use Rattle.twp_plat.specs.steps.Unfilled.{AreMarksOfLots};
 
@@ -55,20 +56,37 @@ fn first_unfilled_at(
     if !has_free_place(marks, section, position) {
         return None;
     }
+    if !has_mark(marks, section, position) {
+        return None;
+    }
     first_lot_at(marks, lots, section, position)
 }
 
-/// Whether a place of a position is in no part.
+/// Whether a place of a position is in no part. This loop and the next have no early exit, so LLVM
+/// looks at many places at once.
 fn has_free_place(marks: &LotMarks, section: Section, position: usize) -> bool
     requires { position < POSITIONS }
     ensures { IsTrue result ↔ HasFreePlace marks.now.sections section position }
 {
+    let mut is_free = false;
     for within in 0..PLACES_OF_POSITION {
-        if marks.mark(section, position * PLACES_OF_POSITION + within) == 0 {
-            return true;
-        }
+        let mark = marks.mark(section, position * PLACES_OF_POSITION + within);
+        is_free = is_free | (mark == 0);
     }
-    false
+    is_free
+}
+
+/// Whether a place of a position has a mark.
+fn has_mark(marks: &LotMarks, section: Section, position: usize) -> bool
+    requires { position < POSITIONS }
+    ensures { IsTrue result ↔ HasMarkedPlace marks.now.sections section position }
+{
+    let mut is_marked = false;
+    for within in 0..PLACES_OF_POSITION {
+        let mark = marks.mark(section, position * PLACES_OF_POSITION + within);
+        is_marked = is_marked | (mark != 0);
+    }
+    is_marked
 }
 
 /// The first record of a lot that lies in a position.

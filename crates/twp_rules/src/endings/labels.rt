@@ -3,7 +3,7 @@ ghost use Rattle.std.specs.Prelude.{◌≡◌};
 ghost use Rattle.twp_rules.specs.Edges.{begins_with_one, ends_with_one};
 ghost use Rattle.twp_rules.specs.Endings.{acreage_ends, acreage_fronts, being_fronts, depths, less_ends, records, reservations};
 ghost use Rattle.twp_rules.specs.Endings.{estates, interest_fronts, number_fronts, parenthesis_ends};
-ghost use Rattle.twp_rules.specs.Endings.{property_fronts, rights, terms};
+ghost use Rattle.twp_rules.specs.Endings.{property_fronts, rights, terms, title_ends, title_fronts};
 
 use crate::rows::{begins_with_one, ends_with_one};
 
@@ -21,7 +21,7 @@ pub(crate) fn has_acreage_ends(seen: &[u8]) -> bool
 }
 
 /// The texts `acreage_fronts` of the specification.
-static ACREAGE_FRONTS: [[u8; 10]; 8] = [
+static ACREAGE_FRONTS: [[u8; 10]; 11] = [
     *b"acres_____",
     *b"acreage___",
     *b"ac________",
@@ -30,13 +30,16 @@ static ACREAGE_FRONTS: [[u8; 10]; 8] = [
     *b"total_____",
     *b"containing",
     *b"the area__",
+    *b"gr ac_____",
+    *b"gr. ac____",
+    *b"in all____",
 ];
 
 /// Whether a text begins with one of them.
 pub(crate) fn has_acreage_fronts(seen: &[u8]) -> bool
     ensures { result ≡ begins_with_one seen.now acreage_fronts }
 {
-    begins_with_one(seen, 0x0010_408a, &ACREAGE_FRONTS)
+    begins_with_one(seen, 0x0010_428a, &ACREAGE_FRONTS)
 }
 
 /// The texts `parenthesis_ends` of the specification.
@@ -50,7 +53,13 @@ pub(crate) fn has_parenthesis_ends(seen: &[u8]) -> bool
 }
 
 /// The texts `being_fronts` of the specification.
-static BEING_FRONTS: [[u8; 5]; 3] = [*b"being", *b"aka__", *b"a/___"];
+static BEING_FRONTS: [[u8; 17]; 5] = [
+    *b"being____________",
+    *b"aka______________",
+    *b"a/_______________",
+    *b"also known as____",
+    *b"also described as",
+];
 
 /// Whether a text begins with one of them.
 pub(crate) fn has_being_fronts(seen: &[u8]) -> bool
@@ -145,6 +154,56 @@ pub(crate) fn has_estates(seen: &[u8]) -> bool
     ensures { result ≡ begins_with_one seen.now estates }
 {
     begins_with_one(seen, 0x0008_a050, &ESTATES)
+}
+
+/// The texts `title_fronts` of the specification.
+static TITLE_FRONTS: [[u8; 31]; 16] = [
+    *b"e.o.___________________________",
+    *b"w.d.___________________________",
+    *b"point of diversion_____________",
+    *b"formerly lease_________________",
+    *b"tax deed_______________________",
+    *b"survey type____________________",
+    *b"survey number__________________",
+    *b"part of that certain oil_______",
+    *b"part of that certain lease_____",
+    *b"part of that certain paid______",
+    *b"part of that certain memorandum",
+    *b"part of that certain assignment",
+    *b"part of the oil and gas lease__",
+    *b"s-t-r__________________________",
+    *b"w/min__________________________",
+    *b"w/o min________________________",
+];
+
+/// Whether a text begins with one of them.
+pub(crate) fn has_title_fronts(seen: &[u8]) -> bool
+    ensures { result ≡ begins_with_one seen.now title_fronts }
+{
+    begins_with_one(seen, 0x0099_0060, &TITLE_FRONTS)
+}
+
+/// The texts `title_ends` of the specification.
+static TITLE_ENDS: [[u8; 14]; 12] = [
+    *b"___________u.s",
+    *b"__________u. s",
+    *b"___________h.e",
+    *b"__________h. e",
+    *b"_________d.l.e",
+    *b"___________c.e",
+    *b"___________d.e",
+    *b"__placer claim",
+    *b"_placer claims",
+    *b"by and between",
+    *b"______per acre",
+    *b"________per ac",
+];
+
+/// Whether a text ends with one of them.
+pub(crate) fn has_title_ends(seen: &[u8]) -> bool
+    ensures { result ≡ ends_with_one seen.now title_ends }
+{
+    ends_with_one(seen, 0x0008_6028, &TITLE_ENDS)
 }
 
 /// The texts `number_fronts` of the specification.

@@ -23,6 +23,8 @@ pub(crate) fn has_sides(seen: &[u8]) -> bool
         || ends_with(seen, b"south")
         || ends_with(seen, b"east")
         || ends_with(seen, b"west")
+        || ends_with(seen, b"no.")
+        || ends_with(seen, b"so.")
 }
 
 /// Whether a text ends with one of the texts `corners` of the specification.
@@ -67,8 +69,9 @@ pub(crate) fn has_section_ends(seen: &[u8]) -> bool
 }
 
 /// The texts `worn_section_ends` of the specification.
-static WORN_SECTION_ENDS: [[u8; 2]; 9] = [
-    *b"1l", *b"1i", *b"1o", *b"2l", *b"2i", *b"2o", *b"3l", *b"3i", *b"3o",
+static WORN_SECTION_ENDS: [[u8; 3]; 19] = [
+    *b"_1l", *b"_1i", *b"_1o", *b"_2l", *b"_2i", *b"_2o", *b"_3l", *b"_3i", *b"_3o", *b" ll",
+    *b" li", *b" il", *b" lo", *b" io", *b".ll", *b".li", *b".il", *b".lo", *b".io",
 ];
 
 /// Whether a text ends with one of them.

@@ -23,7 +23,7 @@ pub(crate) fn is_in_headings(seen: &[u8], written: &[u8]) -> bool
 }
 
 /// The table `heading_words` of the specification.
-static HEADING_WORDS: [[u8; 14]; 16] = [
+static HEADING_WORDS: [[u8; 14]; 17] = [
     *b"township=T.___",
     *b"twp=T.________",
     *b"tp=T._________",
@@ -40,6 +40,7 @@ static HEADING_WORDS: [[u8; 14]; 16] = [
     *b"aliquot part:=",
     *b"aliquot part=_",
     *b"twn=T.________",
+    *b"no.=__________",
 ];
 
 /// Whether this is a row of it: what it looks at, and what it writes.
@@ -93,18 +94,20 @@ pub(crate) fn is_in_section_words(seen: &[u8], written: &[u8]) -> bool
 }
 
 /// The table `worn_section_words` of the specification.
-static WORN_SECTION_WORDS: [[u8; 11]; 11] = [
-    *b"scc=sec____",
-    *b"sce=sec____",
-    *b"seo=sec____",
-    *b"secton=sec_",
-    *b"sectlon=sec",
-    *b"sectoin=sec",
-    *b"seciton=sec",
-    *b"sectiou=sec",
-    *b"seclion=sec",
-    *b"seotion=sec",
-    *b"sectior=sec",
+static WORN_SECTION_WORDS: [[u8; 13]; 13] = [
+    *b"scc=sec______",
+    *b"sce=sec______",
+    *b"seo=sec______",
+    *b"secton=sec___",
+    *b"sectlon=sec__",
+    *b"sectoin=sec__",
+    *b"seciton=sec__",
+    *b"sectiou=sec__",
+    *b"seclion=sec__",
+    *b"seotion=sec__",
+    *b"sectior=sec__",
+    *b"sec-\ntion=sec",
+    *b"see=sec______",
 ];
 
 /// Whether this is a row of it: what it looks at, and what it writes.

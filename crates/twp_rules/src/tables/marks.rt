@@ -103,13 +103,14 @@ pub(crate) fn is_in_marks(seen: &[u8], written: &[u8]) -> bool
 }
 
 /// The table `more_marks` of the specification.
-static MORE_MARKS: [[u8; 4]; 6] = [
+static MORE_MARKS: [[u8; 4]; 7] = [
     *b"(=__",
     *b")=__",
     *b"|=__",
     *b"+=__",
     *b"/=__",
     *b"\xE2\x80\xA2=",
+    *b"*=__",
 ];
 
 /// Whether this is a row of it: what it looks at, and what it writes.
@@ -119,7 +120,7 @@ pub(crate) fn is_in_more_marks(seen: &[u8], written: &[u8]) -> bool
     is_among(
         seen,
         written,
-        0x1000_8b04,
+        0x1000_8f04,
         0x2000_0001,
         0x2000_0004,
         &MORE_MARKS,

@@ -24,23 +24,24 @@ pub(crate) fn is_in_halves(seen: &[u8], written: &[u8]) -> bool
 }
 
 /// The table `worn_halves` of the specification.
-static WORN_HALVES: [[u8; 12]; 16] = [
-    *b"l/2=1/2_____",
-    *b"i/2=1/2_____",
-    *b"'/2=1/2_____",
-    *b"\xE2\x80\x99/2=1/2___",
-    *b"]/2=1/2_____",
-    *b"!/2=1/2_____",
-    *b"|/2=1/2_____",
-    *b"1/=1/2______",
-    *b"2/2=1/2_____",
-    *b"1/z=1/2_____",
-    *b"v2=1/2______",
-    *b"y2=1/2______",
-    *b"%=1/2_______",
-    *b"}=1/2_______",
-    *b"\xC2\xA3=1/2______",
-    *b"\xC3\x82\xC2\xBD=1/2____",
+static WORN_HALVES: [[u8; 9]; 17] = [
+    *b"l/2=1/2__",
+    *b"i/2=1/2__",
+    *b"'/2=1/2__",
+    *b"\xE2\x80\x99/2=1/2",
+    *b"]/2=1/2__",
+    *b"!/2=1/2__",
+    *b"|/2=1/2__",
+    *b"1/=1/2___",
+    *b"2/2=1/2__",
+    *b"1/z=1/2__",
+    *b"v2=1/2___",
+    *b"y2=1/2___",
+    *b"%=1/2____",
+    *b"}=1/2____",
+    *b"\xC2\xA3=1/2___",
+    *b"\xC3\x82\xC2\xBD=1/2_",
+    *b"112=1/2__",
 ];
 
 /// Whether this is a row of it: what it looks at, and what it writes.
@@ -51,7 +52,7 @@ pub(crate) fn is_in_worn_halves(seen: &[u8], written: &[u8]) -> bool
         seen,
         written,
         0x3246_12ae,
-        0x2004_800d,
+        0x2006_800d,
         0x2604_0004,
         &WORN_HALVES,
     )
@@ -74,11 +75,13 @@ pub(crate) fn is_in_quarters(seen: &[u8], written: &[u8]) -> bool
 }
 
 /// The table `quarter_abbreviations` of the specification.
-static QUARTER_ABBREVIATIONS: [[u8; 8]; 4] = [
-    *b"qr.=1/4_",
-    *b".=1/4___",
-    *b"qtr=1/4_",
-    *b"qtr.=1/4",
+static QUARTER_ABBREVIATIONS: [[u8; 9]; 6] = [
+    *b"qr.=1/4__",
+    *b".=1/4____",
+    *b"qtr=1/4__",
+    *b"qtr.=1/4_",
+    *b"quar=1/4_",
+    *b"quar.=1/4",
 ];
 
 /// Whether this is a row of it: what it looks at, and what it writes.
@@ -89,14 +92,14 @@ pub(crate) fn is_in_quarter_abbreviations(seen: &[u8], written: &[u8]) -> bool
         seen,
         written,
         0x0002_4000,
-        0x2014_0000,
-        0x2004_4000,
+        0x2034_0000,
+        0x2004_4002,
         &QUARTER_ABBREVIATIONS,
     )
 }
 
 /// The table `worn_quarters` of the specification.
-static WORN_QUARTERS: [[u8; 13]; 20] = [
+static WORN_QUARTERS: [[u8; 13]; 25] = [
     *b"^=1/4________",
     *b"l/4=1/4______",
     *b"i/4=1/4______",
@@ -117,6 +120,11 @@ static WORN_QUARTERS: [[u8; 13]; 20] = [
     *b"\xC2\xA3=1/4_______",
     *b"quar-\nter=1/4",
     *b"\xC3\x82\xC2\xBC=1/4_____",
+    *b"114=1/4______",
+    *b"'a=1/4_______",
+    *b"!4=1/4_______",
+    *b"^4=1/4_______",
+    *b"j=1/4________",
 ];
 
 /// Whether this is a row of it: what it looks at, and what it writes.
@@ -126,15 +134,15 @@ pub(crate) fn is_in_worn_quarters(seen: &[u8], written: &[u8]) -> bool
     is_among(
         seen,
         written,
-        0x7242_12ae,
-        0x2030_800f,
+        0x7242_16ae,
+        0x2032_800f,
         0x2210_0006,
         &WORN_QUARTERS,
     )
 }
 
 /// The table `directions` of the specification.
-static DIRECTIONS: [[u8; 13]; 12] = [
+static DIRECTIONS: [[u8; 13]; 14] = [
     *b"north=N______",
     *b"south=S______",
     *b"east=E_______",
@@ -147,6 +155,8 @@ static DIRECTIONS: [[u8; 13]; 12] = [
     *b"north west=NW",
     *b"south east=SE",
     *b"south west=SW",
+    *b"no.=N________",
+    *b"so.=S________",
 ];
 
 /// Whether this is a row of it: what it looks at, and what it writes.
@@ -158,7 +168,7 @@ pub(crate) fn is_in_directions(seen: &[u8], written: &[u8]) -> bool
         written,
         0x0088_4020,
         0x0000_8022,
-        0x002c_0000,
+        0x002c_4000,
         &DIRECTIONS,
     )
 }
@@ -196,7 +206,9 @@ pub(crate) fn is_in_worn_directions(seen: &[u8], written: &[u8]) -> bool
 }
 
 /// The table `damages` of the specification.
-static DAMAGES: [[u8; 3]; 3] = [*b"l=1", *b"i=1", *b"o=0"];
+static DAMAGES: [[u8; 5]; 8] = [
+    *b"l=1__", *b"i=1__", *b"o=0__", *b"ll=11", *b"li=11", *b"il=11", *b"lo=10", *b"io=10",
+];
 
 /// Whether this is a row of it: what it looks at, and what it writes.
 pub(crate) fn is_in_damages(seen: &[u8], written: &[u8]) -> bool
@@ -206,7 +218,7 @@ pub(crate) fn is_in_damages(seen: &[u8], written: &[u8]) -> bool
         seen,
         written,
         0x0000_9200,
-        0x2000_0000,
+        0x2000_9200,
         0x2000_0000,
         &DAMAGES,
     )

@@ -67,7 +67,7 @@ pub(crate) fn is_in_little_words(seen: &[u8], written: &[u8]) -> bool
 }
 
 /// The table `more_little_words` of the specification.
-static MORE_LITTLE_WORDS: [[u8; 11]; 12] = [
+static MORE_LITTLE_WORDS: [[u8; 11]; 20] = [
     *b"public=____",
     *b"domain=____",
     *b"federal=___",
@@ -80,6 +80,14 @@ static MORE_LITTLE_WORDS: [[u8; 11]; 12] = [
     *b"for=_______",
     *b"therefrom=_",
     *b"&=_________",
+    *b"fr.=_______",
+    *b"frl=_______",
+    *b"frl.=______",
+    *b"frac.=_____",
+    *b"fract=_____",
+    *b"fract.=____",
+    *b"fractl=____",
+    *b"fractl.=___",
 ];
 
 /// Whether this is a row of it: what it looks at, and what it writes.
@@ -91,13 +99,13 @@ pub(crate) fn is_in_more_little_words(seen: &[u8], written: &[u8]) -> bool
         written,
         0x0011_1070,
         0x2124_8122,
-        0x2004_603e,
+        0x2004_703e,
         &MORE_LITTLE_WORDS,
     )
 }
 
 /// The table `joining_words` of the specification.
-static JOINING_WORDS: [[u8; 14]; 10] = [
+static JOINING_WORDS: [[u8; 14]; 11] = [
     *b"also=_________",
     *b"together=_____",
     *b"with=_________",
@@ -108,6 +116,7 @@ static JOINING_WORDS: [[u8; 14]; 10] = [
     *b"both=_________",
     *b"numbered=_____",
     *b"everything=all",
+    *b"no.=__________",
 ];
 
 /// Whether this is a row of it: what it looks at, and what it writes.
@@ -119,7 +128,7 @@ pub(crate) fn is_in_joining_words(seen: &[u8], written: &[u8]) -> bool
         written,
         0x0090_4226,
         0x0160_d200,
-        0x0018_20a8,
+        0x0018_60a8,
         &JOINING_WORDS,
     )
 }

@@ -8,76 +8,100 @@ ghost use Rattle.twp_rules.specs.Words.{numeral_words};
 use crate::rows::is_one_of;
 
 /// The texts `numbered_words` of the specification.
-static NUMBERED_WORDS: [[u8; 10]; 62] = [
-    *b"tract_____",
-    *b"tr________",
-    *b"parcel____",
-    *b"no________",
-    *b"nos_______",
-    *b"number____",
-    *b"bk________",
-    *b"book______",
-    *b"vol_______",
-    *b"pg________",
-    *b"page______",
-    *b"p_________",
-    *b"misc______",
-    *b"inst______",
-    *b"instrument",
-    *b"doc_______",
-    *b"case______",
-    *b"exhibit___",
-    *b"item______",
-    *b"comment___",
-    *b"allotment_",
-    *b"owner_____",
-    *b"unit______",
-    *b"property__",
-    *b"prop______",
-    *b"psc_______",
-    *b"lease_____",
-    *b"lse_______",
-    *b"est_______",
-    *b"probate___",
-    *b"permit____",
-    *b"entry_____",
-    *b"cat_______",
-    *b"idi_______",
-    *b"meridian__",
-    *b"mer_______",
-    *b"jan_______",
-    *b"january___",
-    *b"feb_______",
-    *b"february__",
-    *b"mar_______",
-    *b"march_____",
-    *b"apr_______",
-    *b"april_____",
-    *b"may_______",
-    *b"jun_______",
-    *b"june______",
-    *b"jul_______",
-    *b"july______",
-    *b"aug_______",
-    *b"august____",
-    *b"sep_______",
-    *b"sept______",
-    *b"september_",
-    *b"oct_______",
-    *b"october___",
-    *b"nov_______",
-    *b"november__",
-    *b"dec_______",
-    *b"december__",
-    *b"row_______",
-    *b"pasture___",
+static NUMBERED_WORDS: [[u8; 11]; 86] = [
+    *b"tract______",
+    *b"tr_________",
+    *b"parcel_____",
+    *b"no_________",
+    *b"nos________",
+    *b"number_____",
+    *b"bk_________",
+    *b"book_______",
+    *b"vol________",
+    *b"pg_________",
+    *b"page_______",
+    *b"p__________",
+    *b"misc_______",
+    *b"inst_______",
+    *b"instrument_",
+    *b"doc________",
+    *b"case_______",
+    *b"exhibit____",
+    *b"item_______",
+    *b"comment____",
+    *b"allotment__",
+    *b"owner______",
+    *b"unit_______",
+    *b"property___",
+    *b"prop_______",
+    *b"psc________",
+    *b"lease______",
+    *b"lse________",
+    *b"est________",
+    *b"probate____",
+    *b"permit_____",
+    *b"entry______",
+    *b"cat________",
+    *b"idi________",
+    *b"meridian___",
+    *b"mer________",
+    *b"jan________",
+    *b"january____",
+    *b"feb________",
+    *b"february___",
+    *b"mar________",
+    *b"march______",
+    *b"apr________",
+    *b"april______",
+    *b"may________",
+    *b"jun________",
+    *b"june_______",
+    *b"jul________",
+    *b"july_______",
+    *b"aug________",
+    *b"august_____",
+    *b"sep________",
+    *b"sept_______",
+    *b"september__",
+    *b"oct________",
+    *b"october____",
+    *b"nov________",
+    *b"november___",
+    *b"dec________",
+    *b"december___",
+    *b"row________",
+    *b"pasture____",
+    *b"mch________",
+    *b"patent_____",
+    *b"pat________",
+    *b"cert_______",
+    *b"certificate",
+    *b"application",
+    *b"contract___",
+    *b"agreement__",
+    *b"order______",
+    *b"list_______",
+    *b"paragraph__",
+    *b"roll_______",
+    *b"code_______",
+    *b"account____",
+    *b"acct_______",
+    *b"allot______",
+    *b"report_____",
+    *b"form_______",
+    *b"waste______",
+    *b"dry________",
+    *b"irr________",
+    *b"grz________",
+    *b"past_______",
+    *b"crop_______",
 ];
 
 /// Whether a word is one of them.
 pub(crate) fn is_in_numbered_words(word: &[u8]) -> bool
     ensures { result ≡ is_one_of word.now numbered_words }
 {
-    is_one_of(word, 0x007d_f67e, 0x81bd_daba, 0x82dd_f3ae, &NUMBERED_WORDS)
+    is_one_of(word, 0x00fd_f6fe, 0x81bd_daba, 0x86dd_f3be, &NUMBERED_WORDS)
 }
 
 /// The texts `units` of the specification.
@@ -123,7 +147,7 @@ pub(crate) fn is_in_marks_before_codes(byte: u8) -> bool
 }
 
 /// The texts `number_words` of the specification.
-static NUMBER_WORDS: [[u8; 9]; 24] = [
+static NUMBER_WORDS: [[u8; 9]; 29] = [
     *b"one______",
     *b"two______",
     *b"three____",
@@ -148,6 +172,11 @@ static NUMBER_WORDS: [[u8; 9]; 24] = [
     *b"l________",
     *b"i________",
     *b"o________",
+    *b"ll_______",
+    *b"li_______",
+    *b"il_______",
+    *b"lo_______",
+    *b"io_______",
 ];
 
 /// Whether a word is one of them.
@@ -178,7 +207,7 @@ pub(crate) fn is_in_damaged_digits(byte: u8) -> bool
 }
 
 /// The texts `numeral_words` of the specification.
-static NUMERAL_WORDS: [[u8; 9]; 21] = [
+static NUMERAL_WORDS: [[u8; 9]; 26] = [
     *b"one______",
     *b"two______",
     *b"three____",
@@ -200,11 +229,16 @@ static NUMERAL_WORDS: [[u8; 9]; 21] = [
     *b"nineteen_",
     *b"twenty___",
     *b"thirty___",
+    *b"ll_______",
+    *b"li_______",
+    *b"il_______",
+    *b"lo_______",
+    *b"io_______",
 ];
 
 /// Whether a word is one of them.
 pub(crate) fn is_in_numeral_words(word: &[u8]) -> bool
     ensures { result ≡ is_one_of word.now numeral_words }
 {
-    is_one_of(word, 0x0018_c060, 0x0080_d320, 0x0164_c2e0, &NUMERAL_WORDS)
+    is_one_of(word, 0x0018_d260, 0x0080_d320, 0x8164_c2e0, &NUMERAL_WORDS)
 }

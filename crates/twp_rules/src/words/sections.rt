@@ -9,7 +9,7 @@ use crate::rows::is_one_of;
 use crate::same::is_text;
 
 /// The texts `column_words` of the specification.
-static COLUMN_WORDS: [[u8; 11]; 37] = [
+static COLUMN_WORDS: [[u8; 11]; 71] = [
     *b"mer________",
     *b"meridian___",
     *b"twp________",
@@ -47,17 +47,51 @@ static COLUMN_WORDS: [[u8; 11]; 37] = [
     *b"agency_____",
     *b"tract______",
     *b"school_____",
+    *b"rge________",
+    *b"rg_________",
+    *b"tp_________",
+    *b"twn________",
+    *b"name_______",
+    *b"remarks____",
+    *b"notes______",
+    *b"grantor____",
+    *b"grantee____",
+    *b"date_______",
+    *b"book_______",
+    *b"page_______",
+    *b"inst_______",
+    *b"status_____",
+    *b"parcel_____",
+    *b"pin________",
+    *b"id_________",
+    *b"use________",
+    *b"value______",
+    *b"mi_________",
+    *b"int________",
+    *b"interest___",
+    *b"tr_________",
+    *b"qq_________",
+    *b"qqsec______",
+    *b"qsec_______",
+    *b"instrument_",
+    *b"acreage____",
+    *b"owner______",
+    *b"line_______",
+    *b"code_______",
+    *b"action_____",
+    *b"act________",
+    *b"remark_____",
 ];
 
 /// Whether a word is one of them.
 pub(crate) fn is_in_column_words(word: &[u8]) -> bool
     ensures { result ≡ is_one_of word.now column_words }
 {
-    is_one_of(word, 0x001c_f0da, 0x82b4_d2ea, 0x82bd_e3ee, &COLUMN_WORDS)
+    is_one_of(word, 0x007f_f2de, 0x82bf_d2fa, 0x82bd_f3fe, &COLUMN_WORDS)
 }
 
 /// The texts `moved_section_words` of the specification.
-static MOVED_SECTION_WORDS: [[u8; 10]; 36] = [
+static MOVED_SECTION_WORDS: [[u8; 10]; 38] = [
     *b"sec_______",
     *b"secs______",
     *b"section___",
@@ -94,6 +128,8 @@ static MOVED_SECTION_WORDS: [[u8; 10]; 36] = [
     *b"to________",
     *b"thru______",
     *b"through___",
+    *b"tion______",
+    *b"see_______",
 ];
 
 /// Whether a word is one of them.
@@ -103,7 +139,7 @@ pub(crate) fn is_in_moved_section_words(word: &[u8]) -> bool
     is_one_of(
         word,
         0x0018_c266,
-        0x8024_d16a,
+        0x8024_d36a,
         0x801c_b23a,
         &MOVED_SECTION_WORDS,
     )
@@ -155,7 +191,7 @@ pub(crate) fn is_in_moved_heading_words(word: &[u8]) -> bool
 }
 
 /// The texts `section_names` of the specification.
-static SECTION_NAMES: [[u8; 10]; 22] = [
+static SECTION_NAMES: [[u8; 10]; 24] = [
     *b"sec_______",
     *b"secs______",
     *b"sect______",
@@ -178,13 +214,15 @@ static SECTION_NAMES: [[u8; 10]; 22] = [
     *b"sectior___",
     *b"frstdivno_",
     *b"frstdivlab",
+    *b"tion______",
+    *b"see_______",
 ];
 
 /// Whether a word is one of them.
 pub(crate) fn is_in_section_names(word: &[u8]) -> bool
     ensures { result ≡ is_one_of word.now section_names }
 {
-    is_one_of(word, 0x0008_0060, 0x0004_4028, 0x8018_8028, &SECTION_NAMES)
+    is_one_of(word, 0x0018_0060, 0x0004_4228, 0x8018_8028, &SECTION_NAMES)
 }
 
 /// The texts `list_words` of the specification.

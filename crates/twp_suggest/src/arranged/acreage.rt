@@ -70,8 +70,11 @@ impl<'a> Plan<'a> {
     fn is_of_part(&self, acreage: Phrase) -> bool {
         let pieces = &self.draft.pieces;
         let is_figure = matches!(pieces.kind(acreage.first), Kind::Number(_));
-        is_figure
-            && matches!(acreage.end.checked_sub(1), Some(last) if is_acres(pieces.lower(last)))
+        let is_unit = match acreage.end.checked_sub(1) {
+            Some(last) => is_acres(pieces.lower(last)) || pieces.is(last, b"gross"),
+            None => false,
+        };
+        is_figure && is_unit
     }
 
     /// The area of the land before an acreage with a word for what it is of, as in `containing 80 acres`,

@@ -71,8 +71,16 @@ impl<'a> Plan<'a> {
     /// Places land after its sections.
     pub(crate) fn place_land_after(&mut self, list: &mut Vec<Placed>) {
         let mut found = GroupsSoFar::new();
-        for placed in list.iter_mut() {
-            self.place_after(placed, &mut found);
+        for index in 0..list.len() {
+            let is_other = self.is_land_after_exception(list.as_slice(), index);
+            let Some(placed) = list.get_mut(index) else {
+                break;
+            };
+            if is_other {
+                self.end_exception(placed, &mut found);
+            } else {
+                self.place_after(placed, &mut found);
+            }
         }
         if self.is_unsure_at_end(list.as_slice(), &mut found) {
             self.draft.doubt();
@@ -112,6 +120,22 @@ impl<'a> Plan<'a> {
             (_, Some(group)) => found.take_land(placed, group),
             (_, None) => found.is_unsure = true,
         }
+    }
+
+    /// Takes land after an exception that can't be of it: the exception ends, and the land is of the same section.
+    fn end_exception(&self, placed: &mut Placed, found: &mut GroupsSoFar) {
+        let Some(group) = found.group else {
+            return;
+        };
+        found.count = plus(found.count, 1);
+        placed.role = Role::Kept(found.count);
+        placed.section = Some(group.section.numbers);
+        found.is_unsure = found.is_unsure || self.count_of(group.section) > 1;
+        found.is_first_excepted = false;
+        found.group = Some(Group {
+            is_excepting: false,
+            ..group
+        });
     }
 
     /// Takes what begins an exception, or continues it.

@@ -21,6 +21,7 @@ impl<'a> Plan<'a> {
         let has_except = self.counts.exceptions > 0;
         if has_except {
             self.doubt_exceptions(list.as_slice());
+            self.doubt_part_after_lots(list.as_slice());
         }
         match first {
             Some(Names::Sections) => self.place_land_after(&mut list),

@@ -226,13 +226,31 @@ impl<'a> Plan<'a> {
         if found.is_land_first {
             return found.take_near(distance);
         }
-        let far = if self.begins_row_between(found.place, index) {
+        let far = if self.begins_row_between(found.place, index)
+            || self.are_in_lines(found.section, section)
+        {
             distance.or_longer(Distance::Semicolon)
         } else {
             distance
         };
         found.take_far(far);
         found.await_land(far);
+    }
+
+    /// Whether a section and the one before it, each with its word, begin a line: what is before the line is of the
+    /// section before.
+    fn are_in_lines(&self, before: Option<Phrase>, section: Phrase) -> bool {
+        let pieces = &self.draft.pieces;
+        match before {
+            Some(before) => {
+                let are_named = matches!(pieces.kind(before.first), Kind::Sec)
+                    && matches!(pieces.kind(section.first), Kind::Sec);
+                are_named
+                    && pieces.begins_line(before.first)
+                    && pieces.has_before(section.first, b'\n')
+            }
+            None => false,
+        }
     }
 
     /// Whether a row begins with a township between two phrases, as in a register: what is before it is of the row

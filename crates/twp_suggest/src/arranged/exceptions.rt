@@ -2,7 +2,8 @@
 
 use crate::arranged::plan::Plan;
 use twp_asides::plus;
-use twp_draft::{Names, Phrase, Placed};
+use twp_draft::{Form, Names, Phrase, Placed};
+use twp_grammar::Kind;
 
 /// The most phrases among which a part is looked for that is excepted as a whole.
 const PHRASES_MOST: usize = 64;
@@ -16,6 +17,10 @@ impl<'a> Plan<'a> {
         let mut is_first = false;
         for index in 0..list.len() {
             let phrase = list[index].phrase;
+            // An `of` before white space, as in `N/2 of N/2 SW/4, less NWNW`, may end with either part.
+            if phrase.form == Form::WithOf && goes_on(list, index) {
+                self.draft.doubt();
+            }
             match phrase.names {
                 Names::Sections => count = 0,
                 Names::Nothing(_) | Names::Heading => {}
@@ -33,6 +38,92 @@ impl<'a> Plan<'a> {
                 }
             }
         }
+    }
+
+    /// Whether the part at an index, after a comma, can't be excepted with the land before it, as in
+    /// `W/2E/2 less SWSE, E/2W/2`: the parts from which that is excepted have no land in common with it.
+    pub(crate) fn is_land_after_exception(&self, list: &[Placed], index: usize) -> bool {
+        let (Some(placed), Some(before)) = (list.get(index), index.checked_sub(1)) else {
+            return false;
+        };
+        let Some(last) = list.get(before) else {
+            return false;
+        };
+        let phrase = placed.phrase;
+        phrase.names == Names::Part
+            && last.phrase.names == Names::Part
+            && !goes_on(list, index)
+            && self.draft.pieces.is(last.phrase.end, b",")
+            && phrase.first == plus(last.phrase.end, 1)
+            && self.is_apart_from_whole(&list[..before], phrase)
+    }
+
+    /// Whether an exception is among the last phrases, and the parts of its section before it, of which there are some,
+    /// have no land in common with a part.
+    fn is_apart_from_whole(&self, list: &[Placed], part: Phrase) -> bool {
+        let mut is_excepted = true;
+        let mut has_part = false;
+        for placed in list.iter().rev().take(PHRASES_MOST) {
+            let phrase = placed.phrase;
+            match phrase.names {
+                // A comma before the exception sets it apart, with all that is listed after it.
+                Names::Except if is_excepted && !self.draft.pieces.follows(phrase.first, b",") => {
+                    is_excepted = false;
+                }
+                Names::Except => return false,
+                Names::Part if !is_excepted => {
+                    if self.draft.do_overlap(phrase, part) {
+                        return false;
+                    }
+                    has_part = true;
+                }
+                Names::Lots | Names::All if !is_excepted => return false,
+                Names::Sections => return !is_excepted && has_part,
+                _ => {}
+            }
+        }
+        false
+    }
+
+    /// Doubts a part after `and` and a list of lots that are excepted from a part, if that list has an `and` of its own,
+    /// as in `N/2 less Lots 1 & 2 and S/2NE/4`: the part may be kept.
+    pub(crate) fn doubt_part_after_lots(&mut self, list: &[Placed]) {
+        let mut is_excepting = false;
+        let mut has_part = false;
+        let mut lots: Option<usize> = None;
+        for index in 0..list.len() {
+            let phrase = list[index].phrase;
+            let is_joined = match lots {
+                Some(end) => self.has_kind(end, phrase.first, Kind::And),
+                None => false,
+            };
+            match phrase.names {
+                Names::Except => is_excepting = true,
+                Names::Sections => {
+                    is_excepting = false;
+                    has_part = false;
+                }
+                Names::Part if is_excepting && is_joined && has_part => self.draft.doubt(),
+                Names::Part if !is_excepting => has_part = true,
+                _ => {}
+            }
+            lots = if phrase.names == Names::Lots && self.lists_by_and(phrase) {
+                Some(phrase.end)
+            } else {
+                None
+            };
+        }
+    }
+
+    /// Whether `and`, or its sign, is in a phrase.
+    fn lists_by_and(&self, phrase: Phrase) -> bool {
+        let pieces = &self.draft.pieces;
+        for index in phrase.first..phrase.end {
+            if matches!(pieces.kind(index), Kind::And) || pieces.is(index, b"&") {
+                return true;
+            }
+        }
+        false
     }
 
     /// Doubts an excepted part that includes a part from which it is excepted, as in `N/2 and SE/4, except

@@ -101,6 +101,7 @@ impl<'a> Plan<'a> {
             }
             Joining::Nothing if are_parts && is_left_out_after(before, left_out, LeftOut::Label) =>
                 { !self.are_tracts(before) }
+            Joining::Nothing if before.names == Names::Lots && after.names == Names::Lots => false,
             Joining::Nothing => !has_section(left_out),
             Joining::Stop
                 if before.names == Names::Lots

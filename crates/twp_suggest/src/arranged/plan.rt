@@ -88,6 +88,7 @@ impl<'a> Plan<'a> {
 
     /// Counts the phrases, which are all found, and doubts them if they aren't sure together.
     pub fn count_phrases(&mut self) {
+        self.leave_out_first_all();
         for placed in &self.draft.phrases {
             self.counts.add(&placed.phrase);
         }

@@ -2,6 +2,7 @@
 //! without the land that it excepts.
 ghost use Rattle.std.specs.Prelude.{◌≡◌, ◌≤◌, IfOk, IfSome, IsTrue, List, OnOk, drop, false, length};
 ghost use Rattle.twp_grid.specs.Lands.{ContainsAll, SamePlaces, lotting};
+ghost use Rattle.twp_grammar.specs.OnPlat.{AreOnPlat};
 ghost use Rattle.twp_grammar.specs.Sentences.{IsReadAs};
 ghost use Rattle.twp_suggest.specs.Descriptions.{AreItemsOf, AreLotsNamed, IsAccepted, IsDescribed};
 ghost use Rattle.twp_suggest.specs.Descriptions.{IsNoException, IsOfDivisions, IsRemainder, NamesTownship};
@@ -13,7 +14,8 @@ ghost use Rattle.twp_suggest.specs.Descriptions.{without_first_line};
 use crate::meaning::kept::{EXCEPT, Excepting, around_except, divide, has_semicolon};
 use crate::meaning::manner::Manner;
 use crate::meaning::named::{find_with_lots, why_unread};
-use crate::meaning::on_plat::{find_land, first_township, read};
+use crate::meaning::on_plat::{first_township, read};
+use crate::meaning::some_land::{find_some_land, find_text_with_lots};
 use crate::meaning::unread::Unread;
 use std::alloc::{AllocError, Global};
 use twp_grammar::Item;
@@ -172,8 +174,8 @@ fn without_excepted<P: Lotting>(alloc: Global, made: &[u8], lots: &P) -> Result<
     of_last(alloc, made, parts, description, township, lots)
 }
 
-/// Whether a text names land that can be excepted from that of another: which lies in it, and isn't all of it. Not
-/// inlined, since its sets of land would be cleared for each text.
+/// Whether a text names land that can be excepted from that of another: which lies in it, and isn't all of it. Aliquot
+/// parts in both may include whole lots. Not inlined, since its sets of land would be cleared for each text.
 #[inline(never)]
 fn is_exception<P: Lotting>(
     alloc: Global,
@@ -186,11 +188,11 @@ fn is_exception<P: Lotting>(
 {
     let mut land = Lanes::empty();
     let mut less = Lanes::empty();
-    let names_land = find_land(alloc, parts.whole, township, &mut land, lots)?;
+    let names_land = find_text_with_lots(alloc, parts.whole, township, &mut land, lots)?;
     if !names_land {
         return Ok(false);
     }
-    let names_less = find_land(alloc, parts.excepted, township, &mut less, lots)?;
+    let names_less = find_text_with_lots(alloc, parts.excepted, township, &mut less, lots)?;
     if !names_less {
         return Ok(false);
     }
@@ -226,7 +228,8 @@ fn of_last<P: Lotting>(
     )
 }
 
-/// The description of a text without the exceptions of its divisions, which semicolons separate.
+/// The description of a text without the exceptions of its divisions, which semicolons separate. All that they keep has
+/// to lie on the plat, so that no text has two readings, of which one excepts all after the first `except`.
 #[inline(never)]
 fn of_each<P: Lotting>(
     alloc: Global,
@@ -248,12 +251,16 @@ fn of_each<P: Lotting>(
     let Some(description) = read(alloc, whole)? else {
         return Err(Unread::Refused);
     };
+    let mut land = Lanes::empty();
+    let Ok(()) = resolve_into(&mut land, &description, township, lots) else {
+        return Err(why_unread(&description, lots));
+    };
     remainder(alloc, made, whole, description, excepted, 0, township, lots)
 }
 
-/// The canonical description of the land of a text without the land of another, which has to be on the plat
-/// of the same township, in the land of the first, and not all of it. Not inlined, since its sets of land
-/// would be cleared for each text.
+/// The canonical description of the land of a text without the land of another, which has to be in the same
+/// township, in the land of the first, and not all of it. Aliquot parts in both may include whole lots. Not inlined,
+/// since its sets of land would be cleared for each text.
 #[tactic(auto, using(crate::proofs::meaning::LandFacts::are_excepted))]
 #[inline(never)]
 fn remainder<P: Lotting>(
@@ -268,6 +275,7 @@ fn remainder<P: Lotting>(
 ) -> Result<Wording, Unread>
     requires parted { IsParted _made.now _whole.now excepted.now at }
     requires by_itself { at ≡ 0 → IsOfDivisions (lotting (P.layout lots.now)) township _made.now }
+    requires on_plat { at ≡ 0 → AreOnPlat (lotting (P.layout lots.now)) township description }
     requires read { IsReadAs _whole.now description }
     requires only { (items : List Named) → IsReadAs _whole.now items → description ≡ items }
     ensures described { IfOk result (λ found.
@@ -276,15 +284,11 @@ fn remainder<P: Lotting>(
 {
     let mut land = Lanes::empty();
     let mut less = Lanes::empty();
-    let Ok(()) = resolve_into(&mut land, &description, township, lots) else {
-        return Err(why_unread(&description, lots));
-    };
+    find_some_land(&description, township, &mut land, lots)?;
     let Some(items) = read(alloc, excepted)? else {
         return Err(Unread::Refused);
     };
-    let Ok(()) = resolve_into(&mut less, &items, township, lots) else {
-        return Err(why_unread(&items, lots));
-    };
+    find_some_land(&items, township, &mut less, lots)?;
     if !is_proper_part(&less, &land) {
         return Err(Unread::Unfit);
     }

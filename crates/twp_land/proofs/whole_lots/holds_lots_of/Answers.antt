@@ -1,6 +1,6 @@
 -- The next lot is contained, or not at all; the numbers between are those of no lot.
 use Rattle.std.proofs.Common.{refl, arith}
-use Rattle.twp_grid.specs.Lands.{LOT_NUMBER_MOST, lotting, IsWholeOrNot}
+use Rattle.twp_grid.specs.Lands.{lotting, IsWholeOrNot}
 use Rattle.twp_land.proofs.WholeLots.{none_whole, whole_contained, whole_last, whole_next, contained_whole}
 use Rattle.twp_land.proofs.WholeLots.{unmet_whole}
 use Rattle.twp_land.proofs.whole_lots.holds_lots_of.Goals as goal
@@ -13,15 +13,15 @@ loop-number-init g c = record {
   few = omega arith;
 }
 
-pub returns-then-not-contains_lot : goal.returns-then-not-contains_lot
-returns-then-not-contains_lot g c = (
+pub returns-then-not-holds_lot : goal.returns-then-not-holds_lot
+returns-then-not-holds_lot g c = (
   λ h. cc h,
   λ whole.
       let contains =
       whole_contained (lotting (g.P.Lotting.layout c.args.lots.now)) c.args.section c.in-Some.number
       (g.L.PlaceSet.places c.args.land.now) (c.meets_lot.ensures.0 c.if-meets_lot.true)
       (whole c.in-Some.number) in
-      absurd (cc (c.contains_lot.ensures.1 contains, c.if-not-contains_lot.true)),
+      absurd (cc (c.holds_lot.ensures.1 contains, c.if-not-holds_lot.true)),
 )
 
 pub loop-number-preserved : goal.loop-number-preserved
@@ -33,9 +33,9 @@ loop-number-preserved g c =
     let few = (are.numbered c.args.section c.in-Some.number has.0 has.1 has.2).1 in
     let here : IsWholeOrNot lots c.args.section c.in-Some.number held =
     elim c.else-meets_lot.branch [
-      | goal.else-meets_lot-via-then-meets_lot+else-not-contains_lot w ↦
+      | goal.else-meets_lot-via-then-meets_lot+else-not-holds_lot w ↦
           contained_whole lots c.args.section c.in-Some.number (g.L.PlaceSet.places c.args.land.now) are
-          (w.contains_lot.ensures.0 w.if-not-contains_lot.false)
+          (w.holds_lot.ensures.0 w.if-not-holds_lot.false)
       | goal.else-meets_lot-via-else-meets_lot w ↦
           unmet_whole lots c.args.section c.in-Some.number held are
           (λ met. cc (c.meets_lot.ensures.1 met, w.if-meets_lot.false))

@@ -1,28 +1,25 @@
-use Rattle.std.proofs.Common.{arith}
+-- The next lot after the number before it is the lot, if the section has it.
+use Rattle.std.proofs.Common.{◌<◌, subst, arith}
+use Rattle.std.proofs.lemmas.Bool.{eq-eqb, eqb-true}
 use Rattle.std.proofs.lemmas.Bool.Decides.{nat_tests}
-use Rattle.twp_land.specs.steps.Marked.{marked}
-use Rattle.twp_land.proofs.MarkedFacts.{marked_parts}
-use Rattle.twp_land.proofs.MarkedLots.{at_lot, marked_of_lot, some_left}
+use Rattle.twp_grid.specs.Lands.{HasLot, lotting}
+use Rattle.twp_land.specs.LotMaps.{layout_of_bytes}
 use Rattle.twp_land.proofs.lot_map.LotMapLotting.has_lot.Goals as goal
 
-pub returns : goal.returns
-returns c =
+pub returns-in-Some : goal.returns-in-Some
+returns-in-Some c =
     let self = c.args.self.now in
-    let lot = c.args.number in
-    let both =
-    some_left c.next.result (marked self.positions self.divided c.args.section lot lot) (λ found. found.block)
-    (λ found. found.end) c.next.ensures.next in
-    rw c.is_some.ensures (
-      λ is.
-          let place = both.0 is in
-          let parts =
-          marked_parts self.positions self.divided c.args.section lot lot place.0 place.1 place.2 in (
-            place.0,
-            place.1,
-            at_lot self.positions self.divided c.args.section lot place.0 place.1 parts.0
-                (omega (arith, parts.1, parts.2)) (grind (arith, nat_tests, c.if-number-eq0.false))
-                (grind (arith, nat_tests, c.if-number-from.false, c.from.ensures)),
-          ),
-      λ has. both.1
-          (has.0, has.1, marked_of_lot self.positions self.divided c.args.section lot has.0 has.1 has.2),
+    let next = c.in-Some.ensures in
+    let some : 0 < c.args.number = grind (arith, nat_tests, c.if-number-eq0.false) in (
+      λ is. subst (λ n. HasLot (lotting (layout_of_bytes self.positions self.divided)) c.args.section n)
+          (eqb-true c.in-Some.next c.args.number is) next.has,
+      λ has. eq-eqb c.in-Some.next c.args.number
+          (omega (arith, next.after, some, next.first c.args.number has (omega (arith, some)))),
+    )
+
+pub returns-in-None : goal.returns-in-None
+returns-in-None c =
+    let some : 0 < c.args.number = grind (arith, nat_tests, c.if-number-eq0.false) in (
+      λ no. absurd (cc no),
+      λ has. absurd (omega (arith, some, c.in-None.ensures c.args.number has)),
     )

@@ -1,73 +1,38 @@
--- Each block found is of a lot whose number is lower than those so far.
-use Rattle.std.proofs.Common.{◌+◌, ◌-◌, inl, inr, arith}
-use Rattle.std.proofs.lemmas.Bool.{cases_lt}
+-- The next lot is the lowest mark that is greater.
+use Rattle.std.proofs.Common.{◌<◌, refl, arith}
 use Rattle.std.proofs.lemmas.Bool.Decides.{nat_tests}
-use Rattle.twp_land.specs.LotMaps.{mark_of, place_number}
-use Rattle.twp_land.proofs.MarkedFacts.{is_marked, marked_parts}
-use Rattle.twp_land.proofs.MarkedLots.{at_lot, lot_at}
+use Rattle.twp_land.proofs.SectionMarks.{last_lot, mark_of_lot, next_byte, next_lot, no_lot}
 use Rattle.twp_land.proofs.lot_map.LotMapLotting.next_lot.Goals as goal
 
-pub loop-found-preserved : goal.loop-found-preserved
-loop-found-preserved c =
+pub returns-then-after-ge-LOT_MOST : goal.returns-then-after-ge-LOT_MOST
+returns-then-after-ge-LOT_MOST c lot has =
     let self = c.args.self.now in
-    let found = c.in-Some.found in
-    let next = c.in-Some.ensures.next in
-    let column = found.block.columns.start in
-    let row = found.block.rows.start in
-    let here =
-    marked_parts self.positions self.divided c.args.section (c.args.after + 1) (c.loop-found.lot - 1) column
-    row
-    (next.is_set column row next.some) in
-    let mark = c.in-Some.ensures.mark column row next.some in
-    let low = c.loop-found.invariant.more in
-    let high = c.loop-found.invariant.most in
-    record {
-      more = omega (arith, here.1, mark);
-      most = omega (arith, here.2, mark, low, high);
-      has = λ less. (
-        column,
-        row,
-        at_lot self.positions self.divided c.args.section found.mark column row here.0 mark
-            (omega (arith, here.1, mark)) less,
-      );
-      first = λ c' r place less more. elim (cases_lt (place_number c' r) c.loop-found.from) [
-        | inl before ↦
-            omega (arith, c.loop-found.invariant.first c' r place before more, here.2, mark, low)
-        | inr after ↦ elim
-            (cases_lt (mark_of self.positions self.divided c.args.section (place_number c' r))
-            c.loop-found.lot) [
-              | inr large ↦ omega (arith, large, here.2, mark, low)
-              | inl small ↦
-                  let marks =
-                  is_marked self.positions self.divided c.args.section (c.args.after + 1)
-                  (c.loop-found.lot - 1) c' r
-                  place (omega (arith, more)) (omega (arith, small)) in
-                  omega (arith, c.in-Some.ensures.mark c' r (next.all c' r marks (omega (arith, after)) less))
-            ]
-      ];
-    }
+    let mark = mark_of_lot self.positions self.divided c.args.section lot has in
+    grind (arith, nat_tests, c.if-after-ge-LOT_MOST.true, mark.3)
+
+pub returns-then-has_none_from : goal.returns-then-has_none_from
+returns-then-has_none_from c =
+    let self = c.args.self.now in
+    last_lot self.positions self.divided c.args.section c.args.after
+    (c.has_none_from.ensures c.if-has_none_from.true)
+
+pub returns-then-has_byte : goal.returns-then-has_byte
+returns-then-has_byte c =
+    let self = c.args.self.now in
+    let byte = c.if-has_byte.ensures refl in
+    let few : c.args.after < 99 = grind (arith, nat_tests, c.if-after-ge-LOT_MOST.false) in
+    next_byte self.positions self.divided c.args.section c.args.after byte.0 byte.1 byte.2 few
+
+pub returns-then-lot-eq-NO_LAND : goal.returns-then-lot-eq-NO_LAND
+returns-then-lot-eq-NO_LAND c =
+    let self = c.args.self.now in
+    no_lot self.positions self.divided c.args.section c.args.after c.lowest-lot.result
+    (grind (arith, nat_tests, c.if-lot-eq-NO_LAND.true)) c.lowest-lot.ensures.least
 
 pub returns : goal.returns
 returns c =
     let self = c.args.self.now in
-    record {
-      has = c.loop-found.invariant.has
-          (grind (arith, nat_tests, c.if-lot-eq-NO_LAND.false, c.loop-found.invariant.most));
-      after = c.loop-found.invariant.more;
-      first = λ other has more.
-          let lot = lot_at self.positions self.divided c.args.section other has.0 has.1 has.2 in
-          elim (cases_lt other c.loop-found.lot) [
-            | inr large ↦ omega (arith, large)
-            | inl small ↦
-                let marks =
-                is_marked self.positions self.divided c.args.section (c.args.after + 1) (c.loop-found.lot - 1)
-                has.0
-                has.1 lot.0 (omega (arith, more, lot.1)) (omega (arith, small, lot.1)) in
-                omega (
-                  arith,
-                  c.loop-found.invariant.first has.0 has.1 lot.0 (c.in_default.ensures.next has.0 has.1 marks)
-                      (omega (arith, more, lot.1)),
-                  lot.1,
-                )
-          ];
-    }
+    let few : c.lowest-lot.result < 100 =
+    grind (arith, nat_tests, c.if-lot-eq-NO_LAND.false, c.lowest-lot.ensures.most) in
+    next_lot self.positions self.divided c.args.section c.args.after c.lowest-lot.result
+    c.lowest-lot.ensures.more few (c.lowest-lot.ensures.is few) c.lowest-lot.ensures.least

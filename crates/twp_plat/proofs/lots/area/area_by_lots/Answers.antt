@@ -1,10 +1,11 @@
 -- The sections before that of the first lot that is lacking have none.
-use Rattle.std.proofs.Common.{arith}
+use Rattle.std.proofs.Common.{◌≡◌, ◌+◌, ℕ, Bool, false, sym, arith}
 use Rattle.twp_land.specs.LotMaps.{layout_of_plat}
 use Rattle.twp_land.proofs.LandRanges.{nothing_within}
 use Rattle.twp_land.proofs.LotFacts.{section_is}
 use Rattle.twp_plat.specs.LotTables.{figure_of, lots_of}
 use Rattle.twp_plat.proofs.AreaFacts.{grows, area_is}
+use Rattle.twp_plat.proofs.ContainedLots.{empty_has, empty_units, unmet_places}
 use Rattle.twp_plat.proofs.lots.SumFacts.{sum-first, sum-next, lot_area, all_have, first_lacking, none_summed}
 use Rattle.twp_plat.proofs.lots.area.area_by_lots.Goals as goal
 
@@ -26,6 +27,30 @@ units_in_section-requires-clause-section g c =
     section_is c.loop-number.number c.unwrap-section.result _ c.new.ensures c.unwrap-section.ensures in
     let last = c.number-number-end.ensures.range in
     rw number (c.loop-number.invariant.first, omega (arith, last))
+
+-- a section that the land doesn't touch adds nothing
+pub loop-number-preserved-then-is_untouched : goal.loop-number-preserved-then-is_untouched
+loop-number-preserved-then-is_untouched g c =
+    let lots = c.args.lots.now in
+    let places : ℕ → ℕ → ℕ → Bool = g.L.PlaceSet.places c.args.land.now in
+    let at = c.loop-number.invariant in
+    let number =
+    section_is c.loop-number.number c.unwrap-section.result _ c.new.ensures c.unwrap-section.ensures in
+    let free : (column row : ℕ) → places c.unwrap-section.result column row ≡ false =
+    unmet_places (places c.unwrap-section.result) (c.is_untouched.ensures c.if-is_untouched.true)
+    (λ column row held.
+    (g.met.L.PlaceSet.within c.args.land.now c.unwrap-section.result column row held).1) in
+    let same : c.loop-number.units + 0 ≡ c.loop-number.units = omega arith in
+    let summed =
+    sum-next (lots_of lots) (figure_of lots) places c.loop-number.number c.unwrap-section.result
+    c.loop-number.units 0 at.first number at.sum
+    (sym (empty_units (lots_of lots) (figure_of lots) places c.unwrap-section.result free))
+    (λ lot. empty_has (lots_of lots) (figure_of lots) places c.unwrap-section.result lot free) in
+    record {
+      sum = rw same at summed;
+      most = rw same at (grows c.loop-number.number _ c.loop-number.units 0 at.first at.most (omega arith));
+      first = omega arith;
+    }
 
 pub loop-number-preserved : goal.loop-number-preserved
 loop-number-preserved g c =

@@ -1,7 +1,7 @@
 use Rattle.std.proofs.Common.{◌≤◌, ◌-◌}
 use Rattle.twp_land.specs.steps.Marked.{PLACES}
 use Rattle.twp_land.proofs.MarkedFacts.{ArePassed}
-use Rattle.twp_land.proofs.lot_map.LotMap.next.Given as goal
+use Rattle.twp_land.proofs.lot_map.LotMap.search.Given as goal
 
 -- the marked places that are left are not before this one
 abbrev pub invariant-places : goal.invariant-places

@@ -2,7 +2,7 @@ use Rattle.std.proofs.Common.{◌≡◌, ◌-◌, true}
 use Rattle.twp_grid.specs.Spans.{in_rectangle}
 use Rattle.twp_land.specs.steps.Marked.{PLACES, marked}
 use Rattle.twp_land.proofs.MarkedLoops.{EachBelow}
-use Rattle.twp_land.proofs.lot_map.LotMap.meets.Given as goal
+use Rattle.twp_land.proofs.lot_map.LotMap.search_block.Given as goal
 
 -- no marked place so far is in the block
 abbrev pub invariant-loop-found : goal.invariant-loop-found

@@ -1,0 +1,95 @@
+//! Terms of leases after land, and shares and money after it: `5 yr paid-up`, `NMA 60.0`, `0.125`, `$1.50`.
+
+use crate::pieces::{Pieces, plus};
+
+impl<'a> Pieces<'a> {
+    /// Where the years of a lease end that are at an index, after a mark or with its column: at a mark, or with its
+    /// column.
+    pub fn end_of_years(&self, index: usize) -> Option<usize> {
+        let unit = plus(index, 1);
+        let is_years = self.number(index).is_some()
+            && (self.is(unit, b"yr")
+                || self.is(unit, b"yrs")
+                || self.is(unit, b"year")
+                || self.is(unit, b"years"));
+        if !is_years || !self.is_after_mark_or_column(index) {
+            return None;
+        }
+        let stop = plus(unit, 1);
+        let next = plus(stop, usize::from(self.is(stop, b".")));
+        let end = self.after_kind_of_term(next);
+        if self.is_mark(end) || self.begins_column(end) {
+            Some(end)
+        } else {
+            None
+        }
+    }
+
+    /// Where a sum of money ends that fills a column from an index on, as `$1.50`.
+    pub fn end_of_money(&self, index: usize) -> Option<usize> {
+        if !self.is(index, b"$") || !self.begins_column(index) {
+            return None;
+        }
+        let end = self.end_of_decimal(plus(index, 1))?;
+        if self.begins_column(end) {
+            Some(end)
+        } else {
+            None
+        }
+    }
+
+    /// The index after `paid-up`, or `primary term`.
+    fn after_kind_of_term(&self, index: usize) -> usize {
+        let next = plus(index, 1);
+        if self.is(index, b"paid") && self.is_dash(next) && self.is(plus(next, 1), b"up") {
+            return plus(next, 2);
+        }
+        if self.is(index, b"paid") && self.is(next, b"up") {
+            return plus(next, 1);
+        }
+        if self.is(index, b"primary") && self.is(next, b"term") {
+            return plus(next, 1);
+        }
+        plus(
+            index,
+            usize::from(self.is(index, b"term") || self.is(index, b"lease")),
+        )
+    }
+
+    /// Where a share ends that is at an index, by the letters for it and a decimal, after a mark or with its column: at a
+    /// mark, or with its column.
+    pub fn end_of_lettered_share(&self, index: usize) -> Option<usize> {
+        let is_share = self.is(index, b"nma")
+            || self.is(index, b"nra")
+            || self.is(index, b"nri")
+            || self.is(index, b"gwi")
+            || self.is(index, b"orri");
+        if !is_share || !self.is_after_mark_or_column(index) {
+            return None;
+        }
+        let mark = plus(index, 1);
+        let figure = plus(
+            mark,
+            usize::from(self.is(mark, b":") || self.is(mark, b"=")),
+        );
+        let has_point = self.is(figure, b".") || self.is(plus(figure, 1), b".");
+        let number = plus(figure, usize::from(self.is(figure, b".")));
+        let end = self.end_of_decimal(number)?;
+        if has_point && (self.is_mark(end) || self.begins_column(end)) {
+            Some(end)
+        } else {
+            None
+        }
+    }
+
+    /// Where a share ends that is alone in a cell, as `0.125`.
+    pub fn end_of_share_in_cell(&self, index: usize) -> Option<usize> {
+        let end = self.end_of_decimal(index)?;
+        let is_share = self.is(index, b"0") && self.is_figure_with_decimals(index);
+        if is_share && self.begins_line(index) && self.begins_column(end) {
+            Some(end)
+        } else {
+            None
+        }
+    }
+}

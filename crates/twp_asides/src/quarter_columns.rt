@@ -1,0 +1,49 @@
+//! More names of columns for aliquot parts: `QQ:`, `Qtr/Qtr:`, `LEGAL1:`.
+
+use crate::pieces::{Pieces, plus};
+use twp_words::is_field;
+
+impl<'a> Pieces<'a> {
+    /// Where the name of a column with a number ends, as `LEGAL1:`.
+    pub(crate) fn end_of_numbered_field(&self, index: usize) -> Option<usize> {
+        let number = plus(index, 1);
+        let mark = plus(number, 1);
+        let is_named = is_field(self.lower(index)) && self.begins_column(index);
+        let is_numbered = self.has_digits(number, 1)
+            && self.is_joined(number)
+            && self.is(mark, b":")
+            && self.is_joined(mark);
+        if is_named && is_numbered {
+            Some(plus(mark, 1))
+        } else {
+            None
+        }
+    }
+
+    /// Where `Qtr/Qtr:` at an index ends, before a quarter of a quarter.
+    pub(crate) fn end_of_quarter_of_quarter(&self, index: usize) -> Option<usize> {
+        let mark = plus(index, 3);
+        let value = plus(mark, 1);
+        let is_name = self.is(index, b"qtr")
+            && self.is(plus(index, 1), b"/")
+            && self.is(plus(index, 2), b"qtr");
+        let has_mark = self.is(mark, b":") || self.is(mark, b"=");
+        if is_name && has_mark && self.size(value) == 4 && self.begins_part(value) {
+            Some(value)
+        } else {
+            None
+        }
+    }
+
+    /// Whether `QQ:`, or a name like it, is at an index, before a quarter of a quarter.
+    pub(crate) fn is_column_of_quarters(&self, index: usize) -> bool {
+        let mark = plus(index, 1);
+        let value = plus(mark, 1);
+        let is_name = self.is(index, b"q")
+            || self.is(index, b"qq")
+            || self.is(index, b"qqsec")
+            || self.is(index, b"qtrqtr");
+        let has_mark = self.is(mark, b":") || self.is(mark, b"=");
+        is_name && has_mark && self.size(value) == 4 && self.begins_part(value)
+    }
+}

@@ -1,0 +1,31 @@
+use Rattle.std.proofs.Common.{◌≡◌, true, refl}
+use Rattle.std.proofs.lemmas.Bool.{false≢true}
+use Rattle.twp_grid.specs.Spans.{in_rectangle}
+use Rattle.twp_land.specs.steps.Marked.{marked}
+use Rattle.twp_land.proofs.MarkedLoops.{each_next}
+use Rattle.twp_land.proofs.lot_map.LotMap.search_block.Goals as goal
+
+pub returns-then-share_place : goal.returns-then-share_place
+returns-then-share_place c =
+    let shared = c.if-share_place.ensures.0 refl in (
+      λ _. record {
+        column = shared.column;
+        row = shared.row;
+        inside = shared.inside;
+        is_held = c.in-Some.ensures.next.is_set shared.column shared.row shared.is_held;
+      },
+      λ _. refl,
+    )
+
+pub loop-found-preserved : goal.loop-found-preserved
+loop-found-preserved c =
+    let self = c.args.self.now in
+    record {
+      none =
+          each_next (marked self.positions self.divided c.args.section c.args.least c.args.most)
+          c.loop-found.from (λ column row. ¬ (in_rectangle c.args.block column row ≡ true))
+          c.in-Some.found.block c.in-Some.found.end c.in-Some.ensures.next c.loop-found.invariant.none
+          (λ column row inside in_block. false≢true
+          (c.if-share_place.ensures.1
+          (record { column = column; row = row; inside = in_block; is_held = inside })));
+    }

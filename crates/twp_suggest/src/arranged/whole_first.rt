@@ -1,0 +1,61 @@
+//! `all of` before the first section, where land follows the other sections, as in `all of secs. 4 and 5; sec. 10, W1/2`.
+
+use crate::arranged::plan::Plan;
+use twp_asides::plus;
+use twp_draft::{LeftOut, Names, Placed, Role};
+use twp_grammar::Kind;
+
+impl<'a> Plan<'a> {
+    /// Takes `all` before `of` and the first section for a word that means nothing, if the last phrase is of land: then
+    /// the land of each section follows it, and the first one has none.
+    pub(crate) fn leave_out_first_all(&mut self) {
+        let Some(index) = self.first_all() else {
+            return;
+        };
+        if let Some(placed) = self.draft.phrases.get_mut(index) {
+            placed.phrase.names = Names::Nothing(LeftOut::Word);
+            placed.role = Role::LeftOut;
+        }
+    }
+
+    /// The index of such a phrase.
+    fn first_all(&self) -> Option<usize> {
+        let phrases = self.draft.phrases.as_slice();
+        let index = first_of(phrases, Names::All)?;
+        let all = phrases.get(index)?.phrase;
+        let section = phrases.get(plus(index, 1))?.phrase;
+        let other = phrases.get(plus(index, 2))?.phrase;
+        let is_before_other = section.names == Names::Sections
+            && other.names == Names::Sections
+            && matches!(self.draft.pieces.kind(all.end), Kind::Of)
+            && section.first == plus(all.end, 1);
+        if is_before_other && ends_with_land(phrases) {
+            Some(index)
+        } else {
+            None
+        }
+    }
+}
+
+/// The index of the first phrase that isn't left out, or a township, if it names this.
+fn first_of(phrases: &[Placed], names: Names) -> Option<usize> {
+    for index in 0..phrases.len() {
+        let found = phrases[index].phrase.names;
+        if !matches!(found, Names::Nothing(_) | Names::Heading) {
+            return if found == names { Some(index) } else { None };
+        }
+    }
+    None
+}
+
+/// Whether the last phrase that isn't left out, or a township, is of land.
+fn ends_with_land(phrases: &[Placed]) -> bool {
+    for placed in phrases.iter().rev() {
+        match placed.phrase.names {
+            Names::Nothing(_) | Names::Heading => {}
+            Names::Part | Names::Lots => return true,
+            _ => return false,
+        }
+    }
+    false
+}
