@@ -1,5 +1,5 @@
 -- The land of a text: it is read as one list of items, which names one set of places.
-use Rattle.std.proofs.Common.{◌≡◌, ◌↔◌, ◌⊎◌, inl, inr, ℕ, Bool, true, List, IsTrue, false, subst, sym, ap}
+use Rattle.std.proofs.Common.{◌≡◌, ◌↔◌, inl, inr, ℕ, Bool, true, List, IsTrue, false, subst, sym, ap}
 use Rattle.std.proofs.lemmas.Bool.{false≢true}
 use Rattle.std.proofs.Common.{◌∙◌}
 use Rattle.twp_grid.specs.Townships.{Designation}

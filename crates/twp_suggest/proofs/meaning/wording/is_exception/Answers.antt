@@ -1,7 +1,15 @@
--- Each text names one set of places.
+-- Each text names one set of places, or none on the plat.
 use Rattle.twp_grid.specs.Lands.{lotting}
 use Rattle.twp_suggest.proofs.meaning.LandFacts.{is_no_exception}
 use Rattle.twp_suggest.proofs.meaning.wording.is_exception.Goals as goal
+
+pub returns-then-not-names_land : goal.returns-then-not-names_land
+returns-then-not-names_land g c = λ _ places others of_whole of_excepted inside.
+    absurd (c.in_ok-names_land.ensures.none c.if-not-names_land.true places of_whole)
+
+pub returns-then-not-names_less : goal.returns-then-not-names_less
+returns-then-not-names_less g c = λ _ places others of_whole of_excepted inside.
+    absurd (c.in_ok-names_less.ensures.none c.if-not-names_less.true others of_excepted)
 
 pub returns : goal.returns
 returns g c = λ is.
