@@ -267,12 +267,12 @@ CREATE FUNCTION notes(
 COMMENT ON FUNCTION notes(text, text)
 IS 'a place in a description, accepted on the plat of field notes, that can be read in two ways, or NULL';
 
--- Lists of tracts: a CSV text, which an aggregate makes of rows. A name or a description that is NULL stays in the list, in
--- which it is refused. These functions name nothing of the extension, which may not be on the path.
+-- Lists of tracts: a CSV text, which an aggregate makes from rows. A row without a name or a description stays in the
+-- list, and is refused there. The first function names nothing of the extension, which may not be on the path.
 
 CREATE FUNCTION tract_list_add(list text, name text, description text) RETURNS text AS $$
-    SELECT list || '"' || replace(coalesce(name, ''), '"', '""') || '","' || replace(coalesce(description, ''), '"', '""')
-        || E'"\n'
+    SELECT list || '"' || replace(coalesce(name, ''), '"', '""') || '","'
+        || replace(coalesce(description, ''), '"', '""') || E'"\n'
 $$ LANGUAGE sql IMMUTABLE PARALLEL SAFE;
 
 CREATE AGGREGATE tract_list(name text, description text) (

@@ -1,6 +1,6 @@
 /*
- * The answers by a lot table to a description: acres, the exact area, and why there are none; and what is unclear in it.
- * Each whole lot counts at its returned acreage.
+ * The answers by a lot table to a description: acres, the exact area, and why there are none; and what is unclear in
+ * it. Each whole lot counts at its returned acreage.
  */
 #include "land.h"
 #include "lots.h"

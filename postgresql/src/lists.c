@@ -1,6 +1,6 @@
 /*
- * Lists of tracts (CSV), as rows: the answer to each tract, and the pairs of tracts that overlap; on a plat, or on the plat
- * of a lot table.
+ * Lists of tracts (CSV), as rows: the answer to each tract, and the pairs of tracts that overlap; on a plat, or on the
+ * plat of a lot table.
  */
 #include "lots.h"
 
@@ -23,7 +23,7 @@ static twpg_bytes list_of(FunctionCallInfo fcinfo) {
 /* The error for a list that is refused as a whole, and for any other verdict but ACCEPTED. */
 static void check(township_answer answer, const twpg_listed *listed) {
     if (answer.verdict == TOWNSHIP_REFUSED) {
-        twpg_explanation explained = twpg_explain_list(listed->plat, listed->lots, listed->list, answer.number);
+        twpg_explanation explained = twpg_explain_list(listed->plat, listed->lots, listed->list, answer);
 
         twpg_refuse(answer, &explained);
     }
@@ -100,7 +100,8 @@ static township_answer overlaps_on(const twpg_listed *listed, township_lots_over
     size_t index;
 
     for (index = 0; answer.verdict == TOWNSHIP_ACCEPTED && index < answer.length; index++) {
-        overlaps[index] = (township_lots_overlap){found[index].first, found[index].second, found[index].hundredths, 0, 0};
+        overlaps[index] = (township_lots_overlap){
+            .first = found[index].first, .second = found[index].second, .hundredths = found[index].hundredths};
     }
     pfree(found);
     return answer;
