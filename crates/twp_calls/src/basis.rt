@@ -1,4 +1,5 @@
 //! The basis of the answers to many descriptions.
+ghost use Rattle.std.specs.Prelude.{ℕ};
 ghost use Rattle.twp_calls.specs.Answers.{bare};
 ghost use Rattle.twp_calls.specs.Calls.{IsAcresCall};
 ghost use Rattle.twp_calls.specs.ManyAnswers.{IsBasisVerdict};

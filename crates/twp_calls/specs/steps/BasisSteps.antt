@@ -1,5 +1,5 @@
 -- The basis of the answers to many descriptions. No public contract cites this module.
-use Rattle.std.specs.Prelude.{◌≡◌, ◌×◌, ⊥, ℕ, Some}
+use Rattle.std.specs.Prelude.{◌≡◌, ℕ, Some}
 use Rattle.twp_calls.specs.Answers.{bare}
 use Rattle.twp_calls.specs.Calls.{ByAccount, OnPlat, account_of}
 use Rattle.twp_calls.specs.GivenPlats.{IsGivenPlat}
