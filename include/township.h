@@ -157,8 +157,10 @@ extern "C" {
  * TOWNSHIP_OTHER_PLAT; TOWNSHIP_REFUSED or TOWNSHIP_TRACT_REFUSED; TOWNSHIP_NO_ROOM. There are three exceptions: a
  * function that takes land and a lot table checks last whether the land contains part of a lot of the table
  * (TOWNSHIP_NO_LAND); a function that explains returns TOWNSHIP_NO_ROOM for a refused input if its buffer is too small
- * for the text; and township_answer_many and township_lots_answer_many check their buffers first. TOWNSHIP_NO_MEMORY is
- * returned only if the arguments are valid, in place of a refusal, TOWNSHIP_NO_ROOM, or TOWNSHIP_ACCEPTED.
+ * for the text; and the four functions that answer many descriptions, whose names end in `_many`, check their buffers
+ * first, since they answer each description even if the plat, the account, or the lot table is not valid.
+ * TOWNSHIP_NO_MEMORY is returned only if the arguments are valid, in place of a refusal, TOWNSHIP_NO_ROOM, or
+ * TOWNSHIP_ACCEPTED.
  */
 
 /* Accounts: how whole lots count. */
@@ -550,6 +552,9 @@ township_answer township_figures(const township_plat *plat, township_plat_figure
  * is less than its first one or more than `descriptions_length`. A refusal does not end the call: check the verdict of
  * each answer. `length` is the number of descriptions; if `room`, the number of elements of `answers`, is smaller, the
  * verdict is TOWNSHIP_NO_ROOM, and nothing is written.
+ *
+ * If the plat or the account is not valid, the answer to each description is TOWNSHIP_NO_PLAT or TOWNSHIP_NO_ACCOUNT,
+ * and so is the verdict of the call.
  */
 township_answer township_acres_many(const township_plat *plat, const uint8_t *descriptions,
                                     size_t descriptions_length, const size_t *offsets,
@@ -560,7 +565,7 @@ township_answer township_acres_many(const township_plat *plat, const uint8_t *de
  * Answers many descriptions as township_acres_many does, each with its canonical text, and says whether there is a
  * note on it. Call township_normal for a text that is longer than TOWNSHIP_TEXT_ROOM bytes, and
  * township_explain_description for the text of a note or of an explanation. If the plat or the account is not valid,
- * each answer says so.
+ * each answer says so, and so does the verdict of the call; the canonical texts do not depend on the account.
  */
 township_answer township_answer_many(const township_plat *plat, const uint8_t *descriptions,
                                      size_t descriptions_length, const size_t *offsets,
@@ -700,7 +705,8 @@ township_answer township_lots_overlaps(const township_lots *lots, const uint8_t 
                                        township_lots_overlap *overlaps, size_t room);
 
 /* Answers many descriptions by a lot table, each as township_lots_acres would answer it. The descriptions, `length`,
-   and `room` are as in township_acres_many. */
+   and `room` are as in township_acres_many. If the table is not valid, the answer to each description is
+   TOWNSHIP_NO_LOTS, and so is the verdict of the call. */
 township_answer township_lots_acres_many(const township_lots *lots, const uint8_t *descriptions,
                                          size_t descriptions_length, const size_t *offsets,
                                          size_t offsets_length, township_answer *answers, size_t room);
@@ -709,7 +715,7 @@ township_answer township_lots_acres_many(const township_lots *lots, const uint8_
  * Answers many descriptions as township_lots_acres_many does, each with its canonical text on the table's plat, and
  * says whether there is a note on it. Call township_lots_land_text for a text that is longer than TOWNSHIP_TEXT_ROOM
  * bytes, and township_lots_explain_description for the text of a note or of an explanation. If the table is not valid,
- * each answer says so.
+ * each answer is TOWNSHIP_NO_LOTS, and so is the verdict of the call.
  */
 township_answer township_lots_answer_many(const township_lots *lots, const uint8_t *descriptions,
                                           size_t descriptions_length, const size_t *offsets,
