@@ -11,7 +11,8 @@
   half miles may have.
 - The numbers of refusals in docs/REFUSALS.md, with the ranges of numbers that sentences give.
 - The wrong bodies, definitions, and crates that there are, and the sizes of tests, with the counts in documents.
-- The contracts that docs/PROMISES.md and docs/CONTRACTS.md cite, with those in the code.
+- The contracts that docs/PROMISES.md and docs/CONTRACTS.md cite, and the functions that docs/ARCHITECTURE.md names with
+  their modules, with those in the code.
 
 Each difference is named; the status is 1 if there are any. tools/signatures.py compares the header with the library's
 code, tools/bindings.py the bindings with the header, and tools/header_names.py the names of refusals and the versions.

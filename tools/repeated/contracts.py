@@ -1,11 +1,12 @@
-"""The contracts that docs/PROMISES.md and docs/CONTRACTS.md cite: each function, clause, type, and definition exists."""
+"""The contracts that docs/PROMISES.md and docs/CONTRACTS.md cite: each function, clause, type, and definition exists. So
+does each function that docs/ARCHITECTURE.md names with its module."""
 
 import re
 from typing import List, Set
 
 from reading import ROOT, Compared, text_of
 
-WHAT = "names of contracts and clauses in docs/PROMISES.md and docs/CONTRACTS.md"
+WHAT = "names of contracts, clauses, and functions in docs/PROMISES.md, docs/CONTRACTS.md, and docs/ARCHITECTURE.md"
 
 DOCUMENTS = ("docs/PROMISES.md", "docs/CONTRACTS.md")
 
@@ -15,6 +16,11 @@ IN_SPECS = r"^(?:abbrev |unfoldable |pub |record |data )+(\w+)|^  (?:pub )?((?:\
 
 #: What else is in the second column.
 OTHERS = {"impl", "mutated.py"}
+
+MAP = "docs/ARCHITECTURE.md"
+
+#: A function, as in: `hundredths` in `area` of `twp_measure`.
+FUNCTION = r"`(\w+)` in `(\w+)` of `(twp_\w+)`"
 
 
 def compare() -> Compared:
@@ -32,7 +38,12 @@ def compare() -> Compared:
                 compared += 1
                 if name not in known and cited not in OTHERS:
                     differences.append(f"{document}:{number}: there is no {cited}")
-    return compared, differences
+    found = re.findall(FUNCTION, text_of(MAP))
+    for name, module, crate in found:
+        code = "".join(text_of(str(path.relative_to(ROOT))) for path in ROOT.glob(f"crates/{crate}/src/**/{module}.rt"))
+        if not re.search(rf"\b(?:fn|struct|trait) {name}\b", code):
+            differences.append(f"{MAP}: there is no {name} in {module} of {crate}")
+    return compared + len(found), differences
 
 
 def names_in(pattern: str, form: str) -> Set[str]:
