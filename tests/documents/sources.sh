@@ -1,7 +1,7 @@
 #!/bin/sh
 # Compares the documents with the other files of the repository: the man page, the names and numbers of refusals, the
-# names of modules, of definitions, and of files, the counts of instructions, and docs/TRUST.md. It needs no program, and
-# takes seconds; documents.sh beside it runs the examples. The last line is 'N passed, 0 failed'.
+# names of modules and of files, the counts of instructions, and docs/TRUST.md. It needs no program, and takes seconds;
+# documents.sh beside it runs the examples, and tools/repeated compares names in the code, and other counts. The last line is 'N passed, 0 failed'.
 . "$(dirname "$0")/../lib.sh"
 cd "$work" || exit 1
 docs=$root/docs
@@ -58,20 +58,6 @@ all_read 'the names of refusals' "$(wc -l < in_code)" "$(wc -l < in_tables)"
 cp in_code wanted
 cp in_tables found
 same 'the numbers and names of refusals'
-
-# The names in the last column of docs/GLOSSARY.md: a crate, or what a crate defines.
-is_defined() {
-    [ -d "$root/crates/$1" ] || grep -rqE --include=*.antt --include=*.rt \
-        -e "(abbrev|unfoldable) pub $1 " -e "pub (record|data|struct|enum|trait|fn) $1\\b" \
-        -e "^ +(pub )?$1( :| \\{|[:,(])" "$root"/crates/*/specs "$root"/crates/*/src
-}
-sed -n 's/^|.*| \([^|]*\) |$/\1/p' "$docs/GLOSSARY.md" | grep -o '`[^`]*`' | tr -d '`' | sort -u > names
-all_read 'the names of docs/GLOSSARY.md' "$(wc -l < names)" "$(wc -l < names)"
-while read -r name; do
-    echo "$name" > wanted
-    if is_defined "$name"; then echo "$name"; else echo 'no definition'; fi > found
-    same "docs/GLOSSARY.md: $name"
-done < names
 
 # docs/ARCHITECTURE.md names every crate and every module in the rows of its crate, and exactly the modules of definitions
 # that there are. Every crate that has laws has them in modules of the same name.

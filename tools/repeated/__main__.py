@@ -12,7 +12,7 @@
 - The numbers of refusals in docs/REFUSALS.md, with the ranges of numbers that sentences give.
 - The wrong bodies, definitions, and crates that there are, and the sizes of tests, with the counts in documents.
 - The contracts that docs/PROMISES.md and docs/CONTRACTS.md cite, and the functions that docs/ARCHITECTURE.md names with
-  their modules, with those in the code.
+  their modules, with those in the code; and the names of docs/GLOSSARY.md, each with its crate.
 
 Each difference is named; the status is 1 if there are any. tools/signatures.py compares the header with the library's
 code, tools/bindings.py the bindings with the header, and tools/header_names.py the names of refusals and the versions.
@@ -24,6 +24,7 @@ from typing import List
 import calls
 import contracts
 import counts
+import glossary
 import hints
 import lengths
 import limits
@@ -34,7 +35,7 @@ import ways
 
 def main() -> int:
     differences: List[str] = []
-    for module in (calls, rules, ways, hints, limits, lengths, ranges, counts, contracts):
+    for module in (calls, rules, ways, hints, limits, lengths, ranges, counts, contracts, glossary):
         compared, found = module.compare()
         differences += found
         print(f"{compared} {module.WHAT}")
