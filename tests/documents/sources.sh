@@ -85,6 +85,12 @@ for file in "$root"/crates/*/src/*.rt; do module_of "$file"; done | grep -v -e '
 grep -xF -f wanted named > found
 sort -u -o wanted wanted
 same_lines 'the modules of docs/ARCHITECTURE.md: < is missing'
+# Each module that it names exists; the rows also name types, words of descriptions, and the file stdout.
+grep -vE ': ([A-Z].*|.*[.]py|and|of|stdout)$' named | while IFS=': ' read -r crate name; do
+    find "$root/crates/$crate/src" -name "$name.rt" | grep -q . || echo "$crate: $name"
+done > found
+: > wanted
+same 'modules of docs/ARCHITECTURE.md that do not exist'
 names_in '## Where a definition lives' '' | grep ': [A-Z]' > found
 for file in "$root"/crates/*/specs/*.antt "$root"/crates/*/specs/steps/*.antt; do module_of "$file"; done |
     grep -v -e ': Lib$' -e ': steps$' -e ': Laws$' | sort -u > wanted
