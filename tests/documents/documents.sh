@@ -76,9 +76,7 @@ for named in '' none; do
 done
 
 # The examples of the man page are run like the documents' commands.
-page=$root/man/township.1
-sed -n -e '/^[.]Bd/,/^[.]Ed/{ s/^[^.]/    &/; p; }' \
-    "$page.in" > examples
+sed -n -e '/^[.]Bd/,/^[.]Ed/{ s/^[^.]/    &/; p; }' "$root/man/township.1.in" > examples
 commands man/township.1 examples "$uneven"
 
 # A list of the given number of tracts, at most 1,024, each a different smallest place of section 8.
