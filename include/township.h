@@ -140,7 +140,7 @@ extern "C" {
                                      tables report it in their answers */
 #define TOWNSHIP_NO_RANGE 7u      /* township_acres_many, township_answer_many, and the same by lot tables: the
                                      two offsets of this description are not a range of the bytes given;
-                                     township_set_aside: two offsets are not */
+                                     township_set_aside: two offsets are not a range of the phrases' bytes */
 #define TOWNSHIP_NO_LAND 8u       /* the land you passed is not valid: it has no township, or contains part of a
                                      lot; or `own_lots` is neither 0 nor 1 */
 #define TOWNSHIP_NO_LOTS 9u       /* the township of the lot table you passed is not valid */
@@ -295,9 +295,9 @@ typedef struct township_lots_overlap {
 #define TOWNSHIP_PLACES_ACROSS 32
 
 /*
- * The maximum number of figures in a lot table, and the number of their bounds. The numbers of bytes that say where
- * the lots of a plat lie: one for each quarter-quarter of the township, and one for each place of those that are
- * divided, of which there are at most 128.
+ * The maximum number of figures in a lot table, and the number of bounds between those of the 36 sections. The numbers
+ * of bytes that say where the lots of a plat lie: one for each quarter-quarter of the township, and one for each place
+ * of those that are divided, of which there are at most 128.
  */
 #define TOWNSHIP_RETURNED_MOST 1024
 #define TOWNSHIP_BOUNDS 37
