@@ -19,8 +19,8 @@ use Rattle.twp_calls.specs.declared.plat.TownshipPlat.{TownshipPlat as GivenPlat
 use Rattle.twp_calls.proofs.CallFacts.{stops_by}
 
 -- without a valid plat and account, any call answers which of them is not valid
-pub answers_none : (Accepted : TownshipPlat → Account → TownshipAnswer → Type 0) (given : GivenPlat) (code : ℕ)
-    (answer : TownshipAnswer) → OnPlat given (λ plat. ByAccount code (λ account answer. ⊥)) answer
+pub answers_none : (Accepted : TownshipPlat → Account → TownshipAnswer → Type 0) (given : GivenPlat)
+    (code : ℕ) (answer : TownshipAnswer) → OnPlat given (λ plat. ByAccount code (λ account answer. ⊥)) answer
     → OnPlat given (λ plat. ByAccount code (Accepted plat)) answer
 answers_none Accepted given code answer (on_none none answer_is) = on_none none answer_is
 answers_none Accepted given code answer (on_plat plat is (by_none none answer_is)) =
