@@ -35,6 +35,8 @@ suggest
 suggest
 suggest
 total_acres
+tract_list
+tract_list_add
 union_of
 unread
 unread' sql -d kinds << 'END'
