@@ -140,7 +140,7 @@ extern "C" {
                                      tables report it in their answers */
 #define TOWNSHIP_NO_RANGE 7u      /* township_acres_many, township_answer_many, and the same by lot tables: the
                                      two offsets of this description are not a range of the bytes given;
-                                     township_set_aside: two offsets are not */
+                                     township_set_aside: two offsets are not a range of the phrases' bytes */
 #define TOWNSHIP_NO_LAND 8u       /* the land you passed is not valid: it has no township, or contains part of a
                                      lot; or `own_lots` is neither 0 nor 1 */
 #define TOWNSHIP_NO_LOTS 9u       /* the township of the lot table you passed is not valid */
@@ -157,8 +157,10 @@ extern "C" {
  * TOWNSHIP_OTHER_PLAT; TOWNSHIP_REFUSED or TOWNSHIP_TRACT_REFUSED; TOWNSHIP_NO_ROOM. There are three exceptions: a
  * function that takes land and a lot table checks last whether the land contains part of a lot of the table
  * (TOWNSHIP_NO_LAND); a function that explains returns TOWNSHIP_NO_ROOM for a refused input if its buffer is too small
- * for the text; and township_answer_many and township_lots_answer_many check their buffers first. TOWNSHIP_NO_MEMORY is
- * returned only if the arguments are valid, in place of a refusal, TOWNSHIP_NO_ROOM, or TOWNSHIP_ACCEPTED.
+ * for the text; and the four functions that answer many descriptions, whose names end in `_many`, check their buffers
+ * first, since they answer each description even if the plat, the account, or the lot table is not valid.
+ * TOWNSHIP_NO_MEMORY is returned only if the arguments are valid, in place of a refusal, TOWNSHIP_NO_ROOM, or
+ * TOWNSHIP_ACCEPTED.
  */
 
 /* Accounts: how whole lots count. */
@@ -293,9 +295,9 @@ typedef struct township_lots_overlap {
 #define TOWNSHIP_PLACES_ACROSS 32
 
 /*
- * The maximum number of figures in a lot table, and the number of their bounds. The numbers of bytes that say where
- * the lots of a plat lie: one for each quarter-quarter of the township, and one for each place of those that are
- * divided, of which there are at most 128.
+ * The maximum number of figures in a lot table, and the number of bounds between those of the 36 sections. The numbers
+ * of bytes that say where the lots of a plat lie: one for each quarter-quarter of the township, and one for each place
+ * of those that are divided, of which there are at most 128.
  */
 #define TOWNSHIP_RETURNED_MOST 1024
 #define TOWNSHIP_BOUNDS 37
@@ -550,6 +552,9 @@ township_answer township_figures(const township_plat *plat, township_plat_figure
  * is less than its first one or more than `descriptions_length`. A refusal does not end the call: check the verdict of
  * each answer. `length` is the number of descriptions; if `room`, the number of elements of `answers`, is smaller, the
  * verdict is TOWNSHIP_NO_ROOM, and nothing is written.
+ *
+ * If the plat or the account is not valid, the answer to each description is TOWNSHIP_NO_PLAT or TOWNSHIP_NO_ACCOUNT,
+ * and so is the verdict of the call.
  */
 township_answer township_acres_many(const township_plat *plat, const uint8_t *descriptions,
                                     size_t descriptions_length, const size_t *offsets,
@@ -560,7 +565,7 @@ township_answer township_acres_many(const township_plat *plat, const uint8_t *de
  * Answers many descriptions as township_acres_many does, each with its canonical text, and says whether there is a
  * note on it. Call township_normal for a text that is longer than TOWNSHIP_TEXT_ROOM bytes, and
  * township_explain_description for the text of a note or of an explanation. If the plat or the account is not valid,
- * each answer says so.
+ * each answer says so, and so does the verdict of the call; the canonical texts do not depend on the account.
  */
 township_answer township_answer_many(const township_plat *plat, const uint8_t *descriptions,
                                      size_t descriptions_length, const size_t *offsets,
@@ -700,7 +705,8 @@ township_answer township_lots_overlaps(const township_lots *lots, const uint8_t 
                                        township_lots_overlap *overlaps, size_t room);
 
 /* Answers many descriptions by a lot table, each as township_lots_acres would answer it. The descriptions, `length`,
-   and `room` are as in township_acres_many. */
+   and `room` are as in township_acres_many. If the table is not valid, the answer to each description is
+   TOWNSHIP_NO_LOTS, and so is the verdict of the call. */
 township_answer township_lots_acres_many(const township_lots *lots, const uint8_t *descriptions,
                                          size_t descriptions_length, const size_t *offsets,
                                          size_t offsets_length, township_answer *answers, size_t room);
@@ -709,7 +715,7 @@ township_answer township_lots_acres_many(const township_lots *lots, const uint8_
  * Answers many descriptions as township_lots_acres_many does, each with its canonical text on the table's plat, and
  * says whether there is a note on it. Call township_lots_land_text for a text that is longer than TOWNSHIP_TEXT_ROOM
  * bytes, and township_lots_explain_description for the text of a note or of an explanation. If the table is not valid,
- * each answer says so.
+ * each answer is TOWNSHIP_NO_LOTS, and so is the verdict of the call.
  */
 township_answer township_lots_answer_many(const township_lots *lots, const uint8_t *descriptions,
                                           size_t descriptions_length, const size_t *offsets,

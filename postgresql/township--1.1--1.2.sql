@@ -251,6 +251,74 @@ CREATE AGGREGATE total_acres(numerator numeric, denominator numeric) (
 COMMENT ON AGGREGATE total_acres(numeric, numeric)
 IS 'the exact sum of areas, rounded once to hundredths; NULL if any of them is missing';
 
+-- What is unclear in a description on the plat of a lot table.
+
+CREATE FUNCTION notes(
+    lots lots, description text,
+    OUT line_number int4, OUT column_number int4, OUT message text, OUT excerpt text, OUT help text
+) AS 'MODULE_PATHNAME', 'twpg_notes_by_lots' LANGUAGE C IMMUTABLE STRICT PARALLEL SAFE COST 100;
+COMMENT ON FUNCTION notes(lots, text)
+IS 'a place in an accepted description that can be read in two ways, or NULL if there is none';
+
+CREATE FUNCTION notes(
+    notes text, description text,
+    OUT line_number int4, OUT column_number int4, OUT message text, OUT excerpt text, OUT help text
+) AS 'MODULE_PATHNAME', 'twpg_notes_by_notes' LANGUAGE C IMMUTABLE STRICT PARALLEL SAFE COST 200;
+COMMENT ON FUNCTION notes(text, text)
+IS 'a place in a description, accepted on the plat of field notes, that can be read in two ways, or NULL';
+
+-- Lists of tracts: a CSV text, which an aggregate makes from rows. A row without a name or a description stays in the
+-- list, and is refused there. The first function names nothing of the extension, which may not be on the path.
+
+CREATE FUNCTION tract_list_add(list text, name text, description text) RETURNS text AS $$
+    SELECT list || '"' || replace(coalesce(name, ''), '"', '""') || '","'
+        || replace(coalesce(description, ''), '"', '""') || E'"\n'
+$$ LANGUAGE sql IMMUTABLE PARALLEL SAFE;
+
+CREATE AGGREGATE tract_list(name text, description text) (
+    SFUNC = tract_list_add, STYPE = text, INITCOND = E'name,description\n', PARALLEL = SAFE
+);
+COMMENT ON AGGREGATE tract_list(text, text) IS 'a list of tracts (CSV), from their names and descriptions';
+
+CREATE FUNCTION report(
+    plat plat, list text,
+    OUT record int4, OUT name text, OUT acres numeric, OUT number int4, OUT inner_number int4, OUT inner_at int4
+) RETURNS SETOF record
+AS 'MODULE_PATHNAME', 'twpg_report' LANGUAGE C IMMUTABLE STRICT PARALLEL SAFE COST 10000 ROWS 100;
+COMMENT ON FUNCTION report(plat, text) IS 'the acres of each tract of a list, or why it is refused';
+
+CREATE FUNCTION report(
+    lots lots, list text,
+    OUT record int4, OUT name text, OUT acres numeric, OUT number int4, OUT inner_number int4, OUT inner_at int4
+) RETURNS SETOF record
+AS 'MODULE_PATHNAME', 'twpg_report_by_lots' LANGUAGE C IMMUTABLE STRICT PARALLEL SAFE COST 10000 ROWS 100;
+COMMENT ON FUNCTION report(lots, text) IS 'the acres of each tract of a list by a lot table, or why it is refused';
+
+CREATE FUNCTION report(
+    notes text, list text,
+    OUT record int4, OUT name text, OUT acres numeric, OUT number int4, OUT inner_number int4, OUT inner_at int4
+) RETURNS SETOF record
+AS 'MODULE_PATHNAME', 'twpg_report_by_notes' LANGUAGE C IMMUTABLE STRICT PARALLEL SAFE COST 10100 ROWS 100;
+COMMENT ON FUNCTION report(text, text)
+IS 'the acres of each tract of a list, on the plat of field notes, or why it is refused';
+
+CREATE FUNCTION overlaps(plat plat, list text, OUT first int4, OUT second int4, OUT acres numeric, OUT lacking int4)
+RETURNS SETOF record
+AS 'MODULE_PATHNAME', 'twpg_list_overlaps' LANGUAGE C IMMUTABLE STRICT PARALLEL SAFE COST 10000 ROWS 10;
+COMMENT ON FUNCTION overlaps(plat, text) IS 'the pairs of tracts of a list that overlap, with the acres in both';
+
+CREATE FUNCTION overlaps(lots lots, list text, OUT first int4, OUT second int4, OUT acres numeric, OUT lacking int4)
+RETURNS SETOF record
+AS 'MODULE_PATHNAME', 'twpg_list_overlaps_by_lots' LANGUAGE C IMMUTABLE STRICT PARALLEL SAFE COST 10000 ROWS 10;
+COMMENT ON FUNCTION overlaps(lots, text)
+IS 'the pairs of tracts of a list that overlap on the plat of a lot table, with the acres in both by the table';
+
+CREATE FUNCTION overlaps(notes text, list text, OUT first int4, OUT second int4, OUT acres numeric, OUT lacking int4)
+RETURNS SETOF record
+AS 'MODULE_PATHNAME', 'twpg_list_overlaps_by_notes' LANGUAGE C IMMUTABLE STRICT PARALLEL SAFE COST 10100 ROWS 10;
+COMMENT ON FUNCTION overlaps(text, text)
+IS 'the pairs of tracts of a list that overlap on the plat of field notes, with the acres in both';
+
 -- Land on the plat of a lot table.
 
 CREATE FUNCTION land(lots lots, description text) RETURNS land

@@ -1,9 +1,10 @@
 #!/bin/sh
 # Checks that need no proofs and take seconds: the layout of sources, definitions, and proofs, that each wrong body still
-# fits the code, and that what several files repeat is the same in all of them. `make test` begins with them, so that
-# they don't fail after an hour of proofs. The last line is 'N passed, M failed'.
+# fits the code, and that what several files and the documents repeat is the same in all of them. `make test` begins with
+# them, so that they don't fail after an hour of proofs. The last line is 'N passed, M failed'.
 . "$(dirname "$0")/lib.sh"
 cd "$root" || exit 1
+begin documents sh tests/documents/sources.sh
 try 'the layout of sources' sh tools/formatted.sh
 try 'what the gate shows, and its status' sh tests/tools/gate.sh
 if python=$(python_with argparse); then
@@ -23,4 +24,5 @@ if python=$(python_with pytest); then
 else
     skip 'the tests of the scripts and of the model of lot tables: no Python with pytest'
 fi
+gather
 ended

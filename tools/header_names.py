@@ -2,7 +2,7 @@
 """Writes the constants of include/township.h that repeat what is said elsewhere.
 
 The names of the refusals are those of the tables in docs/REFUSALS.md and of the pages in PAGES, which
-tests/documents/documents.sh compares with the code, and the version is that of the library. With --check, nothing is
+tests/documents/sources.sh compares with the code, and the version is that of the library. With --check, nothing is
 written: the status is 1 if the header differs, or the version of a package in bindings/.
 """
 from __future__ import annotations

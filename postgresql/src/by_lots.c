@@ -1,6 +1,6 @@
 /*
- * The answers by a lot table to a description: acres, the exact area, and why there are none. Each whole lot counts at
- * its returned acreage.
+ * The answers by a lot table to a description: acres, the exact area, and why there are none; and what is unclear in
+ * it. Each whole lot counts at its returned acreage.
  */
 #include "land.h"
 #include "lots.h"
@@ -62,6 +62,20 @@ Datum twpg_area_by_lots(PG_FUNCTION_ARGS) {
     check_stack_depth();
     check(township_lots_area(lots, description.start, description.length, &area), lots, description);
     return twpg_area_datum(fcinfo, &area);
+}
+
+/* The note on a description. A refused one has none. */
+PG_FUNCTION_INFO_V1(twpg_notes_by_lots);
+Datum twpg_notes_by_lots(PG_FUNCTION_ARGS) {
+    const township_lots *lots = PG_GETARG_LOTS(0);
+    twpg_bytes description = twpg_bytes_of_text(PG_GETARG_TEXT_PP(1));
+    twpg_explanation explained;
+
+    if (acres_of(lots, description).verdict == TOWNSHIP_REFUSED) {
+        PG_RETURN_NULL();
+    }
+    explained = twpg_explain_by_lots(lots, description);
+    return twpg_note_datum(fcinfo, &explained);
 }
 
 /* Why a description is refused by a lot table, or NULL. */

@@ -19,8 +19,8 @@ static const uint8_t NAME[] = {'d'};
 /* Every line of a sentence continues the one before. */
 #define ALL_LINES UINT32_MAX
 
-/* Field notes, a lot table, or a description with the plat that it is on, or with a lot table of that plat; or a lot table
-   and the place of a lot that it lacks; and the parts of the explanation, which the library writes. */
+/* Field notes, a lot table, or a description or a list with the plat that it is on, or with a lot table of that plat; or
+   a lot table and the place of a lot that it lacks; and the parts of the explanation, which the library writes. */
 typedef struct twpg_explaining {
     const township_plat *plat;
     const township_lots *lots;
@@ -53,6 +53,16 @@ static township_answer write_of_lots(const void *given, uint8_t *text, size_t ro
     const twpg_explaining *it = given;
 
     return township_explain_lots_parts(it->given.start, it->given.length, NAME, sizeof NAME, text, room, it->parts);
+}
+
+static township_answer write_of_list(const void *given, uint8_t *text, size_t room) {
+    const twpg_explaining *it = given;
+
+    return it->lots != NULL
+               ? township_lots_explain_list_parts(it->lots, it->given.start, it->given.length, NAME, sizeof NAME, text,
+                                                  room, it->parts)
+               : township_explain_list_parts(it->plat, it->given.start, it->given.length, NAME, sizeof NAME, text, room,
+                                             it->parts);
 }
 
 static township_answer write_of_lacking(const void *given, uint8_t *text, size_t room) {
@@ -127,6 +137,23 @@ twpg_explanation twpg_explain_notes(twpg_bytes notes) {
 
 twpg_explanation twpg_explain_lots(twpg_bytes table) {
     return explanation_by(write_of_lots, (twpg_explaining){.given = table});
+}
+
+/* A list with one tract too many. Of a list that is refused for this as a whole, the library may explain the fault of a
+   tract instead. */
+static twpg_explanation too_many_tracts(uint32_t record) {
+    twpg_explanation explained = {0};
+
+    explained.sentence = psprintf("there are more than 1,000 tracts: record %u is one too many", record);
+    explained.help = pstrdup("split the list in two");
+    return explained;
+}
+
+twpg_explanation twpg_explain_list(const township_plat *plat, const township_lots *lots, twpg_bytes list,
+                                   township_answer refused) {
+    return refused.number == TOWNSHIP_REFUSAL_TOO_MANY_TRACTS
+               ? too_many_tracts(refused.at)
+               : explanation_by(write_of_list, (twpg_explaining){.plat = plat, .lots = lots, .given = list});
 }
 
 twpg_explanation twpg_explain_lacking(const township_lots *lots, uint32_t at) {

@@ -44,10 +44,12 @@ char *twpg_lots_text(const township_lots *lots);
 /* lots.c: lot tables as values of the database. */
 const township_lots *twpg_lots_of(const struct varlena *stored);
 
-/* explanation.c: why a lot table is refused, why a description is refused on the plat of a lot table, and which lot of
-   land a lot table lacks. */
+/* explanation.c: why a lot table is refused, why a description is refused on the plat of a lot table, why a list is
+   refused as a whole by a lot table or, if that is NULL, on a plat, and which lot of land a lot table lacks. */
 twpg_explanation twpg_explain_lots(twpg_bytes table);
 twpg_explanation twpg_explain_by_lots(const township_lots *lots, twpg_bytes description);
+twpg_explanation twpg_explain_list(const township_plat *plat, const township_lots *lots, twpg_bytes list,
+                                   township_answer refused);
 twpg_explanation twpg_explain_lacking(const township_lots *lots, uint32_t at);
 
 #endif

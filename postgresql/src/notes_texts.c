@@ -19,6 +19,9 @@ Datum twpg_normal(PG_FUNCTION_ARGS);
 Datum twpg_acres_of_land(PG_FUNCTION_ARGS);
 Datum twpg_acres_of_land_or_null(PG_FUNCTION_ARGS);
 Datum twpg_area_of_land(PG_FUNCTION_ARGS);
+Datum twpg_notes(PG_FUNCTION_ARGS);
+Datum twpg_report(PG_FUNCTION_ARGS);
+Datum twpg_list_overlaps(PG_FUNCTION_ARGS);
 Datum twpg_suggest_on_plat(PG_FUNCTION_ARGS);
 Datum twpg_suggest_on_plat_without(PG_FUNCTION_ARGS);
 Datum twpg_svg_on_plat(PG_FUNCTION_ARGS);
@@ -44,6 +47,9 @@ OF_TEXT(twpg_normal_by_notes, twpg_plat_in, twpg_normal)
 OF_TEXT(twpg_acres_of_land_by_notes, twpg_plat_in, twpg_acres_of_land)
 OF_TEXT(twpg_acres_of_land_by_notes_or_null, twpg_plat_in, twpg_acres_of_land_or_null)
 OF_TEXT(twpg_area_of_land_by_notes, twpg_plat_in, twpg_area_of_land)
+OF_TEXT(twpg_notes_by_notes, twpg_plat_in, twpg_notes)
+OF_TEXT(twpg_report_by_notes, twpg_plat_in, twpg_report)
+OF_TEXT(twpg_list_overlaps_by_notes, twpg_plat_in, twpg_list_overlaps)
 OF_TEXT(twpg_suggest_by_notes, twpg_plat_in, twpg_suggest_on_plat)
 OF_TEXT(twpg_svg_by_notes, twpg_plat_in, twpg_svg_on_plat)
 OF_TEXT(twpg_svg_of_section_by_notes, twpg_plat_in, twpg_svg_of_section_on_plat)

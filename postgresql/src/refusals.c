@@ -76,27 +76,33 @@ Datum twpg_refusal_of_notes(PG_FUNCTION_ARGS) {
     return twpg_refusal_datum(fcinfo, answer, &explained);
 }
 
-/* The note on an accepted description with a place that can be read in two ways. A refused one has none. */
+/* The record of a note on an accepted description with a place that can be read in two ways, or NULL if it has none. */
+Datum twpg_note_datum(FunctionCallInfo fcinfo, const twpg_explanation *explained) {
+    Datum values[5];
+    bool nulls[5] = {false};
+
+    if (explained->sentence[0] == '\0') {
+        PG_RETURN_NULL();
+    }
+    set_count(&values[0], &nulls[0], explained->line);
+    set_count(&values[1], &nulls[1], explained->column);
+    set_text(&values[2], &nulls[2], explained->sentence);
+    set_text(&values[3], &nulls[3], explained->excerpt);
+    set_text(&values[4], &nulls[4], explained->help);
+    return twpg_record_datum(fcinfo, values, nulls);
+}
+
+/* The note on a description. A refused one has none. */
 PG_FUNCTION_INFO_V1(twpg_notes);
 Datum twpg_notes(PG_FUNCTION_ARGS) {
     const township_plat *plat = PG_GETARG_PLAT(0);
     twpg_bytes description = twpg_bytes_of_text(PG_GETARG_TEXT_PP(1));
     twpg_explanation explained;
-    Datum values[5];
-    bool nulls[5] = {false};
 
     check_stack_depth();
     if (township_acres(plat, description.start, description.length, TOWNSHIP_EXACT).verdict == TOWNSHIP_REFUSED) {
         PG_RETURN_NULL();
     }
     explained = twpg_explain_description(plat, description);
-    if (explained.sentence[0] == '\0') {
-        PG_RETURN_NULL();
-    }
-    set_count(&values[0], &nulls[0], explained.line);
-    set_count(&values[1], &nulls[1], explained.column);
-    set_text(&values[2], &nulls[2], explained.sentence);
-    set_text(&values[3], &nulls[3], explained.excerpt);
-    set_text(&values[4], &nulls[4], explained.help);
-    return twpg_record_datum(fcinfo, values, nulls);
+    return twpg_note_datum(fcinfo, &explained);
 }

@@ -89,8 +89,10 @@ int twpg_sqlstate_of(uint32_t number);
 _Noreturn void twpg_refuse(township_answer answer, const twpg_explanation *explained);
 _Noreturn void twpg_fail(uint32_t verdict);
 
-/* refusals.c: refusals as records: of a description on a plat, and of field notes, which are the first argument. */
+/* refusals.c: refusals as records: of a description on a plat, and of field notes, which are the first argument; and
+   notes as records. */
 Datum twpg_refusal_datum(FunctionCallInfo fcinfo, township_answer answer, const twpg_explanation *explained);
+Datum twpg_note_datum(FunctionCallInfo fcinfo, const twpg_explanation *explained);
 Datum twpg_refusal_on(FunctionCallInfo fcinfo, const township_plat *plat, twpg_bytes description);
 Datum twpg_refusal_of_notes(PG_FUNCTION_ARGS);
 

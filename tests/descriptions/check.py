@@ -159,6 +159,14 @@ def table(title, counts):
         print(f"  {count:4}  {name}")
 
 
+def ended(passed, failures):
+    """Shows what failed, and the last line of a script; and returns its status."""
+    for failure in failures:
+        print(failure)
+    print(f"{passed} passed, {len(failures)} failed")
+    return 1 if failures else 0
+
+
 def main():
     if len(sys.argv) > 2:
         raise SystemExit("usage: check.py [PROGRAM]")

@@ -24,7 +24,7 @@ import tempfile
 
 sys.dont_write_bytecode = True
 
-from check import NOTES, ROWS, Program, Row  # noqa: E402
+from check import NOTES, ROWS, Program, Row, ended  # noqa: E402
 from floors import floor_faults  # noqa: E402
 
 ROUNDS = 12
@@ -171,10 +171,7 @@ def main():
     print(f"rows that end in the land understood: {cured_rows}")
     passed = len(rows) - len(failures)
     failures += floor_faults(file, cured=cured_rows)
-    for failure in failures:
-        print(failure)
-    print(f"{passed} passed, {len(failures)} failed")
-    return 1 if failures else 0
+    return ended(passed, failures)
 
 
 if __name__ == "__main__":

@@ -69,7 +69,7 @@ import tempfile
 
 sys.dont_write_bytecode = True
 
-from check import FOLDER, Program  # noqa: E402
+from check import FOLDER, Program, ended  # noqa: E402
 from floors import floors  # noqa: E402
 from follow import rows_in  # noqa: E402
 from lands import LOTS, WHOLE, Refused, land_of, square  # noqa: E402
@@ -533,10 +533,7 @@ def main():
         failures.append(f"{counts['all']['run, formal']} formal runs that may lack a comma, more than {FORMAL_MOST}")
     for kind in [*KINDS, "all"]:
         print(f"{kind:<36}{sum(counts[kind].values()):8}" + "".join(f"{counts[kind][name]:16}" for name in OUTCOMES))
-    for failure in failures:
-        print(failure)
-    print(f"{max(0, len(mutants) - len(failures))} passed, {len(failures)} failed")
-    return 1 if failures else 0
+    return ended(max(0, len(mutants) - len(failures)), failures)
 
 
 if __name__ == "__main__":

@@ -30,7 +30,7 @@ import tempfile
 
 sys.dont_write_bytecode = True
 
-from check import FOLDER, ROWS, Program  # noqa: E402
+from check import FOLDER, ROWS, Program, ended  # noqa: E402
 from floors import floor_faults  # noqa: E402
 from follow import rows_in  # noqa: E402
 
@@ -181,10 +181,7 @@ def main():
         faults += record_faults(path.stem, lines, command)
         failures += faults
         passed += not faults
-    for failure in failures:
-        print(failure)
-    print(f"{passed} passed, {len(failures)} failed")
-    return 1 if failures else 0
+    return ended(passed, failures)
 
 
 if __name__ == "__main__":

@@ -6,31 +6,10 @@
  */
 #include "../../postgresql/src/lots.h"
 
-#include <stdio.h>
-#include <stdlib.h>
-
-#undef printf
+#define SEED 47
+#include "packing_test.h"
 
 enum { ROUNDS = 20000, PLACES = 64, QUARTER_QUARTERS = 16 };
-
-static int passed;
-static int failed;
-
-static void check(bool holds, const char *what) {
-    if (holds) {
-        passed++;
-    } else if (failed++ < 10) {
-        printf("FAILED: %s\n", what);
-    }
-}
-
-/* A number below `most`, the same in each run. */
-static uint32_t chance(uint32_t most) {
-    static uint64_t state = 47;
-
-    state = state * UINT64_C(6364136223846793005) + UINT64_C(1442695040888963407);
-    return (uint32_t)(state >> 33) % most;
-}
 
 /* What the library says of a regular township: section 5 has lots 1 to 4, and section 6 has lots 1 to 7. For this test,
    the others have none. */
@@ -223,6 +202,5 @@ int main(void) {
         test_round(round % 4 == 0 ? random_standard() : random_table());
         test_anything();
     }
-    printf("%d passed, %d failed\n", passed, failed);
-    return failed == 0 ? 0 : 1;
+    return checked();
 }

@@ -31,6 +31,11 @@ SELECT count(svg(lots, land(lots, 'sec. 14, S1/2.'))), count(svg(lots, land(lots
 SELECT count(land(lots, 'sec. 14.')), count(normal(lots, 'sec. 14, S1/2.')), count(normal(lots, land(lots, 'sec. 36.'))) FROM lot_tables
 SELECT count(land_or_null('plat ' || left('1912-03-04 with its lots: T2N R3W sec. 14', n))) FROM generate_series(0, 41) AS n
 SELECT acres(plat::text, 'sec. 5, lot 1.'), township(plat::text), township(land::text) FROM plats, lands WHERE lands.id = 1001
+SELECT tract_list(id, description ORDER BY id) AS list INTO lists FROM (SELECT * FROM written ORDER BY id LIMIT 900) AS some
+SELECT count(answer) FROM plats, lists, report(plat, list) AS answer
+SELECT count(answer), count(notes(lots, 'sec. 14, NE1/4 SE1/4.')) FROM lot_tables, lists, report(lots, list) AS answer
+SELECT count(shared) FROM plats, lists, overlaps(plat, list) AS shared
+SELECT count(shared) FROM lot_tables, lists, overlaps(lots, list) AS shared
 SELECT count(value::text::plat) FROM received_plat
 SELECT count(value::text::lots) FROM received_lots
 SELECT 'checked' AS all_of_it

@@ -42,10 +42,15 @@ SELECT land(lots, 'sec. 14.') FROM plats;
 SELECT normal(lots, land) FROM plats;
 SELECT svg(lots, land) FROM plats;
 SELECT E'section,lot,acres\nT,2,N,3,W\n'::lots;
+SELECT notes(lots, 'sec. 14, NE1/4 SE1/4.') FROM plats;
+SELECT report(plat, tract_list('A', 'sec. 14.')) FROM plats GROUP BY plat;
+SELECT report(lots, tract_list('A', 'sec. 14.')) FROM plats GROUP BY lots;
+SELECT overlaps(plat, tract_list('A', 'sec. 14.')) FROM plats GROUP BY plat;
+SELECT overlaps(lots, tract_list('A', 'sec. 14.')) FROM plats GROUP BY lots;
 END
     echo "\\! rm $work/refused"
     echo "SELECT acres(plat, 'sec. 5, lot 1.') FROM plats;"
 } > "$work/refusing.sql"
-{ yes 'ERROR:  53200' | head -n 28; echo 40.45; } > "$work/wanted"
+{ yes 'ERROR:  53200' | head -n 33; echo 40.45; } > "$work/wanted"
 sql -d memory < "$work/refusing.sql" > "$work/found"
 same 'refused memory'

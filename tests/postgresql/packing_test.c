@@ -6,31 +6,10 @@
  */
 #include "../../postgresql/src/land.h"
 
-#include <stdio.h>
-#include <stdlib.h>
-
-#undef printf
+#define SEED 46
+#include "packing_test.h"
 
 enum { ROUNDS = 20000 };
-
-static int passed;
-static int failed;
-
-static void check(bool holds, const char *what) {
-    if (holds) {
-        passed++;
-    } else if (failed++ < 10) {
-        printf("FAILED: %s\n", what);
-    }
-}
-
-/* A number below `most`, the same in each run. */
-static uint32_t chance(uint32_t most) {
-    static uint64_t state = 46;
-
-    state = state * UINT64_C(6364136223846793005) + UINT64_C(1442695040888963407);
-    return (uint32_t)(state >> 33) % most;
-}
 
 /* Sets random cells of a level in a section. */
 static void fill(uint32_t *rows, int level) {
@@ -276,6 +255,5 @@ int main(void) {
         test_round();
         test_random_bytes();
     }
-    printf("%d passed, %d failed\n", passed, failed);
-    return failed != 0;
+    return checked();
 }

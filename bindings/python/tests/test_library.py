@@ -176,16 +176,31 @@ class Orders(unittest.TestCase):
             found = self.verdict(_library.lots_suggest, lots, b"sec. 14.", 8, *rooms, _library.Suggestion())
             self.assertEqual(found, verdict)
 
-    def test_the_two_exceptions(self):
+    def test_explanations_without_room(self):
         plat, no_text = uneven()._parts, ctypes.create_string_buffer(1)
         asked = (b"sec.", 4, b"x", 1, no_text, 0)
         self.assertEqual(self.verdict(_library.explain_description, plat, *asked), _library.NO_ROOM)
         self.assertEqual(self.verdict(_library.explain_description, self.NO_PLAT, *asked), _library.NO_PLAT)
-        offsets, none = (ctypes.c_size_t * 2)(0, 8), (_library.FullAnswer * 1)()
-        for call, first in ((_library.acres_many, _library.NO_PLAT), (_library.answer_many, _library.NO_ROOM)):
-            room = none if call is _library.answer_many else (_library.Answer * 1)()
-            given = (self.NO_PLAT, b"sec. 14.", 8, offsets, 2, self.NO_ACCOUNT, room, 0)
-            self.assertEqual(self.verdict(call, *given), first)
+
+    def test_many_descriptions(self):
+        # Room comes first; then each description is answered, and the verdict of the call is the same.
+        plat, wrong, offsets = uneven()._parts, self.NO_ACCOUNT, (ctypes.c_size_t * 3)(0, 8, 16)
+        for kind, call, by, account, verdict in (
+            (_library.Answer, _library.acres_many, self.NO_PLAT, [wrong], _library.NO_PLAT),
+            (_library.FullAnswer, _library.answer_many, self.NO_PLAT, [wrong], _library.NO_PLAT),
+            (_library.Answer, _library.acres_many, plat, [wrong], _library.NO_ACCOUNT),
+            (_library.FullAnswer, _library.answer_many, plat, [wrong], _library.NO_ACCOUNT),
+            (_library.Answer, _library.lots_acres_many, self.NO_LOTS, [], _library.NO_LOTS),
+            (_library.FullAnswer, _library.lots_answer_many, self.NO_LOTS, [], _library.NO_LOTS),
+        ):
+            answers = (kind * 3)()
+            given = by, b"sec. 14.sec. 15.", 16, offsets, 3, *account, answers
+            self.assertEqual(self.verdict(call, *given, 1), _library.NO_ROOM)
+            self.assertEqual(bytes(answers), bytes(ctypes.sizeof(answers)))
+            self.assertEqual(self.verdict(call, *given, 3), verdict)
+            found = [(answer if kind is _library.Answer else answer.acres).verdict for answer in answers]
+            self.assertEqual(found, [verdict, verdict, 0])
+            self.assertEqual(self.verdict(call, by, b"", 0, offsets, 0, *account, answers, 0), verdict)
 
 
 class Verdicts(unittest.TestCase):

@@ -177,6 +177,7 @@ class Descriptions(RefusalCase):
         found = lake().normal_many(["sec. 14, lot 2.", "sec. 14, lot 5.", b"sec. 13"])
         self.assertEqual((found[0], found[1].number, found[2]),
                          (f"{WHERE},\nsec. 14, lot 2.\n", 64, f"{WHERE},\nsec. 13, all.\n"))
+        self.assertEqual(lake().normal_many(["sec. 14, lot 2.", "sec. 14, lot 5."] * 1000, threads=2), found[:2] * 1000)
 
     def test_refusals(self):
         for description, number, at, sentence, hints in (

@@ -53,8 +53,10 @@ class Many(RefusalCase):
             answers = table().acres_many(descriptions, threads=threads)
             self.assertEqual((answers.hundredths, answers.refused), (wanted.hundredths, wanted.refused))
         self.assertGreater(sum(wanted.hundredths), 0)
-        with self.assertRaises(ValueError):
-            table().acres_many([], threads=0)
+        self.assertEqual(table().normal_many(descriptions, threads=3), table().normal_many(descriptions))
+        for call in (table().acres_many, table().normal_many):
+            with self.assertRaises(ValueError):
+                call([], threads=0)
 
     def test_acres_many(self):
         answers, wanted = table().acres_many(DESCRIPTIONS), self.one_by_one()

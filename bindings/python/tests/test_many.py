@@ -135,6 +135,17 @@ class Many(unittest.TestCase):
                 self.assertEqual((answers.hundredths, answers.refused), (wanted.hundredths, wanted.refused))
                 self.assertEqual(numbers(answers[-5:]), numbers(wanted[-5:]))
 
+    def test_texts_shared_by_threads(self):
+        descriptions = [ACCEPTED, REFUSED, "sec. 36.", "sec. 14, N\u00bd."] * 1000 + ["sec. 5, lot 1."]
+        wanted = uneven().normal_many(descriptions)
+        self.assertEqual(wanted[-2:], ["T. 2 N., R. 3 W.,\nsec. 14, N1/2.\n", "T. 2 N., R. 3 W.,\nsec. 5, lot 1.\n"])
+        for threads, calls in ((1, 1), (2, 2), (3, 3), (100, 4)):
+            real = mock.Mock(wraps=_library.answer_many)
+            with self.subTest(threads=threads), mock.patch.object(_library, "answer_many", real):
+                texts = uneven().normal_many(descriptions, threads=threads)
+                self.assertEqual(real.call_count, calls)
+                self.assertEqual(texts, wanted)
+
     def test_a_few_descriptions_take_one_call(self):
         real = mock.Mock(wraps=_library.acres_many)
         with mock.patch.object(_library, "acres_many", real):
@@ -143,8 +154,9 @@ class Many(unittest.TestCase):
 
     def test_numbers_of_threads_that_are_none(self):
         for threads, error in ((0, ValueError), (-1, ValueError), ("2", TypeError), (1.5, TypeError)):
-            with self.subTest(threads=threads), self.assertRaises(error):
-                uneven().acres_many([ACCEPTED], threads=threads)
+            for call in (uneven().acres_many, uneven().normal_many):
+                with self.subTest(threads=threads, call=call.__name__), self.assertRaises(error):
+                    call([ACCEPTED], threads=threads)
 
     def test_what_is_not_answered_by_one_call(self):
         for descriptions, error in (("sec. 14.", TypeError), ([None], TypeError), ([14], TypeError)):

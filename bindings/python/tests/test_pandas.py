@@ -95,6 +95,19 @@ class Columns(unittest.TestCase):
             acres = self.column.astype(dtype).township.acres(uneven())
             self.assertEqual(acres.fillna(-1).tolist(), [161.0, -1, -1, 40.45])
 
+    def test_shared_by_threads(self):
+        column = self.pandas.concat([self.column] * 1000)
+        for by in (uneven(), Lots.read(TABLE)):
+            one, two = column.township.answers(by), column.township.answers(by, threads=2)
+            self.assertTrue(one.equals(two))
+            self.assertTrue(column.township.acres(by, threads=3).equals(one["acres"]))
+            self.assertTrue(column.township.normal(by, threads=4).equals(column.township.normal(by)))
+        for call in (self.column.township.acres, self.column.township.answers, self.column.township.normal):
+            with self.assertRaises(ValueError):
+                call(uneven(), threads=0)
+        with self.assertRaises(ValueError):
+            self.column.iloc[:0].township.acres(uneven(), threads=0)
+
     def test_by_a_lot_table(self):
         lots = Lots.read(TABLE)
         self.assertEqual(self.column.township.acres(lots).fillna(-1).tolist(), [-1, -1, -1, 41.23])

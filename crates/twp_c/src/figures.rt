@@ -1,6 +1,6 @@
 //! The calls that give figures as numbers, and answer many descriptions, as C calls them.
 ghost use Rattle.std.specs.Prelude.{◌≡◌, ◌≢◌};
-ghost use Rattle.twp_calls.specs.Answers.{ACCEPTED};
+ghost use Rattle.twp_calls.specs.Answers.{ACCEPTED, NO_ROOM};
 ghost use Rattle.twp_calls.specs.Figures.{IsFiguresCall};
 ghost use Rattle.twp_calls.specs.ManyAnswers.{IsManyCall};
 ghost use Rattle.twp_calls.specs.FullAnswers.{IsFullCall};
@@ -33,7 +33,7 @@ pub extern "C" fn township_acres_many(
 ) -> TownshipAnswer
     ensures answer { IsManyCall plat.now descriptions.now offsets.now account
         answers.old answers.new result }
-    ensures kept { result.verdict ≢ ACCEPTED → answers.new ≡ answers.old }
+    ensures kept { result.verdict ≡ NO_ROOM → answers.new ≡ answers.old }
 {
     twp_calls::township_acres_many(alloc, plat, descriptions, offsets, account, answers)
 }
@@ -50,7 +50,7 @@ pub extern "C" fn township_answer_many(
 ) -> TownshipAnswer
     ensures answer { IsFullCall plat.now descriptions.now offsets.now account
         answers.old answers.new result }
-    ensures kept { result.verdict ≢ ACCEPTED → answers.new ≡ answers.old }
+    ensures kept { result.verdict ≡ NO_ROOM → answers.new ≡ answers.old }
 {
     twp_calls::township_answer_many(alloc, plat, descriptions, offsets, account, answers)
 }

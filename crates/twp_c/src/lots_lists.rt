@@ -1,6 +1,6 @@
 //! The calls that answer lists of tracts, and many descriptions, by a lot table, as C calls them.
 ghost use Rattle.std.specs.Prelude.{◌≡◌, ◌≢◌, ◌<◌};
-ghost use Rattle.twp_calls.specs.Answers.{ACCEPTED, IsRefused};
+ghost use Rattle.twp_calls.specs.Answers.{ACCEPTED, IsRefused, NO_ROOM};
 ghost use Rattle.twp_calls.specs.Explanations.{HasNoText};
 ghost use Rattle.twp_calls.specs.LotEachCalls.{IsLotsEachCall};
 ghost use Rattle.twp_calls.specs.LotFullAnswers.{IsLotsFullCall};
@@ -54,7 +54,7 @@ pub extern "C" fn township_lots_acres_many(
 ) -> TownshipAnswer
     ensures answer { IsLotsManyCall lots.now descriptions.now offsets.now
         answers.old answers.new result }
-    ensures kept { result.verdict ≢ ACCEPTED → answers.new ≡ answers.old }
+    ensures kept { result.verdict ≡ NO_ROOM → answers.new ≡ answers.old }
 {
     twp_calls::township_lots_acres_many(alloc, lots, descriptions, offsets, answers)
 }
@@ -70,7 +70,7 @@ pub extern "C" fn township_lots_answer_many(
 ) -> TownshipAnswer
     ensures answer { IsLotsFullCall lots.now descriptions.now offsets.now
         answers.old answers.new result }
-    ensures kept { result.verdict ≢ ACCEPTED → answers.new ≡ answers.old }
+    ensures kept { result.verdict ≡ NO_ROOM → answers.new ≡ answers.old }
 {
     twp_calls::township_lots_answer_many(alloc, lots, descriptions, offsets, answers)
 }

@@ -5,7 +5,7 @@ use Rattle.std.proofs.Common.{arith, below_more}
 use Rattle.std.specs.Prelude.{slice_range}
 use Rattle.std.specs.List.{PartBy, SameFrom}
 use Rattle.std.proofs.lemmas.List.{get_or-set_same, get_or-set_other, get_or_default}
-use Rattle.twp_calls.specs.Answers.{ACCEPTED, NO_ROOM, bare, with_text}
+use Rattle.twp_calls.specs.Answers.{NO_ROOM, bare, with_text}
 use Rattle.twp_calls.specs.ManyAnswers.{IsRange}
 use Rattle.twp_calls.specs.declared.answer.TownshipAnswer.{TownshipAnswer}
 use Rattle.twp_calls.specs.FullAnswers.{AreBetween, AreFullAnswersTo, AreOfDescription, DescriptionCalls}
@@ -62,15 +62,17 @@ too_many calls bytes offsets old answer count same short is =
 
 -- each description is answered
 pub all_answered : (calls : DescriptionCalls) (bytes offsets : List ℕ) (old new : List TownshipFullAnswer)
-    (answer : TownshipAnswer) (count : ℕ) → count ≡ length offsets - 1 → count ≤ length old
+    (returned answer : TownshipAnswer) (count : ℕ) → count ≡ length offsets - 1 → count ≤ length old
     → length new ≡ length old → AreFullAnswersTo calls bytes offsets count old new
-    → SameFrom old new count
-    → answer ≡ with_text (bare ACCEPTED) count → IsFullAnswer calls bytes offsets old new answer
-all_answered calls bytes offsets old new answer count same room long answers kept is =
+    → SameFrom old new count → calls.returns returned
+    → answer ≡ with_text returned count → IsFullAnswer calls bytes offsets old new answer
+all_answered calls bytes offsets old new returned answer count same room long answers kept returns is =
     answered (record {
       room = subst (λ n. n ≤ length old) same room;
       length_is = long;
       answers = subst (λ n. AreFullAnswersTo calls bytes offsets n old new) same answers;
       kept = subst (SameFrom old new) same kept;
-      answer_is = subst (λ n. answer ≡ with_text (bare ACCEPTED) n) same is;
+      returned = returned;
+      returned_is = returns;
+      answer_is = subst (λ n. answer ≡ with_text returned n) same is;
     })

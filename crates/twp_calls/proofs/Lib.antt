@@ -1,4 +1,5 @@
 pub mod AccountFacts
+pub mod BasisFacts
 pub mod CallFacts
 pub mod EachFacts
 pub mod ExplanationPartFacts

@@ -5,20 +5,10 @@ use Rattle.std.proofs.Common.{arith, below_more}
 use Rattle.std.specs.Prelude.{slice_range}
 use Rattle.std.specs.List.{PartBy, SameFrom}
 use Rattle.std.proofs.lemmas.List.{get_or-set_same, get_or-set_other}
-use Rattle.twp_plat.specs.Plats.{TownshipPlat}
-use Rattle.twp_plat.specs.declared.land_area.Account.{Account}
-use Rattle.twp_answers.specs.OnPlats.{HasAcresOn, StopsOn}
-use Rattle.twp_answers.specs.declared.stop.Stop.{Stop}
-use Rattle.twp_calls.specs.Answers.{ACCEPTED, NO_ROOM, accepted_acres, bare, stopped, with_text}
-use Rattle.twp_calls.specs.Calls.{AnswersAcres, IsAcresCall, accepted, account_of, by_account, on_plat}
-use Rattle.twp_calls.specs.GivenPlats.{IsGivenPlat}
+use Rattle.twp_calls.specs.Answers.{ACCEPTED, NO_ROOM, bare, with_text}
 use Rattle.twp_calls.specs.ManyAnswers.{AreManyAnswersTo, DescriptionCall, IsAnswerBetween, IsManyAnswer}
-use Rattle.twp_calls.specs.ManyAnswers.{IsRange, answered}
-use Rattle.twp_calls.specs.ManyAnswers.{inside, no_room}
+use Rattle.twp_calls.specs.ManyAnswers.{IsRange, ReturnedVerdict, answered, inside, no_room}
 use Rattle.twp_calls.specs.declared.answer.TownshipAnswer.{TownshipAnswer}
-use Rattle.twp_calls.specs.declared.plat.TownshipPlat.{TownshipPlat as GivenPlat}
-use Rattle.twp_calls.proofs.CallFacts.{stops_by}
-use Rattle.twp_grid.specs.Lands.{STANDARD_LOTS}
 
 -- one more description is answered
 pub answers_next : (Call : DescriptionCall) (bytes offsets : List ℕ) (count : ℕ)
@@ -40,36 +30,6 @@ pub kept_next : (count : ℕ) (old answers : List TownshipAnswer) (answer : Town
 kept_next count old answers answer before k d above =
     rw (get_or-set_other answers count k answer d (λ same. absurd (omega arith))) (before k d (omega arith))
 
--- a description in the range that is accepted
-pub accepted_between : (given : GivenPlat) (plat : TownshipPlat) (bytes description : List ℕ)
-    (start end code : ℕ) (account : Account) (hundredths : ℕ) (answer : TownshipAnswer)
-    → IsGivenPlat given plat → account_of code ≡ Some account → IsRange bytes start end
-    → description ≡ slice_range bytes start end → HasAcresOn plat description account hundredths
-    → answer ≡ accepted_acres hundredths
-    → IsAnswerBetween (λ text. IsAcresCall given text code) bytes start end answer
-accepted_between given plat bytes description start end code account hundredths answer is account_is range
-    same
-    has answer_is =
-    inside range (on_plat plat is (by_account account account_is (accepted (record {
-      hundredths = hundredths;
-      has = subst (λ d. HasAcresOn plat d account hundredths) same has;
-      answer_is = answer_is;
-    }))))
-
--- one that is refused, or for which memory ran out
-pub stopped_between : (given : GivenPlat) (plat : TownshipPlat) (bytes description : List ℕ)
-    (start end code : ℕ) (account : Account) (stopping : Stop) (answer : TownshipAnswer)
-    → IsGivenPlat given plat → account_of code ≡ Some account → IsRange bytes start end
-    → description ≡ slice_range bytes start end → StopsOn STANDARD_LOTS plat.township description stopping
-    → answer ≡ stopped stopping → IsAnswerBetween (λ text. IsAcresCall given text code) bytes start end answer
-stopped_between given plat bytes description start end code account stopping answer is account_is range same
-    stops answer_is =
-    inside range
-    (stops_by given plat is code account account_is
-    (λ plat account. AnswersAcres plat (slice_range bytes start end) account) (slice_range bytes start end)
-    stopping
-    answer answer_is (subst (λ d. StopsOn STANDARD_LOTS plat.township d stopping) same stops))
-
 -- a part that was found is the range
 pub range_of : {R : Type 0} (now : R → List ℕ) (bytes : List ℕ) (start end : ℕ) (found : Option R) (part : R)
     → found ≡ Some part → PartBy now bytes start end found
@@ -79,25 +39,29 @@ range_of now bytes start end (Some other) part is ((first, last, same, long), so
     ((first, last), subst (λ p. now p ≡ slice_range bytes start end) (cc is) same)
 
 -- there is less room than there are descriptions
-pub too_many : (Call : DescriptionCall) (bytes offsets : List ℕ) (old : List TownshipAnswer)
-    (answer : TownshipAnswer) (count : ℕ) → count ≡ length offsets - 1 → length old < count
-    → answer ≡ with_text (bare NO_ROOM) count → IsManyAnswer Call bytes offsets old old answer
-too_many Call bytes offsets old answer count same short is =
+pub too_many : (Call : DescriptionCall) (Returns : ReturnedVerdict) (bytes offsets : List ℕ)
+    (old : List TownshipAnswer) (answer : TownshipAnswer) (count : ℕ) → count ≡ length offsets - 1
+    → length old < count → answer ≡ with_text (bare NO_ROOM) count
+    → IsManyAnswer Call Returns bytes offsets old old answer
+too_many Call Returns bytes offsets old answer count same short is =
     no_room (subst (λ n. length old < n) same short)
     (subst (λ n. answer ≡ with_text (bare NO_ROOM) n) same is)
 
 -- each description is answered
-pub all_answered : (Call : DescriptionCall) (bytes offsets : List ℕ) (old new : List TownshipAnswer)
-    (answer : TownshipAnswer) (count : ℕ) → count ≡ length offsets - 1 → count ≤ length old
-    → length new ≡ length old → AreManyAnswersTo Call bytes offsets count new → SameFrom old new count
-    → answer ≡ with_text (bare ACCEPTED) count → IsManyAnswer Call bytes offsets old new answer
-all_answered Call bytes offsets old new answer count same room long answers kept is =
+pub all_answered : (Call : DescriptionCall) (Returns : ReturnedVerdict) (bytes offsets : List ℕ)
+    (old new : List TownshipAnswer) (returned answer : TownshipAnswer) (count : ℕ)
+    → count ≡ length offsets - 1 → count ≤ length old → length new ≡ length old
+    → AreManyAnswersTo Call bytes offsets count new → SameFrom old new count → Returns returned
+    → answer ≡ with_text returned count → IsManyAnswer Call Returns bytes offsets old new answer
+all_answered Call Returns bytes offsets old new returned answer count same room long answers kept returns is =
     answered (record {
       room = subst (λ n. n ≤ length old) same room;
       length_is = long;
       answers = subst (λ n. AreManyAnswersTo Call bytes offsets n new) same answers;
       kept = subst (SameFrom old new) same kept;
-      answer_is = subst (λ n. answer ≡ with_text (bare ACCEPTED) n) same is;
+      returned = returned;
+      returned_is = returns;
+      answer_is = subst (λ n. answer ≡ with_text returned n) same is;
     })
 
 -- a description in the range is answered by the call

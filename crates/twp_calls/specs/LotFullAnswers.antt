@@ -11,6 +11,7 @@ use Rattle.twp_calls.specs.Calls.{Answers, IsRefusedFor, IsTextPut}
 use Rattle.twp_calls.specs.FullAnswers.{DescriptionCalls, IsFullAnswer}
 use Rattle.twp_calls.specs.LotCalls.{ByLots, IsLotsAcresCall}
 use Rattle.twp_calls.specs.LotExplanations.{ExplainsByLots}
+use Rattle.twp_calls.specs.LotManyAnswers.{IsTableVerdict}
 use Rattle.twp_calls.specs.declared.answer.TownshipAnswer.{TownshipAnswer}
 use Rattle.twp_calls.specs.declared.full_answer.TownshipFullAnswer.{TownshipFullAnswer}
 use Rattle.twp_calls.specs.declared.lots.TownshipLots.{TownshipLots as GivenLots}
@@ -29,15 +30,16 @@ IsNormalByLots given description old new = ByLots given (λ township.
     Answers (IsTextPut (HasNormalByLots township given.lots description) old new)
     (IsRefusedFor (IsNoDescription (lots_of given.lots) township description)))
 
--- `township_lots_acres`, that text, and `township_lots_explain_description`
+-- `township_lots_acres`, that text, and `township_lots_explain_description`; and the verdict on the table
 abbrev pub calls_by_lots : GivenLots → DescriptionCalls
 calls_by_lots given = record {
   acres = λ description. IsLotsAcresCall given description;
   normal = λ description. IsNormalByLots given description;
   explains = λ description. ExplainsByLots given description;
+  returns = IsTableVerdict given;
 }
 
--- `township_lots_answer_many`
+-- `township_lots_answer_many`: each is answered, even if the table is not valid
 abbrev pub IsLotsFullCall : GivenLots → List ℕ → List ℕ → List TownshipFullAnswer → List TownshipFullAnswer
     → TownshipAnswer → Type 0
 IsLotsFullCall given bytes offsets old new = IsFullAnswer (calls_by_lots given) bytes offsets old new

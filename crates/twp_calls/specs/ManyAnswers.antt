@@ -23,6 +23,15 @@ pub data IsAnswerBetween (Call : DescriptionCall) (bytes : List ℕ) (start end 
   outside : ¬ IsRange bytes start end → answer ≡ bare NO_RANGE
       → IsAnswerBetween Call bytes start end answer
 
+-- what is returned when each description was answered: the verdict on the basis of the answers, which is a
+-- plat and an account, or a lot table
+abbrev pub ReturnedVerdict : Type 1
+ReturnedVerdict = TownshipAnswer → Type 0
+
+-- the verdict on a plat and an account: both are valid, or it is the verdict on the first that is not
+abbrev pub IsBasisVerdict : GivenPlat → ℕ → ReturnedVerdict
+IsBasisVerdict given code = OnPlat given (λ plat. ByAccount code (λ account answer. answer ≡ bare ACCEPTED))
+
 -- the number of descriptions between offsets
 abbrev pub count_between : List ℕ → ℕ
 count_between offsets = length offsets - 1
@@ -34,26 +43,31 @@ AreManyAnswersTo Call bytes offsets count answers = (index : ℕ) → index < co
     → IsAnswerBetween Call bytes (slice_index_or offsets index 0) (slice_index_or offsets (index + 1) 0)
     (slice_index_or answers index (bare ACCEPTED))
 
--- each description was answered, and nothing else was written
-pub record AreAnswered (Call : DescriptionCall) (bytes offsets : List ℕ)
+-- Each description was answered, and nothing else was written. The verdict on the basis is returned, with the
+-- number of descriptions.
+pub record AreAnswered (Call : DescriptionCall) (Returns : ReturnedVerdict) (bytes offsets : List ℕ)
     (old new : List TownshipAnswer) (answer : TownshipAnswer) : Type 0 where
   pub room : count_between offsets ≤ length old
   pub length_is : length new ≡ length old
   pub answers : AreManyAnswersTo Call bytes offsets (count_between offsets) new
   pub kept : SameFrom old new (count_between offsets)
-  pub answer_is : answer ≡ with_text (bare ACCEPTED) (count_between offsets)
+  pub returned : TownshipAnswer
+  pub returned_is : Returns returned
+  pub answer_is : answer ≡ with_text returned (count_between offsets)
 
 -- Each description is answered, or there is less room than there are descriptions.
-pub data IsManyAnswer (Call : DescriptionCall) (bytes offsets : List ℕ)
+pub data IsManyAnswer (Call : DescriptionCall) (Returns : ReturnedVerdict) (bytes offsets : List ℕ)
     (old new : List TownshipAnswer) (answer : TownshipAnswer) : Type 0 where
-  answered : AreAnswered Call bytes offsets old new answer
-      → IsManyAnswer Call bytes offsets old new answer
+  answered : AreAnswered Call Returns bytes offsets old new answer
+      → IsManyAnswer Call Returns bytes offsets old new answer
   no_room : length old < count_between offsets
       → answer ≡ with_text (bare NO_ROOM) (count_between offsets)
-      → IsManyAnswer Call bytes offsets old new answer
+      → IsManyAnswer Call Returns bytes offsets old new answer
 
--- `township_acres_many`: on a plat, by an account
+-- `township_acres_many`: each is answered as by `township_acres`, even if the plat or the account is not
+-- valid
 abbrev pub IsManyCall : GivenPlat → List ℕ → List ℕ → ℕ → List TownshipAnswer → List TownshipAnswer
     → TownshipAnswer → Type 0
-IsManyCall given bytes offsets code old new = OnPlat given (λ plat. ByAccount code (λ account.
-    IsManyAnswer (λ description. IsAcresCall given description code) bytes offsets old new))
+IsManyCall given bytes offsets code old new =
+    IsManyAnswer (λ description. IsAcresCall given description code) (IsBasisVerdict given code) bytes offsets
+    old new

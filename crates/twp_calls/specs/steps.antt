@@ -1,4 +1,5 @@
 -- What private functions promise one another.
+pub mod BasisSteps
 pub mod Filling
 pub mod LotSteps
 pub mod Noting

@@ -1,11 +1,12 @@
 //! Many descriptions, answered by one call: the acres of each, its canonical text, and whether there is a
 //! note on it.
 ghost use Rattle.std.specs.Prelude.{◌≡◌, ◌≢◌, ℕ};
-ghost use Rattle.twp_calls.specs.Answers.{ACCEPTED};
+ghost use Rattle.twp_calls.specs.Answers.{ACCEPTED, NO_ROOM};
 ghost use Rattle.twp_calls.specs.FullAnswers.{AreBetween, ExplainsWithoutRoom, IsFullCall, calls_on};
 
 use crate::answer::TownshipAnswer;
 use crate::answering::{township_acres, township_normal};
+use crate::basis::Basis;
 use crate::explaining_texts::township_explain_description;
 use crate::full_answer::TownshipFullAnswer;
 use crate::many::counted;
@@ -14,7 +15,8 @@ use crate::verdict::{ACCEPTED, NO_RANGE, NO_ROOM};
 use std::alloc::Global;
 
 /// The full answers to many descriptions, which are given as bytes in a row: the first description is from
-/// the first offset to the second, the next from there to the third, and so on.
+/// the first offset to the second, the next from there to the third, and so on. Each is answered, even if
+/// the plat or the account is not valid.
 pub fn township_answer_many(
     alloc: Global,
     plat: &TownshipPlat,
@@ -25,7 +27,7 @@ pub fn township_answer_many(
 ) -> TownshipAnswer
     ensures answer { IsFullCall plat.now descriptions.now offsets.now account
         answers.old answers.new result }
-    ensures kept { result.verdict ≢ ACCEPTED → answers.new ≡ answers.old }
+    ensures kept { result.verdict ≡ NO_ROOM → answers.new ≡ answers.old }
 {
     let count = offsets.len().saturating_sub(1);
     if answers.len() < count {
@@ -43,7 +45,7 @@ pub fn township_answer_many(
             answers[index],
         );
     }
-    counted(ACCEPTED, count)
+    counted(Basis::of(plat, account).verdict(), count)
 }
 
 /// The full answer to the description between two offsets. Its text overwrites the old one.

@@ -8,6 +8,7 @@ mod account_call;
 mod answer;
 mod answer_many;
 mod answering;
+mod basis;
 mod combining;
 mod designation;
 mod designation_call;

@@ -1,9 +1,12 @@
 //! Lot tables as plain data.
 ghost use Rattle.std.specs.Prelude.{◌≡◌};
+ghost use Rattle.twp_calls.specs.Answers.{bare};
 ghost use Rattle.twp_calls.specs.GivenLots.{given_lots};
+ghost use Rattle.twp_calls.specs.LotManyAnswers.{IsTableVerdict};
 ghost use Rattle.twp_calls.specs.WhichPlats.{plat_of_lots};
 
 use crate::designation::TownshipDesignation;
+use crate::verdict::{ACCEPTED, NO_LOTS};
 use crate::which_plat::WhichPlat;
 use twp_plat::{LotTable, ReturnedLots};
 
@@ -29,6 +32,16 @@ impl TownshipLots {
             township: TownshipDesignation::of(table.township),
             date: table.date,
             lots: table.lots,
+        }
+    }
+
+    /// The verdict on the table.
+    pub(crate) fn verdict(&self) -> u32
+        ensures { IsTableVerdict self.now (bare result) }
+    {
+        match self.township.township() {
+            Some(_) => ACCEPTED,
+            None => NO_LOTS,
         }
     }
 

@@ -1,7 +1,7 @@
 //! Many descriptions, answered by a lot table in one call: the acres of each, its canonical text, and whether
 //! there is a note on it.
 ghost use Rattle.std.specs.Prelude.{◌≡◌, ◌≢◌};
-ghost use Rattle.twp_calls.specs.Answers.{ACCEPTED};
+ghost use Rattle.twp_calls.specs.Answers.{ACCEPTED, NO_ROOM};
 ghost use Rattle.twp_calls.specs.FullAnswers.{AreBetween, ExplainsWithoutRoom};
 ghost use Rattle.twp_calls.specs.LotFullAnswers.{IsLotsFullCall, IsNormalByLots, calls_by_lots};
 
@@ -18,7 +18,7 @@ use twp_answers::land_of;
 use twp_spell::spell;
 
 /// The full answers by a lot table to many descriptions, which are given as bytes in a row, as for
-/// `township_answer_many`.
+/// `township_answer_many`. Each is answered, even if the table is not valid.
 pub fn township_lots_answer_many(
     alloc: Global,
     lots: &TownshipLots,
@@ -28,7 +28,7 @@ pub fn township_lots_answer_many(
 ) -> TownshipAnswer
     ensures answer { IsLotsFullCall lots.now descriptions.now offsets.now
         answers.old answers.new result }
-    ensures kept { result.verdict ≢ ACCEPTED → answers.new ≡ answers.old }
+    ensures kept { result.verdict ≡ NO_ROOM → answers.new ≡ answers.old }
 {
     let count = offsets.len().saturating_sub(1);
     if answers.len() < count {
@@ -38,7 +38,7 @@ pub fn township_lots_answer_many(
         let (start, end) = (offsets[index], offsets[index + 1]);
         answers[index] = answer_between(alloc, lots, descriptions, start, end, answers[index]);
     }
-    counted(ACCEPTED, count)
+    counted(lots.verdict(), count)
 }
 
 /// The full answer to the description between two offsets. Its text overwrites the old one.

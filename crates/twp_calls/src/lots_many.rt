@@ -1,6 +1,6 @@
 //! The acres of many descriptions by a lot table, answered by one call.
-ghost use Rattle.std.specs.Prelude.{◌≡◌, ◌≢◌};
-ghost use Rattle.twp_calls.specs.Answers.{ACCEPTED};
+ghost use Rattle.std.specs.Prelude.{◌≡◌};
+ghost use Rattle.twp_calls.specs.Answers.{NO_ROOM};
 ghost use Rattle.twp_calls.specs.LotCalls.{IsLotsAcresCall};
 ghost use Rattle.twp_calls.specs.LotManyAnswers.{IsLotsManyCall};
 ghost use Rattle.twp_calls.specs.ManyAnswers.{IsAnswerBetween};
@@ -9,11 +9,11 @@ use crate::answer::TownshipAnswer;
 use crate::lot_answers::township_lots_acres;
 use crate::lots::TownshipLots;
 use crate::many::counted;
-use crate::verdict::{ACCEPTED, NO_LOTS, NO_RANGE, NO_ROOM};
+use crate::verdict::{NO_RANGE, NO_ROOM};
 use std::alloc::Global;
 
 /// The answers of `township_lots_acres` to many descriptions, which are given as bytes in a row, as for
-/// `township_acres_many`.
+/// `township_acres_many`. Each is answered, even if the table is not valid.
 pub fn township_lots_acres_many(
     alloc: Global,
     lots: &TownshipLots,
@@ -23,11 +23,8 @@ pub fn township_lots_acres_many(
 ) -> TownshipAnswer
     ensures answer { IsLotsManyCall lots.now descriptions.now offsets.now
         answers.old answers.new result }
-    ensures kept { result.verdict ≢ ACCEPTED → answers.new ≡ answers.old }
+    ensures kept { result.verdict ≡ NO_ROOM → answers.new ≡ answers.old }
 {
-    let Some(_township) = lots.township.township() else {
-        return TownshipAnswer::bare(NO_LOTS);
-    };
     let count = offsets.len().saturating_sub(1);
     if answers.len() < count {
         return counted(NO_ROOM, count);
@@ -36,7 +33,7 @@ pub fn township_lots_acres_many(
         let (start, end) = (offsets[index], offsets[index + 1]);
         answers[index] = answer_between(alloc, lots, descriptions, start, end);
     }
-    counted(ACCEPTED, count)
+    counted(lots.verdict(), count)
 }
 
 /// The answer to the description between two offsets.

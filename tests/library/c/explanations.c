@@ -73,49 +73,23 @@ typedef struct kind {
                                   township_explanation *parts);
 } kind;
 
-static township_answer notes_alone(const township_plat *plat, bytes input, uint8_t *text, size_t size) {
-    (void)plat;
-    return township_explain_notes(input.at, input.length, NAME, text, size);
-}
+/* Defines a kind: its two calls, and their first arguments, which may name `plat` and `input`. */
+#define KIND(name, call_alone, call_with_parts, ...)                                                                   \
+    static township_answer name##_alone(const township_plat *plat, bytes input, uint8_t *text, size_t size) {          \
+        (void)plat;                                                                                                    \
+        return call_alone(__VA_ARGS__, NAME, text, size);                                                              \
+    }                                                                                                                  \
+    static township_answer name##_with_parts(const township_plat *plat, bytes input, uint8_t *text, size_t size,       \
+                                             township_explanation *parts) {                                            \
+        (void)plat;                                                                                                    \
+        return call_with_parts(__VA_ARGS__, NAME, text, size, parts);                                                  \
+    }                                                                                                                  \
+    static const kind name = {name##_alone, name##_with_parts}
 
-static township_answer notes_parts(const township_plat *plat, bytes input, uint8_t *text, size_t size,
-                                   township_explanation *parts) {
-    (void)plat;
-    return township_explain_notes_parts(input.at, input.length, NAME, text, size, parts);
-}
-
-static township_answer land_alone(const township_plat *plat, bytes input, uint8_t *text, size_t size) {
-    return township_explain_description(plat, input.at, input.length, NAME, text, size);
-}
-
-static township_answer land_parts(const township_plat *plat, bytes input, uint8_t *text, size_t size,
-                                  township_explanation *parts) {
-    return township_explain_description_parts(plat, input.at, input.length, NAME, text, size, parts);
-}
-
-static township_answer list_alone(const township_plat *plat, bytes input, uint8_t *text, size_t size) {
-    return township_explain_list(plat, input.at, input.length, NAME, text, size);
-}
-
-static township_answer list_parts(const township_plat *plat, bytes input, uint8_t *text, size_t size,
-                                  township_explanation *parts) {
-    return township_explain_list_parts(plat, input.at, input.length, NAME, text, size, parts);
-}
-
-static const kind NOTES = {notes_alone, notes_parts};
-static const kind LAND = {land_alone, land_parts};
-static const kind LIST = {list_alone, list_parts};
-
-static township_answer table_alone(const township_plat *plat, bytes input, uint8_t *text, size_t size) {
-    (void)plat;
-    return township_explain_lots(input.at, input.length, NAME, text, size);
-}
-
-static township_answer table_parts(const township_plat *plat, bytes input, uint8_t *text, size_t size,
-                                   township_explanation *parts) {
-    (void)plat;
-    return township_explain_lots_parts(input.at, input.length, NAME, text, size, parts);
-}
+KIND(NOTES, township_explain_notes, township_explain_notes_parts, input.at, input.length);
+KIND(LAND, township_explain_description, township_explain_description_parts, plat, input.at, input.length);
+KIND(LIST, township_explain_list, township_explain_list_parts, plat, input.at, input.length);
+KIND(TABLE, township_explain_lots, township_explain_lots_parts, input.at, input.length);
 
 /* A lot table that is given as text. */
 static township_lots lots_of(bytes input) {
@@ -128,20 +102,7 @@ static township_lots lots_of(bytes input) {
 /* The lot that the tables lack: lot 3 of section 5. */
 #define LACKING 503
 
-static township_answer lacking_alone(const township_plat *plat, bytes input, uint8_t *text, size_t size) {
-    township_lots lots = lots_of(input);
-
-    (void)plat;
-    return township_explain_lacking(&lots, LACKING, NAME, text, size);
-}
-
-static township_answer lacking_parts(const township_plat *plat, bytes input, uint8_t *text, size_t size,
-                                     township_explanation *parts) {
-    township_lots lots = lots_of(input);
-
-    (void)plat;
-    return township_explain_lacking_parts(&lots, LACKING, NAME, text, size, parts);
-}
+KIND(LACKED, township_explain_lacking, township_explain_lacking_parts, (township_lots[]){lots_of(input)}, LACKING);
 
 /* The township with a lake, whose table lacks the acreage of lot 2. */
 static township_lots lake(void) {
@@ -152,40 +113,10 @@ static township_lots lake(void) {
     return lots;
 }
 
-static township_answer by_lots_alone(const township_plat *plat, bytes input, uint8_t *text, size_t size) {
-    township_lots lots = lake();
-
-    (void)plat;
-    return township_lots_explain_description(&lots, input.at, input.length, NAME, text, size);
-}
-
-static township_answer by_lots_parts(const township_plat *plat, bytes input, uint8_t *text, size_t size,
-                                     township_explanation *parts) {
-    township_lots lots = lake();
-
-    (void)plat;
-    return township_lots_explain_description_parts(&lots, input.at, input.length, NAME, text, size, parts);
-}
-
-static township_answer list_by_lots_alone(const township_plat *plat, bytes input, uint8_t *text, size_t size) {
-    township_lots lots = lake();
-
-    (void)plat;
-    return township_lots_explain_list(&lots, input.at, input.length, NAME, text, size);
-}
-
-static township_answer list_by_lots_parts(const township_plat *plat, bytes input, uint8_t *text, size_t size,
-                                          township_explanation *parts) {
-    township_lots lots = lake();
-
-    (void)plat;
-    return township_lots_explain_list_parts(&lots, input.at, input.length, NAME, text, size, parts);
-}
-
-static const kind TABLE = {table_alone, table_parts};
-static const kind LACKED = {lacking_alone, lacking_parts};
-static const kind BY_LOTS = {by_lots_alone, by_lots_parts};
-static const kind LIST_BY_LOTS = {list_by_lots_alone, list_by_lots_parts};
+KIND(BY_LOTS, township_lots_explain_description, township_lots_explain_description_parts, (township_lots[]){lake()},
+     input.at, input.length);
+KIND(LIST_BY_LOTS, township_lots_explain_list, township_lots_explain_list_parts, (township_lots[]){lake()}, input.at,
+     input.length);
 
 /* The same answer and text as without the parts; and neither a text nor parts if the room is a byte too small. */
 static void explains(kind it, const township_plat *plat, const char *given, said wanted) {
@@ -250,7 +181,7 @@ static void explains_no_lots(void) {
 static void answers_by_lots(const char *text, township_answer wanted, uint32_t line, uint32_t column) {
     bytes input = bytes_of(text);
     room *r = room_new();
-    township_answer answer = by_lots_alone(NULL, input, room_text(r), MOST_TEXT);
+    township_answer answer = BY_LOTS.alone(NULL, input, room_text(r), MOST_TEXT);
 
     CHECK_ANSWER(answer, explained(wanted, line, column, answer.length));
     CHECK(answer.length > 0);
@@ -316,7 +247,7 @@ static void explains_by_lots(void) {
 static void explains_lists_by_lots(void) {
     bytes lacking = bytes_of("name,description\nA,\"sec. 14, lots 1 to 3.\"\n");
     room *r = room_new();
-    township_answer answer = list_by_lots_alone(NULL, lacking, room_text(r), MOST_TEXT);
+    township_answer answer = LIST_BY_LOTS.alone(NULL, lacking, room_text(r), MOST_TEXT);
 
     CHECK(answer.verdict == TOWNSHIP_TRACT_REFUSED && answer.number == 83 && answer.at == 2);
     CHECK(answer.inner_number == TOWNSHIP_REFUSAL_LOTS_LACKING && answer.inner_at == 1402);

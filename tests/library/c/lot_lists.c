@@ -244,7 +244,8 @@ static void answers_ranges(void) {
     drop(all);
 }
 
-/* Any bytes are the lots of some table; only its township may be invalid. Nothing but that is answered. */
+/* Any bytes are the lots of some table; only its township may be invalid. Nothing but that is answered: once for a
+   list, of which nothing is written, and for each of many descriptions. */
 static void refuses_no_table(void) {
     township_lots none, any;
     township_tract_answer each, kept_each;
@@ -258,10 +259,14 @@ static void refuses_no_table(void) {
     CHECK(memcmp(&each, &kept_each, sizeof each) == 0);
     CHECK_ANSWER(overlaps_by(&none, by_the_lake, &overlap, 1), bare(TOWNSHIP_NO_LOTS));
     CHECK(is_overlap(overlap, 1, 2, 3, 4));
-    CHECK_ANSWER(acres_all(&none, &to, TEXTS), bare(TOWNSHIP_NO_LOTS));
-    CHECK(is_blank(to.acres, sizeof to.acres));
-    CHECK_ANSWER(answer_all(&none, &to, TEXTS), with_length(TOWNSHIP_ACCEPTED, TEXTS));
+    CHECK_ANSWER(acres_all(&none, &to, TEXTS - 1), with_length(TOWNSHIP_NO_ROOM, TEXTS));
+    CHECK_ANSWER(answer_all(&none, &to, TEXTS - 1), with_length(TOWNSHIP_NO_ROOM, TEXTS));
+    CHECK(is_blank(to.acres, sizeof to.acres) && is_blank(to.full, sizeof to.full));
+    CHECK_ANSWER(acres_all(&none, &to, TEXTS), with_length(TOWNSHIP_NO_LOTS, TEXTS));
+    CHECK_ANSWER(answer_all(&none, &to, TEXTS), with_length(TOWNSHIP_NO_LOTS, TEXTS));
+    CHECK(is_blank(&to.acres[TEXTS], sizeof *to.acres) && is_blank(&to.full[TEXTS], sizeof *to.full));
     for (size_t i = 0; i < TEXTS; i++) {
+        CHECK_ANSWER(to.acres[i], bare(TOWNSHIP_NO_LOTS));
         CHECK_ANSWER(to.full[i].acres, bare(TOWNSHIP_NO_LOTS));
         CHECK_ANSWER(to.full[i].normal, bare(TOWNSHIP_NO_LOTS));
         CHECK_ANSWER(to.full[i].note, bare(TOWNSHIP_NO_LOTS));

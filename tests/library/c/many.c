@@ -138,8 +138,12 @@ void answers_in_full(const township_plat *plat) {
     answers_each(plat);
     needs_room(plat);
     answers_ranges(plat);
-    CHECK_ANSWER(answer_all(plat, &to, 2, TEXTS), with_length(TOWNSHIP_ACCEPTED, TEXTS));
-    CHECK_ANSWER(to.answers[0].acres, bare(TOWNSHIP_NO_ACCOUNT));
+    /* No such account: each acreage and the verdict say so, and each text is as by any account. */
+    CHECK_ANSWER(answer_all(plat, &to, 2, TEXTS), with_length(TOWNSHIP_NO_ACCOUNT, TEXTS));
+    for (size_t i = 0; i < TEXTS; i++) {
+        check_full(plat, texts[i], 2, to.answers[i]);
+        CHECK_ANSWER(to.answers[i].acres, bare(TOWNSHIP_NO_ACCOUNT));
+    }
     CHECK_ANSWER(to.answers[0].normal, with_length(TOWNSHIP_ACCEPTED, 33));
     drop(to.all);
 }
@@ -147,7 +151,9 @@ void answers_in_full(const township_plat *plat) {
 void refuses_plat_in_full(const township_plat *plat) {
     given to = in_a_row();
 
-    CHECK_ANSWER(answer_all(plat, &to, TOWNSHIP_EXACT, TEXTS), with_length(TOWNSHIP_ACCEPTED, TEXTS));
+    CHECK_ANSWER(answer_all(plat, &to, TOWNSHIP_EXACT, TEXTS - 1), with_length(TOWNSHIP_NO_ROOM, TEXTS));
+    CHECK(is_blank_after(to.answers, 0, sizeof to.answers));
+    CHECK_ANSWER(answer_all(plat, &to, TOWNSHIP_EXACT, TEXTS), with_length(TOWNSHIP_NO_PLAT, TEXTS));
     for (size_t i = 0; i < TEXTS; i++) {
         CHECK(are_all(&to.answers[i], bare(TOWNSHIP_NO_PLAT)));
     }

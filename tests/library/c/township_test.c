@@ -355,10 +355,15 @@ static void answers_many(const township_plat *plat) {
     CHECK_ANSWER(township_acres_many(plat, all.at, all.length, offsets, COUNT(offsets), TOWNSHIP_EXACT, answers,
                                      COUNT(texts) - 1),
                  with_length(TOWNSHIP_NO_ROOM, COUNT(texts)));
+    CHECK_ANSWER(answers[0], bare(99));
+    /* No such account: each answer says so, and so does the verdict. */
     CHECK_ANSWER(township_acres_many(plat, all.at, all.length, offsets, COUNT(offsets), 2, answers,
                                      COUNT(answers)),
-                 bare(TOWNSHIP_NO_ACCOUNT));
-    CHECK_ANSWER(answers[0], bare(99));
+                 with_length(TOWNSHIP_NO_ACCOUNT, COUNT(texts)));
+    for (size_t i = 0; i < COUNT(texts); i++) {
+        CHECK_ANSWER(answers[i], bare(TOWNSHIP_NO_ACCOUNT));
+    }
+    CHECK_ANSWER(answers[COUNT(texts)], bare(99));
     drop(all);
 }
 
@@ -541,9 +546,9 @@ static void refuses_plat(const township_plat *plat) {
     township_answer no_plat = bare(TOWNSHIP_NO_PLAT);
     township_fraction area = {1, 2, 3};
     township_plat_figures figures = {.lots = {{1}}};
-    township_answer kept = bare(99);
+    township_answer many[] = {bare(99), bare(99), bare(99)};
     bytes land = bytes_of(ONE_LOT);
-    const size_t offsets[] = {0, land.length};
+    const size_t offsets[] = {0, land.length, 0};
     bytes list = bytes_of("name,description\n");
 
     CHECK_ANSWER(acres_of(plat, ONE_LOT, TOWNSHIP_EXACT), no_plat);
@@ -555,8 +560,16 @@ static void refuses_plat(const township_plat *plat) {
     check_no_text(write_report, plat, list, no_plat);
     CHECK_ANSWER(township_figures(plat, &figures), no_plat);
     CHECK(figures.lots[0][0] == 1 && figures.sections[0] == 0 && figures.township == 0);
-    CHECK_ANSWER(township_acres_many(plat, land.at, land.length, offsets, 2, TOWNSHIP_EXACT, &kept, 1), no_plat);
-    CHECK_ANSWER(kept, bare(99));
+    CHECK_ANSWER(township_acres_many(plat, land.at, land.length, offsets, 3, TOWNSHIP_EXACT, many, 1),
+                 with_length(TOWNSHIP_NO_ROOM, 2));
+    CHECK_ANSWER(many[0], bare(99));
+    /* A plat is checked before an account. Offsets that are not in order have no description between them. */
+    CHECK_ANSWER(township_acres_many(plat, land.at, land.length, offsets, 3, 2, many, 3),
+                 with_length(TOWNSHIP_NO_PLAT, 2));
+    CHECK_ANSWER(many[0], no_plat);
+    CHECK_ANSWER(many[1], bare(TOWNSHIP_NO_RANGE));
+    CHECK_ANSWER(many[2], bare(99));
+    CHECK_ANSWER(township_acres_many(plat, land.at, land.length, offsets, 0, TOWNSHIP_EXACT, many, 0), no_plat);
     check_no_text(explain_land, plat, land, no_plat);
     check_no_text(explain_list, plat, list, no_plat);
     refuses_plat_of_lists(plat);

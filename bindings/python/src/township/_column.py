@@ -34,13 +34,16 @@ class SharedLand(NamedTuple):
     land: Land
 
 
-def measured(by: Basis, values: Sequence[Any], account: Account) -> Measured:
-    """Return the answers to descriptions and land. The account matters only on a plat."""
+def measured(by: Basis, values: Sequence[Any], account: Account, threads: int = 1) -> Measured:
+    """Return the answers to descriptions and land. The account matters only on a plat.
+
+    At most `threads` threads share the descriptions.
+    """
     descriptions = [index for index, value in enumerate(values) if not isinstance(value, Land)]
     hundredths = [0] * len(values)
     refused: Dict[int, Refused] = {}
     if descriptions:
-        answers = _many(by, [values[index] for index in descriptions], account)
+        answers = _many(by, [values[index] for index in descriptions], account, threads)
         for index, number in zip(descriptions, answers.hundredths):
             hundredths[index] = number
         for place in answers.refused:
@@ -56,8 +59,10 @@ def measured(by: Basis, values: Sequence[Any], account: Account) -> Measured:
     return Measured(hundredths, refused)
 
 
-def _many(by: Basis, descriptions: Sequence[Any], account: Account) -> Answers:
-    return by.acres_many(descriptions, account) if isinstance(by, Plat) else by.acres_many(descriptions)
+def _many(by: Basis, descriptions: Sequence[Any], account: Account, threads: int) -> Answers:
+    if isinstance(by, Plat):
+        return by.acres_many(descriptions, account, threads=threads)
+    return by.acres_many(descriptions, threads=threads)
 
 
 def _hundredths(by: Basis, land: Land, account: Account) -> int:
@@ -69,10 +74,10 @@ def _hundredths(by: Basis, land: Land, account: Account) -> int:
     return hundredths
 
 
-def canonical_texts(by: Basis, values: Sequence[Any]) -> List[Optional[str]]:
+def canonical_texts(by: Basis, values: Sequence[Any], threads: int = 1) -> List[Optional[str]]:
     """Return the canonical text of each value: `None` if it is refused."""
     descriptions = [value for value in values if not isinstance(value, Land)]
-    texts = iter(by.normal_many(descriptions))
+    texts = iter(by.normal_many(descriptions, threads=threads))
     found = (value.text if isinstance(value, Land) else next(texts) for value in values)
     return [text if isinstance(text, str) else None for text in found]
 

@@ -7,7 +7,7 @@ from typing import Callable, List, Sequence, Union
 
 from . import _library
 from ._explanation import explained_by
-from ._full import FullAnswers, texts_or_refusals
+from ._full import FullAnswers
 from ._ignored import Ignored, Place, phrases_in
 from ._land import Land
 from ._note import Note, notes_of
@@ -51,10 +51,11 @@ class Describing:
             raise self._described_exception(answer, given)
         return text
 
-    def normal_many(self, descriptions: Sequence[Text]) -> List[Union[str, Refused]]:
+    def normal_many(self, descriptions: Sequence[Text], *, threads: int = 1) -> List[Union[str, Refused]]:
         """Return the canonical descriptions of many descriptions, or their refusals, by one call of the library.
 
-        This is several times as fast as `normal` for each, and takes 400 bytes of memory for each description.
+        This is several times as fast as `normal` for each, and takes 400 bytes of memory for each description. At most
+        `threads` threads share the work, each with a call for at least 1,000 descriptions.
 
         >>> texts = plat.normal_many(["sec. 14, SE1/4, NE1/4, NW1/4.", "sec. 5, lot 5."])
         >>> print(texts[0], end="")
@@ -65,7 +66,8 @@ class Describing:
         """
         many = self._listed(descriptions, "normal")
         parts = byref(self._plat_struct())
-        return texts_or_refusals(FullAnswers(parts, many, _library.EXACT, self._described_exception))
+        answers = FullAnswers(parts, many, _library.EXACT, self._described_exception, threads)
+        return answers.texts_or_refusals()
 
     def notes(self, description: Text) -> List[Note]:
         """Return the notes on an accepted description: there is one if a place can be read in two ways.

@@ -6,7 +6,7 @@ from typing import List, Sequence, Union
 
 from . import _library
 from ._explanation import sentence_by
-from ._many import Refuse, in_a_row
+from ._many import Offsets, Refuse, answer_all, in_a_row
 from ._refused import DESCRIPTION, Refusal, Refused, failure_of, refusal_of
 from ._text import Text
 from ._written import text_by
@@ -29,17 +29,16 @@ class FullAnswers:
     #: The call that explains a refused description, or notes a place in an accepted one.
     _explain = staticmethod(_library.explain_description_parts)
 
-    def __init__(self, parts: object, descriptions: Sequence[Text], code: int, refuse: Refuse) -> None:
+    def __init__(
+        self, parts: object, descriptions: Sequence[Text], code: int, refuse: Refuse, threads: int = 1
+    ) -> None:
         self._parts = parts
         self._code = code
         self._refuse = refuse
         self._bytes, self._offsets = in_a_row(descriptions)
         self._answers = (_library.FullAnswer * len(descriptions))()
         self._words = memoryview(self._answers).cast("B").cast("Q")
-        places = (ctypes.c_size_t * len(self._offsets)).from_buffer(self._offsets)
-        answer = self._answer_many(self._bytes, len(self._bytes), places, len(self._offsets))
-        if answer.verdict != _library.ACCEPTED:
-            raise failure_of(answer.verdict)
+        answer_all(self._answer_many, self._offsets, self._answers, threads)
         #: The hundredths of an acre of each description: 0 if it is refused.
         self.hundredths = self._column(_HUNDREDTHS)
         #: The indexes of the descriptions that are refused.
@@ -47,9 +46,12 @@ class FullAnswers:
         #: The indexes of those on which there is a note.
         self.noted = self._noted()
 
-    def _answer_many(self, *given: object) -> _library.Answer:
-        """Let the library answer all descriptions."""
-        return _library.answer_many(self._parts, *given, self._code, self._answers, len(self._answers))
+    def _answer_many(self, places: Offsets, answers: ctypes.Array[_library.FullAnswer]) -> _library.Answer:
+        """Let the library answer the descriptions between these offsets."""
+        given = self._bytes
+        return _library.answer_many(
+            self._parts, given, len(given), places, len(places), self._code, answers, len(answers)
+        )
 
     def refusal(self, index: int) -> Refusal:
         """Return the number and location of the refusal of a description."""
@@ -96,6 +98,16 @@ class FullAnswers:
                 raise failure_of(_library.NO_MEMORY)
         return texts
 
+    def texts_or_refusals(self) -> List[Union[str, Refused]]:
+        """Return the canonical text of each description, or its refusal, which do not depend on acreage."""
+        found: List[Union[str, Refused]] = list(FullAnswers.texts(self))
+        for index in self.refused:
+            answer = self._answers[index]
+            # Land with a lot that a lot table lacks has a text.
+            if answer.acres.verdict != _library.REFUSED or answer.normal.verdict == _library.REFUSED:
+                found[index] = self._exception(answer.acres, index)
+        return found
+
     def _noted(self) -> List[int]:
         """Return the indexes of the descriptions on which there is a note."""
         noted = []
@@ -121,11 +133,3 @@ class FullAnswers:
     def _column(self, word: int) -> List[int]:
         """Return a word of the answers to each description."""
         return self._words[word::_WORDS].tolist()
-
-
-def texts_or_refusals(answers: FullAnswers) -> List[Union[str, Refused]]:
-    """Return the canonical text of each description, or its refusal."""
-    found: List[Union[str, Refused]] = list(answers.texts())
-    for index in answers.refused:
-        found[index] = answers.refused_at(index)
-    return found

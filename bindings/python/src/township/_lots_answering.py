@@ -67,7 +67,7 @@ class LotsAnswering(LotsReporting, LotsDrawing, Describing):
         """
         return self.land(description).text
 
-    def normal_many(self, descriptions: Sequence[Text]) -> List[Union[str, Refused]]:
+    def normal_many(self, descriptions: Sequence[Text], *, threads: int = 1) -> List[Union[str, Refused]]:
         """Return the canonical descriptions of many descriptions, or their refusals, as `Plat.normal_many` does.
 
         >>> lots = township.Lots.of_figures("T. 2 N., R. 3 W.", {(5, 1): "40.45"})
@@ -75,8 +75,11 @@ class LotsAnswering(LotsReporting, LotsDrawing, Describing):
         >>> texts[0].split("\\n")[1], texts[1].number
         ('sec. 14, N1/2, SE1/4.', 64)
         """
+        if not self.has_land:
+            return super().normal_many(descriptions, threads=threads)
         many = self._listed(descriptions, "normal")
-        return [self._normal_or_refused(each) for each in many] if self.has_land else super().normal_many(many)
+        answers = TableAnswers(byref(self._parts), many, _library.EXACT, self._exception_of, threads)
+        return answers.texts_or_refusals()
 
     def notes(self, description: Text) -> List[Note]:
         """Return the notes on an accepted description, as `Plat.notes` does. With the standard lots, the acreage in
@@ -156,12 +159,6 @@ class LotsAnswering(LotsReporting, LotsDrawing, Describing):
         if self.has_land:
             return TableAnswers(lots, descriptions, _library.EXACT, self._exception_of)
         return LotsFullAnswers(lots, byref(self._plat_struct()), descriptions, self._exception_of)
-
-    def _normal_or_refused(self, description: Text) -> Union[str, Refused]:
-        try:
-            return self.normal(description)
-        except Refused as refused:
-            return refused
 
     def _asking(self) -> Ask:
         """Return the call that answers a description. Whatever does not depend on the description is computed once."""

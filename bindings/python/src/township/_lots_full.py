@@ -6,7 +6,7 @@ from typing import Dict, List, Sequence
 
 from . import _library
 from ._full import FullAnswers
-from ._many import Refuse
+from ._many import Offsets, Refuse, answer_all
 from ._refused import Refusal, Refused, failure_of, refusal_of
 from ._text import Text
 from ._written import text_by
@@ -19,23 +19,26 @@ class LotsFullAnswers(FullAnswers):
     same note, as by the table. Only the acreage is the table's.
     """
 
-    def __init__(self, lots: object, plat: object, descriptions: Sequence[Text], refuse: Refuse) -> None:
-        super().__init__(plat, descriptions, _library.EXACT, refuse)
+    def __init__(
+        self, lots: object, plat: object, descriptions: Sequence[Text], refuse: Refuse, threads: int = 1
+    ) -> None:
+        super().__init__(plat, descriptions, _library.EXACT, refuse, threads)
         #: The answers to descriptions of land with a lot that the table lacks.
         self._lacking: Dict[int, _library.Answer] = {}
-        self._take_all(lots)
+        self._take_all(lots, threads)
         self.refused = sorted([*self.refused, *self._lacking])
         self.noted = [index for index in self.noted if index not in self._lacking]
 
-    def _take_all(self, lots: object) -> None:
+    def _take_all(self, lots: object, threads: int) -> None:
         """Take the answer by the table to each description that is accepted on the plat."""
         hundredths, refused, given = self.hundredths, set(self.refused), self._bytes
-        answers = (_library.Answer * len(hundredths))()
-        places = (ctypes.c_size_t * len(self._offsets)).from_buffer(self._offsets)
-        answer = _library.lots_acres_many(lots, given, len(given), places, len(places), answers, len(answers))
-        if answer.verdict != _library.ACCEPTED:
-            raise failure_of(answer.verdict)
-        for index, answer in enumerate(answers):
+        all_answers = (_library.Answer * len(hundredths))()
+
+        def ask(places: Offsets, answers: ctypes.Array[_library.Answer]) -> _library.Answer:
+            return _library.lots_acres_many(lots, given, len(given), places, len(places), answers, len(answers))
+
+        answer_all(ask, self._offsets, all_answers, threads)
+        for index, answer in enumerate(all_answers):
             if index not in refused:
                 hundredths[index] = answer.hundredths
                 if answer.verdict:
@@ -74,8 +77,9 @@ class TableAnswers(FullAnswers):
 
     _explain = staticmethod(_library.lots_explain_description_parts)
 
-    def _answer_many(self, *given: object) -> _library.Answer:
-        return _library.lots_answer_many(self._parts, *given, self._answers, len(self._answers))
+    def _answer_many(self, places: Offsets, answers: ctypes.Array[_library.FullAnswer]) -> _library.Answer:
+        given = self._bytes
+        return _library.lots_answer_many(self._parts, given, len(given), places, len(places), answers, len(answers))
 
     def texts(self, on_one_line: bool = False) -> List[str]:
         """Return the canonical text of each description: nothing if it is refused."""

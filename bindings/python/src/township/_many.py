@@ -5,7 +5,7 @@ import ctypes
 from array import array
 from decimal import Decimal
 from itertools import accumulate
-from typing import Callable, Iterable, Iterator, List, Sequence, Tuple, Union, overload
+from typing import Any, Callable, Iterable, Iterator, List, Sequence, Tuple, Union, overload
 
 from . import _library
 from ._figures import acres_of_hundredths
@@ -23,6 +23,9 @@ _WORD = "Q"
 
 #: Asks the library about a description.
 Ask = Callable[[bytes], _library.Answer]
+
+#: Offsets between descriptions, as the library takes them.
+Offsets = ctypes.Array[ctypes.c_size_t]
 
 #: Returns the exception for a description that is not accepted.
 Refuse = Callable[[_library.Answer, bytes], Exception]
@@ -110,15 +113,33 @@ def _answers(
     given, offsets = in_a_row(descriptions)
     words = array(_WORD, bytes(8 * _WORDS * len(descriptions)))
 
-    def answer_range(first: int, end: int) -> _library.Answer:
-        places = (ctypes.c_size_t * (end - first + 1)).from_buffer(offsets, first * offsets.itemsize)
-        answers = (_library.Answer * (end - first)).from_buffer(words, first * 8 * _WORDS)
+    def ask(places: Offsets, answers: ctypes.Array[_library.Answer]) -> _library.Answer:
         return call(parts, given, len(given), places, len(places), *account, answers, len(answers))
 
-    for answer in in_threads(threads, len(descriptions), answer_range):
+    answer_all(ask, offsets, _answers_in(words), threads)
+    return Answers(words, given, offsets, refuse)
+
+
+def answer_all(
+    ask: Callable[[Offsets, ctypes.Array[Any]], _library.Answer],
+    offsets: "array[int]",
+    answers: ctypes.Array[Any],
+    threads: int,
+) -> None:
+    """Let the library answer the descriptions between offsets, in at most `threads` threads.
+
+    `ask` calls it with some of the offsets, and with the array for the answers to the descriptions between them. Raise
+    the exception for any verdict of a call but `ACCEPTED`.
+    """
+    kind = answers._type_
+
+    def answer_range(first: int, end: int) -> _library.Answer:
+        places = (ctypes.c_size_t * (end - first + 1)).from_buffer(offsets, first * offsets.itemsize)
+        return ask(places, (kind * (end - first)).from_buffer(answers, first * ctypes.sizeof(kind)))
+
+    for answer in in_threads(threads, len(answers), answer_range):
         if answer.verdict != _library.ACCEPTED:
             raise failure_of(answer.verdict)
-    return Answers(words, given, offsets, refuse)
 
 
 def each_acres(

@@ -13,18 +13,23 @@ _FEWEST = 1000
 def in_threads(threads: int, count: int, work: Callable[[int, int], T]) -> List[T]:
     """Call `work` with ranges of indexes that together are the first `count`, and return what it returned for each.
 
-    There are at most `threads` ranges, each in a thread of its own; the caller's thread takes the only one. Raise
-    `ValueError` if `threads` is less than 1. If calls raise exceptions, the first range's is raised.
+    There are at most `threads` ranges, each in a thread of its own; the caller's thread takes the only one. If calls
+    raise exceptions, the first range's is raised.
     """
-    if not isinstance(threads, int):
-        raise TypeError(f"threads must be an integer, not {type(threads).__name__}")
-    if threads < 1:
-        raise ValueError(f"threads must be at least 1, not {threads}")
-    ranges = _ranges(min(threads, count // _FEWEST or 1), count)
+    ranges = _ranges(min(checked(threads), count // _FEWEST or 1), count)
     if len(ranges) == 1:
         return [work(*ranges[0])]
     with ThreadPoolExecutor(len(ranges)) as pool:
         return list(pool.map(lambda one: work(*one), ranges))
+
+
+def checked(threads: int) -> int:
+    """Return the number of threads. Raise `ValueError` if it is less than 1."""
+    if not isinstance(threads, int):
+        raise TypeError(f"threads must be an integer, not {type(threads).__name__}")
+    if threads < 1:
+        raise ValueError(f"threads must be at least 1, not {threads}")
+    return threads
 
 
 def _ranges(parts: int, count: int) -> List[Tuple[int, int]]:

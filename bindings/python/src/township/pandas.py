@@ -27,6 +27,7 @@ from ._column import Basis, Measured, canonical_texts, lands_of, measured, share
 from ._lots import Lots
 from ._plat import Plat
 from ._refused import Refused
+from ._threads import checked
 
 #: One plat or lot table for the whole column, or a series that gives that of each row.
 Plats = Union[Plat, Lots, "pandas.Series[Any]"]
@@ -49,24 +50,24 @@ class Descriptions:
 
     Each method takes a `Plat`, or a lot table (`Lots`), or a series with the plat or the lot table of each row and the
     same index as the column. The account matters only on a plat. If the plat or the description is missing, so is the
-    answer. A value that is not text, land, or missing raises `TypeError`; land in another township raises `ValueError`.
+    answer. At most `threads` threads share the descriptions on a plat, each at least 1,000 of them. A value that is not text, land, or missing raises `TypeError`; land in another township raises `ValueError`.
     """
 
     def __init__(self, column: "pandas.Series[Any]") -> None:
         self._column = column
 
-    def acres(self, plat: Plats, account: Account = "exact") -> "pandas.Series[Any]":
+    def acres(self, plat: Plats, account: Account = "exact", *, threads: int = 1) -> "pandas.Series[Any]":
         """Return the acreage of each description (`float64`): `NaN` if it is refused or missing.
 
         >>> frame["description"].township.acres(plat).sum()
         201.45
         """
         acres = numpy.full(len(self._column), numpy.nan)
-        for rows, answers in self._answers(plat, account):
+        for rows, answers in self._answers(plat, account, threads):
             acres[rows] = _acres_in(answers)
         return pandas.Series(acres, self._column.index, name="acres")
 
-    def answers(self, plat: Plats, account: Account = "exact") -> "pandas.DataFrame":
+    def answers(self, plat: Plats, account: Account = "exact", *, threads: int = 1) -> "pandas.DataFrame":
         """Return a frame with the answers: `acres` (`float64`), `refusal` and `at` (`Int64`), and `sentence`.
 
         If a description is refused, `refusal` is the number of the refusal, `at` its location, and `sentence`
@@ -79,7 +80,7 @@ class Descriptions:
         index = self._column.index
         acres = numpy.full(len(index), numpy.nan)
         refused: List[Optional[Refused]] = [None] * len(index)
-        for rows, answers in self._answers(plat, account):
+        for rows, answers in self._answers(plat, account, threads):
             acres[rows] = _acres_in(answers)
             for place, refusal in answers.refused.items():
                 refused[rows[place]] = refusal
@@ -90,7 +91,7 @@ class Descriptions:
         made["sentence"].iloc[self._without_plat(plat)] = _NO_PLAT
         return pandas.DataFrame(made, index=index)
 
-    def normal(self, plat: Plats) -> "pandas.Series[Any]":
+    def normal(self, plat: Plats, *, threads: int = 1) -> "pandas.Series[Any]":
         """Return the canonical text of each description (`string`): missing if it is refused or missing.
 
         >>> print(frame["description"].township.normal(plat)[0], end="")
@@ -98,8 +99,9 @@ class Descriptions:
         sec. 5, lots 1, 2, S1/2NE1/4.
         """
         texts: List[Optional[str]] = [None] * len(self._column)
+        checked(threads)
         for by, rows, values in self._present_rows(plat):
-            for row, text in zip(rows, canonical_texts(by, values)):
+            for row, text in zip(rows, canonical_texts(by, values, threads)):
                 texts[row] = text
         return pandas.Series(texts, self._column.index, dtype="string", name="normal")
 
@@ -143,11 +145,12 @@ class Descriptions:
         }
         return pandas.DataFrame(made)
 
-    def _answers(self, plat: Plats, account: Account) -> Iterator[Tuple[List[int], Measured]]:
+    def _answers(self, plat: Plats, account: Account, threads: int) -> Iterator[Tuple[List[int], Measured]]:
         """Yield the answers on each plat, and their rows, counted from 0. Missing descriptions have none."""
         code_of(account)
+        checked(threads)
         for by, rows, values in self._present_rows(plat):
-            yield rows, measured(by, values, account)
+            yield rows, measured(by, values, account, threads)
 
     def _present_rows(self, plat: Plats) -> Iterator[_Rows]:
         """Yield each plat, the rows that are on it, and their descriptions. Missing descriptions are left out."""

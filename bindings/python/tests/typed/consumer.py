@@ -77,7 +77,7 @@ def lands(plat: Plat, lots: Lots) -> Optional[Decimal]:
 def many(plat: Plat, lots: Lots) -> Optional[Decimal]:
     answers: List[Union[Decimal, Refused]] = [*plat.acres_many(["sec. 14."])]
     answers += lots.acres_many([b"sec. 14."])
-    texts: List[Union[str, Refused]] = plat.normal_many(["sec. 14."]) + lots.normal_many(["sec. 14."])
+    texts: List[Union[str, Refused]] = plat.normal_many(["sec. 14."]) + lots.normal_many(["sec. 14."], threads=2)
     one_by_one: Iterator[Union[Decimal, Refused]] = lots.acres_of(["sec. 14."])
     tracts: Tuple[TractAnswer, ...] = lots.report_each([("A", "sec. 14."), ("B", lots.land("sec. 15."))])
     overlaps: Tuple[LotsOverlap, ...] = lots.overlaps([("A", "sec. 14.")])

@@ -96,8 +96,20 @@ fn parts_of_no_plat_are_found_out_by_each_call() {
     assert_eq!(overlaps(&none, list, &mut []), no_plat);
     assert_eq!(figures(&none), (no_plat, PlatFigures::BLANK));
     assert_eq!(acres_many(&none, b"", &[0], EXACT, &mut []), no_plat);
-    let mut full = [FullAnswer::BLANK];
-    answer_many(&none, b"sec. 14.", &[0, 8], EXACT, &mut full);
+    let (mut many, mut full) = ([Answer::BLANK], [FullAnswer::BLANK]);
+    let of_one = Answer {
+        length: 1,
+        ..no_plat
+    };
+    assert_eq!(
+        acres_many(&none, b"sec. 14.", &[0, 8], EXACT, &mut many),
+        of_one
+    );
+    assert_eq!(many, [no_plat]);
+    assert_eq!(
+        answer_many(&none, b"sec. 14.", &[0, 8], EXACT, &mut full),
+        of_one
+    );
     let wanted = FullAnswer {
         acres: no_plat,
         normal: no_plat,
@@ -200,14 +212,20 @@ fn land_and_lots_that_are_none_are_found_out_by_each_call() {
     assert_eq!(lots_report_each(&none, b"", &mut each), no_lots);
     assert_eq!(lots_overlaps(&none, b"", &mut []), no_lots);
     let mut answers = [Answer::BLANK];
+    let of_one = Answer {
+        length: 1,
+        ..no_lots
+    };
     assert_eq!(
         lots_acres_many(&none, b"sec. 14.", &[0, 8], &mut answers),
-        no_lots
+        of_one
     );
-    assert_eq!(answers[0], Answer::BLANK);
+    assert_eq!(answers, [no_lots]);
     let mut full = [FullAnswer::BLANK];
-    let answered = lots_answer_many(&none, b"sec. 14.", &[0, 8], &mut full);
-    assert_eq!((answered.verdict, answered.length), (ACCEPTED, 1));
+    assert_eq!(
+        lots_answer_many(&none, b"sec. 14.", &[0, 8], &mut full),
+        of_one
+    );
     assert_eq!([full[0].acres, full[0].normal, full[0].note], [no_lots; 3]);
     let list = b"name,description\n";
     assert_eq!(lots_explain_list(&none, list, b"tracts", &mut []), no_lots);
@@ -255,6 +273,15 @@ fn account_that_is_none() {
     assert_eq!(acres(&EVEN, b"sec. 14.", 2), bare(NO_ACCOUNT));
     let (answer, kept) = area(&EVEN, b"sec. 14.", 2);
     assert_eq!((answer, kept), (bare(NO_ACCOUNT), Fraction::BLANK));
+    let mut many = [Answer::BLANK];
+    let answer = acres_many(&EVEN, b"sec. 14.", &[0, 8], 2, &mut many);
+    assert_eq!((answer.verdict, answer.length), (NO_ACCOUNT, 1));
+    assert_eq!(many, [bare(NO_ACCOUNT)]);
+    let mut full = [FullAnswer::BLANK];
+    let answer = answer_many(&EVEN, b"sec. 14.", &[0, 8], 2, &mut full);
+    assert_eq!((answer.verdict, answer.length), (NO_ACCOUNT, 1));
+    assert_eq!([full[0].acres, full[0].note], [bare(NO_ACCOUNT); 2]);
+    assert_eq!(full[0].normal.verdict, ACCEPTED);
 }
 
 #[test]

@@ -2,7 +2,9 @@
 use Rattle.std.proofs.Common.{◌≡◌, subst, arith}
 use Rattle.std.specs.List.{SameFrom}
 use Rattle.std.proofs.lemmas.Grind.{common_steps}
+use Rattle.twp_calls.specs.Answers.{bare}
 use Rattle.twp_calls.specs.FullAnswers.{AreFullAnswersTo, calls_on}
+use Rattle.twp_calls.proofs.BasisFacts.{is_no_short, is_no_short_basis}
 use Rattle.twp_calls.proofs.FullFacts.{all_answered, answers_next, kept_next, too_many}
 use Rattle.twp_calls.proofs.answer_many.township_answer_many.Goals as goal
 
@@ -34,10 +36,18 @@ returns-clause-answer c =
     let all : c.loop-index.index ≡ c.saturating_sub-count.result = omega arith in
     all_answered (calls_on c.args.plat.now c.args.account) c.args.descriptions.now c.args.offsets.now
     c.args.answers.now
-    c.loop-index.answers c.counted-2.result c.saturating_sub-count.result
+    c.loop-index.answers (bare c.verdict.result) c.counted-2.result c.saturating_sub-count.result
     (omega (arith, c.saturating_sub-count.ensures)) (omega arith) c.loop-index.invariant.length_is
     (subst (λ n.
     AreFullAnswersTo (calls_on c.args.plat.now c.args.account) c.args.descriptions.now c.args.offsets.now n
     c.args.answers.now c.loop-index.answers) all c.loop-index.invariant.answers)
     (subst (SameFrom c.args.answers.now c.loop-index.answers) all c.loop-index.invariant.kept)
+    (c.verdict.ensures c.args.plat.now c.args.account c.of.ensures)
     c.counted-2.ensures
+
+pub returns-clause-kept : goal.returns-clause-kept
+returns-clause-kept c = λ short.
+    absurd (is_no_short c.verdict.result c.saturating_sub-count.result c.counted-2.result
+    (is_no_short_basis c.args.plat.now c.args.account c.verdict.result
+    (c.verdict.ensures c.args.plat.now c.args.account c.of.ensures))
+    c.counted-2.ensures short)

@@ -2,8 +2,10 @@
 use Rattle.std.proofs.Common.{◌≡◌, subst, arith}
 use Rattle.std.specs.List.{SameFrom}
 use Rattle.std.proofs.lemmas.Grind.{common_steps}
+use Rattle.twp_calls.specs.Answers.{bare}
 use Rattle.twp_calls.specs.FullAnswers.{AreFullAnswersTo}
 use Rattle.twp_calls.specs.LotFullAnswers.{calls_by_lots}
+use Rattle.twp_calls.proofs.BasisFacts.{is_no_short, is_no_short_table}
 use Rattle.twp_calls.proofs.FullFacts.{all_answered, answers_next, kept_next, too_many}
 use Rattle.twp_calls.proofs.lots_answer_many.township_lots_answer_many.Goals as goal
 
@@ -35,10 +37,15 @@ returns-clause-answer c =
     let all : c.loop-index.index ≡ c.saturating_sub-count.result = omega arith in
     all_answered (calls_by_lots c.args.lots.now) c.args.descriptions.now c.args.offsets.now
     c.args.answers.now
-    c.loop-index.answers c.counted-2.result c.saturating_sub-count.result
+    c.loop-index.answers (bare c.verdict.result) c.counted-2.result c.saturating_sub-count.result
     (omega (arith, c.saturating_sub-count.ensures)) (omega arith) c.loop-index.invariant.length_is
     (subst (λ n.
     AreFullAnswersTo (calls_by_lots c.args.lots.now) c.args.descriptions.now c.args.offsets.now n
     c.args.answers.now c.loop-index.answers) all c.loop-index.invariant.answers)
     (subst (SameFrom c.args.answers.now c.loop-index.answers) all c.loop-index.invariant.kept)
-    c.counted-2.ensures
+    c.verdict.ensures c.counted-2.ensures
+
+pub returns-clause-kept : goal.returns-clause-kept
+returns-clause-kept c = λ short.
+    absurd (is_no_short c.verdict.result c.saturating_sub-count.result c.counted-2.result
+    (is_no_short_table c.args.lots.now c.verdict.result c.verdict.ensures) c.counted-2.ensures short)

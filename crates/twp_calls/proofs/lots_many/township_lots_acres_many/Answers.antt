@@ -2,8 +2,11 @@
 use Rattle.std.proofs.Common.{◌≡◌, subst, arith}
 use Rattle.std.specs.List.{SameFrom}
 use Rattle.std.proofs.lemmas.Grind.{common_steps}
-use Rattle.twp_calls.specs.LotCalls.{IsLotsAcresCall, by_lots}
+use Rattle.twp_calls.specs.Answers.{bare}
+use Rattle.twp_calls.specs.LotCalls.{IsLotsAcresCall}
+use Rattle.twp_calls.specs.LotManyAnswers.{IsTableVerdict}
 use Rattle.twp_calls.specs.ManyAnswers.{AreManyAnswersTo}
+use Rattle.twp_calls.proofs.BasisFacts.{is_no_short, is_no_short_table}
 use Rattle.twp_calls.proofs.ManyFacts.{all_answered, answers_next, kept_next, too_many}
 use Rattle.twp_calls.proofs.lots_many.township_lots_acres_many.Goals as goal
 
@@ -22,19 +25,24 @@ loop-index-preserved c = record {
 
 pub returns-then-answers-count-clause-answer : goal.returns-then-answers-count-clause-answer
 returns-then-answers-count-clause-answer c =
-    by_lots c.in-Some._township c.in-Some.ensures
-    (too_many (IsLotsAcresCall c.args.lots.now) c.args.descriptions.now c.args.offsets.now c.args.answers.now
+    too_many (IsLotsAcresCall c.args.lots.now) (IsTableVerdict c.args.lots.now) c.args.descriptions.now
+    c.args.offsets.now c.args.answers.now
     c.counted.result c.saturating_sub-count.result (omega (arith, c.saturating_sub-count.ensures))
-    c.if-answers-count.true c.counted.ensures)
+    c.if-answers-count.true c.counted.ensures
 
 pub returns-clause-answer : goal.returns-clause-answer
 returns-clause-answer c =
     let all : c.loop-index.index ≡ c.saturating_sub-count.result = omega arith in
-    by_lots c.in-Some._township c.in-Some.ensures
-    (all_answered (IsLotsAcresCall c.args.lots.now) c.args.descriptions.now c.args.offsets.now
-    c.args.answers.now c.loop-index.answers c.counted-2.result c.saturating_sub-count.result
+    all_answered (IsLotsAcresCall c.args.lots.now) (IsTableVerdict c.args.lots.now) c.args.descriptions.now
+    c.args.offsets.now c.args.answers.now c.loop-index.answers (bare c.verdict.result) c.counted-2.result
+    c.saturating_sub-count.result
     (omega (arith, c.saturating_sub-count.ensures)) (omega arith) c.loop-index.invariant.length_is
     (subst (λ n. AreManyAnswersTo (IsLotsAcresCall c.args.lots.now) c.args.descriptions.now c.args.offsets.now
     n c.loop-index.answers) all c.loop-index.invariant.answers)
     (subst (SameFrom c.args.answers.now c.loop-index.answers) all c.loop-index.invariant.kept)
-    c.counted-2.ensures)
+    c.verdict.ensures c.counted-2.ensures
+
+pub returns-clause-kept : goal.returns-clause-kept
+returns-clause-kept c = λ short.
+    absurd (is_no_short c.verdict.result c.saturating_sub-count.result c.counted-2.result
+    (is_no_short_table c.args.lots.now c.verdict.result c.verdict.ensures) c.counted-2.ensures short)
