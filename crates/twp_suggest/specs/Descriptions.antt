@@ -109,9 +109,9 @@ pub record IsSomeLandOfText (lots : Lotting) (township : Designation) (text : Li
   pub read : IsReadAs text items
   pub land : IsSomeLandOfItems lots township items places
 
--- THE REMAINDER: the canonical text of the land of a text, which names no place twice, without the land that it
--- excepts, which lies in it, and isn't all of it; each division is by itself only if what is after the first
--- ` except ` can't be excepted
+-- THE REMAINDER: the canonical text of the land of a text, which names no place twice, without the land that
+-- it excepts, which lies in it, and isn't all of it; each division is by itself only if what is after the
+-- first ` except ` can't be excepted
 pub record IsRemainder (lots : Lotting) (made text : List ℕ) : Type 0 where
   pub whole : List ℕ
   pub excepted : List ℕ
