@@ -3,11 +3,12 @@
 use Rattle.std.specs.Prelude.{◌≡◌, ◌==◌, ◌⊎◌, ℕ, Bool, true, List, [], ◌∷◌, Option, Some, None}
 use Rattle.std.specs.Prelude.{if◌then◌else◌}
 use Rattle.twp_grid.specs.Townships.{Designation, designation, line_feed}
-use Rattle.twp_grid.specs.Lands.{Lotting, ContainsAll, HasWholeLots, SamePlaces, difference}
+use Rattle.std.specs.List.{AllPairs}
+use Rattle.twp_grid.specs.Lands.{Lotting, ContainsAll, HasWholeLots, SamePlaces, SharePlace, difference}
 use Rattle.twp_grammar.specs.declared.item.Item.{Item}
 use Rattle.twp_grammar.specs.declared.item.Item.TheVariants.{Heading}
-use Rattle.twp_grammar.specs.ItemPlaces.{land_of, parts_of}
-use Rattle.twp_grammar.specs.OnPlat.{AreOnPlat, IsLandOfItems}
+use Rattle.twp_grammar.specs.ItemPlaces.{item_places, land_of, parts_of}
+use Rattle.twp_grammar.specs.OnPlat.{IsLandOfItems}
 use Rattle.twp_grammar.specs.Sentences.{IsReadAs}
 use Rattle.twp_read.specs.Doubts.{HasNoDoubtfulPlace}
 use Rattle.twp_spell.specs.CanonicalText.{IsCanonicalText}
@@ -83,10 +84,13 @@ NamesTownship (Heading number north_south range east_west at ∷ items) township
     designation number north_south range east_west ≡ township
 NamesTownship items township = Unit {0}
 
--- the places of items, in which an aliquot part may include whole lots, and the plat has land at each place
+-- the places of items, in which an aliquot part may include whole lots; the plat has land at each place, and
+-- no place is named by two items
 pub record AreItemsWithLots (lots : Lotting) (township : Designation) (items : List Item)
     (places : ℕ → ℕ → ℕ → Bool) : Type 0 where
   pub of_township : NamesTownship items township
+  pub apart : AllPairs (λ part more. ¬ SharePlace (item_places lots part) (item_places lots more))
+      (parts_of items)
   pub places_are : places ≡ land_of lots (parts_of items)
   pub whole : HasWholeLots lots places
   pub on_land : (section column row : ℕ) → places section column row ≡ true
@@ -105,9 +109,9 @@ pub record IsSomeLandOfText (lots : Lotting) (township : Designation) (text : Li
   pub read : IsReadAs text items
   pub land : IsSomeLandOfItems lots township items places
 
--- THE REMAINDER: the canonical text of the land of a text without the land that it excepts, which lies in it,
--- and isn't all of it; each division is by itself only if what is after the first ` except ` can't be
--- excepted, and all that the divisions keep lies on the plat without overlapping
+-- THE REMAINDER: the canonical text of the land of a text, which names no place twice, without the land that
+-- it excepts, which lies in it, and isn't all of it; each division is by itself only if what is after the
+-- first ` except ` can't be excepted
 pub record IsRemainder (lots : Lotting) (made text : List ℕ) : Type 0 where
   pub whole : List ℕ
   pub excepted : List ℕ
@@ -118,7 +122,6 @@ pub record IsRemainder (lots : Lotting) (made text : List ℕ) : Type 0 where
   pub places : ℕ → ℕ → ℕ → Bool
   pub less : ℕ → ℕ → ℕ → Bool
   pub of_whole : IsSomeLandOfText lots township whole places
-  pub on_plat : at ≡ 0 → AreOnPlat lots township of_whole.items
   pub of_excepted : IsSomeLandOfText lots township excepted less
   pub inside : ContainsAll places less
   pub some_left : ¬ SamePlaces places less

@@ -3,9 +3,10 @@ use Rattle.std.proofs.Common.{◌≡◌, ◌↔◌, inl, inr, ℕ, Bool, true, L
 use Rattle.std.proofs.lemmas.Bool.{false≢true}
 use Rattle.std.proofs.Common.{◌∙◌}
 use Rattle.twp_grid.specs.Townships.{Designation}
-use Rattle.twp_grid.specs.Lands.{Lotting, ContainsAll, HasWholeLots, SamePlaces, difference}
+use Rattle.std.specs.List.{AllPairs}
+use Rattle.twp_grid.specs.Lands.{Lotting, ContainsAll, HasWholeLots, SamePlaces, SharePlace, difference}
 use Rattle.twp_grammar.specs.declared.item.Item.{Item}
-use Rattle.twp_grammar.specs.ItemPlaces.{parts_of, land_of}
+use Rattle.twp_grammar.specs.ItemPlaces.{item_places, parts_of, land_of}
 use Rattle.twp_grammar.specs.OnPlat.{AreOnPlat, IsLandOfItems}
 use Rattle.twp_grammar.specs.Sentences.{IsReadAs}
 use Rattle.twp_spell.specs.CanonicalText.{IsCanonicalText}
@@ -82,11 +83,19 @@ pub land_on_plat : (lots : Lotting) (township : Designation) (items : List Item)
 land_on_plat lots township items places land = inl land
 
 pub land_with_lots : (lots : Lotting) (township : Designation) (items : List Item) (places : ℕ → ℕ → ℕ → Bool)
-    → NamesTownship items township → places ≡ land_of lots (parts_of items) → HasWholeLots lots places
+    → NamesTownship items township → places ≡ land_of lots (parts_of items)
+    → AllPairs (λ part more. ¬ SharePlace (item_places lots part) (item_places lots more)) (parts_of items)
+    → HasWholeLots lots places
     → ((section column row : ℕ) → places section column row ≡ true → lots.has_land section column row ≡ true)
     → IsSomeLandOfItems lots township items places
-land_with_lots lots township items places of_township named whole on_land =
-    inr record { of_township = of_township; places_are = named; whole = whole; on_land = on_land }
+land_with_lots lots township items places of_township named apart whole on_land =
+    inr record {
+      of_township = of_township;
+      apart = apart;
+      places_are = named;
+      whole = whole;
+      on_land = on_land;
+    }
 
 pub is_some_land : (lots : Lotting) (township : Designation) (text : List ℕ) (items : List Item)
     (places : ℕ → ℕ → ℕ → Bool)
@@ -99,14 +108,13 @@ pub is_remainder : (lots : Lotting) (made whole excepted : List ℕ) (at : ℕ) 
     (items : List Item)
     (township : Designation)
     (places less : ℕ → ℕ → ℕ → Bool) → ((others : List Item) → IsReadAs whole others → items ≡ others)
-    → IsSomeLandOfText lots township whole places → (at ≡ 0 → AreOnPlat lots township items)
-    → IsSomeLandOfText lots township excepted less
+    → IsSomeLandOfText lots township whole places → IsSomeLandOfText lots township excepted less
     → ContainsAll places less → ¬ SamePlaces places less
     → IsCanonicalText lots township (difference places less) full → text ≡ as_written items full
     → IsParted made whole excepted at → (at ≡ 0 → IsOfDivisions lots township made)
     → IsRemainder lots made text
-is_remainder lots made whole excepted at text full items township places less only of_whole on_plat
-    of_excepted inside some_left spelled written parted by_itself =
+is_remainder lots made whole excepted at text full items township places less only of_whole of_excepted
+    inside some_left spelled written parted by_itself =
     record {
       whole = whole;
       excepted = excepted;
@@ -117,9 +125,6 @@ is_remainder lots made whole excepted at text full items township places less on
       places = places;
       less = less;
       of_whole = of_whole;
-      on_plat = λ none.
-          subst (λ (its : List Item). AreOnPlat lots township its) (only of_whole.items of_whole.read)
-          (on_plat none);
       of_excepted = of_excepted;
       inside = inside;
       some_left = some_left;

@@ -1,6 +1,7 @@
 -- The land of items, added one after another.
 use Rattle.std.proofs.Common.{◌≡◌, ◌⊎◌, inl, inr, ℕ, ◌+◌, ◌<◌, ◌≤◌, ◌||◌, Bool, true, false, List, length}
-use Rattle.std.proofs.Common.{take, drop, refl, sym, ap}
+use Rattle.std.proofs.Common.{take, drop, refl, sym, ap, subst}
+use Rattle.std.specs.List.{AllPairs}
 use Rattle.std.proofs.Common.{◌∙◌, arith, IfOk, Result, Ok, Err}
 use Rattle.std.proofs.Math.Path.{fun_ext}
 use Rattle.std.proofs.Math.ListN.{get_or}
@@ -9,38 +10,58 @@ use Rattle.std.proofs.lemmas.List.Folds.{list_any_more}
 use Rattle.twp_grid.specs.Places.{PLACE_DIGITS, IsPlace}
 use Rattle.twp_grid.specs.Spans.{whole_block}
 use Rattle.twp_grid.proofs.PlaceTests.{test_of_place, whole_is_place}
-use Rattle.std.proofs.lemmas.Bool.{eq-eqb}
+use Rattle.std.proofs.lemmas.Bool.{cases_lt, eq-eqb}
 use Rattle.twp_grid.specs.Townships.{Designation}
 use Rattle.twp_grid.specs.Lands.{Layout, Lotting, lotting, HasWholeLots, IsWholeOrNot, LacksLand, LieWithin}
-use Rattle.twp_grid.specs.Lands.{Meets, difference, no_places, section_places, union}
+use Rattle.twp_grid.specs.Lands.{Meets, SharePlace, difference, no_places, section_places}
 use Rattle.twp_grammar.specs.declared.item.Item.{Item}
 use Rattle.twp_grammar.specs.ItemPlaces.{ItemOfSection, item_of, item_places, land_of, parts_of}
 use Rattle.twp_grammar.specs.ItemPlaces.{section_after, with_sections}
 use Rattle.twp_grammar.specs.Sentences.{IsReadAs}
 use Rattle.twp_spell.specs.CanonicalText.{IsCanonicalText}
 use Rattle.twp_suggest.specs.Descriptions.{AreLotsNamed, AreNamed, NamesTownship, as_written}
+use Rattle.twp_resolve.specs.steps.ResolvingSteps.{AreAdded}
+use Rattle.twp_resolve.proofs.PlaceAnswers.{pairs_of_apart}
 use Rattle.twp_resolve.proofs.ResolvingFacts.{IsNext, next_is, parts_count}
 
 -- the land of the items before an index
 pub record AreNamedTo (lots : Lotting) (items : List Item) (index section : ℕ) (places : ℕ → ℕ → ℕ → Bool)
     : Type 0 where
   pub left : drop index (parts_of items) ≡ with_sections section (drop index items)
+  pub apart : (i : ℕ) (d : ItemOfSection) → i < index → i < length (parts_of items)
+      → ¬ SharePlace (land_of lots (take i (parts_of items))) (item_places lots (get_or (parts_of items) i d))
   pub land : places ≡ land_of lots (take index (parts_of items))
 
 pub named_none : (lots : Lotting) (items : List Item) (places : ℕ → ℕ → ℕ → Bool) → places ≡ no_places
     → AreNamedTo lots items 0 0 places
-named_none lots items places none = record { left = refl; land = none }
+named_none lots items places none =
+    record { left = refl; apart = λ i d before within. absurd (omega arith); land = none }
 
 pub named_next : (lots : Lotting) (items : List Item) (index section : ℕ) (it : Item)
     (places new : ℕ → ℕ → ℕ → Bool)
     → index < length items → get_or items index it ≡ it → AreNamedTo lots items index section places
-    → new ≡ union places (item_places lots (item_of section it))
+    → AreAdded (item_places lots (item_of section it)) places new
     → AreNamedTo lots items (index + 1) (section_after section it) new
 named_next lots items index section it places new inside at so_far added =
     let next : IsNext items index section it = next_is items index section it inside at so_far.left in
     record {
       left = next.after;
-      land = added ∙ fun_ext (λ s. fun_ext (λ c. fun_ext (λ r.
+      apart = λ i d before within. elim (cases_lt i index) [
+        | inl earlier ↦ so_far.apart i d earlier within
+        | inr here ↦
+            let same : index ≡ i = omega arith in
+            subst (λ n.
+            ¬ SharePlace (land_of lots (take n (parts_of items)))
+            (item_places lots (get_or (parts_of items) n d)))
+            same
+            (subst
+            (λ (p : ItemOfSection).
+            ¬ SharePlace (land_of lots (take index (parts_of items))) (item_places lots p))
+            (sym (next.here d))
+            (subst (λ land. ¬ SharePlace land (item_places lots (item_of section it))) so_far.land
+            added.apart))
+      ];
+      land = added.added ∙ fun_ext (λ s. fun_ext (λ c. fun_ext (λ r.
           let d = item_of section it in
           ap (λ land. land s c r || item_places lots (item_of section it) s c r) so_far.land
           ∙ ap (λ (p : ItemOfSection).
@@ -56,6 +77,13 @@ pub named_all : (lots : Lotting) (items : List Item) (index section : ℕ) (plac
 named_all lots items index section places end named =
     let count = parts_count 0 items in
     named.land ∙ ap (λ ps. land_of lots ps) (take_all index (parts_of items) (omega arith))
+
+pub named_apart : (lots : Lotting) (items : List Item) (index section : ℕ) (places : ℕ → ℕ → ℕ → Bool)
+    → length items ≤ index → AreNamedTo lots items index section places
+    → AllPairs (λ part more. ¬ SharePlace (item_places lots part) (item_places lots more)) (parts_of items)
+named_apart lots items index section places end named =
+    let count = parts_count 0 items in
+    pairs_of_apart lots (parts_of items) (λ i d within. named.apart i d (omega arith) within)
 
 -- a fact for each number, where a result has a value
 pub if_ok_at : {T E : Type 0} (result : Result T E) (P : ℕ → Type 0) (at : ℕ)

@@ -1,7 +1,8 @@
 //! The land that a text names, also by aliquot parts that include lots.
 ghost use Rattle.std.specs.Prelude.{◌≡◌, ℕ, ◌≤◌, true, IfOk};
 ghost use Rattle.twp_grid.specs.Winding.{IsSection};
-ghost use Rattle.twp_grid.specs.Lands.{HasLots, HasWholeLots, lotting, union};
+ghost use Rattle.std.specs.List.{AllPairs};
+ghost use Rattle.twp_grid.specs.Lands.{HasLots, HasWholeLots, SharePlace, lotting};
 ghost use Rattle.twp_grammar.specs.declared.item.Item.TheVariants.{Chain, All, Sections as RangeOfSections, Lots as RangeOfLots};
 ghost use Rattle.twp_grammar.specs.ItemPlaces.{item_of, item_places, land_of, parts_of, section_after};
 ghost use Rattle.twp_suggest.specs.Descriptions.{AreNamed};
@@ -47,6 +48,9 @@ pub(crate) fn find_with_lots<P: Lotting>(
 ) -> bool
     ensures named { result ≡ true → ⟦<Lanes as PlaceSet>⟧.places land.new
         ≡ land_of (lotting (P.layout lots.now)) (parts_of description.now) }
+    ensures apart { result ≡ true → AllPairs (λ part more.
+        ¬ SharePlace (item_places (lotting (P.layout lots.now)) part) (item_places (lotting (P.layout lots.now)) more))
+        (parts_of description.now) }
     ensures whole { result ≡ true
         → HasWholeLots (lotting (P.layout lots.now)) (⟦<Lanes as PlaceSet>⟧.places land.new) }
     ensures on_land { result ≡ true → (section column row : ℕ)
@@ -143,8 +147,11 @@ pub(crate) fn why_unread<P: Lotting>(description: &Description, lots: &P) -> Unr
 /// places of its items.
 #[tactic(auto, using(crate::proofs::meaning::NamedFacts::named_none, crate::proofs::meaning::NamedFacts::named_next, crate::proofs::meaning::NamedFacts::named_all))]
 fn find_items<L: Land, P: Lotting>(description: &Description, land: &mut L, lots: &P) -> bool
-    ensures { result ≡ true
+    ensures named { result ≡ true
         → L.places land.new ≡ land_of (lotting (P.layout lots.now)) (parts_of description.now) }
+    ensures apart { result ≡ true → AllPairs (λ part more.
+        ¬ SharePlace (item_places (lotting (P.layout lots.now)) part) (item_places (lotting (P.layout lots.now)) more))
+        (parts_of description.now) }
 {
     let items = description.items();
     land.clear();
@@ -165,8 +172,9 @@ fn add_item<L: Land, P: Lotting>(
     item: &Item,
     lots: &P,
 ) -> Result<Option<Section>, Unnamed>
-    ensures added { IfOk result (λ _. L.places land.new ≡ union (L.places land.old)
-        (item_places (lotting (P.layout lots.now)) (item_of (number_of_section section) item.now))) }
+    ensures added { IfOk result (λ _. AreAdded
+        (item_places (lotting (P.layout lots.now)) (item_of (number_of_section section) item.now))
+        (L.places land.old) (L.places land.new)) }
     ensures after { IfOk result (λ after. number_of_section after
         ≡ section_after (number_of_section section) item.now) }
 {
@@ -190,8 +198,9 @@ fn sections_named<L: Land, P: Lotting>(
     whole: bool,
     lots: &P,
 ) -> Result<Section, Unnamed>
-    ensures added { IfOk result (λ _. (section : ℕ) → L.places land.new ≡ union (L.places land.old)
-        (item_places (lotting (P.layout lots.now)) (item_of section (RangeOfSections first last whole)))) }
+    ensures added { IfOk result (λ _. (section : ℕ) → AreAdded
+        (item_places (lotting (P.layout lots.now)) (item_of section (RangeOfSections first last whole)))
+        (L.places land.old) (L.places land.new)) }
     ensures first { IfOk result (λ section. section ≡ first.value) }
 {
     let from = section_of(first)?;
@@ -213,9 +222,10 @@ fn lots_named<L: Land, P: Lotting>(
     last: Numeral,
     lots: &P,
 ) -> Result<Option<Section>, Unnamed>
-    ensures added { IfOk result (λ _. L.places land.new ≡ union (L.places land.old)
+    ensures added { IfOk result (λ _. AreAdded
         (item_places (lotting (P.layout lots.now))
-        (item_of (number_of_section section) (RangeOfLots first last)))) }
+        (item_of (number_of_section section) (RangeOfLots first last)))
+        (L.places land.old) (L.places land.new)) }
     ensures same { IfOk result (λ after. after ≡ section) }
 {
     let Some(section) = section else {
@@ -238,9 +248,10 @@ fn chain_named<L: Land, P: Lotting>(
     steps: &Steps,
     lots: &P,
 ) -> Result<Option<Section>, Unnamed>
-    ensures added { IfOk result (λ _. (at : ℕ) → L.places land.new ≡ union (L.places land.old)
+    ensures added { IfOk result (λ _. (at : ℕ) → AreAdded
         (item_places (lotting (P.layout lots.now))
-        (item_of (number_of_section section) (Chain steps.now at)))) }
+        (item_of (number_of_section section) (Chain steps.now at)))
+        (L.places land.old) (L.places land.new)) }
     ensures same { IfOk result (λ after. after ≡ section) }
 {
     let Some(section) = section else {
@@ -262,8 +273,9 @@ fn all_named<L: Land, P: Lotting>(
     section: Option<Section>,
     lots: &P,
 ) -> Result<Option<Section>, Unnamed>
-    ensures added { IfOk result (λ _. (at : ℕ) → L.places land.new ≡ union (L.places land.old)
-        (item_places (lotting (P.layout lots.now)) (item_of (number_of_section section) (All at)))) }
+    ensures added { IfOk result (λ _. (at : ℕ) → AreAdded
+        (item_places (lotting (P.layout lots.now)) (item_of (number_of_section section) (All at)))
+        (L.places land.old) (L.places land.new)) }
     ensures same { IfOk result (λ after. after ≡ section) }
 {
     let Some(section) = section else {

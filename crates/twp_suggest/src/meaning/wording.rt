@@ -2,7 +2,6 @@
 //! without the land that it excepts.
 ghost use Rattle.std.specs.Prelude.{◌≡◌, ◌≤◌, IfOk, IfSome, IsTrue, List, OnOk, drop, false, length};
 ghost use Rattle.twp_grid.specs.Lands.{ContainsAll, SamePlaces, lotting};
-ghost use Rattle.twp_grammar.specs.OnPlat.{AreOnPlat};
 ghost use Rattle.twp_grammar.specs.Sentences.{IsReadAs};
 ghost use Rattle.twp_suggest.specs.Descriptions.{AreItemsOf, AreLotsNamed, IsAccepted, IsDescribed};
 ghost use Rattle.twp_suggest.specs.Descriptions.{IsNoException, IsOfDivisions, IsRemainder, NamesTownship};
@@ -228,8 +227,8 @@ fn of_last<P: Lotting>(
     )
 }
 
-/// The description of a text without the exceptions of its divisions, which semicolons separate. All that they keep has
-/// to lie on the plat, so that no text has two readings, of which one excepts all after the first `except`.
+/// The description of a text without the exceptions of its divisions, which semicolons separate. They name no land
+/// twice, so that no text has two readings, of which one excepts all after the first `except`.
 #[inline(never)]
 fn of_each<P: Lotting>(
     alloc: Global,
@@ -251,10 +250,6 @@ fn of_each<P: Lotting>(
     let Some(description) = read(alloc, whole)? else {
         return Err(Unread::Refused);
     };
-    let mut land = Lanes::empty();
-    let Ok(()) = resolve_into(&mut land, &description, township, lots) else {
-        return Err(why_unread(&description, lots));
-    };
     remainder(alloc, made, whole, description, excepted, 0, township, lots)
 }
 
@@ -275,7 +270,6 @@ fn remainder<P: Lotting>(
 ) -> Result<Wording, Unread>
     requires parted { IsParted _made.now _whole.now excepted.now at }
     requires by_itself { at ≡ 0 → IsOfDivisions (lotting (P.layout lots.now)) township _made.now }
-    requires on_plat { at ≡ 0 → AreOnPlat (lotting (P.layout lots.now)) township description }
     requires read { IsReadAs _whole.now description }
     requires only { (items : List Named) → IsReadAs _whole.now items → description ≡ items }
     ensures described { IfOk result (λ found.

@@ -1,8 +1,7 @@
-use Rattle.std.proofs.Common.{◌≡◌}
-use Rattle.twp_grid.specs.Lands.{lotting, union}
+use Rattle.twp_grid.specs.Lands.{lotting}
 use Rattle.twp_grammar.specs.ItemPlaces.{item_of, item_places}
 use Rattle.twp_grammar.specs.declared.item.Item.TheVariants.{Chain, All}
-use Rattle.twp_resolve.specs.steps.ResolvingSteps.{number_of_section}
+use Rattle.twp_resolve.specs.steps.ResolvingSteps.{AreAdded, number_of_section}
 use Rattle.twp_suggest.proofs.meaning.NamedFacts.{if_ok_at}
 use Rattle.twp_suggest.proofs.meaning.named.add_item.Goals as goal
 
@@ -14,18 +13,18 @@ pub returns-in-Chain-clause-added : goal.returns-in-Chain-clause-added
 returns-in-Chain-clause-added g c =
     rw c.in-Chain.is
     (if_ok_at c.chain_named.result (λ at.
-    g.L.PlaceSet.places c.chain_named.new.land
-    ≡ union (g.L.PlaceSet.places c.args.land.now)
+    AreAdded
     (item_places (lotting (g.P.Lotting.layout c.args.lots.now))
-    (item_of (number_of_section c.args.section) (Chain c.in-Chain.steps at))))
+    (item_of (number_of_section c.args.section) (Chain c.in-Chain.steps at)))
+    (g.L.PlaceSet.places c.args.land.now) (g.L.PlaceSet.places c.chain_named.new.land))
     c.in-Chain.at c.chain_named.ensures.added)
 
 pub returns-in-All-clause-added : goal.returns-in-All-clause-added
 returns-in-All-clause-added g c =
     rw c.in-All.is
     (if_ok_at c.all_named.result (λ at.
-    g.L.PlaceSet.places c.all_named.new.land
-    ≡ union (g.L.PlaceSet.places c.args.land.now)
+    AreAdded
     (item_places (lotting (g.P.Lotting.layout c.args.lots.now))
-    (item_of (number_of_section c.args.section) (All at))))
+    (item_of (number_of_section c.args.section) (All at)))
+    (g.L.PlaceSet.places c.args.land.now) (g.L.PlaceSet.places c.all_named.new.land))
     c.in-All.at c.all_named.ensures.added)

@@ -14,7 +14,7 @@ returns-clause-described g c =
     (c.in_ok-find_some_land-2.ensures.land) in
     is_remainder lots c.args._made.now c.args._whole.now c.args.excepted.now c.args.at c.in_ok-text.text.items
     c.in_ok-full.full.items _ _ _ _
-    c.requires.only land c.requires.on_plat less
+    c.requires.only land less
     (c.is_proper_part.ensures.inside c.if-not-is_proper_part.false)
     (c.is_proper_part.ensures.some_left c.if-not-is_proper_part.false)
     (rw c.take_away.ensures at c.in_ok-full.ensures.text)
