@@ -80,6 +80,11 @@ impl<'a> Pieces<'a> {
         }
     }
 
+    /// The text from the piece at an index on, with letters in lowercase.
+    pub(crate) fn lower_from(&self, index: usize) -> &[u8] {
+        self.lower.get(self.start(index)..).unwrap_or(b"")
+    }
+
     /// Whether the piece at an index begins with a letter.
     pub(crate) fn begins_with_letter(&self, index: usize) -> bool {
         matches!(self.lower(index), [b'a'..=b'z', ..])
