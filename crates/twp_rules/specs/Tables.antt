@@ -208,7 +208,7 @@ marks = all_left_out (words (codes ", ; : . -") ++ en_dash ∷ em_dash ∷ codes
 
 -- and parentheses around land, and marks between cells
 abbrev pub more_marks : List Entry
-more_marks = all_left_out (words (codes "( ) | + /") ++ bullet ∷ [])
+more_marks = all_left_out (words (codes "( ) | + / *") ++ bullet ∷ [])
 
 -- WORD: a word that means nothing is left out
 abbrev pub little_words : List Entry

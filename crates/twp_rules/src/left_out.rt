@@ -1,5 +1,5 @@
 //! What a rule leaves out: a moved section or township, a meridian, acreage, a label.
-ghost use Rattle.std.specs.Prelude.{◌≡◌, ◌&&◌, ◌||◌};
+ghost use Rattle.std.specs.Prelude.{◌≡◌, ◌&&◌, ◌||◌, [], ◌∷◌, codes};
 ghost use Rattle.twp_rules.specs.declared.saying.Saying.TheVariants.{Remark};
 ghost use Rattle.twp_rules.specs.Edges.{ends_with_one, is_one_of, without_white};
 ghost use Rattle.twp_rules.specs.Endings.{digits, meridian_letters};
@@ -19,7 +19,7 @@ use crate::moved::Moved;
 use crate::moving::is_only_of;
 use crate::naming::*;
 use crate::rule::Rule;
-use crate::same::{are_same, begins_with, ends_with};
+use crate::same::{are_same, begins_with, ends_with, is_text};
 use crate::saying::Saying;
 use crate::sayings::{has_no_limit, has_only_columns, is_more_or_less, is_remark, is_said_of_land};
 use crate::words::land::*;
@@ -86,11 +86,17 @@ fn is_no_land_word(word: &[u8]) -> bool
 fn is_item_number(number: &[u8], after: &[u8]) -> bool
     ensures { result ≡ is_item_number number.now after.now }
 {
-    let mark = from(number, digits_of(number).len());
     byte_at(number, 0).is_ascii_digit()
-        && (are_same(mark, b".") || are_same(mark, b")"))
+        && is_item_mark(from(number, digits_of(number).len()))
         && is_white(byte_at(after, 0))
         && is_no_land_word(word_of(without_white(after)))
+}
+
+/// Whether this is the mark that ends the number of an item.
+fn is_item_mark(mark: &[u8]) -> bool
+    ensures { result ≡ is_one_of mark.now (codes "." ∷ codes ")" ∷ []) }
+{
+    is_text(mark, b".") || is_text(mark, b")")
 }
 
 /// Whether a text is the number of a row, in a cell of its own, or of an item.

@@ -4,7 +4,9 @@ ghost use Rattle.twp_rules.specs.Changes.{AreChangesFrom, seen};
 ghost use Rattle.twp_rules.specs.Moves.{are_written_from, copies_place, digits_alone, end_of_number, first_place, grown, is_digit_at, is_copied_by};
 ghost use Rattle.twp_rules.specs.Moves.{is_named_last, is_number_at, is_same_number, is_written_at, is_written_by, keep_moved, named_after, named_by};
 ghost use Rattle.twp_rules.specs.Moves.{named_with, nothing_named, number_at, role_named_by, side_by, value_from};
-ghost use Rattle.std.specs.Prelude.{◌<◌, drop, slice_range};
+ghost use Rattle.std.specs.Prelude.{◌<◌, codes, drop, slice_range};
+ghost use Rattle.twp_rules.specs.Edges.{begins_with_one};
+ghost use Rattle.twp_rules.specs.Lists.{words};
 ghost use Rattle.twp_rules.specs.steps.Moved.{are_copied_from, are_moved_copied, is_copied_at, moves};
 
 use crate::change::{Change, between};

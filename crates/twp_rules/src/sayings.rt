@@ -1,5 +1,7 @@
 //! What a phrase says that names no land, and whether a word in it limits land.
-ghost use Rattle.std.specs.Prelude.{◌≡◌, ◌≤◌, ◌&&◌, drop, length};
+ghost use Rattle.std.specs.Prelude.{◌≡◌, ◌≤◌, ◌&&◌, ◌+◌, drop, length, take};
+ghost use Rattle.twp_rules.specs.Edges.{ends_with_one};
+ghost use Rattle.twp_rules.specs.Endings.{title_ends};
 ghost use Rattle.twp_rules.specs.Naming.{word_of};
 ghost use Rattle.twp_rules.specs.Sayings.{begins_whole_word, has_no_limit, has_only_columns_from, is_mentioned};
 ghost use Rattle.twp_rules.specs.Sayings.{is_more_or_less, is_remark, is_said_of_interests, is_said_of_land, is_said_of_rights};
@@ -214,9 +216,15 @@ fn is_of_title(seen: &[u8], at: usize) -> bool
     ensures { result ≡ is_of_title seen.now at }
 {
     let rest = from(seen, at);
-    has_title_fronts(rest)
-        || begins_code(rest)
-        || has_title_ends(before(seen, at + word_of(rest).len()))
+    has_title_fronts(rest) || begins_code(rest) || ends_title(seen, at)
+}
+
+/// Whether the word at a place ends a title.
+fn ends_title(seen: &[u8], at: usize) -> bool
+    requires { at ≤ length seen.now }
+    ensures { result ≡ ends_with_one (take (at + length (word_of (drop at seen.now))) seen.now) title_ends }
+{
+    has_title_ends(before(seen, at + word_of(from(seen, at)).len()))
 }
 
 /// Whether the S of a possessive is at a place, as in `Lessor's`.

@@ -98,6 +98,7 @@ static WORN_SECTION_WORDS: [[u8; 13]; 13] = [
     *b"scc=sec______",
     *b"sce=sec______",
     *b"seo=sec______",
+    *b"see=sec______",
     *b"secton=sec___",
     *b"sectlon=sec__",
     *b"sectoin=sec__",
@@ -107,7 +108,6 @@ static WORN_SECTION_WORDS: [[u8; 13]; 13] = [
     *b"seotion=sec__",
     *b"sectior=sec__",
     *b"sec-\ntion=sec",
-    *b"see=sec______",
 ];
 
 /// Whether this is a row of it: what it looks at, and what it writes.

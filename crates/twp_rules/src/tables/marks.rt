@@ -109,8 +109,8 @@ static MORE_MARKS: [[u8; 4]; 7] = [
     *b"|=__",
     *b"+=__",
     *b"/=__",
-    *b"\xE2\x80\xA2=",
     *b"*=__",
+    *b"\xE2\x80\xA2=",
 ];
 
 /// Whether this is a row of it: what it looks at, and what it writes.

@@ -115,8 +115,8 @@ static JOINING_WORDS: [[u8; 14]; 11] = [
     *b"incl=_________",
     *b"both=_________",
     *b"numbered=_____",
-    *b"everything=all",
     *b"no.=__________",
+    *b"everything=all",
 ];
 
 /// Whether this is a row of it: what it looks at, and what it writes.

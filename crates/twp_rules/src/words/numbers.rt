@@ -70,7 +70,6 @@ static NUMBERED_WORDS: [[u8; 11]; 86] = [
     *b"dec________",
     *b"december___",
     *b"row________",
-    *b"pasture____",
     *b"mch________",
     *b"patent_____",
     *b"pat________",
@@ -95,6 +94,7 @@ static NUMBERED_WORDS: [[u8; 11]; 86] = [
     *b"grz________",
     *b"past_______",
     *b"crop_______",
+    *b"pasture____",
 ];
 
 /// Whether a word is one of them.

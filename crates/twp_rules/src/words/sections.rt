@@ -103,6 +103,7 @@ static MOVED_SECTION_WORDS: [[u8; 10]; 38] = [
     *b"scc_______",
     *b"sce_______",
     *b"seo_______",
+    *b"see_______",
     *b"ec________",
     *b"ection____",
     *b"secton____",
@@ -113,6 +114,7 @@ static MOVED_SECTION_WORDS: [[u8; 10]; 38] = [
     *b"seclion___",
     *b"seotion___",
     *b"sectior___",
+    *b"tion______",
     *b"numbered__",
     *b"no________",
     *b"nos_______",
@@ -128,8 +130,6 @@ static MOVED_SECTION_WORDS: [[u8; 10]; 38] = [
     *b"to________",
     *b"thru______",
     *b"through___",
-    *b"tion______",
-    *b"see_______",
 ];
 
 /// Whether a word is one of them.
@@ -201,6 +201,7 @@ static SECTION_NAMES: [[u8; 10]; 24] = [
     *b"scc_______",
     *b"sce_______",
     *b"seo_______",
+    *b"see_______",
     *b"ec________",
     *b"ection____",
     *b"sn________",
@@ -212,10 +213,9 @@ static SECTION_NAMES: [[u8; 10]; 24] = [
     *b"seclion___",
     *b"seotion___",
     *b"sectior___",
+    *b"tion______",
     *b"frstdivno_",
     *b"frstdivlab",
-    *b"tion______",
-    *b"see_______",
 ];
 
 /// Whether a word is one of them.
