@@ -322,6 +322,10 @@ impl<'a> Pieces<'a> {
     pub fn end_of_decimal(&self, index: usize) -> Option<usize> {
         self.number(index)?;
         let mut next = plus(index, 1);
+        // After most numbers is white space.
+        if !self.is_joined(next) {
+            return Some(next);
+        }
         for mark in [Kind::Comma, Kind::Stop] {
             let digits = plus(next, 1);
             let is_part = self.kind(next) == mark
