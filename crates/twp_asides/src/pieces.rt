@@ -16,7 +16,7 @@ pub struct Pieces<'a> {
 
 /// The index so many pieces after another.
 pub fn plus(index: usize, count: usize) -> usize {
-    index.saturating_add(count)
+    index.wrapping_add(count)
 }
 
 impl<'a> Pieces<'a> {
