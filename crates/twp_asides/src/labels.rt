@@ -338,11 +338,14 @@ impl<'a> Pieces<'a> {
 
     /// Whether the word for a township or a range is at an index.
     pub fn is_township_word(&self, index: usize) -> bool {
-        let word = self.lower(index);
         let next = plus(index, 1);
-        let number = plus(next, usize::from(self.is(next, b".")));
-        (matches!(self.kind(index), Kind::T | Kind::R) && self.number(number).is_some())
-            || is_township_word(word)
+        match self.kind(index) {
+            Kind::T | Kind::R
+                if self
+                    .number(plus(next, usize::from(self.is(next, b"."))))
+                    .is_some() => true,
+            _ => is_township_word(self.lower(index)),
+        }
     }
 
     /// Whether the text begins with the names of columns, of which one is for lots: a date below it may be
