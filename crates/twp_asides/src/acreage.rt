@@ -128,11 +128,7 @@ impl<'a> Pieces<'a> {
         if is_net_or_gross(self.lower(next)) && is_acres(self.lower(plus(next, 1))) {
             next = plus(next, 1);
         }
-        // A total may have no other unit, as in `240.00 gross`.
-        let is_total = (self.is_figure_with_decimals(end) && self.begins_column(plus(next, 1)))
-            || self.is(plus(next, 1), b")")
-            || self.is_before_other_total(plus(next, 1));
-        if self.is_kind_of_acreage(next) && is_total {
+        if self.is_kind_of_acreage(next) && self.is_total(end, plus(next, 1)) {
             return Some(plus(next, 1));
         }
         let is_letter = self.is(next, b"a")
@@ -153,6 +149,14 @@ impl<'a> Pieces<'a> {
             next = plus(next, 1);
         }
         Some(next)
+    }
+
+    /// Whether a figure at an index is a total, which ends before another index with `net` or `gross`: it may have no
+    /// other unit, as in `240.00 gross`.
+    fn is_total(&self, figure: usize, end: usize) -> bool {
+        (self.is_figure_with_decimals(figure) && self.begins_column(end))
+            || self.is(end, b")")
+            || self.is_before_other_total(end)
     }
 
     /// Whether a slash, a number, and `net` or `gross` are at an index, as after `320 gross` in `320 gross/160 net`, or the
@@ -318,6 +322,10 @@ impl<'a> Pieces<'a> {
     pub fn end_of_decimal(&self, index: usize) -> Option<usize> {
         self.number(index)?;
         let mut next = plus(index, 1);
+        // After most numbers is white space.
+        if !self.is_joined(next) {
+            return Some(next);
+        }
         for mark in [Kind::Comma, Kind::Stop] {
             let digits = plus(next, 1);
             let is_part = self.kind(next) == mark

@@ -14,6 +14,9 @@ const UNKNOWN_MOST: usize = 1_000;
 /// There is room from the start for this many pieces, and one more for each two bytes.
 const PIECES_FIRST: usize = 8;
 
+/// The most bytes of a piece that are counted.
+const SIZE_MOST: usize = 65_535;
+
 /// A piece: what it is, and where it begins and ends.
 #[derive(Clone, Copy)]
 pub(crate) struct Piece {
@@ -68,7 +71,7 @@ impl Piece {
     fn at(lower: &[u8], start: usize, size: usize, kind: Kind, gap: Spacing) -> Piece {
         Piece {
             kind,
-            size: u16::try_from(size).unwrap_or(u16::MAX),
+            size: size.min(SIZE_MOST) as u16,
             gap,
             first: lower.get(start).copied().unwrap_or(0),
             start,
@@ -125,12 +128,12 @@ pub(crate) fn cut(text: &[u8], lower: &[u8], list: &mut Vec<Piece>) -> Result<()
         } else {
             unknown = 0;
         }
-        let piece = Piece::at(lower, start, whole, kind, gap);
-        end = piece.end;
+        end = plus(start, whole);
         if may_be_two(kind, text, start, size) {
-            push_token(list, text, lower, piece)?;
+            let token = Piece::at(lower, start, whole, kind, gap);
+            push_token(list, text, lower, token)?;
         } else {
-            list.push(piece)?;
+            list.push(Piece::at(lower, start, whole, kind, gap))?;
         }
     }
     Ok(())

@@ -94,15 +94,16 @@ impl<'a> Pieces<'a> {
         let mark = plus(index, 1);
         let second = plus(index, 2);
         let is_mark = (self.is(mark, b"/") || self.is_dash(mark)) && self.is_joined(mark);
+        if !is_mark || !self.is_joined(second) {
+            return false;
+        }
         let last = plus(index, 4);
         let is_cut = self.is(mark, b"/")
             && self.number(index).is_some()
             && self.is_cut_by_fraction(plus(index, 3));
-        is_mark
-            && self.is_joined(second)
-            && (is_cut
-                || self.number(second).unwrap_or(0) > SECTIONS
-                || (self.number(last).is_some() && self.is_joined(last)))
+        is_cut
+            || self.number(second).unwrap_or(0) > SECTIONS
+            || (self.number(last).is_some() && self.is_joined(last))
     }
 
     /// Whether the digits at an index are the rest of a year whose first one, with the day, was taken for a

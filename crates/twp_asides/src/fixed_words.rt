@@ -7,165 +7,167 @@ use twp_grammar::Kind;
 /// The most bytes of such words.
 const WORDS_MOST: usize = 51;
 
-/// Words before land, in lowercase, filled up with `_`.
+/// Words before land, in lowercase, sorted by their first letter, and filled up with `_`.
 static WORDS_BEFORE: [[u8; WORDS_MOST]; 99] = [
-    *b"pod________________________________________________",
-    *b"pou________________________________________________",
-    *b"diversion__________________________________________",
-    *b"place of use_______________________________________",
-    *b"ground water_______________________________________",
-    *b"groundwater________________________________________",
-    *b"surface water______________________________________",
-    *b"irrigation_________________________________________",
-    *b"stockwater_________________________________________",
-    *b"domestic___________________________________________",
-    *b"title to___________________________________________",
-    *b"lands are__________________________________________",
-    *b"they own___________________________________________",
-    *b"he owns____________________________________________",
-    *b"she owns___________________________________________",
-    *b"we own_____________________________________________",
-    *b"its legal is_______________________________________",
-    *b"its________________________________________________",
-    *b"it's_______________________________________________",
-    *b"we still need______________________________________",
-    *b"we need____________________________________________",
-    *b"i need_____________________________________________",
-    *b"we'd like to nominate______________________________",
-    *b"our opinion is limited to__________________________",
-    *b"this opinion is limited to_________________________",
-    *b"this assignment conveys____________________________",
-    *b"land description___________________________________",
-    *b"legal desc_________________________________________",
-    *b"s-t-r______________________________________________",
     *b"association placer_________________________________",
-    *b"base prop__________________________________________",
-    *b"do hereby grant, bargain and sell__________________",
-    *b"reclamation withdrawal_____________________________",
-    *b"minerals under_____________________________________",
-    *b"minerals in and under______________________________",
-    *b"minerals in________________________________________",
     *b"all minerals under_________________________________",
     *b"all minerals in and under__________________________",
     *b"all oil, gas and other minerals in and under_______",
     *b"all of the oil, gas and other minerals in and under",
-    *b"oil and gas in and under___________________________",
-    *b"oil and gas in_____________________________________",
-    *b"surface____________________________________________",
-    *b"minerals___________________________________________",
-    *b"mineral interest in________________________________",
-    *b"mineral____________________________________________",
-    *b"oil & gas__________________________________________",
-    *b"oil and gas________________________________________",
-    *b"subject lands______________________________________",
-    *b"subject land_______________________________________",
-    *b"fyi________________________________________________",
+    *b"amended description________________________________",
+    *b"amended legal______________________________________",
+    *b"attached is the lease on___________________________",
+    *b"attached is our opinion on_________________________",
+    *b"base prop__________________________________________",
+    *b"corrected description______________________________",
+    *b"corrected legal____________________________________",
+    *b"communication site_________________________________",
+    *b"diversion__________________________________________",
+    *b"domestic___________________________________________",
+    *b"do hereby grant, bargain and sell__________________",
     *b"described lands____________________________________",
-    *b"point of diversion_________________________________",
-    *b"points of diversion________________________________",
-    *b"legal description__________________________________",
     *b"description________________________________________",
+    *b"described as_______________________________________",
+    *b"fyi________________________________________________",
+    *b"ground water_______________________________________",
+    *b"groundwater________________________________________",
+    *b"he owns____________________________________________",
+    *b"he wants___________________________________________",
+    *b"irrigation_________________________________________",
+    *b"its legal is_______________________________________",
+    *b"its________________________________________________",
+    *b"it's_______________________________________________",
+    *b"i need_____________________________________________",
+    *b"lands are__________________________________________",
+    *b"land description___________________________________",
+    *b"legal desc_________________________________________",
+    *b"legal description__________________________________",
     *b"lands involved_____________________________________",
     *b"lands covered______________________________________",
-    *b"placer claim_______________________________________",
-    *b"placer_____________________________________________",
     *b"legal land description_____________________________",
-    *b"real property______________________________________",
-    *b"amended description________________________________",
-    *b"corrected description______________________________",
-    *b"amended legal______________________________________",
-    *b"corrected legal____________________________________",
     *b"legal is___________________________________________",
     *b"legal______________________________________________",
-    *b"communication site_________________________________",
     *b"location___________________________________________",
-    *b"tract description__________________________________",
     *b"lands in lease_____________________________________",
     *b"leased lands_______________________________________",
     *b"leased premises____________________________________",
-    *b"the following lands________________________________",
-    *b"the following described lands______________________",
-    *b"the following described land_______________________",
     *b"lands described as_________________________________",
     *b"land described as__________________________________",
-    *b"described as_______________________________________",
-    *b"the unit consists of_______________________________",
-    *b"the parcel is______________________________________",
+    *b"minerals under_____________________________________",
+    *b"minerals in and under______________________________",
+    *b"minerals in________________________________________",
+    *b"minerals___________________________________________",
+    *b"mineral interest in________________________________",
+    *b"mineral____________________________________________",
+    *b"our opinion is limited to__________________________",
+    *b"oil and gas in and under___________________________",
+    *b"oil and gas in_____________________________________",
+    *b"oil & gas__________________________________________",
+    *b"oil and gas________________________________________",
     *b"our interest is in_________________________________",
     *b"our acreage is_____________________________________",
     *b"our lands are______________________________________",
-    *b"we hold leases on__________________________________",
-    *b"the legal is_______________________________________",
+    *b"pod________________________________________________",
+    *b"pou________________________________________________",
+    *b"place of use_______________________________________",
+    *b"point of diversion_________________________________",
+    *b"points of diversion________________________________",
+    *b"placer claim_______________________________________",
+    *b"placer_____________________________________________",
+    *b"reclamation withdrawal_____________________________",
+    *b"real property______________________________________",
+    *b"surface water______________________________________",
+    *b"stockwater_________________________________________",
+    *b"she owns___________________________________________",
+    *b"s-t-r______________________________________________",
+    *b"surface____________________________________________",
+    *b"subject lands______________________________________",
+    *b"subject land_______________________________________",
     *b"see legal below____________________________________",
     *b"see below__________________________________________",
-    *b"attached is the lease on___________________________",
-    *b"attached is our opinion on_________________________",
+    *b"she wants__________________________________________",
+    *b"title to___________________________________________",
+    *b"they own___________________________________________",
+    *b"this opinion is limited to_________________________",
+    *b"this assignment conveys____________________________",
+    *b"tract description__________________________________",
+    *b"the following lands________________________________",
+    *b"the following described lands______________________",
+    *b"the following described land_______________________",
+    *b"the unit consists of_______________________________",
+    *b"the parcel is______________________________________",
+    *b"the legal is_______________________________________",
     *b"the well will be drilled in________________________",
     *b"the property is____________________________________",
     *b"the land is________________________________________",
     *b"the lands are______________________________________",
-    *b"we have leased_____________________________________",
     *b"they want__________________________________________",
-    *b"he wants___________________________________________",
-    *b"she wants__________________________________________",
+    *b"we own_____________________________________________",
+    *b"we still need______________________________________",
+    *b"we need____________________________________________",
+    *b"we'd like to nominate______________________________",
+    *b"we hold leases on__________________________________",
+    *b"we have leased_____________________________________",
 ];
 
-/// Words after land, in lowercase, filled up with `_`.
+/// Words after land, in lowercase, sorted by their first letter, and filled up with `_`.
 static WORDS_AFTER: [[u8; WORDS_MOST]; 43] = [
-    *b"for recreation or public purposes__________________",
-    *b"for purposes of calculating rentals________________",
-    *b"for calculating rentals____________________________",
-    *b"community property of decedent_____________________",
-    *b"is vested as follows_______________________________",
-    *b"ground water_______________________________________",
-    *b"groundwater________________________________________",
-    *b"surface water______________________________________",
     *b"all rt&i___________________________________________",
     *b"all right, title and interest______________________",
-    *b"back to patent_____________________________________",
-    *b"need it by friday__________________________________",
-    *b"just that one 40___________________________________",
-    *b"let me know________________________________________",
-    *b"please advise______________________________________",
-    *b"sorry about that___________________________________",
-    *b"no mineral severance_______________________________",
-    *b"patented w/mins____________________________________",
-    *b"patented with minerals_____________________________",
-    *b"no minerals reserved_______________________________",
-    *b"formerly lease no__________________________________",
-    *b"county records_____________________________________",
-    *b"records of said county_____________________________",
-    *b"together with all accretions thereto_______________",
-    *b"surveyed___________________________________________",
     *b"as surveyed________________________________________",
-    *b"survey type: a_____________________________________",
-    *b"survey type: l_____________________________________",
     *b"asap_______________________________________________",
-    *b"thank you__________________________________________",
-    *b"thanks_____________________________________________",
     *b"as shown on the official plat thereof______________",
     *b"as shown on the official plat______________________",
     *b"as shown on the plat_______________________________",
-    *b"unleased___________________________________________",
-    *b"see map____________________________________________",
-    *b"see plat___________________________________________",
-    *b"see attached map___________________________________",
-    *b"title good_________________________________________",
-    *b"title ok___________________________________________",
+    *b"back to patent_____________________________________",
+    *b"community property of decedent_____________________",
+    *b"county records_____________________________________",
+    *b"for recreation or public purposes__________________",
+    *b"for purposes of calculating rentals________________",
+    *b"for calculating rentals____________________________",
+    *b"formerly lease no__________________________________",
+    *b"ground water_______________________________________",
+    *b"groundwater________________________________________",
+    *b"is vested as follows_______________________________",
+    *b"just that one 40___________________________________",
+    *b"let me know________________________________________",
+    *b"need it by friday__________________________________",
+    *b"no mineral severance_______________________________",
+    *b"no minerals reserved_______________________________",
     *b"nothing of record__________________________________",
     *b"no lease of record_________________________________",
     *b"not leased_________________________________________",
+    *b"please advise______________________________________",
+    *b"patented w/mins____________________________________",
+    *b"patented with minerals_____________________________",
+    *b"records of said county_____________________________",
+    *b"surface water______________________________________",
+    *b"sorry about that___________________________________",
+    *b"surveyed___________________________________________",
+    *b"survey type: a_____________________________________",
+    *b"survey type: l_____________________________________",
+    *b"see map____________________________________________",
+    *b"see plat___________________________________________",
+    *b"see attached map___________________________________",
+    *b"together with all accretions thereto_______________",
+    *b"thank you__________________________________________",
+    *b"thanks_____________________________________________",
+    *b"title good_________________________________________",
+    *b"title ok___________________________________________",
+    *b"unleased___________________________________________",
 ];
 
-/// What is before the filling of a row.
-fn front_of(row: &[u8]) -> &[u8] {
+/// How many bytes a row has before its filling, if a text in lowercase begins with them.
+fn size_of_front(text: &[u8], row: &[u8; WORDS_MOST]) -> Option<usize> {
     for index in 0..row.len() {
         if row[index] == b'_' {
-            let (front, _) = row.split_at(index);
-            return front;
+            return Some(index);
+        }
+        if index >= text.len() || text[index] != row[index] {
+            return None;
         }
     }
-    row
+    Some(row.len())
 }
 
 impl<'a> Pieces<'a> {
@@ -241,15 +243,19 @@ impl<'a> Pieces<'a> {
             || self.is(index, b"?")
     }
 
-    /// Where the words of a row end that are at an index.
+    /// Where the words of a row end that are at an index. The rows are sorted by their first letter: only those
+    /// with the letter of the text are compared with it.
     fn end_of_some_words(&self, index: usize, rows: &[[u8; WORDS_MOST]]) -> Option<usize> {
-        let [first, ..] = self.lower(index) else {
-            return None;
-        };
-        for row in rows {
-            // Most rows begin with another byte.
-            if row[0] == *first {
-                if let Some(end) = self.end_of_text(index, front_of(row)) {
+        let start = self.start(index);
+        let text = self.lower_from(index);
+        let first = *text.first()?;
+        let from = rows.partition_point(|row| row[0] < first);
+        for row in rows.get(from..).unwrap_or(&[]) {
+            if row[0] != first {
+                return None;
+            }
+            if let Some(size) = size_of_front(text, row) {
+                if let Some(end) = self.after_piece_to(index, plus(start, size)) {
                     return Some(end);
                 }
             }
@@ -257,15 +263,16 @@ impl<'a> Pieces<'a> {
         None
     }
 
-    /// The index after the pieces of a text at an index, which is in lowercase.
-    fn end_of_text(&self, index: usize, text: &[u8]) -> Option<usize> {
-        if !self.begins_as(index, text) {
-            return None;
-        }
-        let end = plus(self.start(index), text.len());
-        for place in index..plus(index, text.len()) {
-            if self.end(place) == end {
-                return Some(plus(place, 1));
+    /// The index after the piece that ends at a place of the text, which is at an index, or soon after it.
+    fn after_piece_to(&self, index: usize, end: usize) -> Option<usize> {
+        for place in index..plus(index, WORDS_MOST) {
+            let here = self.end(place);
+            if here >= end {
+                return if here == end {
+                    Some(plus(place, 1))
+                } else {
+                    None
+                };
             }
         }
         None

@@ -72,12 +72,14 @@ impl<'a> Pieces<'a> {
     /// Whether `for` is at an index, as a patent begins, or after a comma, or the number of an entry, and land after
     /// it.
     pub(crate) fn is_for_before_land(&self, index: usize) -> bool {
+        if !self.is(index, b"for") {
+            return false;
+        }
         let next = plus(index, 1);
         let is_after_entry = matches!(self.kind_before(index), Some(Kind::BadNumber))
             || matches!(self.lower_back(index, 1), Some(word) if is_of_request(word))
             || matches!(index.checked_sub(1), Some(entry) if self.has_digits(entry, 4));
-        self.is(index, b"for")
-            && (self.begins_line(index) || self.follows(index, b",") || is_after_entry)
+        (self.begins_line(index) || self.follows(index, b",") || is_after_entry)
             && (self.begins_part(next)
                 || (self.is(next, b"the") && matches!(self.kind(plus(next, 1)), Kind::Lot))
                 || matches!(self.kind(next), Kind::Lot))
@@ -284,11 +286,14 @@ impl<'a> Pieces<'a> {
 
     /// Whether the question mark at the end of a request is at an index.
     pub fn is_question_mark(&self, index: usize) -> bool {
+        if !self.is(index, b"?") {
+            return false;
+        }
         let next = plus(index, 1);
         let is_last = next == self.len()
             || begins_terms(self.lower(next))
             || self.end_of_words_after(next).is_some();
-        self.is(index, b"?") && is_last && self.has_request()
+        is_last && self.has_request()
     }
 
     /// Whether the text begins with a request, or with a greeting and one.
@@ -333,11 +338,14 @@ impl<'a> Pieces<'a> {
 
     /// Whether the word for a township or a range is at an index.
     pub fn is_township_word(&self, index: usize) -> bool {
-        let word = self.lower(index);
         let next = plus(index, 1);
-        let number = plus(next, usize::from(self.is(next, b".")));
-        (matches!(self.kind(index), Kind::T | Kind::R) && self.number(number).is_some())
-            || is_township_word(word)
+        match self.kind(index) {
+            Kind::T | Kind::R
+                if self
+                    .number(plus(next, usize::from(self.is(next, b"."))))
+                    .is_some() => true,
+            _ => is_township_word(self.lower(index)),
+        }
     }
 
     /// Whether the text begins with the names of columns, of which one is for lots: a date below it may be

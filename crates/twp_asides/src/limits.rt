@@ -64,17 +64,18 @@ pub(crate) fn is_size_or_acreage(pieces: &Pieces<'_>, index: usize) -> bool {
     let next = plus(index, 1);
     let is_size = (pieces.is(index, b"x") || pieces.is(index, b"by"))
         && pieces.number(next).is_some();
+    if is_size || !is_round_acreage(pieces.number(index).unwrap_or(0)) {
+        return is_size;
+    }
     let is_record = matches!(
         pieces.lower_back(index, 1),
         Some(label) if is_of_label(label) || is_instrument(label) || is_of_record(label)
     );
     let is_use = pieces.is(next, b"aums") || pieces.is(next, b"aum");
-    let is_called = is_round_acreage(pieces.number(index).unwrap_or(0))
-        && !is_record
+    !is_record
         && !is_use
         && (!pieces.is_joined(index) || pieces.follows(index, b"("))
-        && (!pieces.is_joined(next) || pieces.is(next, b")"));
-    is_size || is_called
+        && (!pieces.is_joined(next) || pieces.is(next, b")"))
 }
 
 /// Whether a word at an index adds the section of the number before it, as in `Ten also`.

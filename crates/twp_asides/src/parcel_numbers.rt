@@ -22,12 +22,9 @@ impl<'a> Pieces<'a> {
                 None
             };
         }
-        if !self.is_after_mark_or_column(index) {
-            return None;
-        }
         let end = self.end_of_parcel(index)?;
         let is_last = self.is_mark(end) || self.begins_column(end);
-        if is_last && !self.is(end, b":") {
+        if is_last && !self.is(end, b":") && self.is_after_mark_or_column(index) {
             Some(end)
         } else {
             None
@@ -38,12 +35,10 @@ impl<'a> Pieces<'a> {
     fn end_of_parcel(&self, index: usize) -> Option<usize> {
         let first = plus(index, usize::from(self.is(index, b"tax")));
         let name = plus(first, 1);
-        let has_number_word = self.is(name, b"no")
-            || self.is(name, b"#")
-            || self.is(name, b"number");
         let is_named = self.is(first, b"apn")
             || self.is(first, b"pin")
-            || (self.is(first, b"parcel") && has_number_word);
+            || (self.is(first, b"parcel")
+                && (self.is(name, b"no") || self.is(name, b"#") || self.is(name, b"number")));
         if !is_named {
             return None;
         }
@@ -98,12 +93,12 @@ impl<'a> Pieces<'a> {
 
     /// Where a figure ends that is called by a word, after a mark or with its column: at a mark, or with its column.
     fn end_of_figure_called(&self, index: usize, word: &[u8]) -> Option<usize> {
-        if !self.is_after_mark_or_column(index) {
-            return None;
-        }
         let unit = self.end_of_decimal(index)?;
         let end = plus(unit, 1);
-        if self.is(unit, word) && (self.is_mark(end) || self.begins_column(end)) {
+        if self.is(unit, word)
+            && self.is_after_mark_or_column(index)
+            && (self.is_mark(end) || self.begins_column(end))
+        {
             Some(end)
         } else {
             None

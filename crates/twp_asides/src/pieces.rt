@@ -16,7 +16,7 @@ pub struct Pieces<'a> {
 
 /// The index so many pieces after another.
 pub fn plus(index: usize, count: usize) -> usize {
-    index.saturating_add(count)
+    index.wrapping_add(count)
 }
 
 impl<'a> Pieces<'a> {
@@ -78,6 +78,11 @@ impl<'a> Pieces<'a> {
             Some(piece) => self.lower.get(piece.start..piece.end).unwrap_or(b""),
             None => b"",
         }
+    }
+
+    /// The text from the piece at an index on, with letters in lowercase.
+    pub(crate) fn lower_from(&self, index: usize) -> &[u8] {
+        self.lower.get(self.start(index)..).unwrap_or(b"")
     }
 
     /// Whether the piece at an index begins with a letter.

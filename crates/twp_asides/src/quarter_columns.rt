@@ -8,12 +8,11 @@ impl<'a> Pieces<'a> {
     pub(crate) fn end_of_numbered_field(&self, index: usize) -> Option<usize> {
         let number = plus(index, 1);
         let mark = plus(number, 1);
-        let is_named = is_field(self.lower(index)) && self.begins_column(index);
         let is_numbered = self.has_digits(number, 1)
             && self.is_joined(number)
             && self.is(mark, b":")
             && self.is_joined(mark);
-        if is_named && is_numbered {
+        if is_numbered && is_field(self.lower(index)) && self.begins_column(index) {
             Some(plus(mark, 1))
         } else {
             None

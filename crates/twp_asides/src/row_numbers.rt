@@ -15,12 +15,15 @@ impl<'a> Pieces<'a> {
             && self.begins_line(index)
             && self.is_number_with_mark(0)
             && !self.is_joined(next);
+        if !is_item {
+            return None;
+        }
         let is_place = self.begins_tier(next)
             || matches!(self.kind(next), Kind::Sec)
             || self.is_label_of_tract(next)
             || self.end_of_words_before(next).is_some()
             || self.end_of_code(next).is_some();
-        if is_item && is_place && self.names_section_of_line(next) {
+        if is_place && self.names_section_of_line(next) {
             Some(next)
         } else {
             None

@@ -37,13 +37,12 @@ impl<'a> Pieces<'a> {
             has_letter = has_letter || is_letter;
             end = plus(place, 1);
         }
+        if !has_digit || !has_letter {
+            return None;
+        }
         let is_unit = is_acres(self.lower(end))
             || (self.is(end, b"a") && plus(end, 1) >= self.len());
-        if has_digit && has_letter && is_unit {
-            Some(end)
-        } else {
-            None
-        }
+        if is_unit { Some(end) } else { None }
     }
 }
 

@@ -56,7 +56,13 @@ impl<'a> Draft<'a> {
     /// The number at an index, in digits or in words. What repeats it in parentheses is part of it.
     pub fn numeral(&self, index: usize) -> Option<WrittenNumber> {
         let pieces = &self.pieces;
+        let next = plus(index, 1);
         let found = match pieces.kind(index) {
+            // Most numbers are not joined to what follows, which isn't in parentheses.
+            Kind::Number(value)
+                if pieces.size(index) <= 3 && !pieces.is_joined(next) && !pieces.is(next, b"(") => {
+                return Some(one_piece(index, value));
+            }
             Kind::Number(value) if pieces.size(index) <= 3 => one_piece(index, value),
             Kind::Other => match self.damaged_digit(index).or(self.damaged_number(index)) {
                 Some(value) => one_piece(index, value),

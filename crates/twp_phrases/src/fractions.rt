@@ -278,28 +278,29 @@ impl<'a> Finder<'a> {
         let pieces = &self.draft.pieces;
         let next = plus(index, 1);
         let digit = plus(index, 2);
-        let is_of = pieces.is(plus(index, 3), b"of")
-            || pieces.is_back(index, 2, b"of")
-            || pieces.is_back(index, 3, b"of");
-        (is_of || pieces.follows(index, b"."))
-            && pieces.is(index, b"1")
+        pieces.is(index, b"1")
             && pieces.is(next, b"-")
             && pieces.is_joined(next)
             && self.is_digit(digit, size)
+            && (pieces.is(plus(index, 3), b"of")
+                || pieces.is_back(index, 2, b"of")
+                || pieces.is_back(index, 3, b"of")
+                || pieces.follows(index, b"."))
     }
 
     /// Whether a fraction whose slash was read as a `1` is at an index, as in `NE114`, or `NE 114 of the SW 114`: with an
     /// `of` before or after its letters, or joined to them, since it may be acreage.
     fn is_worn_slash(&self, index: usize, size: Size) -> bool {
         let pieces = &self.draft.pieces;
-        let is_sure = pieces.is_joined(index)
-            || pieces.is(plus(index, 1), b"of")
-            || pieces.is_back(index, 2, b"of")
-            || pieces.is_back(index, 3, b"of");
-        match size {
-            Size::Half => is_sure && pieces.is(index, b"112"),
-            Size::Quarter => is_sure && pieces.is(index, b"114"),
-        }
+        let is_worn = match size {
+            Size::Half => pieces.is(index, b"112"),
+            Size::Quarter => pieces.is(index, b"114"),
+        };
+        is_worn
+            && (pieces.is_joined(index)
+                || pieces.is(plus(index, 1), b"of")
+                || pieces.is_back(index, 2, b"of")
+                || pieces.is_back(index, 3, b"of"))
     }
 
     /// Whether the piece at an index is the digit that people write for a half or a quarter, joined to what

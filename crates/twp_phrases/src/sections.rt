@@ -175,6 +175,13 @@ impl<'a> Finder<'a> {
     /// a comma in its place.
     fn after_section_word(&mut self, word: usize) -> usize {
         let next = plus(word, 1);
+        match self.draft.pieces.kind(next) {
+            Kind::Number(_) => return next,
+            Kind::Stop if self.draft.pieces.number(plus(next, 1)).is_some() => {
+                return plus(next, 1);
+            }
+            _ => {}
+        }
         if self.draft.pieces.is(next, b"numbered") {
             self.draft.leave_out(next, plus(next, 1), Rule::Word);
             return plus(next, 1);
@@ -197,9 +204,6 @@ impl<'a> Finder<'a> {
         }
         if matches!(self.draft.pieces.kind(next), Kind::Colon) || self.draft.pieces.is(next, b"=") {
             self.draft.leave_out(next, plus(next, 1), Rule::Mark);
-            return plus(next, 1);
-        }
-        if self.draft.pieces.is(next, b".") && self.draft.pieces.number(plus(next, 1)).is_some() {
             return plus(next, 1);
         }
         if !self.draft.pieces.is_joined(next) {

@@ -27,9 +27,13 @@ both_same a b c d e f = rw (e, f) refl
 first_fails : (a b : Bool) → a ≡ false → (a && b) ≡ false
 first_fails a b e = rw e refl
 
-second_fails : (a b : Bool) → b ≡ false → (a && b) ≡ false
+pub second_fails : (a b : Bool) → b ≡ false → (a && b) ≡ false
 second_fails true b e = e
 second_fails false b e = refl
+
+pub second_holds : (a b : Bool) → b ≡ true → (a && b) ≡ a
+second_holds true b e = e
+second_holds false b e = refl
 
 -- no letter is before a word that begins after neither a letter nor a digit
 whole_is_word : (letter digit upper lower possessive : Bool) → (letter && not (upper || lower)) ≡ false

@@ -48,12 +48,13 @@ pub fn is_remark(seen: &[u8]) -> bool
     true
 }
 
-/// Whether a word that limits land begins at a place.
+/// Whether a word that limits land begins at a place. Few words limit land, so whether it is a whole word is asked last.
+#[tactic(auto, using(crate::proofs::SayingFacts::second_fails, crate::proofs::SayingFacts::second_holds))]
 fn limits_land_at(seen: &[u8], at: usize) -> bool
     requires { at ≤ length seen.now }
     ensures { result ≡ (begins_whole_word seen.now at && limits_land (word_of (drop at seen.now))) }
 {
-    begins_whole_word(seen, at) && limits_land(word_of(from(seen, at)))
+    limits_land(word_of(from(seen, at))) && begins_whole_word(seen, at)
 }
 
 /// Whether a text says something of land, without naming any.

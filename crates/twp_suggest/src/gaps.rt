@@ -231,25 +231,21 @@ impl<'p, 'a> ChangeWriter<'p, 'a> {
     pub(crate) fn is_word(&self, index: usize) -> bool {
         let pieces = &self.plan.draft.pieces;
         match pieces.kind(index) {
-            Kind::Comma | Kind::Semicolon | Kind::Colon | Kind::Stop => false,
-            _ => {
-                pieces.is(index, b"of")
-                    || pieces.is(index, b"the")
-                    || pieces.is(index, b"in")
-                    || pieces.is(index, b"said")
-                    || pieces.is(index, b"and")
-                    || pieces.is(index, b"&")
-            }
+            Kind::Of | Kind::The | Kind::And => true,
+            Kind::Other => pieces.is(index, b"in") || pieces.is(index, b"said"),
+            Kind::BadByte => pieces.is(index, b"&"),
+            _ => false,
         }
     }
 
     /// Whether a word or a mark at an index leads from land to more of it.
     pub(crate) fn leads_on(&self, index: usize) -> bool {
         let pieces = &self.plan.draft.pieces;
-        pieces.is(index, b"also")
-            || pieces.is(index, b"together")
-            || pieces.is(index, b"+")
-            || pieces.is(index, b"/")
+        match pieces.kind(index) {
+            Kind::Other => pieces.is(index, b"also") || pieces.is(index, b"together"),
+            Kind::BadByte => pieces.is(index, b"+") || pieces.is(index, b"/"),
+            _ => false,
+        }
     }
 
     /// Whether a word between phrases means nothing there: before a section or a township and range that is

@@ -218,10 +218,10 @@ impl<'p, 'a> ChangeWriter<'p, 'a> {
         false
     }
 
-    /// Whether the last phrase is the name of a column for land, which is missing.
+    /// Whether the last phrase is the name of a column for land, which is missing. It is left out.
     fn ends_with_label(&self, list: &[Placed]) -> bool {
         match list.last() {
-            Some(placed) => {
+            Some(placed) if matches!(placed.phrase.names, Names::Nothing(_)) => {
                 let label = self
                     .plan
                     .draft
@@ -229,7 +229,7 @@ impl<'p, 'a> ChangeWriter<'p, 'a> {
                     .end_of_column_label(placed.phrase.first);
                 label == Some(placed.phrase.end)
             }
-            None => false,
+            _ => false,
         }
     }
 

@@ -16,7 +16,7 @@ fn begin_alike(word: &[u8], text: &[u8]) -> bool {
     }
 }
 
-/// Whether a word is one of these words, which all have as many bytes as it has, and a space between them. A
+/// Whether a word is one of these words, which are sorted, and all have as many bytes as it has, and a space between them. A
 /// list in code calls this with a row of words for each length: so only the few words of this length are
 /// compared, and they are proved at once, not one by one. Rows that a `match` returned would become a table
 /// of pointers, each of which is set at every start of the program. The number before the words has a bit for
@@ -40,7 +40,8 @@ fn has_edges(word: &[u8], edges: u64) -> bool {
     }
 }
 
-/// Whether a word is one of these words. Only a row that begins with its first byte is compared further.
+/// Whether a word is one of these words, which are sorted. Only a row that begins with its first byte is compared
+/// further.
 #[inline(never)]
 fn has_row(word: &[u8], words: &str) -> bool {
     let [first, ..] = word else {
@@ -48,7 +49,11 @@ fn has_row(word: &[u8], words: &str) -> bool {
     };
     let rows = words.as_bytes();
     for start in (0..rows.len()).step_by(word.len() + 1) {
-        if rows[start] == *first && is_row(&rows[start..], word) {
+        let head = rows[start];
+        if head > *first {
+            return false;
+        }
+        if head == *first && is_row(&rows[start..], word) {
             return true;
         }
     }

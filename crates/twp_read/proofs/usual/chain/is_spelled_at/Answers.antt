@@ -1,5 +1,5 @@
 use Rattle.twp_read.proofs.UsualFacts.{begins_there}
-use Rattle.twp_read.proofs.usual.chain.goes_on.Goals as goal
+use Rattle.twp_read.proofs.usual.chain.is_spelled_at.Goals as goal
 
 pub returns-clause-spelled : goal.returns-clause-spelled
 returns-clause-spelled c is_true =
