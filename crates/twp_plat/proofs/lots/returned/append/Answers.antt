@@ -84,7 +84,8 @@ returns c =
     let entered = c.args.entered.now in
     let last = c.last_entered-index-end.result in
     let rest = c.last_entered-index-end.ensures.rest in
-    let all : c.loop-index.index ≡ last = omega (arith, c.loop-index-test.false, c.loop-index.auto.index-end) in
+    let all : c.loop-index.index ≡ last =
+    omega (arith, c.loop-index-test.false, c.loop-index.auto.index-end) in
     let appended =
     subst (λ i. AreAppended figures numbers entered c.args.used c.loop-index.end i) all so_far.appended in
     let counted = counted_rest entered last c.last_entered-index-end.ensures.most rest in
