@@ -3,13 +3,16 @@ use Rattle.std.proofs.Common.{◌≡◌, ℕ, zero, suc, ◌+◌, ◌-◌, ◌*�
 use Rattle.std.proofs.Common.{true, false}
 use Rattle.std.proofs.Common.{List, [], get_or, set, length, min, nat_lt, refl, sym, ap, subst}
 use Rattle.std.proofs.Common.{◌∙◌, inl, inr, arith}
-use Rattle.std.proofs.lemmas.List.{get_or-set_same, get_or-set_other}
-use Rattle.std.proofs.lemmas.Bool.{and_parts, cases_Bool, cases_lt, eqb-true}
+use Rattle.std.proofs.lemmas.List.{get_or-replicate, get_or-set_same, get_or-set_other, get_or_past}
+use Rattle.std.proofs.lemmas.List.{length-replicate}
+use Rattle.std.proofs.Math.ListN.{replicate}
+use Rattle.std.proofs.lemmas.Bool.{and_parts, cases_Bool, cases_lt, eq-eqb, eqb-true}
 use Rattle.std.proofs.lemmas.Bool.Decides.{nat_tests}
 use Rattle.twp_grid.specs.Spans.{total, one_where}
-use Rattle.twp_grid.proofs.TotalFacts.{total-next, total-zero}
+use Rattle.twp_grid.proofs.TotalFacts.{total-add, total-all_zero, total-next, total-zero}
 use Rattle.twp_land.specs.LotMaps.{NO_LAND, mark_in}
 use Rattle.twp_land.specs.LotMarks.{HasMarks, all_below, are_alike, is_divided, divided_count}
+use Rattle.twp_land.specs.steps.Dividing.{AreDivided}
 
 -- one more number
 pub all_next : (n : ℕ) (test : ℕ → Bool) → all_below (n + 1) test ≡ (all_below n test && test n)
@@ -63,15 +66,6 @@ pub alike_marks : (marks : List ℕ) (first n : ℕ) → n < 64 → are_alike ma
 alike_marks marks first n less alike =
     eqb-true (get_or marks (first + n) 0) (get_or marks first 0)
     (all_each 64 n (λ n. get_or marks (first + n) 0 == get_or marks first 0) less alike)
-
--- the positions so far have their bytes
-pub record AreDivided (sections : List (List ℕ)) (index used : ℕ) (positions divided : List ℕ) : Type 0 where
-  pub most : used ≤ 128
-  pub count : used ≡ total index (λ i. one_where (is_divided sections i))
-  pub bytes : (i : ℕ) → i < index → get_or positions i 0 ≤ 100 + used
-  pub marks : (i n : ℕ) → i < index → n < 64
-      → mark_in divided (get_or positions i 0) n
-      ≡ min (get_or (get_or sections (i / 16) []) (i % 16 * 64 + n) 0) 100
 
 whole_byte : (divided : List ℕ) (byte n : ℕ) → byte ≤ 100 → mark_in divided byte n ≡ byte
 whole_byte divided byte n few =
@@ -179,6 +173,95 @@ more_divided sections index used positions divided new fits room so_far other co
         rw high
         (ap (λ k. min (get_or new (k * 64 + n) NO_LAND) NO_LAND) number
         ∙ ap (λ m. min m 100) (copied n NO_LAND few))
+
+-- the marks of a position, by the index of its section
+pub mark_there : (sections : List (List ℕ)) (section : List ℕ) (index position n : ℕ) → position < 16
+    → section ≡ get_or sections index []
+    → get_or (get_or sections ((index * 16 + position) / 16) []) ((index * 16 + position) % 16 * 64 + n) 0
+    ≡ get_or section (position * 64 + n) 0
+mark_there sections section index position n few is =
+    let here : (index * 16 + position) / 16 ≡ index = omega (arith, few) in
+    let within : (index * 16 + position) % 16 * 64 + n ≡ position * 64 + n = omega (arith, few) in
+    ap (λ k. get_or (get_or sections k []) ((index * 16 + position) % 16 * 64 + n) 0) here
+    ∙ ap (λ k. get_or (get_or sections index []) k 0) within
+    ∙ ap (λ s. get_or s (position * 64 + n) 0) (sym is)
+
+pub first_there : (sections : List (List ℕ)) (section : List ℕ) (index position : ℕ) → position < 16
+    → section ≡ get_or sections index []
+    → get_or (get_or sections ((index * 16 + position) / 16) []) ((index * 16 + position) % 16 * 64) 0
+    ≡ get_or section (position * 64) 0
+first_there sections section index position few is =
+    let none : (n : ℕ) → n + 0 ≡ n = λ n. omega arith in
+    rw (none ((index * 16 + position) % 16 * 64), none (position * 64)) at
+    (mark_there sections section index position 0 few is)
+
+pub alike_there : (sections : List (List ℕ)) (section : List ℕ) (index position : ℕ) → position < 16
+    → section ≡ get_or sections index []
+    → are_alike (get_or sections ((index * 16 + position) / 16) []) ((index * 16 + position) % 16 * 64)
+    ≡ are_alike section (position * 64)
+alike_there sections section index position few is =
+    let here : (index * 16 + position) / 16 ≡ index = omega (arith, few) in
+    let within : (index * 16 + position) % 16 * 64 ≡ position * 64 = omega (arith, few) in
+    ap (λ k. are_alike (get_or sections k []) ((index * 16 + position) % 16 * 64)) here
+    ∙ ap (are_alike (get_or sections index [])) within
+    ∙ ap (λ s. are_alike s (position * 64)) (sym is)
+
+all_true : (k : ℕ) (test : ℕ → Bool) → ((n : ℕ) → test n ≡ true) → all_below k test ≡ true
+all_true zero test each = refl
+all_true (suc k) test each = rw (all_true k test each, each k) refl
+
+-- zeros, and nothing after them
+pub zeros : (n i : ℕ) → ◌≡◌ {A = ℕ} (get_or (replicate n 0) i 0) 0
+zeros n i = elim (cases_lt i n) [
+  | inl less ↦ get_or-replicate n i 0 0 less
+  | inr past ↦
+      let long = length-replicate {A = ℕ} n 0 in
+      get_or_past (replicate n 0) i 0 (omega (arith, long, past))
+]
+
+-- a section without marks is not divided
+not_divided : (sections : List (List ℕ)) (index position : ℕ) → position < 16
+    → ((number : ℕ) → get_or (get_or sections index []) number 0 ≡ 0)
+    → one_where (is_divided sections (index * 16 + position)) ≡ 0
+not_divided sections index position few clear =
+    let here : (index * 16 + position) / 16 ≡ index = omega (arith, few) in
+    let none : (number : ℕ) → get_or (get_or sections ((index * 16 + position) / 16) []) number 0 ≡ 0 =
+    λ number. ap (λ s. get_or (get_or sections s []) number 0) here ∙ clear number in
+    let alike : are_alike (get_or sections ((index * 16 + position) / 16) [])
+    ((index * 16 + position) % 16 * 64) ≡ true =
+    let first = (index * 16 + position) % 16 * 64 in
+    all_true 64 _ (λ n. eq-eqb _ _ (none (first + n) ∙ sym (none first))) in
+    rw alike refl
+
+-- the positions of a section without marks have the byte 0
+pub clear_divided : (sections : List (List ℕ)) (index used : ℕ) (positions divided : List ℕ)
+    → AreDivided sections (index * 16) used positions divided
+    → ((number : ℕ) → get_or (get_or sections index []) number 0 ≡ 0)
+    → ((i : ℕ) → index * 16 ≤ i → get_or positions i 0 ≡ 0)
+    → AreDivided sections (index * 16 + 16) used positions divided
+clear_divided sections index used positions divided so_far clear zeros = record {
+  most = so_far.most;
+  count =
+      let sum = total-add (index * 16) 16 (λ i. one_where (is_divided sections i)) in
+      let none =
+      total-all_zero 16 (λ k. one_where (is_divided sections (index * 16 + k)))
+      (λ k few. not_divided sections index k few clear) in
+      omega (arith, so_far.count, sum, none);
+  bytes = λ i less. elim (cases_lt i (index * 16)) [
+    | inl before ↦ so_far.bytes i before
+    | inr after ↦ omega (arith, zeros i after)
+  ];
+  marks = λ i n less few. elim (cases_lt i (index * 16)) [
+    | inl before ↦ so_far.marks i n before few
+    | inr after ↦
+        let here : i / 16 ≡ index = omega (arith, less, after) in
+        let none : get_or (get_or sections (i / 16) []) (i % 16 * 64 + n) 0 ≡ 0 =
+        ap (λ s. get_or (get_or sections s []) (i % 16 * 64 + n) 0) here ∙ clear (i % 16 * 64 + n) in
+        ap (λ b. mark_in divided b n) (zeros i after)
+        ∙ whole_byte divided 0 n (omega arith)
+        ∙ sym (ap (λ m. min m 100) none)
+  ];
+}
 
 -- all positions
 pub all_divided : (sections : List (List ℕ)) (used : ℕ) (positions divided : List ℕ)

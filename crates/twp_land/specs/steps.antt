@@ -7,5 +7,6 @@ pub mod Relating
 pub mod StandardLots
 pub mod LotBytes
 pub mod Marked
+pub mod Dividing
 pub mod LotMapLots
 pub mod PlatLotsLots

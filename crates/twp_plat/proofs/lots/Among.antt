@@ -3,7 +3,7 @@ use Rattle.std.proofs.Common.{◌≡◌, ◌≢◌, ◌==◌, ℕ, zero, suc, �
 use Rattle.std.proofs.Common.{get_or, set, length, if◌then◌else◌, nat_le, nat_lt, refl, ap}
 use Rattle.std.proofs.Common.{◌∙◌}
 use Rattle.std.proofs.Common.{inl, inr, arith, ◌⊎◌}
-use Rattle.std.proofs.lemmas.Bool.{cases_Bool, cases_eq, eq-eqb, ne_eqb}
+use Rattle.std.proofs.lemmas.Bool.{cases_Bool, cases_eq, cases_lt, eq-eqb, ne_eqb}
 use Rattle.std.proofs.lemmas.Bool.Decides.{nat_tests}
 use Rattle.std.proofs.lemmas.List.{get_or-set_same, get_or-set_other, get_or_past}
 use Rattle.twp_plat.specs.LotTables.{figure_among, figure_within}
@@ -210,3 +210,16 @@ pub appended_beyond : (figures numbers entered : List ℕ) (used end count : ℕ
 appended_beyond figures numbers entered used end count so_far number more =
     let past : nat_le number count ≡ false = grind (arith, nat_tests, more) in
     among_is figures numbers number used (end - used) ∙ so_far 0 number (omega (arith, more)) ∙ rw past refl
+
+-- the same for all lots, if nothing is entered for those after the last
+pub appended_rest : (figures numbers entered : List ℕ) (used end last : ℕ)
+    → AreAppended figures numbers entered used end last
+    → ((index : ℕ) → last ≤ index → get_or entered index 0 ≡ 0)
+    → (number : ℕ) → 1 ≤ number
+    → figure_among figures numbers number used (end - used) ≡ figure_within (get_or entered (number - 1) 0)
+appended_rest figures numbers entered used end last so_far rest number some = elim (cases_lt last number) [
+  | inl after ↦
+      appended_beyond figures numbers entered used end last so_far number after
+      ∙ rw (rest (number - 1) (omega (arith, after))) refl
+  | inr within ↦ appended_all figures numbers entered used end last so_far number some (omega (arith, within))
+]

@@ -7,7 +7,7 @@ use Rattle.std.proofs.lemmas.List.{get_or-set_same, get_or-set_other}
 use Rattle.twp_grid.specs.Winding.{SECTION_COUNT}
 use Rattle.twp_grid.specs.Spans.{total, one_where}
 use Rattle.twp_grid.specs.Lands.{LOT_NUMBER_MOST}
-use Rattle.twp_grid.proofs.TotalFacts.{total-ext, total-next, total-add, total-zero}
+use Rattle.twp_grid.proofs.TotalFacts.{total-add, total-all_zero, total-ext, total-next, total-zero}
 use Rattle.twp_plat.specs.LotTables.{RETURNED_MOST, AreReturned, entered_count, entered_for, figure_among}
 use Rattle.twp_plat.specs.LotTables.{figure_within}
 use Rattle.twp_plat.specs.steps.Appending.{Appends, count_entered}
@@ -46,6 +46,18 @@ counted_most entered index less some =
     let part = part_of_total (index + 1) LOT_NUMBER_MOST (entered_one entered) (omega (arith, less)) in
     let more = counted_more entered index some in
     omega (arith, part, more)
+
+-- nothing is entered after the last
+pub counted_rest : (entered : List ℕ) (last : ℕ) → last ≤ LOT_NUMBER_MOST
+    → ((index : ℕ) → last ≤ index → get_or entered index 0 ≡ 0)
+    → total last (entered_one entered) ≡ count_entered entered
+counted_rest entered last most none =
+    let all : LOT_NUMBER_MOST ≡ last + (LOT_NUMBER_MOST - last) = omega (arith, most) in
+    let sum = total-add last (LOT_NUMBER_MOST - last) (entered_one entered) in
+    let rest =
+    total-all_zero (LOT_NUMBER_MOST - last) (λ k. entered_one entered (last + k))
+    (λ k _. rw (none (last + k) (omega arith)) refl) in
+    rw all (omega (arith, sum, rest))
 
 -- the figures of a section are those that are entered for it
 pub record IsSectionEntered (entered : List (List ℕ)) (figures numbers : List ℕ)

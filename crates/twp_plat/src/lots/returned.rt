@@ -2,7 +2,7 @@
 ghost use Rattle.std.specs.Prelude.{◌≡◌, ◌≤◌, ◌<◌, ◌+◌, ◌-◌, ℕ, IfSome, MatchOption, get_or};
 ghost use Rattle.std.specs.Option.{SomeIff};
 ghost use Rattle.twp_grid.specs.Winding.{IsSection};
-ghost use Rattle.twp_grid.specs.Lands.{STANDARD_LAYOUT};
+ghost use Rattle.twp_grid.specs.Lands.{LOT_NUMBER_MOST, STANDARD_LAYOUT};
 ghost use Rattle.twp_land.specs.LotMaps.{layout_of_plat};
 ghost use Rattle.twp_plat.specs.LotTables.{FIGURE_MOST, RETURNED_MOST, figure_of, standard_figure};
 ghost use Rattle.twp_plat.specs.LotTables.{AreReturned, entered_count};
@@ -146,7 +146,7 @@ fn append(
         × Appends figures.old numbers.old figures.new numbers.new used end entered.now) }
 {
     let mut end = used;
-    for index in 0..LOT_MOST {
+    for index in 0..last_entered(entered) as usize {
         if entered[index] != 0 {
             if end == RETURNED_MOST {
                 return None;
@@ -157,4 +157,19 @@ fn append(
         }
     }
     Some(end)
+}
+
+/// The number of the last lot for which something is entered, or 0. The loop has no early exit, so
+/// LLVM looks at many lots at once.
+fn last_entered(entered: &[u32; LOT_MOST]) -> u32
+    ensures most { result ≤ LOT_NUMBER_MOST }
+    ensures rest { (index : ℕ) → result ≤ index → get_or entered.now index 0 ≡ 0 }
+{
+    let mut last = 0;
+    for index in 0..LOT_MOST as u32 {
+        if entered[index as usize] != 0 {
+            last = index + 1;
+        }
+    }
+    last
 }

@@ -2,9 +2,10 @@
 use Rattle.std.proofs.Common.{◌≡◌, ◌∙◌, arith, refl, subst}
 use Rattle.std.proofs.lemmas.List.{get_or-set_other, length-set}
 use Rattle.twp_grid.proofs.TotalFacts.{total-zero}
-use Rattle.twp_plat.proofs.lots.Among.{AreAppended, appended_all, appended_beyond, appended_more}
-use Rattle.twp_plat.proofs.lots.Among.{appended_none, appended_skip}
-use Rattle.twp_plat.proofs.lots.EnteredSections.{counted_more, counted_most, counted_skip, entered_one}
+use Rattle.twp_plat.proofs.lots.Among.{AreAppended, appended_beyond, appended_more, appended_none}
+use Rattle.twp_plat.proofs.lots.Among.{appended_rest, appended_skip}
+use Rattle.twp_plat.proofs.lots.EnteredSections.{counted_more, counted_most, counted_rest, counted_skip}
+use Rattle.twp_plat.proofs.lots.EnteredSections.{entered_one}
 use Rattle.twp_plat.proofs.lots.returned.append.Goals as goal
 use Rattle.twp_plat.proofs.lots.returned.append.Goals.{then-entered-index-ne0+else-end-eq-RETURNED_MOST}
 use Rattle.twp_plat.proofs.lots.returned.append.Goals.{else-entered-index-ne0}
@@ -23,7 +24,8 @@ loop-index-init c = record {
 pub returns-then-end-eq-RETURNED_MOST : goal.returns-then-end-eq-RETURNED_MOST
 returns-then-end-eq-RETURNED_MOST c =
     let more =
-    counted_most c.args.entered.now c.loop-index.index c.loop-index-test.true c.if-entered-index-ne0.true in
+    counted_most c.args.entered.now c.loop-index.index
+    (omega (arith, c.loop-index-test.true, c.last_entered-index-end.ensures.most)) c.if-entered-index-ne0.true in
     omega (arith, more, c.loop-index.invariant.count, c.if-end-eq-RETURNED_MOST.true)
 
 pub loop-index-preserved : goal.loop-index-preserved
@@ -77,23 +79,26 @@ loop-index-preserved c =
 pub returns : goal.returns
 returns c =
     let so_far = c.loop-index.invariant in
-    let all : c.loop-index.index ≡ 99 = omega (arith, c.loop-index-test.false, c.loop-index.auto.index-end) in
+    let figures = c.loop-index.figures in
+    let numbers = c.loop-index.numbers in
+    let entered = c.args.entered.now in
+    let last = c.last_entered-index-end.result in
+    let rest = c.last_entered-index-end.ensures.rest in
+    let all : c.loop-index.index ≡ last =
+    omega (arith, c.loop-index-test.false, c.loop-index.auto.index-end) in
     let appended =
-    subst
-    (λ i.
-    AreAppended c.loop-index.figures c.loop-index.numbers c.args.entered.now c.args.used c.loop-index.end i)
-    all so_far.appended in
+    subst (λ i. AreAppended figures numbers entered c.args.used c.loop-index.end i) all so_far.appended in
+    let counted = counted_rest entered last c.last_entered-index-end.ensures.most rest in
     let count = rw all at so_far.count in (
-      count,
+      omega (arith, count, counted),
       so_far.most,
       record {
         before = so_far.before;
         numbers_before = so_far.numbers_before;
-        appended =
-            appended_all c.loop-index.figures c.loop-index.numbers c.args.entered.now c.args.used
-            c.loop-index.end 99 appended;
-        beyond =
-            appended_beyond c.loop-index.figures c.loop-index.numbers c.args.entered.now c.args.used
-            c.loop-index.end 99 appended;
+        appended = λ number some _. appended_rest figures numbers entered c.args.used c.loop-index.end last
+            appended rest number some;
+        beyond = λ number more.
+            appended_beyond figures numbers entered c.args.used c.loop-index.end last appended number
+            (omega (arith, more, c.last_entered-index-end.ensures.most));
       },
     )
