@@ -151,7 +151,7 @@ impl<'a, P: Lotting> Described<'a, P> {
         if let Some(item) = self.item_at(at) {
             write_heading(item, &mut sentence)?;
         }
-        sentence.push_str("; the field notes are for ")?;
+        sentence.push_str("; the plat is for ")?;
         write_township(self.township, &mut sentence)?;
         Ok(Explained {
             end: heading_span(self.text, at as usize).end,
