@@ -143,7 +143,8 @@ impl<'a, P: Lotting> Described<'a, P> {
 
     /// A heading of another township.
     fn explain_heading(&self, alloc: Global, at: u32) -> Result<Explained, AllocError>
-        ensures span { IfOk result (λ explained. EndsLike (IsHeadingSpan self.now.text.now at) explained.end) }
+        ensures span { IfOk result (λ explained.
+            EndsLike (IsHeadingSpan self.now.text.now at) explained.end) }
         ensures other { IfOk result (λ explained. explained.other ≡ None) }
     {
         let mut sentence = String::new(alloc);
