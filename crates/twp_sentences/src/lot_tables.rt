@@ -7,6 +7,7 @@ mod earlier;
 mod faults;
 mod lacking;
 mod lot_hints;
+mod lot_patterns;
 mod stops;
 mod tables;
 
