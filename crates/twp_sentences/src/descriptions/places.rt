@@ -168,7 +168,7 @@ impl<'a, P: Lotting> Described<'a, P> {
         ensures other { IfOk result (λ explained. explained.other ≡ None) }
     {
         let mut sentence = String::new(alloc);
-        let number = number_at(self.description.items(), at);
+        let number = number_at(self.description.items(), at).unwrap_or(0);
         write!(
             sentence,
             "there is no section {}: sections are 1 to 36",
