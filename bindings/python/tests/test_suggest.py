@@ -258,7 +258,7 @@ class Command(BatchCase):
     def test_refused_by_the_plat(self):
         self.assertShows(
             "N2 Sec 14-3N-3W", 0,
-            "1. T. 3 N., R. 3 W., sec. 14, N1/2.    refused 61: this heading says T. 3 N., R. 3 W.; the field notes are for "
+            "1. T. 3 N., R. 3 W., sec. 14, N1/2.    refused 61: this heading says T. 3 N., R. 3 W.; the plat is for "
             "T. 2 N., R. 3 W.",
             "     N2        is N1/2",
             "     Sec 14-3N-3W is section, township, and range",

@@ -7,7 +7,8 @@ ghost use Rattle.twp_answers.specs.EachTract.{IsListFault, IsListOfRecords};
 ghost use Rattle.twp_answers.specs.Tracts.{TRACTS_LIMIT, TRACTS_MOST, name_in, tract_records};
 ghost use Rattle.twp_answers.specs.Tracts.{tracts_heading};
 ghost use Rattle.twp_answers.specs.Tracts.{IsTractName};
-ghost use Rattle.twp_answers.specs.steps.EachTaking.{AnswersLand, HasNoHeadingIn, StopsTaking, TakesName, TakesRecord};
+ghost use Rattle.twp_answers.specs.steps.EachTaking.{AnswersLand, HasNoHeadingIn, StopsTaking, TakesName};
+ghost use Rattle.twp_answers.specs.steps.EachTaking.{TakesRecord};
 
 use crate::measuring::{Answering, ByTable};
 use crate::names::NamesSoFar;

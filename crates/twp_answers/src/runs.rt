@@ -5,11 +5,10 @@ mod acres_answer;
 mod answer;
 mod normal_answer;
 mod plat_answer;
-mod ran;
 mod report_answer;
 mod running;
 
-pub use ran::Ran;
+pub use answer::Ran;
 pub use running::{
     run_acres, run_acres_as, run_acres_noting, run_normal, run_normal_noting, run_plat, run_report,
     run_report_noting,

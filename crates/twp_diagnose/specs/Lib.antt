@@ -8,4 +8,5 @@ pub mod RecordFields
 pub mod Findings
 pub mod ShownMessages
 pub mod Suggestions
+pub mod Quotes
 pub mod steps

@@ -3,8 +3,8 @@ ghost use Rattle.std.specs.Prelude.{◌≡◌, ◌<◌, ◌≤◌, List, [], ◌
 ghost use Rattle.twp_grammar.specs.Tokens.{Token as SeenToken, is_white, seen};
 ghost use Rattle.twp_diagnose.specs.Marks.{tokens_from, span_of, end_of, is_side, up_to_side, IsTokenSpan};
 ghost use Rattle.twp_diagnose.specs.Marks.{IsChainSpan, IsHeadingSpan, IsRangeSpan};
-ghost use Rattle.twp_diagnose.specs.steps.Marking.{AreLeft, HaveSameFrom, GivesFirstOf, TakesSecond, TakesLink};
-ghost use Rattle.twp_diagnose.specs.steps.Marking.{EndsLinks, EndsPart, end_of_left, end_of_token};
+ghost use Rattle.twp_diagnose.specs.steps.Marking.{AreLeft, HaveSameFrom, GivesFirstOf, TakesSecond};
+ghost use Rattle.twp_diagnose.specs.steps.Marking.{TakesLink, EndsLinks, EndsPart, end_of_left, end_of_token};
 ghost use Rattle.twp_diagnose.specs.steps.Marking.{after_of_word, after_the, is_of, is_the, is_step};
 
 use twp_excerpt::Span;

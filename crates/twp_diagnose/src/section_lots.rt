@@ -7,8 +7,8 @@ ghost use Rattle.twp_resolve.specs.steps.ResolvingSteps.{lots_from};
 use twp_grid::Section;
 use twp_land::{Land, Lotting};
 
-/// Whether a set contains each lot of a section wholly or not at all: whether it contains no place of a lot of
-/// which another place is missing.
+/// Whether a set contains each lot of a section wholly or not at all: whether it contains no place of a lot
+/// of which another place is missing.
 #[inline(never)]
 pub fn holds_whole_lots<L: Land, P: Lotting>(land: &L, section: Section, lots: &P) -> bool
     ensures { IsTrue result ↔ ((lot : ℕ) → IsWholeOrNot (lotting (P.layout lots.now)) section lot

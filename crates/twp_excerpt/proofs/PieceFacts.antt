@@ -4,7 +4,7 @@ use Rattle.std.proofs.Common.{refl, sym, ap, subst, ◌∙◌, arith, nat_le, le
 use Rattle.std.proofs.Common.{⊎_elim, true≢false}
 use Rattle.std.specs.Fmt.{decimal}
 use Rattle.std.proofs.lemmas.Bool.{cases_Bool}
-use Rattle.twp_excerpt.specs.declared.excerpt.KeptPart.{KeptPart}
+use Rattle.twp_excerpt.specs.declared.kept_part.KeptPart.{KeptPart}
 use Rattle.twp_excerpt.specs.Signs.{Sign, signs}
 use Rattle.twp_excerpt.specs.Excerpts.{ShownPart, whole_piece, piece_width, line_width, front_piece}
 use Rattle.twp_excerpt.specs.Excerpts.{end_piece}

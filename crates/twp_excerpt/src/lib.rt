@@ -5,6 +5,7 @@
 
 mod escaped;
 mod excerpt;
+mod kept_part;
 mod message;
 mod spot;
 mod wrapped;

@@ -5,7 +5,8 @@ ghost use Rattle.twp_excerpt.specs.Shown.{AddsEnded, AddsLines};
 ghost use Rattle.twp_excerpt.specs.steps.Looks.{is_printable};
 
 use crate::escaped::{Sign, push_printable};
-use crate::excerpt::{COLUMNS, DOTS, end_line, front_of};
+use crate::excerpt::{COLUMNS, end_line};
+use crate::kept_part::{DOTS, front_of};
 use std::alloc::AllocError;
 
 /// The indentation of lines after the first.

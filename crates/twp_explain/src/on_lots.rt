@@ -25,8 +25,8 @@ pub fn explain_lots(alloc: Global, table: &Given<'_>) -> Result<Option<Explanati
     }
 }
 
-/// The explanation of land that contains a lot of a section, which a lot table lacks. It shows no place of the
-/// file that describes the land.
+/// The explanation of land that contains a lot of a section, which a lot table lacks. It shows no place of
+/// the file that describes the land.
 pub fn explain_lacking(
     alloc: Global,
     lots: &ReturnedLots,

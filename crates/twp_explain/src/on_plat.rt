@@ -41,7 +41,8 @@ pub fn explain_description<S: Suggests, P: Lotting>(
     lots: &P,
 ) -> Result<Option<Explanation>, AllocError>
     ensures refusal { IfOk result (λ explained. IfSome explained (λ explanation.
-        IsNoDescription (lotting (P.layout lots.now)) township description.now.bytes.now explanation.refusal)) }
+        IsNoDescription (lotting (P.layout lots.now)) township description.now.bytes.now
+        explanation.refusal)) }
     ensures spot { IfOk result (λ explained. IfSome explained (IsExplainedWhereRefused description.now)) }
     ensures none { IfOk result (λ explained. explained ≡ None
         → DescribeLand (lotting (P.layout lots.now)) township description.now.bytes.now) }

@@ -17,7 +17,7 @@ const NAME_MOST: usize = 64;
 /// The most bytes of a record that is shown as it should be written.
 const SHOWN_MOST: usize = 100;
 
-/// Tells of a record that isn't the heading, or isn't a tract.
+/// Explains why a record isn't the heading, or isn't a tract.
 pub(crate) fn explain(
     alloc: Global,
     listed: &Listed<'_>,

@@ -62,7 +62,7 @@ pub(crate) fn find<S: Suggests, P: Lotting>(
     Ok(finding)
 }
 
-/// Tells of the fault of a record, which is shown as a line where nothing else is said.
+/// Explains the fault of a record, which is shown as a line unless more is known of it.
 fn explain<S: Suggests, P: Lotting>(
     alloc: Global,
     listed: &Listed<'_>,
@@ -113,7 +113,7 @@ pub(crate) fn find_none(
     Ok(Finding::new(refusal, Location::Whole, sentence, help))
 }
 
-/// Tells of one tract too many.
+/// Explains that a record is one tract too many.
 fn explain_many(listed: &Listed<'_>, finding: &mut Finding) -> Result<(), AllocError>
     ensures refusal { finding.new.refusal ≡ finding.old.refusal }
     ensures place { finding.new.place ≡ finding.old.place }
@@ -127,7 +127,7 @@ fn explain_many(listed: &Listed<'_>, finding: &mut Finding) -> Result<(), AllocE
     finding.help.push_str("split the list in two")
 }
 
-/// Tells of a tract that has the name of an earlier one.
+/// Explains why a tract with the name of an earlier one is refused.
 #[inline(never)]
 fn explain_name(alloc: Global, listed: &Listed<'_>, finding: &mut Finding) -> Result<(), AllocError>
     ensures refusal { finding.new.refusal ≡ finding.old.refusal }
@@ -198,7 +198,7 @@ fn are_same(first: &[u8], second: &[u8]) -> bool
     first == second
 }
 
-/// Tells of a tract whose description is refused.
+/// Explains why the description of a tract is refused.
 #[inline(never)]
 fn explain_tract<S: Suggests, P: Lotting>(
     alloc: Global,
@@ -262,7 +262,7 @@ fn describe_tract<S: Suggests, P: Lotting>(
     describe::<S, P>(alloc, &origin, listed.field(1), township, lots)
 }
 
-/// Tells of a tract that shares land with an earlier one.
+/// Explains why a tract that shares land with an earlier one is refused.
 #[inline(never)]
 fn explain_overlap<P: Lotting>(
     alloc: Global,

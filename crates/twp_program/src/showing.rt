@@ -68,7 +68,7 @@ pub(crate) fn show_list<S: Suggests, R: Eprint + AllocGlobal, N, T>(
     }
 }
 
-/// Tells why the run of joined input refused it, or what is noted of input that it accepted.
+/// Explains why a run refused joined input, or writes the note on input that it accepted.
 #[inline(never)]
 pub(crate) fn show_joined<S: Suggests, R: Eprint + AllocGlobal, I>(
     rt: &R,

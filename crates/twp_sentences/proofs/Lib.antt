@@ -1,4 +1,5 @@
 pub mod BlamedFacts
 pub mod LotRecordFacts
+pub mod NumberFacts
 pub mod ShownFacts
 pub mod UnderlinedFacts

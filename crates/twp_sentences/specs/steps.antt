@@ -3,3 +3,4 @@ pub mod HalfMiles
 pub mod Sides
 pub mod Slips
 pub mod EarlierRecords
+pub mod NamedNumbers

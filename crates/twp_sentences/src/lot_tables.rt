@@ -1,5 +1,5 @@
-//! Explanations of faults in lot tables: which fields of a record are at fault, a sentence for each fault, the
-//! earlier record for the same lot, and a hint on how to correct the record if its bytes show how.
+//! Explanations of faults in lot tables: which fields of a record are at fault, a sentence for each fault,
+//! the earlier record for the same lot, and a hint on how to correct the record if its bytes show how.
 
 mod acres;
 mod blamed;
@@ -7,6 +7,7 @@ mod earlier;
 mod faults;
 mod lacking;
 mod lot_hints;
+mod lot_patterns;
 mod stops;
 mod tables;
 

@@ -1,6 +1,6 @@
-//! The answer of a run, with its verdict; the texts that the runs on a description read: the field notes,
-//! as their plat, and the bytes of the description; and the writing of the answer.
-ghost use Rattle.std.specs.Prelude.{◌≡◌, ◌++◌, OnOk, IfOk, IfErr, false, OnErr, is_err};
+//! The answer of a run, with its verdict, and how the run ended; the texts that the runs on a description
+//! read: the field notes, as their plat, and the bytes of the description; and the writing of the answer.
+ghost use Rattle.std.specs.Prelude.{◌≡◌, ◌++◌, OnOk, IfOk, IfErr, false, Err, OnErr, is_err};
 ghost use Rattle.twp_answers.specs.Answers.{refusal_line, MakePlat};
 ghost use Rattle.twp_answers.specs.steps.RunStops.{AnswersStop};
 ghost use Rattle.twp_read.specs.TextFaults.{TEXT_LIMIT};
@@ -28,6 +28,27 @@ pub struct Answer {
     pub verdict: Verdict,
     /// Whether a place in the descriptions that the run accepts may be doubtful.
     pub clarity: Clarity,
+}
+
+/// How a run on descriptions ended, and what it noticed in them.
+#[derive(Clone, Copy)]
+pub struct Ran {
+    pub outcome: Result<Verdict, RunFault>,
+    /// Whether a place in the descriptions that it accepted may be doubtful.
+    pub clarity: Clarity,
+}
+
+impl Ran {
+    /// A run that failed, so that nothing is known of the descriptions.
+    pub fn failed(fault: RunFault) -> Ran
+        ensures outcome { result.outcome ≡ Err fault }
+        ensures unclear { result.clarity ≡ Clarity.Unclear }
+    {
+        Ran {
+            outcome: Err(fault),
+            clarity: Clarity::Unclear,
+        }
+    }
 }
 
 /// The answer of a run that stopped: its refusal, or no answer if it failed.

@@ -19,8 +19,7 @@ ghost use Rattle.twp_answers.specs.Tracts.{TRACTS_LIMIT};
 ghost use Rattle.twp_answers.specs.Uses.{Reads, used};
 ghost use Rattle.twp_answers.specs.Runs.{AppendsFront, IsAnswered, IsRun, RunsOnPlat};
 
-use crate::runs::answer::{Answer, write_whole};
-use crate::runs::ran::Ran;
+use crate::runs::answer::{Answer, Ran, write_whole};
 use crate::runs::{acres_answer, normal_answer, plat_answer, report_answer};
 use crate::stop::{RunFault, Verdict};
 use std::alloc::Global;

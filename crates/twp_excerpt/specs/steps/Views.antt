@@ -1,6 +1,6 @@
 -- Pieces of lines and views, as the code stores them. No public contract cites this module.
 use Rattle.std.specs.Prelude.{◌≡◌, ℕ, ◌++◌, List, take, drop}
-use Rattle.twp_excerpt.specs.declared.excerpt.KeptPart.{KeptPart}
+use Rattle.twp_excerpt.specs.declared.kept_part.KeptPart.{KeptPart}
 use Rattle.twp_excerpt.specs.declared.excerpt.View.{View as Kept}
 use Rattle.twp_excerpt.specs.Signs.{signs}
 use Rattle.twp_excerpt.specs.Excerpts.{ShownPart, View, piece_width}

@@ -143,7 +143,8 @@ impl<'a, P: Lotting> Described<'a, P> {
 
     /// A heading of another township.
     fn explain_heading(&self, alloc: Global, at: u32) -> Result<Explained, AllocError>
-        ensures span { IfOk result (λ explained. EndsLike (IsHeadingSpan self.now.text.now at) explained.end) }
+        ensures span { IfOk result (λ explained.
+            EndsLike (IsHeadingSpan self.now.text.now at) explained.end) }
         ensures other { IfOk result (λ explained. explained.other ≡ None) }
     {
         let mut sentence = String::new(alloc);
@@ -151,7 +152,7 @@ impl<'a, P: Lotting> Described<'a, P> {
         if let Some(item) = self.item_at(at) {
             write_heading(item, &mut sentence)?;
         }
-        sentence.push_str("; the field notes are for ")?;
+        sentence.push_str("; the plat is for ")?;
         write_township(self.township, &mut sentence)?;
         Ok(Explained {
             end: heading_span(self.text, at as usize).end,
@@ -167,7 +168,7 @@ impl<'a, P: Lotting> Described<'a, P> {
         ensures other { IfOk result (λ explained. explained.other ≡ None) }
     {
         let mut sentence = String::new(alloc);
-        let number = number_at(self.description.items(), at);
+        let number = number_at(self.description.items(), at).unwrap_or(0);
         write!(
             sentence,
             "there is no section {}: sections are 1 to 36",

@@ -71,8 +71,8 @@ pub(crate) fn write_acres_fault(text: &[u8], out: &mut String) -> Result<(), All
     })
 }
 
-/// Appends how an acreage with two decimals is written, if a text is one with other decimals. Tells
-/// whether it is.
+/// Appends how an acreage is written with two decimals, if a text is one with other decimals, and returns
+/// whether it is one.
 pub(crate) fn write_two_decimals(text: &[u8], out: &mut String) -> Result<bool, AllocError> {
     let Some(number) = DecimalText::of(text) else {
         return Ok(false);

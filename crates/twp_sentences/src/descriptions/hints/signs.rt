@@ -174,10 +174,10 @@ fn texts_of(name: &str) -> &'static str {
 
 /// The names of states of one word, their abbreviations, and the letters for them, that have public land.
 const STATES: &str =
-    "Alabama Alaska Arizona Arkansas California Colorado Florida Idaho Illinois Indiana Iowa Kansas Louisiana \
-    Michigan Minnesota Mississippi Missouri Montana Nebraska Nevada Ohio Oklahoma Oregon Utah Washington \
-    Wisconsin Wyoming Ala Ariz Ark Calif Colo Fla Kan Kans Mich Minn Mont Nebr Nev Okla Oreg Wis Wyo AK AR AZ CA \
-    CO FL IA ID KS MN MT ND NM NV OK OR SD UT WA WY";
+    "Alabama Alaska Arizona Arkansas California Colorado Florida Idaho Illinois Indiana Iowa Kansas \
+    Louisiana Michigan Minnesota Mississippi Missouri Montana Nebraska Nevada Ohio Oklahoma Oregon Utah \
+    Washington Wisconsin Wyoming Ala Ariz Ark Calif Colo Fla Kan Kans Mich Minn Mont Nebr Nev Okla Oreg Wis \
+    Wyo AK AR AZ CA CO FL IA ID KS MN MT ND NM NV OK OR SD UT WA WY";
 
 /// The words for numbers.
 const NUMBER_WORDS: &str =

@@ -6,13 +6,15 @@
 /// the refused sign | the signs before it | what is expected | the signs after it | the hint
 /// ```
 ///
-/// A column of signs lists what each may be (`signs`), and has `;` between one sign and the next; `+` asks of the sign
-/// before the refused one that nothing is between them. After the refused sign, commas and periods are passed over. What
-/// is expected is one of some names (`signs::names_of`). A hint that begins with `write`, or with `delete` and a sign in
-/// backticks, says what to do, and nothing else: it is shown only if the reading does so. All others say what is not
-/// allowed, and what is. A hint never names land that the text may not mean.
+/// A column of signs lists what each may be (`signs`), and has `;` between one sign and the next; `+` asks of
+/// the sign before the refused one that nothing is between them. After the refused sign, commas and periods
+/// are passed over. What is expected is one of some names (`signs::names_of`). A hint that begins with `write`,
+/// or with `delete` and a sign in backticks, says what to do, and nothing else: it is shown only if the reading
+/// does so. All others say what is not allowed, and what is. A hint never names land that the text may not
+/// mean.
 ///
-/// The rows are text and not data of their own type: each pointer of a static table is set at every start of the program.
+/// The rows are text and not data of their own type: each pointer of a static table is set at every start of
+/// the program.
 pub(crate) const HINTS: &str = "
 \u{FEFF} | <nothing> | character | | save the file as UTF-8 without a byte order mark
 <byte-BD> | | character | | save the file as UTF-8: this byte is the ½ of Windows-1252

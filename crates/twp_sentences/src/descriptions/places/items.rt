@@ -1,8 +1,10 @@
 //! Which item of a description is at a place, and which section it is about.
-ghost use Rattle.std.specs.Prelude.{◌≡◌, ◌↔◌, IsTrue, SomeIff};
+ghost use Rattle.std.specs.Prelude.{◌≡◌, ◌↔◌, ℕ, length, IsTrue, MatchOption, SomeIff};
 ghost use Rattle.twp_grid.specs.Winding.{IsSection};
 ghost use Rattle.twp_resolve.specs.PlaceFaults.{start_of};
 ghost use Rattle.twp_sentences.specs.Underlined.{IsItemSpan};
+ghost use Rattle.twp_sentences.specs.steps.NamedNumbers.{HasNoNumberAt, HasNumberAt, IsNumberAt, IsOneOf};
+ghost use Rattle.twp_sentences.specs.steps.NamedNumbers.{IsSectionAfter, IsSectionOfNumber, NoneHasNumberAt};
 
 use twp_diagnose::{chain_span, heading_span, range_span, token_span};
 use twp_excerpt::Span;
@@ -44,11 +46,13 @@ pub(crate) fn item_span(text: &[u8], item: &Item) -> Span
 }
 
 /// The section of what follows an item. None where its number is no section's.
-pub(crate) fn section_after(section: Option<Section>, item: &Item) -> Option<Section> {
-    let Item::Sections { first, .. } = *item else {
-        return section;
-    };
-    section_of(first)
+pub(crate) fn section_after(section: Option<Section>, item: &Item) -> Option<Section>
+    ensures { IsSectionAfter section item.now result }
+{
+    match *item {
+        Item::Sections { first, .. } => section_of(first),
+        Item::Heading { .. } | Item::Lots { .. } | Item::Chain { .. } | Item::All { .. } => section,
+    }
 }
 
 /// The section of a number.
@@ -70,20 +74,41 @@ fn range_of(item: &Item) -> Option<(Numeral, Numeral)> {
     }
 }
 
-/// The number at a place.
-pub(crate) fn number_at(items: &[Item], at: u32) -> u16 {
+/// The number at a place, if a number of an item is there.
+#[tactic(auto, using(crate::proofs::NumberFacts::none_more))]
+pub(crate) fn number_at(items: &[Item], at: u32) -> Option<u16>
+    ensures { MatchOption result (NoneHasNumberAt at items.now (length items.now)) (IsNumberAt at items.now) }
+{
     for item in items {
-        let Some((first, last)) = range_of(item) else {
-            continue;
-        };
-        if first.at == at {
-            return first.value;
-        }
-        if last.at == at {
-            return last.value;
+        if let Some(number) = number_in(item, at) {
+            return Some(number);
         }
     }
-    0
+    None
+}
+
+/// The number of an item at a place, if one of its numbers is there.
+fn number_in(item: &Item, at: u32) -> Option<u16>
+    ensures { MatchOption result (HasNoNumberAt at item.now) (HasNumberAt at item.now) }
+{
+    match *item {
+        Item::Sections { first, last, .. } => one_of(first, last, at),
+        Item::Lots { first, last } => one_of(first, last, at),
+        Item::Heading { .. } | Item::Chain { .. } | Item::All { .. } => None,
+    }
+}
+
+/// The one of two numbers that is at a place, the first if both are.
+fn one_of(first: Numeral, last: Numeral, at: u32) -> Option<u16>
+    ensures { MatchOption result ((value : ℕ) → ¬ IsOneOf at first last value) (IsOneOf at first last) }
+{
+    if first.at == at {
+        Some(first.value)
+    } else if last.at == at {
+        Some(last.value)
+    } else {
+        None
+    }
 }
 
 /// The first and the last number of the range whose last number is at a place.
@@ -100,13 +125,14 @@ pub(crate) fn range_to(items: &[Item], at: u32) -> (u16, u16) {
 }
 
 /// The section of which the number at a place should be a lot.
-pub(crate) fn section_of_number(items: &[Item], at: u32) -> Option<Section> {
+#[tactic(auto, using(crate::proofs::NumberFacts::none_more, crate::proofs::NumberFacts::section_of_none))]
+pub(crate) fn section_of_number(items: &[Item], at: u32) -> Option<Section>
+    ensures { IsSectionOfNumber at items.now result }
+{
     let mut section = None;
     for item in items {
-        if let Some((first, last)) = range_of(item) {
-            if first.at == at || last.at == at {
-                return section;
-            }
+        if number_in(item, at).is_some() {
+            return section;
         }
         section = section_after(section, item);
     }

@@ -1,5 +1,6 @@
 //! How townships, lots, and land are written in explanations.
-ghost use Rattle.std.specs.Prelude.{◌≡◌, ◌≤◌, ◌<◌, ◌++◌, length, drop, codes, count_by, string_bytes, IfOk, IfSome};
+ghost use Rattle.std.specs.Prelude.{◌≡◌, ◌≤◌, ◌<◌, ◌++◌, length, drop, codes, count_by, string_bytes};
+ghost use Rattle.std.specs.Prelude.{IfOk, IfSome};
 ghost use Rattle.std.specs.Fmt.{decimal};
 ghost use Rattle.twp_diagnose.specs.RecordFields.{is_comma};
 ghost use Rattle.twp_grid.specs.Lands.{LOT_NUMBER_MOST, HasLot, lotting};

@@ -1,6 +1,6 @@
 use Rattle.std.proofs.Common.{length, ◌≤◌}
 use Rattle.twp_excerpt.proofs.EndFacts.{EndSoFar}
-use Rattle.twp_excerpt.proofs.excerpt.end_within.Given as goal
+use Rattle.twp_excerpt.proofs.kept_part.end_within.Given as goal
 
 -- the signs so far fit, and the suffix continues backward with those that fit in the room that is
 -- left

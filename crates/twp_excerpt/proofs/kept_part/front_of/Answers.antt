@@ -2,7 +2,7 @@ use Rattle.twp_excerpt.specs.Excerpts.{front_within}
 use Rattle.twp_excerpt.specs.Signs.{signs}
 use Rattle.twp_excerpt.proofs.ExcerptFacts.{front_whole}
 use Rattle.twp_excerpt.proofs.PieceFacts.{part_whole, part_cut}
-use Rattle.twp_excerpt.proofs.excerpt.front_of.Goals as goal
+use Rattle.twp_excerpt.proofs.kept_part.front_of.Goals as goal
 
 pub returns-then-not-whole-clause-piece : goal.returns-then-not-whole-clause-piece
 returns-then-not-whole-clause-piece c =

@@ -4,7 +4,7 @@ use Rattle.twp_excerpt.specs.Shown.{AddsShown}
 use Rattle.twp_excerpt.specs.Signs.{signs, in_line}
 use Rattle.twp_excerpt.proofs.AddingFacts.{AddedSoFar}
 use Rattle.twp_excerpt.proofs.SoFar.{left_at}
-use Rattle.twp_excerpt.proofs.excerpt.write_in_line.Given as goal
+use Rattle.twp_excerpt.proofs.kept_part.write_in_line.Given as goal
 
 abbrev pub invariant-loop-at : goal.invariant-loop-at
 invariant-loop-at l = record {

@@ -1,6 +1,6 @@
 use Rattle.std.proofs.Common.{length, ◌-◌, ◌≤◌}
 use Rattle.twp_excerpt.proofs.FitFacts.{FrontSoFar}
-use Rattle.twp_excerpt.proofs.excerpt.front_within.Given as goal
+use Rattle.twp_excerpt.proofs.kept_part.front_within.Given as goal
 
 -- the signs so far fit, and the prefix continues with those that fit in the room that is left
 abbrev pub invariant-loop-at : goal.invariant-loop-at

@@ -5,8 +5,8 @@ use Rattle.twp_excerpt.specs.Excerpts.{line_width}
 use Rattle.twp_excerpt.specs.Signs.{signs, width}
 use Rattle.twp_excerpt.proofs.EndFacts.{end_begins, end_grows, end_whole_found, end_cut_found}
 use Rattle.twp_excerpt.proofs.ExcerptFacts.{PastSign, past_sign}
-use Rattle.twp_excerpt.proofs.excerpt.end_within.Goals as goal
-use Rattle.twp_excerpt.proofs.excerpt.end_within.Goals.{else-loop-at-test, then-loop-at-test+then-more-room}
+use Rattle.twp_excerpt.proofs.kept_part.end_within.Goals as goal
+use Rattle.twp_excerpt.proofs.kept_part.end_within.Goals.{else-loop-at-test, then-loop-at-test+then-more-room}
 
 pub loop-at-init : goal.loop-at-init
 loop-at-init c =

@@ -4,7 +4,7 @@ use Rattle.twp_excerpt.specs.Shown.{is_shown}
 use Rattle.twp_excerpt.specs.Signs.{in_line}
 use Rattle.twp_excerpt.proofs.ShownFacts.{adds_trans}
 use Rattle.twp_excerpt.proofs.SoFar.{sign_added, sign_failed, signs_done}
-use Rattle.twp_excerpt.proofs.excerpt.write_in_line.Goals as goal
+use Rattle.twp_excerpt.proofs.kept_part.write_in_line.Goals as goal
 
 pub loop-at-preserved : goal.loop-at-preserved
 loop-at-preserved c =

@@ -3,7 +3,7 @@ use Rattle.std.specs.Prelude.{string_bytes}
 use Rattle.twp_excerpt.specs.Excerpts.{dots, line_text}
 use Rattle.twp_excerpt.specs.Signs.{Adding, signs}
 use Rattle.twp_excerpt.proofs.AddingFacts.{adding_failed, adding_then}
-use Rattle.twp_excerpt.proofs.excerpt.KeptPart.write_front.Goals as goal
+use Rattle.twp_excerpt.proofs.kept_part.KeptPart.write_front.Goals as goal
 
 pub returns-in_err-write_in_line-clause-added : goal.returns-in_err-write_in_line-clause-added
 returns-in_err-write_in_line-clause-added c = λ piece is.

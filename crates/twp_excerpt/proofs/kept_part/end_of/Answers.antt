@@ -2,7 +2,7 @@ use Rattle.twp_excerpt.specs.Excerpts.{end_within}
 use Rattle.twp_excerpt.specs.Signs.{signs}
 use Rattle.twp_excerpt.proofs.ExcerptFacts.{end_whole}
 use Rattle.twp_excerpt.proofs.PieceFacts.{part_whole, part_cut}
-use Rattle.twp_excerpt.proofs.excerpt.end_of.Goals as goal
+use Rattle.twp_excerpt.proofs.kept_part.end_of.Goals as goal
 
 pub returns-then-not-whole-clause-piece : goal.returns-then-not-whole-clause-piece
 returns-then-not-whole-clause-piece c =
