@@ -23,6 +23,7 @@ pub mod RowLands
 pub mod CombinedLots
 pub mod CompareFacts
 pub mod DividingFacts
+pub mod DividedFacts
 pub mod PaintFacts
 pub mod TilePaint
 pub mod PlatLayouts

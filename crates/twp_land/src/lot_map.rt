@@ -19,6 +19,9 @@ const POSITIONS: usize = 16;
 /// The number of places in a position.
 const PLACES_OF_POSITION: usize = 64;
 
+/// The number of places in half a position, its four southern or northern rows.
+const PLACES_OF_HALF: usize = PLACES_OF_POSITION / 2;
+
 /// The number of places in a section.
 const PLACES: usize = POSITIONS * PLACES_OF_POSITION;
 
@@ -163,10 +166,7 @@ impl Lotting for LotMap {
             return false;
         }
         let lot = number as u8;
-        match self.next_lot(section, lot - 1) {
-            Some(next) => next == lot,
-            None => false,
-        }
+        has_byte(&self.positions, section, lot) || self.next(section, 0, lot, lot).is_some()
     }
 
     fn has_lots(&self, section: Section, first: u16, last: u16) -> bool {
@@ -194,6 +194,9 @@ impl Lotting for LotMap {
     }
 
     fn add_lot<S: PlaceSet>(&self, set: &mut S, section: Section, number: u8) -> bool {
+        if let Some(block) = self.only_position(section, number) {
+            return set.add_apart(section, block);
+        }
         self.add(set, section, number, number)
     }
 
@@ -207,6 +210,9 @@ impl Lotting for LotMap {
         if has_byte(&self.positions, section, after + 1) {
             return Some(after + 1);
         }
+        if self.next(section, 0, after + 1, after + 1).is_some() {
+            return Some(after + 1);
+        }
         let lot = self.lowest(section, after);
         if lot == NO_LAND {
             return None;
@@ -215,6 +221,9 @@ impl Lotting for LotMap {
     }
 
     fn meets_lot<S: PlaceSet>(&self, set: &S, section: Section, number: u8) -> bool {
+        if let Some(block) = self.only_position(section, number) {
+            return set.meets(section, block);
+        }
         let mut from = 0;
         while let Some(found) = self.next(section, from, number, number) {
             if set.meets(section, found.block) {
@@ -226,6 +235,9 @@ impl Lotting for LotMap {
     }
 
     fn holds_lot<S: PlaceSet>(&self, set: &S, section: Section, number: u8) -> bool {
+        if let Some(block) = self.only_position(section, number) {
+            return set.full(section, block);
+        }
         self.is_held(set, section, number, number)
     }
 
