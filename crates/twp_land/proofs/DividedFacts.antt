@@ -201,7 +201,10 @@ pub position_none : (divided : List ℕ) (byte first south north least most : �
 position_none divided byte first south north least most great is at at' none none' within less low high =
     elim (cases_lt within 32) [
       | inl before ↦
-          half_none divided byte first 0 south least most great is (omega (arith, at)) none within before low high
+          let mark : mark_in divided byte (0 + within) ≡ mark_in divided byte within =
+          ap (λ n. mark_in divided byte n) (omega arith) in
+          half_none divided byte first 0 south least most great is (omega (arith, at)) none within before
+          (omega (arith, mark, low)) (omega (arith, mark, high))
       | inr after ↦
           let back : 32 + (within - 32) ≡ within = omega (arith, after) in
           let mark : mark_in divided byte (32 + (within - 32)) ≡ mark_in divided byte within =

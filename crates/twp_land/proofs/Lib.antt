@@ -24,6 +24,7 @@ pub mod CombinedLots
 pub mod CompareFacts
 pub mod DividingFacts
 pub mod DividedFacts
+pub mod HalfBlocks
 pub mod PaintFacts
 pub mod TilePaint
 pub mod PlatLayouts
