@@ -38,3 +38,4 @@ pub mod MarkedLots
 pub mod SectionMarks
 pub mod WholeDecided
 pub mod OneSections
+pub mod OnlyLots

@@ -166,7 +166,10 @@ impl Lotting for LotMap {
             return false;
         }
         let lot = number as u8;
-        has_byte(&self.positions, section, lot) || self.next(section, 0, lot, lot).is_some()
+        if has_byte(&self.positions, section, lot) {
+            return true;
+        }
+        self.next(section, 0, lot, lot).is_some()
     }
 
     fn has_lots(&self, section: Section, first: u16, last: u16) -> bool {
