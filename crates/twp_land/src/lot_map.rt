@@ -1,6 +1,6 @@
 ghost use Rattle.std.specs.Prelude.{◌≡◌, ◌+◌, ◌-◌, ◌*◌, ◌%◌, ◌/◌, ◌≤◌, ◌<◌, ◌↔◌, ℕ, IsTrue, true, false};
-ghost use Rattle.std.specs.Prelude.{get_or};
-ghost use Rattle.twp_grid.specs.Lands.{SharePlace, union};
+ghost use Rattle.std.specs.Prelude.{MatchOption, get_or};
+ghost use Rattle.twp_grid.specs.Lands.{IsLastLot, IsNextLot, SharePlace, lotting, union};
 ghost use Rattle.twp_land.specs.LotMaps.{mark_in, layout_of_bytes};
 ghost use Rattle.twp_land.specs.steps.Marked.{PLACES, marked, in_section};
 
@@ -114,6 +114,25 @@ impl LotMap {
         true
     }
 
+    /// The next lot of a section by number, by the marks of its places. Inlined, it would keep the
+    /// callers of `next_lot` from being inlined.
+    #[inline(never)]
+    fn search_lot(&self, section: Section, after: u8) -> Option<u8>
+        requires { after < 99 }
+        ensures { MatchOption result
+            (IsLastLot (lotting (layout_of_bytes self.now.positions self.now.divided)) section after)
+            (λ lot. IsNextLot (lotting (layout_of_bytes self.now.positions self.now.divided)) section after lot) }
+    {
+        if self.next(section, 0, after + 1, after + 1).is_some() {
+            return Some(after + 1);
+        }
+        let lot = self.lowest(section, after);
+        if lot == NO_LAND {
+            return None;
+        }
+        Some(lot)
+    }
+
     /// Whether a set contains each place of a section with a mark from a least to a greatest.
     fn is_held<S: PlaceSet>(&self, set: &S, section: Section, least: u8, most: u8) -> bool
         requires { least ≤ most }
@@ -213,14 +232,7 @@ impl Lotting for LotMap {
         if has_byte(&self.positions, section, after + 1) {
             return Some(after + 1);
         }
-        if self.next(section, 0, after + 1, after + 1).is_some() {
-            return Some(after + 1);
-        }
-        let lot = self.lowest(section, after);
-        if lot == NO_LAND {
-            return None;
-        }
-        Some(lot)
+        self.search_lot(section, after)
     }
 
     fn meets_lot<S: PlaceSet>(&self, set: &S, section: Section, number: u8) -> bool {
