@@ -23,6 +23,8 @@ pub mod RowLands
 pub mod CombinedLots
 pub mod CompareFacts
 pub mod DividingFacts
+pub mod DividedFacts
+pub mod HalfBlocks
 pub mod PaintFacts
 pub mod TilePaint
 pub mod PlatLayouts
@@ -36,3 +38,4 @@ pub mod MarkedLots
 pub mod SectionMarks
 pub mod WholeDecided
 pub mod OneSections
+pub mod OnlyLots

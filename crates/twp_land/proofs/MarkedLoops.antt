@@ -1,5 +1,5 @@
 -- What is known of the marked places of a section after the blocks so far.
-use Rattle.std.proofs.Common.{◌≡◌, ℕ, ◌<◌, ◌==◌, ◌&&◌, ◌||◌, Bool, true, false}
+use Rattle.std.proofs.Common.{◌≡◌, ℕ, ◌<◌, ◌≤◌, ◌==◌, ◌&&◌, ◌||◌, Bool, true, false}
 use Rattle.std.proofs.Common.{nat_lt, refl, sym, ap, subst, ◌∙◌, inl, inr, arith}
 use Rattle.std.proofs.Math.Path.{fun_ext}
 use Rattle.std.proofs.lemmas.Bool.{and_parts, cases_lt, cases_Bool, eqb-true, eq-eqb, false≢true}
@@ -7,7 +7,7 @@ use Rattle.std.proofs.lemmas.Bool.Decides.{nat_tests}
 use Rattle.twp_grid.specs.Spans.{Rectangle, in_rectangle}
 use Rattle.twp_grid.specs.Lands.{union, block_places, SharePlace, Meets}
 use Rattle.twp_land.specs.LotMaps.{place_number}
-use Rattle.twp_land.specs.steps.Marked.{in_section, below, NoneLeft, IsNext}
+use Rattle.twp_land.specs.steps.Marked.{PLACES, in_section, below, NoneLeft, IsNext}
 
 -- each place of a set that is numbered below this has a property
 abbrev pub EachBelow : (ℕ → ℕ → Bool) → ℕ → (ℕ → ℕ → Type 0) → Type 0
@@ -181,3 +181,21 @@ met_next section set from block end old now next so_far met =
     only_first false true true less either is = absurd (false≢true (sym is ∙ either))
     only_first false true false less either is = absurd (false≢true either)
     only_first false false b less either is = absurd (false≢true either)
+
+-- a block after which nothing is left
+pub only_next : (set : ℕ → ℕ → Bool) (from : ℕ) (block : Rectangle) (end : ℕ) → IsNext set from block end
+    → ((c r : ℕ) → set c r ≡ true → end ≤ place_number c r → PLACES ≤ place_number c r)
+    → IsNext set from block PLACES
+only_next set from block end next rest = record {
+  more = omega (arith, next.more, next.within);
+  within = omega arith;
+  some = next.some;
+  is_set = next.is_set;
+  numbered = λ c r inside.
+      let number = next.numbered c r inside in
+      (number.0, omega (arith, number.1, next.within));
+  all = λ c r here after before. elim (cases_lt (place_number c r) end) [
+    | inl less ↦ next.all c r here after less
+    | inr beyond ↦ absurd (omega (arith, before, rest c r here (omega (arith, beyond))))
+  ];
+}

@@ -313,16 +313,15 @@ next_byte positions divided s after index less is few = record {
 
 -- the places of the positions from one on, up to another, whose bytes are out of a range
 pub passed_places : (positions divided : List ℕ) (s least most start end : ℕ)
-    → ((index : ℕ) → index < 16 → get_or positions ((s - 1) * 16 + index) 0 < 101)
+    → ((index : ℕ) → start ≤ index → index < end → get_or positions ((s - 1) * 16 + index) 0 < 101)
     → ((index : ℕ) → start ≤ index → index < end → least ≤ get_or positions ((s - 1) * 16 + index) 0
     → ¬ (get_or positions ((s - 1) * 16 + index) 0 ≤ most))
-    → end ≤ 16 → (number : ℕ) → start * 64 ≤ number → number < end * 64
+    → (number : ℕ) → start * 64 ≤ number → number < end * 64
     → least ≤ mark_of positions divided s number → ¬ (mark_of positions divided s number ≤ most)
-passed_places positions divided s least most start end whole out few number least' less low high =
-    let index : number / 64 < 16 = omega (arith, less, few) in
+passed_places positions divided s least most start end whole out number least' less low high =
     let mark =
     whole_mark divided (get_or positions ((s - 1) * 16 + number / 64) 0) (number % 64)
-    (omega (arith, whole (number / 64) index)) in
+    (omega (arith, whole (number / 64) (omega (arith, least')) (omega (arith, less)))) in
     out (number / 64) (omega (arith, least')) (omega (arith, less)) (omega (arith, mark, low))
     (omega (arith, mark, high))
 

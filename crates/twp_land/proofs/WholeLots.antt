@@ -6,7 +6,7 @@ use Rattle.std.specs.Option.{option_map_or}
 use Rattle.std.proofs.lemmas.Bool.{and_parts, cases_Bool, cases_lt, eqb-true, eq-eqb, false≢true}
 use Rattle.twp_grid.specs.Places.{PLACE_DIGITS, IsPlace, is_place}
 use Rattle.twp_grid.specs.Spans.{whole_block}
-use Rattle.twp_grid.specs.Lands.{AreLots, ContainsAll, HasLot, IsLastLot, IsLotHeld, IsNextLot}
+use Rattle.twp_grid.specs.Lands.{AreLots, ContainsAll, HasLot, HoldsEach, IsLastLot, IsLotHeld, IsNextLot}
 use Rattle.twp_grid.specs.Lands.{IsWholeOrNot, Lotting, LieWithin, Meets, lot_places}
 use Rattle.twp_grid.proofs.PlaceTests.{test_of_place, whole_is_place}
 use Rattle.twp_land.specs.steps.Relating.{HoldsWholeLots}
@@ -141,3 +141,13 @@ untouched_whole lots section held digits are none lot =
           (subst (λ g. IsPlace g met.column met.row) digits met.place);
       is_held = met.is_held;
     }))
+
+-- land that is all of a section contains each of its lots
+pub section_whole : (lots : Lotting) (s : ℕ) (held : ℕ → ℕ → Bool) → AreLots lots → HoldsEach lots s held
+    → (lot : ℕ) → IsWholeOrNot lots s lot held
+section_whole lots s held are each lot = record {
+  alike = λ column row column' row' of_lot of_lot'.
+      let there = are.within s lot column row of_lot in
+      let there' = are.within s lot column' row' of_lot' in
+      each column row there.0 there.1 ∙ sym (each column' row' there'.0 there'.1);
+}

@@ -1,6 +1,6 @@
 ghost use Rattle.std.specs.Prelude.{◌≡◌, ◌+◌, ◌-◌, ◌*◌, ◌%◌, ◌/◌, ◌≤◌, ◌<◌, ◌↔◌, ℕ, IsTrue, true, false};
-ghost use Rattle.std.specs.Prelude.{get_or};
-ghost use Rattle.twp_grid.specs.Lands.{SharePlace, union};
+ghost use Rattle.std.specs.Prelude.{MatchOption, get_or};
+ghost use Rattle.twp_grid.specs.Lands.{IsLastLot, IsNextLot, SharePlace, lotting, union};
 ghost use Rattle.twp_land.specs.LotMaps.{mark_in, layout_of_bytes};
 ghost use Rattle.twp_land.specs.steps.Marked.{PLACES, marked, in_section};
 
@@ -18,6 +18,9 @@ const POSITIONS: usize = 16;
 
 /// The number of places in a position.
 const PLACES_OF_POSITION: usize = 64;
+
+/// The number of places in half a position, its four southern or northern rows.
+const PLACES_OF_HALF: usize = PLACES_OF_POSITION / 2;
 
 /// The number of places in a section.
 const PLACES: usize = POSITIONS * PLACES_OF_POSITION;
@@ -111,6 +114,25 @@ impl LotMap {
         true
     }
 
+    /// The next lot of a section by number, by the marks of its places. Inlined, it would keep the
+    /// callers of `next_lot` from being inlined.
+    #[inline(never)]
+    fn search_lot(&self, section: Section, after: u8) -> Option<u8>
+        requires { after < 99 }
+        ensures { MatchOption result
+            (IsLastLot (lotting (layout_of_bytes self.now.positions self.now.divided)) section after)
+            (λ lot. IsNextLot (lotting (layout_of_bytes self.now.positions self.now.divided)) section after lot) }
+    {
+        if self.next(section, 0, after + 1, after + 1).is_some() {
+            return Some(after + 1);
+        }
+        let lot = self.lowest(section, after);
+        if lot == NO_LAND {
+            return None;
+        }
+        Some(lot)
+    }
+
     /// Whether a set contains each place of a section with a mark from a least to a greatest.
     fn is_held<S: PlaceSet>(&self, set: &S, section: Section, least: u8, most: u8) -> bool
         requires { least ≤ most }
@@ -163,10 +185,10 @@ impl Lotting for LotMap {
             return false;
         }
         let lot = number as u8;
-        match self.next_lot(section, lot - 1) {
-            Some(next) => next == lot,
-            None => false,
+        if has_byte(&self.positions, section, lot) {
+            return true;
         }
+        self.next(section, 0, lot, lot).is_some()
     }
 
     fn has_lots(&self, section: Section, first: u16, last: u16) -> bool {
@@ -194,6 +216,9 @@ impl Lotting for LotMap {
     }
 
     fn add_lot<S: PlaceSet>(&self, set: &mut S, section: Section, number: u8) -> bool {
+        if let Some(block) = self.only_position(section, number) {
+            return set.add_apart(section, block);
+        }
         self.add(set, section, number, number)
     }
 
@@ -207,14 +232,13 @@ impl Lotting for LotMap {
         if has_byte(&self.positions, section, after + 1) {
             return Some(after + 1);
         }
-        let lot = self.lowest(section, after);
-        if lot == NO_LAND {
-            return None;
-        }
-        Some(lot)
+        self.search_lot(section, after)
     }
 
     fn meets_lot<S: PlaceSet>(&self, set: &S, section: Section, number: u8) -> bool {
+        if let Some(block) = self.only_position(section, number) {
+            return set.meets(section, block);
+        }
         let mut from = 0;
         while let Some(found) = self.next(section, from, number, number) {
             if set.meets(section, found.block) {
@@ -226,6 +250,9 @@ impl Lotting for LotMap {
     }
 
     fn holds_lot<S: PlaceSet>(&self, set: &S, section: Section, number: u8) -> bool {
+        if let Some(block) = self.only_position(section, number) {
+            return set.full(section, block);
+        }
         self.is_held(set, section, number, number)
     }
 

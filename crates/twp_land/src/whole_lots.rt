@@ -29,12 +29,16 @@ pub fn has_whole_lots_on<L: Land, P: Lotting>(land: &L, lots: &P) -> bool
     true
 }
 
-/// Whether a set contains each lot of a section wholly or not at all.
+/// Whether a set contains each lot of a section wholly or not at all, as land that is all of the section
+/// does.
 fn holds_lots_of<L: Land, P: Lotting>(land: &L, section: Section, lots: &P) -> bool
     requires { IsSection section }
     ensures { IsTrue result
         ↔ HoldsWholeLots (lotting (P.layout lots.now)) section (L.places land.now section) }
 {
+    if lots.holds_section(land, section) {
+        return true;
+    }
     let mut after = 0;
     while let Some(number) = lots.next_lot(section, after) {
         if lots.meets_lot(land, section, number) && !lots.holds_lot(land, section, number) {

@@ -1,25 +1,45 @@
 //! The bytes of a section's positions, or of a position's places, all at once: those of a section as a
 //! vector; and the loops have no early exit, so LLVM handles many steps together.
-ghost use Rattle.std.specs.Prelude.{◌≡◌, ◌+◌, ◌-◌, ◌*◌, ◌≤◌, ◌<◌, ◌&&◌, ℕ, IsTrue, get_or};
-ghost use Rattle.std.specs.Prelude.{length, nat_le};
-ghost use Rattle.std.specs.Prelude.{map, drop};
+ghost use Rattle.std.specs.Prelude.{◌≡◌, ◌≢◌, ◌+◌, ◌-◌, ◌*◌, ◌≤◌, ◌<◌, ◌&&◌, ◌↔◌, ℕ, IsTrue, get_or};
+ghost use Rattle.std.specs.Prelude.{length, nat_le, nat_lt};
+ghost use Rattle.std.specs.Prelude.{map, drop, min, if◌then◌else◌};
 ghost use Rattle.std.specs.Simd.Lanes.{chunk, mask_l};
-ghost use Rattle.twp_land.specs.steps.LotBytes.{AreAll, AreNone, IsLowest, bytes_less};
+ghost use Rattle.twp_land.specs.steps.LotBytes.{AreColumns, AreNone, IsLowest, bytes_less};
+ghost use Rattle.twp_land.specs.declared.lot_map.bytes.Columns.{Columns};
 
 use crate::lot_map::{DIVIDED_BYTES, NO_LAND, PLACES_OF_POSITION, POSITION_BYTES, POSITIONS};
 use std::simd::prelude::*;
 use twp_grid::Section;
 
-/// How many places of a position have marks from a least to a greatest.
+/// Columns of half a position, which is its four southern or northern rows.
+#[derive(Clone, Copy)]
+pub enum Columns {
+    /// All eight.
+    All,
+    /// The four in the east.
+    East,
+    /// The four in the west.
+    West,
+}
+
+/// Which places of half a position have marks from a least to a greatest.
 #[derive(Clone, Copy)]
 pub enum Extent {
-    /// All of them.
-    All,
+    /// Those in these columns.
+    Held(Columns),
     /// None of them.
     Nothing,
-    /// Perhaps only some.
-    Partial,
+    /// None of the whole position.
+    Empty,
+    /// Perhaps others.
+    Mixed,
 }
+
+/// A bit for each place of half a position: in all columns, in those in the east, and in those in the
+/// west.
+const ALL_BITS: u64 = 0xffff_ffff;
+const EAST_BITS: u64 = 0x0f0f_0f0f;
+const WEST_BITS: u64 = 0xf0f0_f0f0;
 
 /// The bytes of a section's positions.
 #[inline(always)]
@@ -60,7 +80,7 @@ fn later_between(
     least: u8,
     most: u8,
 ) -> u64
-    requires from { from < 16 }
+    requires from { from ≤ 16 }
     requires range { least ≤ most }
     ensures bits { result ≡ mask_l (map (λ byte. nat_le byte (most - least))
         (drop from (bytes_less least (chunk ((section - 1) * 16) 16 positions.now)))) }
@@ -80,13 +100,14 @@ pub(crate) fn first_between(
     least: u8,
     most: u8,
 ) -> usize
-    requires from { from < 16 }
+    requires from { from ≤ 16 }
     requires range { least ≤ most }
     ensures from { from ≤ result }
     ensures within { result ≤ 16 }
     ensures passed { (index : ℕ) → from ≤ index → index < result
         → least ≤ get_or positions.now ((section - 1) * 16 + index) 0
         → ¬ (get_or positions.now ((section - 1) * 16 + index) 0 ≤ most) }
+    ensures bytes { (index : ℕ) → get_or positions.now index 0 < 256 }
 {
     let sought = later_between(positions, section, from, least, most);
     if sought == 0 {
@@ -104,36 +125,86 @@ pub(crate) fn lowest_in(divided: &[u8; DIVIDED_BYTES], first: usize, after: u8) 
 {
     let mut lowest = NO_LAND;
     for within in 0..PLACES_OF_POSITION {
-        let mark = divided[first + within].min(NO_LAND);
-        if after < mark && mark < lowest {
-            lowest = mark;
-        }
+        lowest = lowest.min(mark_after(divided[first + within], after));
     }
     lowest
 }
 
-/// How many places of a divided position have marks from a least to a greatest.
-#[inline(never)]
-pub(crate) fn extent_in(divided: &[u8; DIVIDED_BYTES], first: usize, least: u8, most: u8) -> Extent
-    requires { first + 64 ≤ 8192 }
-    ensures all { result ≡ Extent.All → AreAll divided.now first 64 least most }
-    ensures nothing { result ≡ Extent.Nothing → AreNone divided.now first 64 least most }
+/// The mark of a byte, if it is greater than a number, or else 100.
+#[inline(always)]
+fn mark_after(byte: u8, after: u8) -> u8
+    ensures { result ≡ (if nat_lt after byte then min byte 100 else 100) }
 {
-    let mut all = true;
-    let mut some = false;
-    for within in 0..PLACES_OF_POSITION {
-        let mark = divided[first + within].min(NO_LAND);
-        let is_sought = is_between(mark, least, most);
-        all = all & is_sought;
-        some = some | is_sought;
+    if after < byte {
+        return byte.min(NO_LAND);
     }
-    if all {
-        return Extent::All;
+    NO_LAND
+}
+
+/// Which places of half a divided position have marks from a least to a greatest, by the index of the
+/// first byte of the half.
+#[inline(always)]
+pub(crate) fn extent_in(divided: &[u8; DIVIDED_BYTES], first: usize, least: u8, most: u8) -> Extent
+    requires fits { first + 32 ≤ 8192 }
+    requires range { least ≤ most }
+    ensures held { (columns : Columns) → result ≡ Extent.Held columns
+        → AreColumns divided.now first least most columns }
+    ensures nothing { result ≡ Extent.Nothing → AreNone divided.now first 32 least most }
+    ensures half { result ≢ Extent.Empty }
+{
+    if least > NO_LAND {
+        return Extent::Mixed;
     }
-    if some {
-        return Extent::Partial;
+    let bits = half_bits(divided, first, least, top_of(most));
+    if bits == 0 {
+        return Extent::Nothing;
     }
-    Extent::Nothing
+    if bits == ALL_BITS {
+        return Extent::Held(Columns::All);
+    }
+    if bits == EAST_BITS {
+        return Extent::Held(Columns::East);
+    }
+    if bits == WEST_BITS {
+        return Extent::Held(Columns::West);
+    }
+    Extent::Mixed
+}
+
+/// The bytes of half a divided position.
+#[inline(always)]
+fn half_bytes(divided: &[u8; DIVIDED_BYTES], first: usize) -> u8x32
+    requires { first + 32 ≤ 8192 }
+    ensures bytes { result ≡ chunk first 32 divided.now }
+    ensures fits { first + 32 ≤ length divided.now }
+{
+    u8x32::from_slice(&divided[first..])
+}
+
+/// A bit for each place of half a divided position: whether its byte is from a least to a greatest.
+#[inline(always)]
+fn half_bits(divided: &[u8; DIVIDED_BYTES], first: usize, least: u8, most: u8) -> u64
+    requires fits { first + 32 ≤ 8192 }
+    requires range { least ≤ most }
+    ensures bits { result ≡ mask_l (map (λ byte. nat_le byte (most - least))
+        (bytes_less least (chunk first 32 divided.now))) }
+    ensures fits { first + 32 ≤ length divided.now }
+{
+    let more = half_bytes(divided, first) - u8x32::splat(least);
+    more.simd_le(u8x32::splat(most - least)).to_bitmask()
+}
+
+/// The greatest byte of a mark that is at most this: each byte that is greater than that of no land marks
+/// none, too.
+#[inline(always)]
+fn top_of(most: u8) -> u8
+    ensures least { most ≤ result }
+    ensures marks { (byte : ℕ) → byte < 256 → (min byte 100 ≤ most ↔ byte ≤ result) }
+{
+    if most >= NO_LAND {
+        return u8::MAX;
+    }
+    most
 }
 
 /// Whether a mark is from a least to a greatest.

@@ -1,46 +1,67 @@
 //! The marks of a map's places, by position and by section.
-ghost use Rattle.std.specs.Prelude.{◌≡◌, ◌≢◌, ◌-◌, ◌*◌, ◌%◌, ◌≤◌, ◌<◌, ◌↔◌, ℕ, IsTrue, true};
+ghost use Rattle.std.specs.Prelude.{◌≡◌, ◌≢◌, ◌+◌, ◌-◌, ◌*◌, ◌%◌, ◌≤◌, ◌<◌, ◌&&◌, ◌↔◌, ℕ, IsTrue, true};
+ghost use Rattle.std.specs.Prelude.{nat_le};
 ghost use Rattle.std.specs.Option.{SomeIff};
 ghost use Rattle.twp_grid.specs.Lands.{Meets};
 ghost use Rattle.twp_land.specs.LotMaps.{mark_in, mark_of};
+ghost use Rattle.twp_land.specs.declared.lot_map.bytes.Columns.{Columns};
+ghost use Rattle.twp_land.specs.steps.LotBytes.{in_columns};
 ghost use Rattle.twp_land.specs.steps.Marked.{PLACES, marked};
 
-use crate::lot_map::bytes::{Extent, are_below, extent_in, first_between, is_between, lowest_in};
-use crate::lot_map::{DIVIDED_BYTES, LotMap, NO_LAND, PLACES, PLACES_OF_POSITION, POSITIONS};
+use crate::lot_map::bytes::{
+    Columns, Extent, are_below, extent_in, first_between, is_between, lowest_in,
+};
+use crate::lot_map::{
+    DIVIDED_BYTES, LotMap, NO_LAND, PLACES, PLACES_OF_HALF, PLACES_OF_POSITION, POSITIONS,
+};
 use crate::lot_marks::place_number;
 use twp_grid::{Block, Section};
 
 impl LotMap {
-    /// How many places of a position have marks from a least to a greatest, by its byte, if a place
-    /// is the first of the position.
+    /// Which places of half a position have marks from a least to a greatest, by the byte of the
+    /// position, if a place is the first of the half.
     #[inline(always)]
     pub(super) fn extent(&self, position: u8, place: usize, least: u8, most: u8) -> Extent
-        ensures first { result ≢ Extent.Partial → place % 64 ≡ 0 }
-        ensures all { result ≡ Extent.All → (within : ℕ) → within < 64
-            → (least ≤ mark_in self.now.divided position within)
-            × (mark_in self.now.divided position within ≤ most) }
-        ensures nothing { result ≡ Extent.Nothing → (within : ℕ) → within < 64
+        requires { least ≤ most }
+        ensures first { result ≢ Extent.Mixed → place % 32 ≡ 0 }
+        ensures held { (columns : Columns) → result ≡ Extent.Held columns → (within : ℕ) → within < 32
+            → (nat_le least (mark_in self.now.divided position (place % 64 + within))
+            && nat_le (mark_in self.now.divided position (place % 64 + within)) most)
+            ≡ in_columns columns within }
+        ensures nothing { result ≡ Extent.Nothing → (within : ℕ) → within < 32
+            → least ≤ mark_in self.now.divided position (place % 64 + within)
+            → ¬ (mark_in self.now.divided position (place % 64 + within) ≤ most) }
+        ensures whole { result ≡ Extent.Empty → place % 64 ≡ 0 }
+        ensures empty { result ≡ Extent.Empty → (within : ℕ) → within < 64
             → least ≤ mark_in self.now.divided position within
             → ¬ (mark_in self.now.divided position within ≤ most) }
     {
-        if place % PLACES_OF_POSITION != 0 {
-            return Extent::Partial;
+        if place % PLACES_OF_HALF != 0 {
+            return Extent::Mixed;
         }
         if position <= NO_LAND {
             if is_between(position, least, most) {
-                return Extent::All;
+                return Extent::Held(Columns::All);
             }
             return Extent::Nothing;
         }
-        match divided_index(position) {
-            Some(first) => extent_in(&self.divided, first, least, most),
-            None => Extent::Partial,
+        let Some(first) = divided_index(position) else {
+            return Extent::Mixed;
+        };
+        if place % PLACES_OF_POSITION != 0 {
+            return extent_in(&self.divided, first + PLACES_OF_HALF, least, most);
         }
+        let south = extent_in(&self.divided, first, least, most);
+        if let Extent::Nothing = south {
+            if let Extent::Nothing = extent_in(&self.divided, first + PLACES_OF_HALF, least, most) {
+                return Extent::Empty;
+            }
+        }
+        south
     }
 
-    /// A place itself; or if it is the first one of a position, and the positions of the section aren't
-    /// divided, the first place of the next position, from this one on, with a mark from a least to a
-    /// greatest.
+    /// A place itself; or if it is the first one of a position, the first place of the next position,
+    /// from this one on, that is divided, or has a mark from a least to a greatest.
     #[inline(always)]
     pub(super) fn passed(&self, section: Section, place: usize, least: u8, most: u8) -> usize
         requires { least ≤ most }
@@ -52,11 +73,10 @@ impl LotMap {
         if place % PLACES_OF_POSITION != 0 || place >= PLACES {
             return place;
         }
-        if !are_below(&self.positions, section, NO_LAND + 1) {
-            return place;
-        }
         let from = place / PLACES_OF_POSITION;
-        PLACES_OF_POSITION * first_between(&self.positions, section, from, least, most)
+        let whole = first_between(&self.positions, section, from, least, most);
+        let divided = first_between(&self.positions, section, from, NO_LAND + 1, u8::MAX);
+        PLACES_OF_POSITION * whole.min(divided)
     }
 
     /// Whether no place of a section has a mark from a least on, as its positions show. If it isn't

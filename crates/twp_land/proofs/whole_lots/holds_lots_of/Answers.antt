@@ -2,8 +2,16 @@
 use Rattle.std.proofs.Common.{refl, arith}
 use Rattle.twp_grid.specs.Lands.{lotting, IsWholeOrNot}
 use Rattle.twp_land.proofs.WholeLots.{none_whole, whole_contained, whole_last, whole_next, contained_whole}
-use Rattle.twp_land.proofs.WholeLots.{unmet_whole}
+use Rattle.twp_land.proofs.WholeLots.{section_whole, unmet_whole}
 use Rattle.twp_land.proofs.whole_lots.holds_lots_of.Goals as goal
+
+pub returns-then-holds_section : goal.returns-then-holds_section
+returns-then-holds_section g c = (
+  λ _. section_whole (lotting (g.P.Lotting.layout c.args.lots.now)) c.args.section
+      (g.L.PlaceSet.places c.args.land.now c.args.section) (g.met.P.Lotting.lots c.args.lots.now)
+      (c.holds_section.ensures.0 c.if-holds_section.true),
+  λ _. refl,
+)
 
 pub loop-number-init : goal.loop-number-init
 loop-number-init g c = record {

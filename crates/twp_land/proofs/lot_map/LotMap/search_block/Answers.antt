@@ -1,4 +1,4 @@
-use Rattle.std.proofs.Common.{◌≡◌, true, refl}
+use Rattle.std.proofs.Common.{◌≡◌, true, refl, arith}
 use Rattle.std.proofs.lemmas.Bool.{false≢true}
 use Rattle.twp_grid.specs.Spans.{in_rectangle}
 use Rattle.twp_land.specs.steps.Marked.{marked}
@@ -29,3 +29,19 @@ loop-found-preserved c =
           (c.if-share_place.ensures.1
           (record { column = column; row = row; inside = in_block; is_held = inside })));
     }
+
+pub returns-then-found-last : goal.returns-then-found-last
+returns-then-found-last c =
+    let self = c.args.self.now in (
+      λ no. absurd (false≢true no),
+      λ met.
+          let most = c.last_place-last.ensures met.column met.row met.inside in
+          absurd
+          (each_next (marked self.positions self.divided c.args.section c.args.least c.args.most)
+          c.loop-found.from (λ column row. ¬ (in_rectangle c.args.block column row ≡ true))
+          c.in-Some.found.block c.in-Some.found.end c.in-Some.ensures.next c.loop-found.invariant.none
+          (λ column row inside in_block. false≢true
+          (c.if-share_place.ensures.1
+          (record { column = column; row = row; inside = in_block; is_held = inside })))
+          met.column met.row met.is_held (omega (arith, most, c.if-found-last.true)) met.inside),
+    )

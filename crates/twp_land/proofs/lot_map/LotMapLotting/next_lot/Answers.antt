@@ -1,7 +1,10 @@
 -- The next lot is the lowest mark that is greater.
-use Rattle.std.proofs.Common.{◌<◌, refl, arith}
+use Rattle.std.proofs.Common.{◌+◌, ◌∙◌, ◌<◌, sym, refl, arith}
 use Rattle.std.proofs.lemmas.Bool.Decides.{nat_tests}
 use Rattle.twp_land.proofs.SectionMarks.{last_lot, mark_of_lot, next_byte, next_lot, no_lot}
+use Rattle.twp_land.specs.steps.Marked.{marked}
+use Rattle.twp_land.proofs.MarkedLots.{some_left}
+use Rattle.twp_land.proofs.OnlyLots.{following_lot, lot_of_place}
 use Rattle.twp_land.proofs.lot_map.LotMapLotting.next_lot.Goals as goal
 
 pub returns-then-after-ge-LOT_MOST : goal.returns-then-after-ge-LOT_MOST
@@ -22,17 +25,3 @@ returns-then-has_byte c =
     let byte = c.if-has_byte.ensures refl in
     let few : c.args.after < 99 = grind (arith, nat_tests, c.if-after-ge-LOT_MOST.false) in
     next_byte self.positions self.divided c.args.section c.args.after byte.0 byte.1 byte.2 few
-
-pub returns-then-lot-eq-NO_LAND : goal.returns-then-lot-eq-NO_LAND
-returns-then-lot-eq-NO_LAND c =
-    let self = c.args.self.now in
-    no_lot self.positions self.divided c.args.section c.args.after c.lowest-lot.result
-    (grind (arith, nat_tests, c.if-lot-eq-NO_LAND.true)) c.lowest-lot.ensures.least
-
-pub returns : goal.returns
-returns c =
-    let self = c.args.self.now in
-    let few : c.lowest-lot.result < 100 =
-    grind (arith, nat_tests, c.if-lot-eq-NO_LAND.false, c.lowest-lot.ensures.most) in
-    next_lot self.positions self.divided c.args.section c.args.after c.lowest-lot.result
-    c.lowest-lot.ensures.more few (c.lowest-lot.ensures.is few) c.lowest-lot.ensures.least
