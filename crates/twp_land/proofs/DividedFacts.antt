@@ -29,12 +29,12 @@ lower_mark divided first count after lowest byte here new is room few is_here is
           let test : nat_lt after byte ≡ true = grind (arith, nat_tests, later) in
           let found : here ≡ min byte 100 = is_here ∙ rw test refl in
           next (omega (arith, found, later, few)) (omega (arith, found)) (omega (arith, mark, found))
-              (λ _. omega (arith, mark, found))
+          (λ _. omega (arith, mark, found))
       | inr before ↦
           let test : nat_lt after byte ≡ false = grind (arith, nat_tests, before) in
           let found : here ≡ 100 = is_here ∙ rw test refl in
           next (omega (arith, found, few)) (omega (arith, found)) (omega (arith, mark, found))
-              (λ less. omega (arith, found, less))
+          (λ less. omega (arith, found, less))
     ]
   where
     next : after < here → here ≤ 100 → (after < mark_at divided (first + count) → here ≤ mark_at divided (first + count))

@@ -129,37 +129,37 @@ pub half_next : (positions divided : List ℕ) (s least most from at position : 
     → IsNext (marked positions divided s least most) from block (at + 32)
 half_next positions divided s least most from at position columns block less half is held start len row high
     order passed = record {
-  more = omega (arith, order);
-  within = omega (arith, less, half);
-  some =
-      inside_of block block.columns.start block.rows.start (omega arith)
-      (omega (arith, len, count_some columns)) (omega arith) (omega (arith, high));
-  is_set = λ c r inside.
-      let there = of_block c r inside in
-      let mark = half_mark positions divided s at position (place_number c r) half is there.1 there.2 in
-      let test = held (place_number c r - at) (omega (arith, there.1, there.2)) ∙ there.3 in
-      let range =
-      and_parts (nat_le least (mark_in divided position (at % 64 + (place_number c r - at))))
-      (nat_le (mark_in divided position (at % 64 + (place_number c r - at))) most) test in
-      is_marked positions divided s least most c r there.0
-      (grind (arith, nat_tests, range.0, mark)) (grind (arith, nat_tests, range.1, mark));
-  numbered = λ c r inside.
-      let there = of_block c r inside in
-      (omega (arith, there.1, order), there.2);
-  all = λ c r here after before.
-      let parts = marked_parts positions divided s least most c r here in
-      let least' = passed c r here after in
-      let mark = half_mark positions divided s at position (place_number c r) half is least' before in
-      let range = half_range at c r less half parts.0 least' before in
-      let test : (nat_le least (mark_in divided position (at % 64 + (place_number c r - at)))
-      && nat_le (mark_in divided position (at % 64 + (place_number c r - at))) most) ≡ true =
-      grind (arith, nat_tests, parts.1, parts.2, mark) in
-      let across =
-      column_range columns (at / 64 % 4) c (place_number c r - at) range.3 range.0
-      (sym (held (place_number c r - at) (omega (arith, least', before))) ∙ test) in
-      inside_of block c r (omega (arith, start, across.0)) (omega (arith, start, len, across.1))
-      (omega (arith, row, range.1)) (omega (arith, row, high, range.2));
-}
+      more = omega (arith, order);
+      within = omega (arith, less, half);
+      some =
+          inside_of block block.columns.start block.rows.start (omega arith)
+          (omega (arith, len, count_some columns)) (omega arith) (omega (arith, high));
+      is_set = λ c r inside.
+          let there = of_block c r inside in
+          let mark = half_mark positions divided s at position (place_number c r) half is there.1 there.2 in
+          let test = held (place_number c r - at) (omega (arith, there.1, there.2)) ∙ there.3 in
+          let range =
+          and_parts (nat_le least (mark_in divided position (at % 64 + (place_number c r - at))))
+          (nat_le (mark_in divided position (at % 64 + (place_number c r - at))) most) test in
+          is_marked positions divided s least most c r there.0
+          (grind (arith, nat_tests, range.0, mark)) (grind (arith, nat_tests, range.1, mark));
+      numbered = λ c r inside.
+          let there = of_block c r inside in
+          (omega (arith, there.1, order), there.2);
+      all = λ c r here after before.
+          let parts = marked_parts positions divided s least most c r here in
+          let least' = passed c r here after in
+          let mark = half_mark positions divided s at position (place_number c r) half is least' before in
+          let range = half_range at c r less half parts.0 least' before in
+          let test : (nat_le least (mark_in divided position (at % 64 + (place_number c r - at)))
+          && nat_le (mark_in divided position (at % 64 + (place_number c r - at))) most) ≡ true =
+          grind (arith, nat_tests, parts.1, parts.2, mark) in
+          let across =
+          column_range columns (at / 64 % 4) c (place_number c r - at) range.3 range.0
+          (sym (held (place_number c r - at) (omega (arith, least', before))) ∙ test) in
+          inside_of block c r (omega (arith, start, across.0)) (omega (arith, start, len, across.1))
+          (omega (arith, row, range.1)) (omega (arith, row, high, range.2));
+    }
   where
     of_block : (c r : ℕ) → in_rectangle block c r ≡ true
         → IsPlace PLACE_DIGITS c r × (at ≤ place_number c r) × (place_number c r < at + 32)

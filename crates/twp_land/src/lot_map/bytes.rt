@@ -38,7 +38,9 @@ pub enum Extent {
 /// A bit for each place of half a position: in all columns, in those in the east, and in those in the
 /// west.
 const ALL_BITS: u64 = 0xffff_ffff;
+
 const EAST_BITS: u64 = 0x0f0f_0f0f;
+
 const WEST_BITS: u64 = 0xf0f0_f0f0;
 
 /// The bytes of a section's positions.
