@@ -1,17 +1,17 @@
 -- A lot that is known by one of its places, or that consists of one block.
-use Rattle.std.proofs.Common.{◌≡◌, ◌==◌, ℕ, ◌+◌, ◌-◌, ◌*◌, ◌/◌, ◌%◌, ◌<◌, ◌≤◌, ◌&&◌, ◌↔◌, Bool, true, false, List, get_or}
-use Rattle.std.proofs.Common.{refl, sym, ap, subst, ◌∙◌, inl, inr, arith}
+use Rattle.std.proofs.Common.{◌≡◌, ◌==◌, ℕ, ◌+◌, ◌-◌, ◌*◌, ◌/◌, ◌%◌, ◌<◌, ◌&&◌, ◌↔◌, Bool, true, List, get_or}
+use Rattle.std.proofs.Common.{sym, ap, subst, ◌∙◌, inl, inr, arith}
 use Rattle.std.proofs.Math.Path.{fun_ext}
 use Rattle.std.proofs.lemmas.Bool.{cases_Bool, false≢true}
 use Rattle.twp_grid.specs.Spans.{Rectangle, in_rectangle}
 use Rattle.twp_grid.specs.Lands.{ContainsAll, HasLot, HoldsAll, IsLotHeld, IsNextLot, Meets, SharePlace}
 use Rattle.twp_grid.specs.Lands.{block_places, lot_places, lotting}
-use Rattle.twp_land.specs.LotMaps.{layout_of_bytes, mark_in, mark_of, place_number}
-use Rattle.twp_land.specs.steps.Marked.{PLACES, marked, in_section, IsNext}
+use Rattle.twp_land.specs.LotMaps.{layout_of_bytes, mark_in, mark_of}
+use Rattle.twp_land.specs.steps.Marked.{PLACES, marked, IsNext}
 use Rattle.twp_land.proofs.LotBlocks.{meets_of_share, share_of_meets}
 use Rattle.twp_land.proofs.LottingFacts.{contains_held}
 use Rattle.twp_land.proofs.MarkedFacts.{marked_parts, number_of}
-use Rattle.twp_land.proofs.MarkedLots.{at_lot, lot_at, lot_of_marked, lot_places_are, marked_of_lot}
+use Rattle.twp_land.proofs.MarkedLots.{at_lot, lot_of_marked, lot_places_are, marked_of_lot}
 use Rattle.twp_land.proofs.SectionMarks.{lot_of_number, whole_mark}
 
 -- a lot with a place

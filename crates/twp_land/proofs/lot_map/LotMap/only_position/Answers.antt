@@ -1,11 +1,10 @@
 -- The first position with the lot's number, after which there is none.
-use Rattle.std.proofs.Common.{◌≡◌, ◌+◌, ◌*◌, ◌%◌, ◌<◌, ◌≤◌, arith}
+use Rattle.std.proofs.Common.{◌≡◌, ◌+◌, ◌*◌, ◌<◌, ◌≤◌, arith}
 use Rattle.std.proofs.lemmas.Bool.Decides.{nat_tests}
 use Rattle.twp_land.specs.steps.Marked.{marked}
-use Rattle.twp_land.proofs.MarkedFacts.{marked_parts, number_of, position_next}
+use Rattle.twp_land.proofs.MarkedFacts.{marked_parts, position_next}
 use Rattle.twp_land.proofs.MarkedLoops.{only_next}
 use Rattle.twp_land.proofs.SectionMarks.{are_passed, whole_marks}
-use Rattle.twp_land.proofs.HalfBlocks.{passed_on}
 use Rattle.twp_land.proofs.lot_map.LotMap.only_position.Goals as goal
 
 pub returns : goal.returns

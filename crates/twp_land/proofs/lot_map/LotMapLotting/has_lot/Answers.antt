@@ -1,10 +1,9 @@
 -- A position has the lot's number, or some place does.
-use Rattle.std.proofs.Common.{◌≡◌, ◌<◌, ◌≤◌, refl, arith}
+use Rattle.std.proofs.Common.{◌<◌, refl, arith}
 use Rattle.std.proofs.lemmas.Bool.Decides.{nat_tests}
 use Rattle.twp_land.specs.steps.Marked.{marked}
 use Rattle.twp_land.proofs.MarkedLots.{some_left}
 use Rattle.twp_land.proofs.OnlyLots.{lot_of_byte, lot_of_place, place_of_lot}
-use Rattle.twp_land.proofs.SectionMarks.{mark_of_lot}
 use Rattle.twp_land.proofs.lot_map.LotMapLotting.has_lot.Goals as goal
 
 pub returns-then-has_byte : goal.returns-then-has_byte

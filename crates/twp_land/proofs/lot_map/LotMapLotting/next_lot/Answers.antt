@@ -1,10 +1,7 @@
 -- The next lot is the lowest mark that is greater.
-use Rattle.std.proofs.Common.{◌+◌, ◌∙◌, ◌<◌, sym, refl, arith}
+use Rattle.std.proofs.Common.{◌<◌, refl, arith}
 use Rattle.std.proofs.lemmas.Bool.Decides.{nat_tests}
-use Rattle.twp_land.proofs.SectionMarks.{last_lot, mark_of_lot, next_byte, next_lot, no_lot}
-use Rattle.twp_land.specs.steps.Marked.{marked}
-use Rattle.twp_land.proofs.MarkedLots.{some_left}
-use Rattle.twp_land.proofs.OnlyLots.{following_lot, lot_of_place}
+use Rattle.twp_land.proofs.SectionMarks.{last_lot, mark_of_lot, next_byte}
 use Rattle.twp_land.proofs.lot_map.LotMapLotting.next_lot.Goals as goal
 
 pub returns-then-after-ge-LOT_MOST : goal.returns-then-after-ge-LOT_MOST
