@@ -14,6 +14,7 @@ mod joints;
 mod known_runs;
 mod labels;
 mod lands;
+mod leads;
 mod lease_limits;
 mod lease_terms;
 mod limits;
@@ -32,6 +33,7 @@ mod states;
 mod titles;
 mod trailers;
 mod units;
+mod word_rows;
 mod worn_figures;
 
 pub use beyond::{Beyond, beyond_of};

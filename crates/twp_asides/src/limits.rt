@@ -1,5 +1,6 @@
 //! What no remark contains, since it may name land, or limit it.
 
+use crate::leads::is_of_company_name;
 use crate::marks::{has_no_title, is_homesite_of_acreage, is_metes_and_bounds};
 use crate::pieces::{Pieces, plus};
 use twp_grammar::Kind;
@@ -35,6 +36,7 @@ pub(crate) fn is_beyond_remark(pieces: &Pieces<'_>, index: usize) -> bool {
         || ((is_partial(pieces.lower(index)) || is_beyond_label(pieces.lower(index)))
             && !is_of_instrument(pieces, index)
             && !pieces.is_percentage(plus(index, 1))
+            && !is_of_company_name(pieces, index)
             && !is_of_formula(pieces, index))
 }
 

@@ -1,6 +1,7 @@
 //! Remarks beside land: a cell, a line, a sentence, or parentheses that name no land.
 ghost use Rattle.std.specs.Prelude.{◌<◌};
 
+use crate::leads::{ends_lead, is_after_spaced_dash, is_of_company_name, may_begin_note};
 use crate::limits::{is_beyond_remark, is_row_of_table, is_type_of_case, limits_land_at};
 use crate::marks::{
     begins_tract, is_homesite_of_acreage, is_initial, is_known_at, is_of_well, is_title_of_other,
@@ -59,7 +60,9 @@ pub fn end_of_remark(pieces: &Pieces<'_>, index: usize, position: Position) -> O
         || begins_question(pieces, index);
     let mut next = index;
     for place in index..plus(index, PIECES_MOST) {
-        if place > index && (place >= pieces.len() || ends_remark(pieces, place, position)) {
+        let ends_note = is_sure && has_word && is_dash_after_note(pieces, place, position);
+        let is_end = place >= pieces.len() || ends_note || ends_remark(pieces, place, position);
+        if place > index && is_end {
             if !has_word || !is_sure || !may_end_remark(pieces, index, place, position) {
                 return None;
             }
@@ -86,6 +89,28 @@ pub fn end_of_remark(pieces: &Pieces<'_>, index: usize, position: Position) -> O
     None
 }
 
+/// Whether a dash with white space on both sides is at a place, after something that is said of land.
+fn is_dash_after_note(pieces: &Pieces<'_>, place: usize, position: Position) -> bool {
+    position == Position::AfterLand && is_after_spaced_dash(pieces, plus(place, 1))
+}
+
+/// Whether a comma is at an index, and `the` and a part after it, as in `Order No. 448, the W/2`.
+fn is_before_the_land(pieces: &Pieces<'_>, index: usize) -> bool {
+    let next = plus(index, 1);
+    matches!(pieces.kind(index), Kind::Comma)
+        && ((matches!(pieces.kind(next), Kind::The) && pieces.begins_part(next))
+            || pieces.end_of_words_before(next).is_some())
+}
+
+/// Whether the number of a section is at an index, and its township after it, as in `GRAZING LAND 11 2N 3W`.
+fn is_before_section_and_tier(pieces: &Pieces<'_>, index: usize) -> bool {
+    pieces.may_be_section(index)
+        && pieces.number(index).is_some()
+        && !pieces.is_joined(index)
+        && pieces.begins_tier(plus(index, 1))
+        && !pieces.is_joined(plus(index, 1))
+}
+
 /// Whether a remark from an index may end at a later place: more would follow the end of the text, or its
 /// last word.
 fn may_end_remark(pieces: &Pieces<'_>, index: usize, place: usize, position: Position) -> bool
@@ -95,6 +120,7 @@ fn may_end_remark(pieces: &Pieces<'_>, index: usize, place: usize, position: Pos
     match position {
         Position::BeforeLand if place >= pieces.len() => false,
         Position::BeforeLand if is_after_conveyance(pieces, place) => true,
+        Position::BeforeLand if ends_lead(pieces, place) => true,
         Position::BeforeLand if is_title_of_other(pieces, last) => is_type_of_case(pieces, index),
         _ => place <= plus(index, 1) || !points_into(pieces.lower(last)),
     }
@@ -112,8 +138,8 @@ fn leaves_remark(pieces: &Pieces<'_>, index: usize, place: usize, position: Posi
         Position::BeforeLand => is_area_before_land(pieces, index, place),
         Position::AfterLand => {
             may_be_parcel(pieces, index, place)
-                || is_boundary(pieces.lower(place))
-                || limits_land_at(pieces, place)
+                || (is_boundary(pieces.lower(place)) && !is_of_company_name(pieces, place))
+                || (limits_land_at(pieces, place) && !is_of_company_name(pieces, place))
                 || may_end_label(pieces, place)
         }
     };
@@ -132,6 +158,7 @@ fn is_area_before_land(pieces: &Pieces<'_>, index: usize, place: usize) -> bool 
     );
     is_acres(pieces.lower(place))
         && place > index
+        && !pieces.follows(place, b"/")
         && (pieces.is(plus(place, 1), b"of") || !is_large)
 }
 
@@ -146,6 +173,7 @@ fn is_name_of_water(pieces: &Pieces<'_>, place: usize, position: Position) -> bo
 fn may_be_parcel(pieces: &Pieces<'_>, index: usize, place: usize) -> bool {
     place > index
         && names_parcel(pieces.lower(place))
+        && !is_of_company_name(pieces, place)
         && !pieces.is(index, b"total")
         && !pieces.follows(place, b"/")
         && !pieces.follows(place, b"per")
@@ -164,7 +192,9 @@ fn begins_remark(pieces: &Pieces<'_>, index: usize, position: Position) -> bool 
         || is_name_of_value(pieces, index)
         || match position {
             Position::BeforeLand => is_after_mark_of_label(pieces, index),
-            Position::AfterLand => is_after_sentence(pieces, index),
+            Position::AfterLand => {
+                is_after_sentence(pieces, index) || may_begin_note(pieces, index)
+            }
         };
     if !is_apart && !pieces.is_share(index) {
         return false;
@@ -252,6 +282,9 @@ fn ends_remark(pieces: &Pieces<'_>, index: usize, position: Position) -> bool {
                 || is_after_record(pieces, index)
                 || is_end_of_sentence(pieces, index)
                 || is_after_conveyance(pieces, index)
+                || ends_lead(pieces, index)
+                || is_before_the_land(pieces, index)
+                || is_before_section_and_tier(pieces, index)
                 || pieces.is_for_before_land(index)
                 || matches!(pieces.kind(index), Kind::Semicolon)
                 || pieces.begins_register(index)

@@ -143,6 +143,7 @@ impl<'a> Finder<'a> {
                 .or(pieces.end_of_years(index))
                 .or(pieces.end_of_lettered_share(index))
                 .or(pieces.end_of_money(index))
+                .or(pieces.end_of_decimal_interest(index))
         } else {
             pieces.end_of_words_before(index)
         };

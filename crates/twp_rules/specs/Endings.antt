@@ -108,6 +108,8 @@ title_fronts = texts (codes "e.o.|w.d.|point of diversion|formerly lease|tax dee
     ++ texts (codes "part of that certain oil|part of that certain lease|part of that certain paid")
     ++ texts (codes "part of that certain memorandum|part of that certain assignment")
     ++ texts (codes "part of the oil and gas lease|s-t-r|w/min|w/o min")
+    ++ texts (codes "tax code|tax roll|tax district|tax id|tax acct|tax account|tax year|tax sale")
+    ++ texts (codes "tax cert")
 
 -- and what they end with
 abbrev pub title_ends : List (List ℕ)
@@ -121,6 +123,8 @@ number_fronts = words (codes "lease rp pin apn")
 -- what an interest begins with,
 abbrev pub interest_fronts : List (List ℕ)
 interest_fronts = texts (codes "an und|und|one-half|one half|all the right|all right")
+    ++ texts (codes "decedent|the decedent|grantor|lessor|seller|his|her|their|our|my|one-third")
+    ++ texts (codes "one third|one-fourth|one fourth|one quarter|one-quarter|a one|an one")
 
 -- or a property
 abbrev pub property_fronts : List (List ℕ)

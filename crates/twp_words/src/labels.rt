@@ -9,10 +9,14 @@ pub fn is_of_label(word: &[u8]) -> bool {
         2 => is_among(word, 0x8000_00004000, "no"),
         3 => is_among(word, 0x900000_00040008, "cat row"),
         4 => is_among(word, 0x102020_00200248, "case file item unit"),
-        5 => is_among(word, 0x180020_0010100a, "allot areas class lease tract"),
+        5 => is_among(
+            word,
+            0x2180020_0018122a,
+            "allot areas class entry image lease sheet tract",
+        ),
         6 => is_among(word, 0x41000_00094000, "number parcel serial"),
-        7 => is_among(word, 0x100020_00010020, "exhibit pasture"),
-        8 => is_among(word, 0x2080000_00010008, "category premises"),
+        7 => is_among(word, 0x100020_00050020, "exhibit pasture receipt"),
+        8 => is_among(word, 0x2180000_00010018, "category district premises"),
         9 => is_among(word, 0x100000_00000002, "allotment"),
         _ => false,
     }
@@ -22,7 +26,7 @@ pub fn is_of_label(word: &[u8]) -> bool {
 pub fn is_of_tract(word: &[u8]) -> bool {
     match word.len() {
         2 => is_among(word, 0x40000_00100000, "tr"),
-        4 => is_among(word, 0x100000_00200000, "unit"),
+        4 => is_among(word, 0x102000_00200200, "item unit"),
         5 => is_among(word, 0x100000_00100000, "tract"),
         6 => is_among(word, 0x1000_00010000, "parcel"),
         _ => false,
@@ -64,6 +68,59 @@ pub fn is_of_covering(word: &[u8]) -> bool {
         8 => is_among(word, 0x80_00000008, "covering"),
         9 => is_among(word, 0x80_00000020, "embracing"),
         10 => is_among(word, 0x80_00000010, "describing"),
+        _ => false,
+    }
+}
+
+/// Words of which what is said before land has at least one, if no mark ends it, as in `taxes on the NE1/4`.
+pub fn is_of_lead(word: &[u8]) -> bool {
+    match word.len() {
+        3 => is_among(word, 0x2104290_0004e004, "bid buy mtg nri own rpt"),
+        4 => is_among(
+            word,
+            0x2185230_0028d158,
+            "case deed file hold levy lien npri orri owns sell unit",
+        ),
+        5 => is_among(
+            word,
+            0x21c0020_001091b4,
+            "bonus deeds entry grant holds lease offer order owner taxes title",
+        ),
+        6 => is_among(
+            word,
+            0x21c51b0_000dd0bc,
+            "bought buying copies decree docket estate grants leased leases lessee lessor \
+             notice offers option owners patent permit policy rental report search serial",
+        ),
+        7 => is_among(
+            word,
+            0x21c50a0_000db182,
+            "acreage grantee grantor hearing leasing mineral opinion patents pooling \
+             probate receipt records rentals reports royalty selling spacing",
+        ),
+        8 => is_among(
+            word,
+            0x1840a0_0005261a,
+            "abstract contract division drilling interest judgment minerals mortgage \
+             petition purchase runsheet",
+        ),
+        9 => is_among(
+            word,
+            0x196030_0047a20a,
+            "affidavit applicant contracts insurance interests mortgages ownership \
+             purchased quitclaim royalties runsheets valuation",
+        ),
+        10 => is_among(
+            word,
+            0x186020_0000600a,
+            "affidavits assessment assignment commitment conveyance memorandum nomination",
+        ),
+        11 => is_among(
+            word,
+            0x84020_0000000a,
+            "application assignments certificate",
+        ),
+        12 => is_among(word, 0x4000_00040000, "ratification"),
         _ => false,
     }
 }
@@ -133,7 +190,13 @@ pub fn is_township_name(word: &[u8]) -> bool {
         2 => is_among(word, 0x10000_00100000, "tp"),
         3 => is_among(word, 0x14000_00100000, "twn twp"),
         4 => is_among(word, 0x10000_00100000, "twsp"),
-        8 => is_among(word, 0x10000_00100000, "township"),
+        7 => is_among(word, 0x10000_00100000, "twnship"),
+        8 => is_among(
+            word,
+            0x10000_00100000,
+            "tewnship townahip townehip townsbip township townshlp towuship twonship",
+        ),
+        9 => is_among(word, 0x10000_00100000, "townsliip"),
         _ => false,
     }
 }
@@ -144,7 +207,7 @@ pub fn is_range_name(word: &[u8]) -> bool {
         1 => is_among(word, 0x40000_00040000, "r"),
         2 => is_among(word, 0x80_00040000, "rg"),
         3 => is_among(word, 0xa0_00040000, "rge rng"),
-        5 => is_among(word, 0x20_00040000, "range"),
+        5 => is_among(word, 0x28_00040000, "rangc range rauge ronge"),
         _ => false,
     }
 }
@@ -155,8 +218,14 @@ pub fn is_township_word(word: &[u8]) -> bool {
         2 => is_among(word, 0x10080_00140000, "rg tp"),
         3 => is_among(word, 0x100a0_00140000, "rge rng twp"),
         4 => is_among(word, 0x10000_00100000, "twsp"),
-        5 => is_among(word, 0x20_00040000, "range"),
-        8 => is_among(word, 0x10000_00100000, "township"),
+        5 => is_among(word, 0x28_00040000, "rangc range rauge ronge"),
+        7 => is_among(word, 0x10000_00100000, "twnship"),
+        8 => is_among(
+            word,
+            0x10000_00100000,
+            "tewnship townahip townehip townsbip township townshlp towuship twonship",
+        ),
+        9 => is_among(word, 0x10000_00100000, "townsliip"),
         _ => false,
     }
 }

@@ -33,7 +33,7 @@ pub use forms::{
 pub use known::{is_company, is_known};
 pub use labels::{
     adds_land, is_beyond_label, is_column, is_doubtful_title, is_feature, is_field, is_instrument,
-    is_more, is_of_covering, is_of_domain, is_of_label, is_of_other_land, is_of_tract, is_of_water,
+    is_more, is_of_covering, is_of_domain, is_of_label, is_of_lead, is_of_other_land, is_of_tract, is_of_water,
     is_range_name, is_township_name, is_township_word,
 };
 pub use meridians::{

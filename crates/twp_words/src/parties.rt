@@ -72,7 +72,7 @@ pub fn is_of_time(word: &[u8]) -> bool {
 pub fn begins_reference(word: &[u8]) -> bool {
     match word.len() {
         2 => is_among(word, 0x800_00000004, "bk"),
-        3 => is_among(word, 0x28_000c0000, "rec see"),
+        3 => is_among(word, 0x40028_000d0000, "per rec see"),
         4 => is_among(word, 0x100800_00000204, "book inst"),
         6 => is_among(word, 0x10_00000200, "issued"),
         7 => is_among(word, 0x80_00010000, "pending"),

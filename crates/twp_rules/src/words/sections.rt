@@ -91,7 +91,7 @@ pub(crate) fn is_in_column_words(word: &[u8]) -> bool
 }
 
 /// The texts `moved_section_words` of the specification.
-static MOVED_SECTION_WORDS: [[u8; 10]; 38] = [
+static MOVED_SECTION_WORDS: [[u8; 10]; 44] = [
     *b"sec_______",
     *b"secs______",
     *b"section___",
@@ -130,6 +130,12 @@ static MOVED_SECTION_WORDS: [[u8; 10]; 38] = [
     *b"to________",
     *b"thru______",
     *b"through___",
+    *b"scction___",
+    *b"seetion___",
+    *b"secfion___",
+    *b"sectian___",
+    *b"sectien___",
+    *b"soction___",
 ];
 
 /// Whether a word is one of them.
@@ -146,35 +152,48 @@ pub(crate) fn is_in_moved_section_words(word: &[u8]) -> bool
 }
 
 /// The texts `moved_heading_words` of the specification.
-static MOVED_HEADING_WORDS: [[u8; 8]; 28] = [
-    *b"t_______",
-    *b"tp______",
-    *b"twp_____",
-    *b"twsp____",
-    *b"township",
-    *b"r_______",
-    *b"rg______",
-    *b"rge_____",
-    *b"rng_____",
-    *b"range___",
-    *b"n_______",
-    *b"nr______",
-    *b"s_______",
-    *b"e_______",
-    *b"w_______",
-    *b"north___",
-    *b"south___",
-    *b"east____",
-    *b"west____",
-    *b"said____",
-    *b"same____",
-    *b"all_____",
-    *b"in______",
-    *b"of______",
-    *b"the_____",
-    *b"and_____",
-    *b"numbered",
-    *b"no______",
+static MOVED_HEADING_WORDS: [[u8; 9]; 41] = [
+    *b"t________",
+    *b"tp_______",
+    *b"twp______",
+    *b"twsp_____",
+    *b"township_",
+    *b"r________",
+    *b"rg_______",
+    *b"rge______",
+    *b"rng______",
+    *b"range____",
+    *b"n________",
+    *b"nr_______",
+    *b"s________",
+    *b"e________",
+    *b"w________",
+    *b"north____",
+    *b"south____",
+    *b"east_____",
+    *b"west_____",
+    *b"said_____",
+    *b"same_____",
+    *b"all______",
+    *b"in_______",
+    *b"of_______",
+    *b"the______",
+    *b"and______",
+    *b"numbered_",
+    *b"no_______",
+    *b"twn______",
+    *b"townsbip_",
+    *b"townsliip",
+    *b"towuship_",
+    *b"townahip_",
+    *b"townshlp_",
+    *b"townehip_",
+    *b"tewnship_",
+    *b"twonship_",
+    *b"twnship__",
+    *b"rauge____",
+    *b"rangc____",
+    *b"ronge____",
 ];
 
 /// Whether a word is one of them.
@@ -185,13 +204,13 @@ pub(crate) fn is_in_moved_heading_words(word: &[u8]) -> bool
         word,
         0x009c_c222,
         0x80a5_d1e2,
-        0x80ad_72b0,
+        0x80ad_f2b0,
         &MOVED_HEADING_WORDS,
     )
 }
 
 /// The texts `section_names` of the specification.
-static SECTION_NAMES: [[u8; 10]; 24] = [
+static SECTION_NAMES: [[u8; 10]; 30] = [
     *b"sec_______",
     *b"secs______",
     *b"sect______",
@@ -216,13 +235,19 @@ static SECTION_NAMES: [[u8; 10]; 24] = [
     *b"tion______",
     *b"frstdivno_",
     *b"frstdivlab",
+    *b"scction___",
+    *b"seetion___",
+    *b"secfion___",
+    *b"sectian___",
+    *b"sectien___",
+    *b"soction___",
 ];
 
 /// Whether a word is one of them.
 pub(crate) fn is_in_section_names(word: &[u8]) -> bool
     ensures { result ≡ is_one_of word.now section_names }
 {
-    is_one_of(word, 0x0018_0060, 0x0004_4228, 0x8018_8028, &SECTION_NAMES)
+    is_one_of(word, 0x0018_0060, 0x0004_c228, 0x8018_8028, &SECTION_NAMES)
 }
 
 /// The texts `list_words` of the specification.

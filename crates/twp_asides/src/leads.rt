@@ -1,0 +1,173 @@
+//! What is said before land without a mark at its end, as in `taxes for 1932 on the NE1/4`; and what is said after it,
+//! with a mark before it, as in `; IMP $12,400`.
+
+use crate::marks::is_known_at;
+use crate::pieces::{Pieces, plus};
+use twp_grammar::Kind;
+use twp_words::{
+    begins_terms, is_boundary, is_company, is_doubtful_title, is_feature, is_of_lead, is_same,
+    is_site, limits_land, names_parcel,
+};
+
+/// The most pieces of what is said before land without a mark at its end.
+const LEAD_MOST: usize = 32;
+
+/// The most words of the name of a company.
+const COMPANY_MOST: usize = 4;
+
+/// Whether land is at an index, after what leads to it without a mark, as in `lease covers the SW1/4`: a word for title,
+/// a lease, or the like is among the words before it, and none that may say where in the land something is.
+pub(crate) fn ends_lead(pieces: &Pieces<'_>, index: usize) -> bool {
+    let Some(last) = index.checked_sub(1) else {
+        return false;
+    };
+    if !begins_land_of_lead(pieces, index) || !leads_to_land(pieces, last) {
+        return false;
+    }
+    let mut has_word = is_of_minerals(pieces.lower(last));
+    for count in 1..LEAD_MOST {
+        let Some(place) = index.checked_sub(count) else {
+            return has_word;
+        };
+        let word = pieces.lower(place);
+        if points_to_place(pieces, place) {
+            return false;
+        }
+        has_word = has_word || is_of_lead(word);
+        if begins_lead(pieces, place) {
+            return has_word;
+        }
+    }
+    false
+}
+
+/// Whether an aliquot part, lots, a section, or a township begins at an index, also after `the`.
+fn begins_land_of_lead(pieces: &Pieces<'_>, index: usize) -> bool {
+    let first = plus(index, usize::from(pieces.is(index, b"the")));
+    pieces.begins_part(first)
+        || matches!(pieces.kind(first), Kind::Lot | Kind::Sec)
+        || pieces.begins_tier(first)
+        || (matches!(pieces.kind(first), Kind::All) && pieces.is(plus(first, 1), b"of"))
+}
+
+/// Whether the piece at an index is the first of a line or a cell, or of a sentence, or after a colon.
+fn begins_lead(pieces: &Pieces<'_>, index: usize) -> bool {
+    pieces.begins_cell(index)
+        || pieces.follows(index, b":")
+        || pieces.follows(index, b";")
+        || (pieces.follows(index, b".") && !pieces.is_joined(index))
+}
+
+/// Whether the word at an index may say which place in the land, or beside it, is meant.
+fn points_to_place(pieces: &Pieces<'_>, index: usize) -> bool {
+    let word = pieces.lower(index);
+    let is_unit = is_same(word, b"unit") || is_same(word, b"place");
+    let is_place = is_boundary(word)
+        || is_feature(word)
+        || is_site(word)
+        || names_parcel(word)
+        || limits_land(word)
+        || (is_doubtful_title(word) && !is_same(word, b"as"));
+    is_place && !is_unit && !is_of_company_name(pieces, index)
+}
+
+/// Whether the word at an index leads to land after it.
+fn leads_to_land(pieces: &Pieces<'_>, index: usize) -> bool {
+    let word = pieces.lower(index);
+    is_verb_of_lead(word)
+        || is_of_minerals(word)
+        || (is_same(word, b"of") && is_before_of(pieces, index))
+        || (is_same(word, b"in") && is_before_in(pieces, index))
+        || (is_same(word, b"to")
+            && (pieces.follows(index, b"title")
+                || pieces.follows(index, b"applies")
+                || pieces.follows(index, b"apply")
+                || pieces.follows(index, b"pertaining")
+                || pieces.follows(index, b"relating")))
+}
+
+/// Whether a word says that something is about the land after it.
+fn is_verb_of_lead(word: &[u8]) -> bool {
+    is_same(word, b"on")
+        || is_same(word, b"for")
+        || is_same(word, b"is")
+        || is_same(word, b"are")
+        || is_same(word, b"re")
+        || is_same(word, b"regarding")
+        || is_same(word, b"covers")
+        || is_same(word, b"cover")
+        || is_same(word, b"covering")
+        || is_same(word, b"affecting")
+        || is_same(word, b"affects")
+        || is_same(word, b"encumbering")
+        || is_same(word, b"comprising")
+        || is_same(word, b"describing")
+        || is_same(word, b"against")
+}
+
+/// Whether a word says that minerals are under the land after it.
+fn is_of_minerals(word: &[u8]) -> bool {
+    is_same(word, b"underlying") || is_same(word, b"under")
+}
+
+/// Whether `of` at an index is after a word that takes all of the land after it.
+fn is_before_of(pieces: &Pieces<'_>, index: usize) -> bool {
+    pieces.follows(index, b"comprised")
+        || pieces.follows(index, b"consisting")
+        || pieces.follows(index, b"consists")
+        || pieces.follows(index, b"composed")
+        || pieces.follows(index, b"owner")
+        || pieces.follows(index, b"owners")
+        || pieces.follows(index, b"lessee")
+        || pieces.follows(index, b"ownership")
+}
+
+/// Whether `in` at an index is after an interest.
+fn is_before_in(pieces: &Pieces<'_>, index: usize) -> bool {
+    pieces.follows(index, b"interest")
+        || pieces.follows(index, b"interests")
+        || pieces.follows(index, b"int")
+        || pieces.follows(index, b"minerals")
+        || pieces.follows(index, b"leases")
+        || pieces.follows(index, b"royalty")
+        || pieces.follows(index, b"ownership")
+        || pieces.follows(index, b"title")
+}
+
+/// Whether something may be said of the land before an index: after a semicolon, after a dash, or, with a word that is
+/// known, after a comma.
+pub(crate) fn may_begin_note(pieces: &Pieces<'_>, index: usize) -> bool {
+    let is_after_comma = pieces.follows(index, b",") && !pieces.is_joined(index);
+    pieces.follows(index, b";")
+        || is_after_spaced_dash(pieces, index)
+        || (is_after_comma
+            && (is_known_at(pieces, index)
+                || begins_terms(pieces.lower(index))
+                || is_of_company_name(pieces, index)))
+}
+
+/// Whether a dash with white space on both sides is before an index.
+pub(crate) fn is_after_spaced_dash(pieces: &Pieces<'_>, index: usize) -> bool {
+    match index.checked_sub(1) {
+        Some(dash) => {
+            pieces.is_dash(dash) && !pieces.is_joined(dash) && !pieces.is_joined(index)
+        }
+        None => false,
+    }
+}
+
+/// Whether the word at an index is of the name of a company, as in `Baker Ranch LLC`.
+pub(crate) fn is_of_company_name(pieces: &Pieces<'_>, index: usize) -> bool {
+    for place in plus(index, 1)..plus(index, COMPANY_MOST) {
+        let is_word = matches!(pieces.kind(place), Kind::Other | Kind::And)
+            || pieces.is(place, b"&")
+            || pieces.is(place, b",");
+        if !is_word || pieces.begins_line(place) {
+            return false;
+        }
+        if is_company(pieces.lower(place)) && !pieces.is(place, b"trust") {
+            return true;
+        }
+    }
+    false
+}
