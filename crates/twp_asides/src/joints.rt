@@ -75,6 +75,15 @@ impl<'a> Pieces<'a> {
         }
     }
 
+    /// The index after `all of` at an index, before an aliquot part.
+    pub fn after_all_of(&self, index: usize) -> usize {
+        let part = plus(index, 2);
+        let is_all = matches!(self.kind(index), Kind::All)
+            && self.is(plus(index, 1), b"of")
+            && self.begins_part(part);
+        if is_all { part } else { index }
+    }
+
     /// The index after `the fractional` at an index, before a corner or a side.
     pub fn after_fractional(&self, index: usize) -> usize {
         let word = match self.kind(index) {
@@ -159,6 +168,11 @@ impl<'a> Pieces<'a> {
             && !self.is_joined(index)
             && !self.is_joined(land)
             && (self.begins_land(land) || is_lot)
+    }
+
+    /// Whether a dash is at an index, and a township after it, as in `9-2N-3W`.
+    pub fn is_before_dash_and_tier(&self, index: usize) -> bool {
+        self.is_dash(index) && self.begins_tier(plus(index, 1))
     }
 
     /// Whether a hyphen that divides a part is at an index, at the end of its line.

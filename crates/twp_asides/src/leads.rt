@@ -5,7 +5,7 @@ use crate::marks::is_known_at;
 use crate::pieces::{Pieces, plus};
 use twp_grammar::Kind;
 use twp_words::{
-    begins_terms, is_boundary, is_company, is_doubtful_title, is_feature, is_of_lead, is_same,
+    are_corners, begins_terms, is_boundary, is_company, is_doubtful_title, is_feature, is_instrument, is_of_lead, is_same,
     is_site, limits_land, names_parcel,
 };
 
@@ -39,6 +39,44 @@ pub(crate) fn ends_lead(pieces: &Pieces<'_>, index: usize) -> bool {
         }
     }
     false
+}
+
+/// Whether an aliquot part is at an index that can be nothing else, after the names and the instrument of a record, as in
+/// `QCD AMES TO DOYLE NWSE 17-2N-3W`.
+pub(crate) fn ends_record(pieces: &Pieces<'_>, index: usize) -> bool {
+    if !is_sure_part(pieces, index) {
+        return false;
+    }
+    let mut has_instrument = false;
+    for count in 1..LEAD_MOST {
+        let Some(place) = index.checked_sub(count) else {
+            return has_instrument;
+        };
+        if points_to_place(pieces, place) || matches!(pieces.kind(place), Kind::Sec | Kind::Lot) {
+            return false;
+        }
+        has_instrument = has_instrument || is_instrument(pieces.lower(place));
+        if begins_lead(pieces, place) {
+            return has_instrument;
+        }
+    }
+    false
+}
+
+/// Whether two corners or more, or a half or a quarter with its fraction, are at an index.
+fn is_sure_part(pieces: &Pieces<'_>, index: usize) -> bool {
+    let next = plus(index, 1);
+    let is_fraction = pieces.is_joined(next)
+        && (matches!(pieces.kind(next), Kind::Half | Kind::Quarter)
+            || pieces.is(next, b"2")
+            || pieces.is(next, b"4")
+            || pieces.is(next, b"/"));
+    match pieces.kind(index) {
+        Kind::Corner(_) => is_fraction,
+        Kind::NorthSouth(_) | Kind::EastWest(_) => is_fraction && !pieces.is_joined(index),
+        Kind::Other => pieces.size(index) >= 4 && are_corners(pieces.lower(index)),
+        _ => false,
+    }
 }
 
 /// Whether an aliquot part, lots, a section, or a township begins at an index, also after `the`.
@@ -165,9 +203,20 @@ pub(crate) fn is_of_company_name(pieces: &Pieces<'_>, index: usize) -> bool {
         if !is_word || pieces.begins_line(place) {
             return false;
         }
-        if is_company(pieces.lower(place)) && !pieces.is(place, b"trust") {
+        if ends_name(pieces.lower(place)) {
             return true;
         }
     }
     false
+}
+
+/// Whether a word ends the name of a company, an office, or a map.
+fn ends_name(word: &[u8]) -> bool {
+    (is_company(word) && !is_same(word, b"trust"))
+        || is_same(word, b"district")
+        || is_same(word, b"office")
+        || is_same(word, b"association")
+        || is_same(word, b"assn")
+        || is_same(word, b"quad")
+        || is_same(word, b"quadrangle")
 }

@@ -70,7 +70,10 @@ pub(crate) fn is_size_or_acreage(pieces: &Pieces<'_>, index: usize) -> bool {
         pieces.lower_back(index, 1),
         Some(label) if is_of_label(label) || is_instrument(label) || is_of_record(label)
     );
-    let is_use = pieces.is(next, b"aums") || pieces.is(next, b"aum");
+    let is_use = pieces.is(next, b"aums")
+        || pieces.is(next, b"aum")
+        || pieces.is(next, b"nma")
+        || pieces.is(next, b"nra");
     let is_called = is_round_acreage(pieces.number(index).unwrap_or(0))
         && !is_record
         && !is_use
@@ -130,6 +133,18 @@ fn is_of_instrument(pieces: &Pieces<'_>, index: usize) -> bool {
         && (pieces.follows(index, b"remise")
             || (pieces.follows(index, b",") && pieces.is_back(index, 2, b"remise")));
     let is_base = pieces.is(index, b"base") && pieces.is(next, b"property");
+    let is_tax = pieces.is(index, b"tax")
+        && (pieces.is(next, b"deed")
+            || pieces.is(next, b"code")
+            || pieces.is(next, b"roll")
+            || pieces.is(next, b"district")
+            || pieces.is(next, b"id")
+            || pieces.is(next, b"acct")
+            || pieces.is(next, b"account")
+            || pieces.is(next, b"year")
+            || pieces.is(next, b"sale")
+            || pieces.is(next, b"cert")
+            || pieces.is(next, b"certificate"));
     let is_row = is_row_of_table(pieces, index)
         || is_type_of_case(pieces, index)
         || matches!(index.checked_sub(2), Some(row) if is_type_of_case(pieces, row));
@@ -142,6 +157,7 @@ fn is_of_instrument(pieces: &Pieces<'_>, index: usize) -> bool {
         || is_terminated
         || is_base
         || is_release
+        || is_tax
         || is_row
 }
 

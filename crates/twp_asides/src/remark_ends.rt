@@ -79,7 +79,18 @@ pub(crate) fn is_end_of_sentence(pieces: &Pieces<'_>, index: usize) -> bool {
     pieces.is(index, b".")
         && pieces.is_joined(index)
         && !pieces.is_joined(next)
-        && (matches!(pieces.kind(next), Kind::Sec) || pieces.begins_tier(next))
+        && (matches!(pieces.kind(next), Kind::Sec)
+            || pieces.begins_tier(next)
+            || begins_named_value(pieces, next))
+}
+
+/// Whether the name of a value, and a colon, begin at an index after a sentence, as in `Bk 30 Pg 11. Grantor: Ole Berg`.
+pub(crate) fn begins_named_value(pieces: &Pieces<'_>, index: usize) -> bool {
+    pieces.follows(index, b".")
+        && !pieces.is_joined(index)
+        && matches!(pieces.kind(index), Kind::Other)
+        && pieces.begins_with_letter(index)
+        && pieces.is(plus(index, 1), b":")
 }
 
 /// Whether a question or a request after land begins at an index, as in `Do we have a lease on this?`

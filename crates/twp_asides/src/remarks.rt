@@ -1,14 +1,15 @@
 //! Remarks beside land: a cell, a line, a sentence, or parentheses that name no land.
 ghost use Rattle.std.specs.Prelude.{◌<◌};
 
-use crate::leads::{ends_lead, is_after_spaced_dash, is_of_company_name, may_begin_note};
+use crate::leads::{ends_lead, ends_record, is_after_spaced_dash, is_of_company_name, may_begin_note};
 use crate::limits::{is_beyond_remark, is_row_of_table, is_type_of_case, limits_land_at};
 use crate::marks::{
     begins_tract, is_homesite_of_acreage, is_initial, is_known_at, is_of_well, is_title_of_other,
+    is_well_of_unit,
 };
 use crate::pieces::{Pieces, plus};
 use crate::remark_ends::{
-    begins_question, is_after_conveyance, is_after_record, is_end_of_question, is_end_of_sentence,
+    begins_named_value, begins_question, is_after_conveyance, is_after_record, is_end_of_question, is_end_of_sentence,
 };
 use crate::trailers::end_of_depths;
 use twp_grammar::Kind;
@@ -121,7 +122,9 @@ fn may_end_remark(pieces: &Pieces<'_>, index: usize, place: usize, position: Pos
         Position::BeforeLand if place >= pieces.len() => false,
         Position::BeforeLand if is_after_conveyance(pieces, place) => true,
         Position::BeforeLand if ends_lead(pieces, place) => true,
-        Position::BeforeLand if is_title_of_other(pieces, last) => is_type_of_case(pieces, index),
+        Position::BeforeLand if is_title_of_other(pieces, last) => {
+            is_type_of_case(pieces, index) || is_well_of_unit(pieces, last)
+        }
         _ => place <= plus(index, 1) || !points_into(pieces.lower(last)),
     }
 }
@@ -248,6 +251,7 @@ fn is_after_mark_of_label(pieces: &Pieces<'_>, index: usize) -> bool {
         || pieces.follows(index, b"=")
         || (pieces.is_after_dash(index) && !pieces.is_joined(index))
         || (pieces.follows(index, b":") && !pieces.is_joined(index))
+        || begins_named_value(pieces, index)
 }
 
 /// Whether the period of a sentence, with white space after it, or acreage with decimals is before an index.
@@ -283,6 +287,7 @@ fn ends_remark(pieces: &Pieces<'_>, index: usize, position: Position) -> bool {
                 || is_end_of_sentence(pieces, index)
                 || is_after_conveyance(pieces, index)
                 || ends_lead(pieces, index)
+                || ends_record(pieces, index)
                 || is_before_the_land(pieces, index)
                 || is_before_section_and_tier(pieces, index)
                 || pieces.is_for_before_land(index)

@@ -34,8 +34,18 @@ impl<'a> Pieces<'a> {
             return None;
         }
         if !names_land {
+            let being = plus(end, usize::from(self.is(end, b",")));
             let is_label = self.begins_line(index) && self.is(end, b":");
-            return if is_label { Some(plus(end, 1)) } else { None };
+            let is_same = self.begins_line(index)
+                && self.is(being, b"being")
+                && self.begins_part(plus(being, 1));
+            return if is_label {
+                Some(plus(end, 1))
+            } else if is_same {
+                Some(plus(being, 1))
+            } else {
+                None
+            };
         }
         let is_apart = self.is_after_dash(index)
             || self.follows(index, b",")
@@ -66,7 +76,15 @@ impl<'a> Pieces<'a> {
         let next = plus(index, 1);
         let is_lead = (self.is(index, b"comprising") || self.is(index, b"constituting"))
             && (self.is(next, b"one") || self.is(next, b"a"));
-        if is_lead { plus(next, 1) } else { index }
+        if is_lead {
+            return plus(next, 1);
+        }
+        let is_article = self.is(index, b"a") || self.is(index, b"an") || self.is(index, b"one");
+        if is_article && self.number(next).is_some() {
+            next
+        } else {
+            index
+        }
     }
 }
 

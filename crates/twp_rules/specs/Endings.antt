@@ -76,6 +76,8 @@ acreage_ends = words (codes "acres acre ac acres. ac. less m/l ) pooled total ne
 -- or begins with, after white space
 abbrev pub acreage_fronts : List (List ℕ)
 acreage_fronts = texts (codes "acres|acreage|ac|gross|net|total|containing|the area|gr ac|gr. ac|in all")
+    ++ texts (codes "case acres|unit acres|lease acres|gis acres|calc acres|legal acres|leased acres")
+    ++ texts (codes "parcel acres|assessed acres|deeded acres")
 
 -- what is said of land begins with, if it isn't a remark: rights,
 abbrev pub rights : List (List ℕ)

@@ -133,6 +133,8 @@ column_words = words (codes "mer meridian twp township t rng range r sec section
     ++ words (codes "rge rg tp twn name remarks notes grantor grantee date book page inst status parcel pin")
     ++ words (codes "id use value mi int interest tr qq qqsec qsec instrument acreage owner")
     ++ words (codes "line code action act remark")
+    ++ words (codes "styp snr aliq lot q qtr trs str mtrs lease lessor lessee rec recorded instr bk pg")
+    ++ words (codes "doc file case serial acct account cnty nma royalty exp term record")
 
 -- the words of a section that is written elsewhere, or that was named before
 abbrev pub moved_section_words : List (List ℕ)

@@ -21,25 +21,35 @@ pub(crate) fn has_acreage_ends(seen: &[u8]) -> bool
 }
 
 /// The texts `acreage_fronts` of the specification.
-static ACREAGE_FRONTS: [[u8; 10]; 11] = [
-    *b"acres_____",
-    *b"acreage___",
-    *b"ac________",
-    *b"gross_____",
-    *b"net_______",
-    *b"total_____",
-    *b"containing",
-    *b"the area__",
-    *b"gr ac_____",
-    *b"gr. ac____",
-    *b"in all____",
+static ACREAGE_FRONTS: [[u8; 14]; 21] = [
+    *b"acres_________",
+    *b"acreage_______",
+    *b"ac____________",
+    *b"gross_________",
+    *b"net___________",
+    *b"total_________",
+    *b"containing____",
+    *b"the area______",
+    *b"gr ac_________",
+    *b"gr. ac________",
+    *b"in all________",
+    *b"case acres____",
+    *b"unit acres____",
+    *b"lease acres___",
+    *b"gis acres_____",
+    *b"calc acres____",
+    *b"legal acres___",
+    *b"leased acres__",
+    *b"parcel acres__",
+    *b"assessed acres",
+    *b"deeded acres__",
 ];
 
 /// Whether a text begins with one of them.
 pub(crate) fn has_acreage_fronts(seen: &[u8]) -> bool
     ensures { result ≡ begins_with_one seen.now acreage_fronts }
 {
-    begins_with_one(seen, 0x0010_428a, &ACREAGE_FRONTS)
+    begins_with_one(seen, 0x0031_529a, &ACREAGE_FRONTS)
 }
 
 /// The texts `parenthesis_ends` of the specification.

@@ -9,7 +9,7 @@ use crate::rows::is_one_of;
 use crate::same::is_text;
 
 /// The texts `column_words` of the specification.
-static COLUMN_WORDS: [[u8; 11]; 71] = [
+static COLUMN_WORDS: [[u8; 11]; 100] = [
     *b"mer________",
     *b"meridian___",
     *b"twp________",
@@ -81,13 +81,42 @@ static COLUMN_WORDS: [[u8; 11]; 71] = [
     *b"action_____",
     *b"act________",
     *b"remark_____",
+    *b"styp_______",
+    *b"snr________",
+    *b"aliq_______",
+    *b"lot________",
+    *b"q__________",
+    *b"qtr________",
+    *b"trs________",
+    *b"str________",
+    *b"mtrs_______",
+    *b"lease______",
+    *b"lessor_____",
+    *b"lessee_____",
+    *b"rec________",
+    *b"recorded___",
+    *b"instr______",
+    *b"bk_________",
+    *b"pg_________",
+    *b"doc________",
+    *b"file_______",
+    *b"case_______",
+    *b"serial_____",
+    *b"acct_______",
+    *b"account____",
+    *b"cnty_______",
+    *b"nma________",
+    *b"royalty____",
+    *b"exp________",
+    *b"term_______",
+    *b"record_____",
 ];
 
 /// Whether a word is one of them.
 pub(crate) fn is_in_column_words(word: &[u8]) -> bool
     ensures { result ≡ is_one_of word.now column_words }
 {
-    is_one_of(word, 0x007f_f2de, 0x82bf_d2fa, 0x82bd_f3fe, &COLUMN_WORDS)
+    is_one_of(word, 0x007f_f2fe, 0x83bf_fafa, 0x82bd_f3fe, &COLUMN_WORDS)
 }
 
 /// The texts `moved_section_words` of the specification.

@@ -202,11 +202,25 @@ impl<'a> Plan<'a> {
         let pieces = &self.draft.pieces;
         let first = exception.first;
         let is_item = pieces.follows(section.first, b";")
-            || pieces.has_before(section.first, b'\n');
+            || pieces.has_before(section.first, b'\n')
+            || self.is_after_label_of_line(section.first);
         pieces.follows(first, b";")
             || (pieces.follows(first, b",") && !is_item)
             || matches!(pieces.kind_before(first), Some(Kind::Stop))
             || pieces.has_before(first, b'\n')
+    }
+
+    /// Whether the label of a tract begins a line, and ends before an index, as in `Tract 2: Section 17`.
+    fn is_after_label_of_line(&self, index: usize) -> bool {
+        let pieces = &self.draft.pieces;
+        for count in 2..5 {
+            if let Some(label) = index.checked_sub(count) {
+                if pieces.has_before(label, b'\n') {
+                    return pieces.end_of_tract(label) == Some(index);
+                }
+            }
+        }
+        false
     }
 
     /// Whether it is sure which land a group has: several sections have none, or all of it is said to be
