@@ -66,7 +66,10 @@ impl<'a> Pieces<'a> {
         }
         // Before a colon and more, they name what follows.
         let is_name = self.is(end, b":") && plus(end, 1) < self.len();
-        if (self.is_mark(end) || self.begins_column(end)) && !is_name {
+        let is_before_dash = self.is_dash(end)
+            && !self.is_joined(end)
+            && !self.is_joined(plus(end, 1));
+        if (self.is_mark(end) || is_before_dash || self.begins_column(end)) && !is_name {
             Some(end)
         } else {
             None

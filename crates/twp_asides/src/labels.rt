@@ -97,8 +97,8 @@ impl<'a> Pieces<'a> {
         if self.is_label_after_section(index) {
             return Some(plus(index, 2));
         }
-        if self.is_label_of_township(index) {
-            return Some(plus(index, 3));
+        if let Some(end) = self.end_of_label_of_township(index) {
+            return Some(end);
         }
         if let Some(value) = self.after_quoted_name(plus(index, 1)) {
             let is_label = is_column(self.lower(index)) && !is_acres(self.lower(index));
@@ -164,14 +164,20 @@ impl<'a> Pieces<'a> {
             && (self.is(plus(part, 1), b":") || self.is(plus(part, 1), b"\""))
     }
 
-    /// Whether `Twp-Rng` is at an index, before a township without a word for it.
-    fn is_label_of_township(&self, index: usize) -> bool {
-        let number = plus(index, 3);
-        self.is(index, b"twp")
-            && self.is(plus(index, 1), b"-")
-            && self.is(plus(index, 2), b"rng")
-            && self.number(number).is_some()
-            && self.is_north_south(plus(number, 1))
+    /// Where `Twp-Rng`, or `Twp/Rge:`, at an index ends, before a township without a word for it.
+    fn end_of_label_of_township(&self, index: usize) -> Option<usize> {
+        let mark = plus(index, 1);
+        let range = plus(index, 2);
+        let end = plus(index, 3);
+        let number = plus(end, usize::from(self.is(end, b":")));
+        let is_label = self.is(index, b"twp")
+            && (self.is(mark, b"-") || self.is(mark, b"/"))
+            && (self.is(range, b"rng") || self.is(range, b"rge"));
+        if is_label && self.number(number).is_some() && self.is_north_south(plus(number, 1)) {
+            Some(number)
+        } else {
+            None
+        }
     }
 
     /// Whether `A:` for aliquot parts is at an index, after the section of a register.

@@ -1,12 +1,11 @@
 //! What is said before land without a mark at its end, as in `taxes for 1932 on the NE1/4`; and what is said after it,
 //! with a mark before it, as in `; IMP $12,400`.
 
-use crate::marks::is_known_at;
 use crate::pieces::{Pieces, plus};
 use twp_grammar::Kind;
 use twp_words::{
-    are_corners, begins_terms, is_boundary, is_company, is_doubtful_title, is_feature, is_instrument, is_of_lead, is_same,
-    is_site, limits_land, names_parcel,
+    are_corners, is_acres, is_boundary, is_company, is_doubtful_title, is_feature, is_instrument, is_of_lead, is_same,
+    is_site, limits_land, names_parcel, points_into,
 };
 
 /// The most pieces of what is said before land without a mark at its end.
@@ -21,10 +20,13 @@ pub(crate) fn ends_lead(pieces: &Pieces<'_>, index: usize) -> bool {
     let Some(last) = index.checked_sub(1) else {
         return false;
     };
-    if !begins_land_of_lead(pieces, index) || !leads_to_land(pieces, last) {
+    if !begins_land_of_lead(pieces, index)
+        || !(leads_to_land(pieces, last) || is_plain_lead(pieces, index, last))
+    {
         return false;
     }
-    let mut has_word = is_of_minerals(pieces.lower(last));
+    let is_plain = is_plain_lead(pieces, index, last);
+    let mut has_word = is_plain || is_of_minerals(pieces.lower(last));
     for count in 1..LEAD_MOST {
         let Some(place) = index.checked_sub(count) else {
             return has_word;
@@ -39,6 +41,24 @@ pub(crate) fn ends_lead(pieces: &Pieces<'_>, index: usize) -> bool {
         }
     }
     false
+}
+
+/// Whether `the` and a part are at an index, after a verb, or who it is for, as in `I give my wife the SW1/4`; or a word
+/// that leads to land without more, as in `will sign for the W/2`.
+fn is_plain_lead(pieces: &Pieces<'_>, index: usize, last: usize) -> bool {
+    let word = pieces.lower(last);
+    let is_word = matches!(pieces.kind(last), Kind::Other)
+        && pieces.size(last) >= 3
+        && pieces.begins_with_letter(last)
+        && !points_into(word)
+        && !is_acres(word);
+    let has_part = pieces.is(index, b"the") && pieces.begins_part(index);
+    (is_word && has_part)
+        || is_same(word, b"for")
+        || is_same(word, b"is")
+        || is_same(word, b"are")
+        || is_same(word, b"covers")
+        || is_same(word, b"covering")
 }
 
 /// Whether an aliquot part is at an index that can be nothing else, after the names and the instrument of a record, as in
@@ -64,7 +84,7 @@ pub(crate) fn ends_record(pieces: &Pieces<'_>, index: usize) -> bool {
 }
 
 /// Whether two corners or more, or a half or a quarter with its fraction, are at an index.
-fn is_sure_part(pieces: &Pieces<'_>, index: usize) -> bool {
+pub(crate) fn is_sure_part(pieces: &Pieces<'_>, index: usize) -> bool {
     let next = plus(index, 1);
     let is_fraction = pieces.is_joined(next)
         && (matches!(pieces.kind(next), Kind::Half | Kind::Quarter)
@@ -100,7 +120,8 @@ fn begins_lead(pieces: &Pieces<'_>, index: usize) -> bool {
 fn points_to_place(pieces: &Pieces<'_>, index: usize) -> bool {
     let word = pieces.lower(index);
     let is_unit = is_same(word, b"unit") || is_same(word, b"place");
-    let is_place = is_boundary(word)
+    let is_place = is_crossing(word)
+        || is_boundary(word)
         || is_feature(word)
         || is_site(word)
         || names_parcel(word)
@@ -172,16 +193,17 @@ fn is_before_in(pieces: &Pieces<'_>, index: usize) -> bool {
         || pieces.follows(index, b"title")
 }
 
-/// Whether something may be said of the land before an index: after a semicolon, after a dash, or, with a word that is
-/// known, after a comma.
+/// Whether something may be said of the land before an index: after a semicolon, a dash, or a comma.
 pub(crate) fn may_begin_note(pieces: &Pieces<'_>, index: usize) -> bool {
-    let is_after_comma = pieces.follows(index, b",") && !pieces.is_joined(index);
     pieces.follows(index, b";")
         || is_after_spaced_dash(pieces, index)
-        || (is_after_comma
-            && (is_known_at(pieces, index)
-                || begins_terms(pieces.lower(index))
-                || is_of_company_name(pieces, index)))
+        || (pieces.follows(index, b",") && !pieces.is_joined(index))
+}
+
+/// Whether the piece at an index is of a figure that is no section: a sum, a decimal, or a long number.
+pub(crate) fn is_of_long_figure(pieces: &Pieces<'_>, index: usize) -> bool {
+    let is_number = matches!(pieces.kind(index), Kind::Number(_) | Kind::BadNumber);
+    is_number && (pieces.size(index) >= 4 || pieces.is_figure_with_decimals(index))
 }
 
 /// Whether a dash with white space on both sides is before an index.
@@ -219,4 +241,30 @@ fn ends_name(word: &[u8]) -> bool {
         || is_same(word, b"assn")
         || is_same(word, b"quad")
         || is_same(word, b"quadrangle")
+}
+
+/// Whether a word says that something is beside land, or passes through it, or what is taken from it.
+fn is_crossing(word: &[u8]) -> bool {
+    is_same(word, b"joining")
+        || is_same(word, b"toward")
+        || is_same(word, b"towards")
+        || is_same(word, b"behind")
+        || is_same(word, b"past")
+        || is_same(word, b"overlooking")
+        || is_same(word, b"intersecting")
+        || is_same(word, b"bisecting")
+        || is_same(word, b"traversing")
+        || is_same(word, b"crosses")
+        || is_same(word, b"entering")
+        || is_same(word, b"draining")
+        || is_same(word, b"timber")
+        || is_same(word, b"gravel")
+        || is_same(word, b"sand")
+        || is_same(word, b"stone")
+        || is_same(word, b"hay")
+        || is_same(word, b"crop")
+        || is_same(word, b"crops")
+        || is_same(word, b"grazing")
+        || is_same(word, b"lots")
+        || is_same(word, b"all")
 }

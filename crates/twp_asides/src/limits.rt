@@ -19,6 +19,7 @@ pub(crate) fn is_beyond_remark(pieces: &Pieces<'_>, index: usize) -> bool {
         || (is_of_calendar(pieces, index) && pieces.has_column_of_lots())
         || pieces.is_township_word(index)
         || pieces.is(index, b"?")
+        || (pieces.is(index, b"sale") && pieces.follows(index, b"timber"))
         || (pieces.is(index, b"'") && matches!(pieces.kind_before(index), Some(Kind::Number(_))))
         || (may_be_corners(pieces.lower(index))
             && !(pieces.is(index, b"sell") || pieces.is(index, b"need")))

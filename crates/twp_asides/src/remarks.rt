@@ -1,7 +1,7 @@
 //! Remarks beside land: a cell, a line, a sentence, or parentheses that name no land.
 ghost use Rattle.std.specs.Prelude.{◌<◌};
 
-use crate::leads::{ends_lead, ends_record, is_after_spaced_dash, is_of_company_name, may_begin_note};
+use crate::leads::{ends_lead, ends_record, is_after_spaced_dash, is_of_company_name, is_of_long_figure, may_begin_note};
 use crate::limits::{is_beyond_remark, is_row_of_table, is_type_of_case, limits_land_at};
 use crate::marks::{
     begins_tract, is_homesite_of_acreage, is_initial, is_known_at, is_of_well, is_title_of_other,
@@ -58,7 +58,8 @@ pub fn end_of_remark(pieces: &Pieces<'_>, index: usize, position: Position) -> O
         || begins_address(pieces, index)
         || is_name_of_value(pieces, index)
         || is_homesite_of_acreage(pieces, index)
-        || begins_question(pieces, index);
+        || begins_question(pieces, index)
+        || is_in_cell(pieces, index);
     let mut next = index;
     for place in index..plus(index, PIECES_MOST) {
         let ends_note = is_sure && has_word && is_dash_after_note(pieces, place, position);
@@ -85,9 +86,14 @@ pub fn end_of_remark(pieces: &Pieces<'_>, index: usize, position: Position) -> O
             return None;
         }
         has_word = has_word || says_something(pieces, place);
-        is_sure = is_sure || is_known_at(pieces, place);
+        is_sure = is_sure || is_known_at(pieces, place) || is_of_long_figure(pieces, place);
     }
     None
+}
+
+/// Whether the piece at an index is the first of a cell after a tab or a bar, which has the land of no other cell.
+fn is_in_cell(pieces: &Pieces<'_>, index: usize) -> bool {
+    pieces.has_before(index, b'\t') || pieces.follows(index, b"|")
 }
 
 /// Whether a dash with white space on both sides is at a place, after something that is said of land.
@@ -177,6 +183,7 @@ fn may_be_parcel(pieces: &Pieces<'_>, index: usize, place: usize) -> bool {
     place > index
         && names_parcel(pieces.lower(place))
         && !is_of_company_name(pieces, place)
+        && !pieces.is(plus(place, 1), b"factor")
         && !pieces.is(index, b"total")
         && !pieces.follows(place, b"/")
         && !pieces.follows(place, b"per")

@@ -2,6 +2,7 @@
 //! abbreviation, as in `Gr Ac 400`.
 
 use crate::pieces::{Pieces, plus};
+use twp_grammar::Kind;
 use twp_words::{is_acres, is_same};
 
 /// The most sections of a township: a greater number is acreage.
@@ -35,10 +36,15 @@ impl<'a> Pieces<'a> {
         }
         if !names_land {
             let being = plus(end, usize::from(self.is(end, b",")));
+            let is_first = self.begins_line(index) || self.follows(index, b":");
             let is_label = self.begins_line(index) && self.is(end, b":");
-            let is_same = self.begins_line(index)
+            let is_same = is_first
                 && self.is(being, b"being")
                 && self.begins_part(plus(being, 1));
+            let is_all = matches!(self.kind(being), Kind::All | Kind::Sec) || self.begins_part(being);
+            if is_first && is_all && being > end {
+                return Some(end);
+            }
             return if is_label {
                 Some(plus(end, 1))
             } else if is_same {

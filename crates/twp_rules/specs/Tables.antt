@@ -175,6 +175,7 @@ heading_words = all_as (words (codes "township twp tp twsp")) (codes "T.")
     ++ all_as (words (codes "townsbip townsliip towuship townahip townshlp townehip")) (codes "T.")
     ++ all_as (words (codes "tewnship twonship twnship")) (codes "T.")
     ++ all_as (words (codes "rauge rangc ronge")) (codes "R.")
+    ++ all_left_out (words (codes "situated situate located"))
 
 -- and the marks in them
 abbrev pub heading_marks : List Entry

@@ -151,6 +151,7 @@ moved_heading_words = words (codes "t tp twp twsp township r rg rge rng range n 
     ++ words (codes "west said same all in of the and numbered no")
     ++ words (codes "twn townsbip townsliip towuship townahip townshlp townehip tewnship twonship")
     ++ words (codes "twnship rauge rangc ronge")
+    ++ words (codes "situated situate located")
 
 -- the words of a number, and letters that scanning makes of digits
 abbrev pub number_words : List (List ℕ)

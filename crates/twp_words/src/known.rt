@@ -27,10 +27,10 @@ pub fn is_known(word: &[u8]) -> bool {
         ),
         3 => is_among(
             word,
-            0x73df2fa_0275f3fe,
-            "ada aol apo aum blm bpo cfs dle doc dry due efd eff eoi exp fax fee grz hay \
-             hbo hbp hbu inc int irr llc lse ltd mer min mtg nma nra nri ofc oil pat pls \
-             pvt rec reg rel res rpt thx usa vir yrs",
+            0x73df2fa_0275f7fe,
+            "ada amt aol apo aum blm bpo cfs dle doc dry due efd eff eoi exp fax fee grz \
+             hay hbo hbp hbu inc int irr joa llc lse ltd mer min mtg nma nra nri ofc oil \
+             pat pls pvt rec reg rel res rpt thx usa vir yrs",
         ),
         4 => is_among(
             word,
@@ -49,10 +49,11 @@ pub fn is_known(word: &[u8]) -> bool {
         6 => is_among(
             word,
             0x23ed0ba_005df67e,
-            "active annual blaine bonded bureau canyon cassia closed county custer delinq \
-             deputy desert docket elmore energy fileno filing forest issued jerome lessee \
-             lessor market notary office oneida owyhee patent payout policy public rental \
-             report seller serial signed single status thanks timber vendee vendor vested",
+            "active amount annual blaine bonded bureau canyon cassia closed consid county \
+             custer delinq deputy desert docket elmore energy factor fileno filing forest \
+             issued jerome lessee lessor market notary office oneida owyhee patent payout \
+             policy public rental report seller serial signed single status thanks timber \
+             vendee vendor vested",
         ),
         7 => is_among(
             word,
@@ -64,10 +65,10 @@ pub fn is_known(word: &[u8]) -> bool {
         ),
         8 => is_among(
             word,
-            0x1c40ba_003da032,
-            "assessed assessor assignor district domestic duchesne entryman expiring \
-             minidoka mortgage operator partners patentee prepared recorded recorder \
-             register reviewed runsheet shoshone trustees unfenced",
+            0x1c40ba_003da03a,
+            "assessed assessor assignor curative district domestic duchesne entryman \
+             expiring minidoka mortgage operator partners patentee prepared recorded \
+             recorder register reviewed runsheet shoshone trustees unfenced",
         ),
         9 => is_among(
             word,
@@ -89,6 +90,7 @@ pub fn is_known(word: &[u8]) -> bool {
             "competitive cooperative delinquency exploration reclamation",
         ),
         12 => is_among(word, 0x84000_00090000, "prescription stipulations"),
+        13 => is_among(word, 0x4000_00000008, "consideration"),
         14 => is_among(word, 0x20_00004000, "noncompetitive"),
         _ => false,
     }

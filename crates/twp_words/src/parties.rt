@@ -73,10 +73,11 @@ pub fn begins_reference(word: &[u8]) -> bool {
     match word.len() {
         2 => is_among(word, 0x800_00000004, "bk"),
         3 => is_among(word, 0x40028_000d0000, "per rec see"),
-        4 => is_among(word, 0x100800_00000204, "book inst"),
+        4 => is_among(word, 0x100810_00004204, "book inst need"),
+        5 => is_among(word, 0x80020_00104000, "needs title"),
         6 => is_among(word, 0x10_00000200, "issued"),
         7 => is_among(word, 0x80_00010000, "pending"),
-        8 => is_among(word, 0x10_00010002, "acquired patented"),
+        8 => is_among(word, 0x30_0001000a, "acquired curative patented"),
         9 => is_among(word, 0x1000_00000008, "custodial"),
         _ => false,
     }

@@ -22,6 +22,7 @@ pub fn begins_request(word: &[u8]) -> bool {
         6 => is_among(word, 0x80020_00110000, "please thanks"),
         7 => is_among(word, 0x80_00001000, "looking"),
         8 => is_among(word, 0x10_00000002, "attached"),
+        9 => is_among(word, 0x80_00000040, "following"),
         _ => false,
     }
 }
@@ -37,17 +38,17 @@ pub fn is_of_request(word: &[u8]) -> bool {
         ),
         3 => is_among(
             word,
-            0x2bc6834_021d95ce,
-            "add any are ask buy can for get got had has her him his how job let our own \
-             per pls run see she the you",
+            0x2bc7834_021d95ce,
+            "add all any are ask buy can for get got had has her him his how job let our \
+             own per pls run see she the you",
         ),
         4 => is_among(
             word,
             0x29df930_02d9fdde,
             "also back both call copy docs file find from gave give have hear help here \
-             just know land last list look made mail name need note once owns pull sell \
-             send show soon take talk tell than that them then they this time told very \
-             want week when year",
+             just know land last list look made mail name need news note once owns plat \
+             pull sell send show soon take talk tell than that them then they this time \
+             told very want week when year",
         ),
         5 => is_among(
             word,

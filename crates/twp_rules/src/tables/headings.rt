@@ -23,7 +23,7 @@ pub(crate) fn is_in_headings(seen: &[u8], written: &[u8]) -> bool
 }
 
 /// The table `heading_words` of the specification.
-static HEADING_WORDS: [[u8; 14]; 29] = [
+static HEADING_WORDS: [[u8; 14]; 32] = [
     *b"township=T.___",
     *b"twp=T.________",
     *b"tp=T._________",
@@ -53,6 +53,9 @@ static HEADING_WORDS: [[u8; 14]; 29] = [
     *b"rauge=R.______",
     *b"rangc=R.______",
     *b"ronge=R.______",
+    *b"situated=_____",
+    *b"situate=______",
+    *b"located=______",
 ];
 
 /// Whether this is a row of it: what it looks at, and what it writes.
@@ -62,9 +65,9 @@ pub(crate) fn is_in_heading_words(seen: &[u8], written: &[u8]) -> bool
     is_among(
         seen,
         written,
-        0x0015_c202,
-        0x20a9_d0e2,
-        0x20a9_e2a0,
+        0x001d_d202,
+        0x20a9_d2e2,
+        0x20b9_e2a8,
         &HEADING_WORDS,
     )
 }

@@ -181,7 +181,7 @@ pub(crate) fn is_in_moved_section_words(word: &[u8]) -> bool
 }
 
 /// The texts `moved_heading_words` of the specification.
-static MOVED_HEADING_WORDS: [[u8; 9]; 41] = [
+static MOVED_HEADING_WORDS: [[u8; 9]; 44] = [
     *b"t________",
     *b"tp_______",
     *b"twp______",
@@ -223,6 +223,9 @@ static MOVED_HEADING_WORDS: [[u8; 9]; 41] = [
     *b"rauge____",
     *b"rangc____",
     *b"ronge____",
+    *b"situated_",
+    *b"situate__",
+    *b"located__",
 ];
 
 /// Whether a word is one of them.
@@ -231,9 +234,9 @@ pub(crate) fn is_in_moved_heading_words(word: &[u8]) -> bool
 {
     is_one_of(
         word,
-        0x009c_c222,
-        0x80a5_d1e2,
-        0x80ad_f2b0,
+        0x009c_d222,
+        0x80a5_d3e2,
+        0x80bd_f2b8,
         &MOVED_HEADING_WORDS,
     )
 }

@@ -201,26 +201,32 @@ impl<'a> Plan<'a> {
     fn is_set_apart(&self, exception: Phrase, section: Phrase) -> bool {
         let pieces = &self.draft.pieces;
         let first = exception.first;
-        let is_item = pieces.follows(section.first, b";")
-            || pieces.has_before(section.first, b'\n')
-            || self.is_after_label_of_line(section.first);
+        let item = self.first_of_item(section);
+        let is_item = pieces.follows(item, b";")
+            || pieces.has_before(item, b'\n')
+            || pieces.follows(section.first, b";")
+            || pieces.has_before(section.first, b'\n');
         pieces.follows(first, b";")
             || (pieces.follows(first, b",") && !is_item)
             || matches!(pieces.kind_before(first), Some(Kind::Stop))
             || pieces.has_before(first, b'\n')
     }
 
-    /// Whether the label of a tract begins a line, and ends before an index, as in `Tract 2: Section 17`.
-    fn is_after_label_of_line(&self, index: usize) -> bool {
-        let pieces = &self.draft.pieces;
-        for count in 2..5 {
-            if let Some(label) = index.checked_sub(count) {
-                if pieces.has_before(label, b'\n') {
-                    return pieces.end_of_tract(label) == Some(index);
-                }
+    /// Where a section begins, with what is left out, and its township, before it.
+    fn first_of_item(&self, section: Phrase) -> usize {
+        let mut first = section.first;
+        let mut is_before = false;
+        for placed in self.draft.phrases.iter().rev() {
+            let phrase = &placed.phrase;
+            if is_before && !matches!(phrase.names, Names::Heading | Names::Nothing(_)) {
+                break;
             }
+            if is_before {
+                first = phrase.first;
+            }
+            is_before = is_before || phrase.first == section.first;
         }
-        false
+        first
     }
 
     /// Whether it is sure which land a group has: several sections have none, or all of it is said to be
