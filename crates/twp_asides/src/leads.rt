@@ -1,18 +1,15 @@
-//! What is said before land without a mark at its end, as in `taxes for 1932 on the NE1/4`; and what is said after it,
-//! with a mark before it, as in `; IMP $12,400`.
+//! What is said before land without a mark at its end, as in `taxes for 1932 on the NE1/4`.
 
+use crate::notes::is_of_company_name;
 use crate::pieces::{Pieces, plus};
 use twp_grammar::Kind;
 use twp_words::{
-    are_corners, is_acres, is_boundary, is_company, is_doubtful_title, is_feature, is_instrument, is_of_lead, is_same,
+    are_corners, is_acres, is_boundary, is_doubtful_title, is_feature, is_instrument, is_of_lead, is_same,
     is_site, limits_land, names_parcel, points_into,
 };
 
 /// The most pieces of what is said before land without a mark at its end.
 const LEAD_MOST: usize = 32;
-
-/// The most words of the name of a company.
-const COMPANY_MOST: usize = 4;
 
 /// Whether land is at an index, after what leads to it without a mark, as in `lease covers the SW1/4`: a word for title,
 /// a lease, or the like is among the words before it, and none that may say where in the land something is.
@@ -191,56 +188,6 @@ fn is_before_in(pieces: &Pieces<'_>, index: usize) -> bool {
         || pieces.follows(index, b"royalty")
         || pieces.follows(index, b"ownership")
         || pieces.follows(index, b"title")
-}
-
-/// Whether something may be said of the land before an index: after a semicolon, a dash, or a comma.
-pub(crate) fn may_begin_note(pieces: &Pieces<'_>, index: usize) -> bool {
-    pieces.follows(index, b";")
-        || is_after_spaced_dash(pieces, index)
-        || (pieces.follows(index, b",") && !pieces.is_joined(index))
-}
-
-/// Whether the piece at an index is of a figure that is no section: a sum, a decimal, or a long number.
-pub(crate) fn is_of_long_figure(pieces: &Pieces<'_>, index: usize) -> bool {
-    let is_number = matches!(pieces.kind(index), Kind::Number(_) | Kind::BadNumber);
-    is_number && (pieces.size(index) >= 4 || pieces.is_figure_with_decimals(index))
-}
-
-/// Whether a dash with white space on both sides is before an index.
-pub(crate) fn is_after_spaced_dash(pieces: &Pieces<'_>, index: usize) -> bool {
-    match index.checked_sub(1) {
-        Some(dash) => {
-            pieces.is_dash(dash) && !pieces.is_joined(dash) && !pieces.is_joined(index)
-        }
-        None => false,
-    }
-}
-
-/// Whether the word at an index is of the name of a company, as in `Baker Ranch LLC`.
-pub(crate) fn is_of_company_name(pieces: &Pieces<'_>, index: usize) -> bool {
-    for place in plus(index, 1)..plus(index, COMPANY_MOST) {
-        let is_word = matches!(pieces.kind(place), Kind::Other | Kind::And)
-            || pieces.is(place, b"&")
-            || pieces.is(place, b",");
-        if !is_word || pieces.begins_line(place) {
-            return false;
-        }
-        if ends_name(pieces.lower(place)) {
-            return true;
-        }
-    }
-    false
-}
-
-/// Whether a word ends the name of a company, an office, or a map.
-fn ends_name(word: &[u8]) -> bool {
-    (is_company(word) && !is_same(word, b"trust"))
-        || is_same(word, b"district")
-        || is_same(word, b"office")
-        || is_same(word, b"association")
-        || is_same(word, b"assn")
-        || is_same(word, b"quad")
-        || is_same(word, b"quadrangle")
 }
 
 /// Whether a word says that something is beside land, or passes through it, or what is taken from it.

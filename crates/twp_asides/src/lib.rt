@@ -22,6 +22,7 @@ mod lowercase;
 mod marks;
 mod meridians;
 mod named_townships;
+mod notes;
 mod parcel_numbers;
 mod pieces;
 mod quarter_columns;

@@ -1,7 +1,7 @@
 //! What no remark contains, since it may name land, or limit it.
 
-use crate::leads::is_of_company_name;
 use crate::marks::{has_no_title, is_homesite_of_acreage, is_metes_and_bounds};
+use crate::notes::is_of_company_name;
 use crate::pieces::{Pieces, plus};
 use twp_grammar::Kind;
 use twp_words::{

@@ -1,11 +1,15 @@
 //! Remarks beside land: a cell, a line, a sentence, or parentheses that name no land.
 ghost use Rattle.std.specs.Prelude.{◌<◌};
 
-use crate::leads::{ends_lead, ends_record, is_after_spaced_dash, is_of_company_name, is_of_long_figure, may_begin_note};
+use crate::leads::{ends_lead, ends_record};
 use crate::limits::{is_beyond_remark, is_row_of_table, is_type_of_case, limits_land_at};
 use crate::marks::{
     begins_tract, is_homesite_of_acreage, is_initial, is_known_at, is_of_well, is_title_of_other,
     is_well_of_unit,
+};
+use crate::notes::{
+    is_before_section_and_tier, is_before_the_land, is_dash_after_note, is_in_cell,
+    is_of_company_name, is_of_long_figure, may_begin_note,
 };
 use crate::pieces::{Pieces, plus};
 use crate::remark_ends::{
@@ -89,33 +93,6 @@ pub fn end_of_remark(pieces: &Pieces<'_>, index: usize, position: Position) -> O
         is_sure = is_sure || is_known_at(pieces, place) || is_of_long_figure(pieces, place);
     }
     None
-}
-
-/// Whether the piece at an index is the first of a cell after a tab or a bar, which has the land of no other cell.
-fn is_in_cell(pieces: &Pieces<'_>, index: usize) -> bool {
-    pieces.has_before(index, b'\t') || pieces.follows(index, b"|")
-}
-
-/// Whether a dash with white space on both sides is at a place, after something that is said of land.
-fn is_dash_after_note(pieces: &Pieces<'_>, place: usize, position: Position) -> bool {
-    position == Position::AfterLand && is_after_spaced_dash(pieces, plus(place, 1))
-}
-
-/// Whether a comma is at an index, and `the` and a part after it, as in `Order No. 448, the W/2`.
-fn is_before_the_land(pieces: &Pieces<'_>, index: usize) -> bool {
-    let next = plus(index, 1);
-    matches!(pieces.kind(index), Kind::Comma)
-        && ((matches!(pieces.kind(next), Kind::The) && pieces.begins_part(next))
-            || pieces.end_of_words_before(next).is_some())
-}
-
-/// Whether the number of a section is at an index, and its township after it, as in `GRAZING LAND 11 2N 3W`.
-fn is_before_section_and_tier(pieces: &Pieces<'_>, index: usize) -> bool {
-    pieces.may_be_section(index)
-        && pieces.number(index).is_some()
-        && !pieces.is_joined(index)
-        && pieces.begins_tier(plus(index, 1))
-        && !pieces.is_joined(plus(index, 1))
 }
 
 /// Whether a remark from an index may end at a later place: more would follow the end of the text, or its

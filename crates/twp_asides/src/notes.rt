@@ -1,0 +1,87 @@
+//! What is said after land, with a mark before it, as in `; IMP $12,400`; names of companies; and where what is said
+//! before land ends at a mark.
+
+use crate::pieces::{Pieces, plus};
+use crate::remarks::Position;
+use twp_grammar::Kind;
+use twp_words::{is_company, is_same};
+
+/// The most words of the name of a company.
+const COMPANY_MOST: usize = 4;
+
+/// Whether the piece at an index is the first of a cell after a tab or a bar, which has the land of no other cell.
+pub(crate) fn is_in_cell(pieces: &Pieces<'_>, index: usize) -> bool {
+    pieces.has_before(index, b'\t') || pieces.follows(index, b"|")
+}
+
+/// Whether a dash with white space on both sides is at a place, after something that is said of land.
+pub(crate) fn is_dash_after_note(pieces: &Pieces<'_>, place: usize, position: Position) -> bool {
+    position == Position::AfterLand && is_after_spaced_dash(pieces, plus(place, 1))
+}
+
+/// Whether a comma is at an index, and `the` and a part after it, as in `Order No. 448, the W/2`.
+pub(crate) fn is_before_the_land(pieces: &Pieces<'_>, index: usize) -> bool {
+    let next = plus(index, 1);
+    matches!(pieces.kind(index), Kind::Comma)
+        && ((matches!(pieces.kind(next), Kind::The) && pieces.begins_part(next))
+            || pieces.end_of_words_before(next).is_some())
+}
+
+/// Whether the number of a section is at an index, and its township after it, as in `GRAZING LAND 11 2N 3W`.
+pub(crate) fn is_before_section_and_tier(pieces: &Pieces<'_>, index: usize) -> bool {
+    pieces.may_be_section(index)
+        && pieces.number(index).is_some()
+        && !pieces.is_joined(index)
+        && pieces.begins_tier(plus(index, 1))
+        && !pieces.is_joined(plus(index, 1))
+}
+
+/// Whether something may be said of the land before an index: after a semicolon, a dash, or a comma.
+pub(crate) fn may_begin_note(pieces: &Pieces<'_>, index: usize) -> bool {
+    pieces.follows(index, b";")
+        || is_after_spaced_dash(pieces, index)
+        || (pieces.follows(index, b",") && !pieces.is_joined(index))
+}
+
+/// Whether the piece at an index is of a figure that is no section: a sum, a decimal, or a long number.
+pub(crate) fn is_of_long_figure(pieces: &Pieces<'_>, index: usize) -> bool {
+    let is_number = matches!(pieces.kind(index), Kind::Number(_) | Kind::BadNumber);
+    is_number && (pieces.size(index) >= 4 || pieces.is_figure_with_decimals(index))
+}
+
+/// Whether a dash with white space on both sides is before an index.
+pub(crate) fn is_after_spaced_dash(pieces: &Pieces<'_>, index: usize) -> bool {
+    match index.checked_sub(1) {
+        Some(dash) => {
+            pieces.is_dash(dash) && !pieces.is_joined(dash) && !pieces.is_joined(index)
+        }
+        None => false,
+    }
+}
+
+/// Whether the word at an index is of the name of a company, as in `Baker Ranch LLC`.
+pub(crate) fn is_of_company_name(pieces: &Pieces<'_>, index: usize) -> bool {
+    for place in plus(index, 1)..plus(index, COMPANY_MOST) {
+        let is_word = matches!(pieces.kind(place), Kind::Other | Kind::And)
+            || pieces.is(place, b"&")
+            || pieces.is(place, b",");
+        if !is_word || pieces.begins_line(place) {
+            return false;
+        }
+        if ends_name(pieces.lower(place)) {
+            return true;
+        }
+    }
+    false
+}
+
+/// Whether a word ends the name of a company, an office, or a map.
+fn ends_name(word: &[u8]) -> bool {
+    (is_company(word) && !is_same(word, b"trust"))
+        || is_same(word, b"district")
+        || is_same(word, b"office")
+        || is_same(word, b"association")
+        || is_same(word, b"assn")
+        || is_same(word, b"quad")
+        || is_same(word, b"quadrangle")
+}
