@@ -56,7 +56,7 @@ impl<'a> Pieces<'a> {
             && (!self.is_joined(next) || self.bytes(next).len() >= 4);
         (self.is(index, b"(") || self.is(index, b"[") || self.is(index, b"\xC2\xA7"))
             || self.is(index, b"#")
-            || (self.is(index, b"$") && self.is_after_mark_or_column(index))
+            || self.is(index, b"$")
             || (self.is(index, b"@") && self.is(next, b"$"))
             || (is_number && self.is_dash(index))
             || self.is_question_mark(index)

@@ -31,11 +31,14 @@ impl<'a> Pieces<'a> {
         if self.is(index, b"@") && self.is(plus(index, 1), b"$") {
             return self.end_of_price(plus(index, 2));
         }
-        if !self.is(index, b"$") || !self.is_after_mark_or_column(index) {
+        if !self.is(index, b"$") {
             return None;
         }
         let end = self.end_of_decimal(plus(index, 1))?;
-        if self.is_mark(end) || self.begins_column(end) {
+        let is_apart = self.is_after_mark_or_column(index)
+            || end >= self.len()
+            || self.begins_line(end);
+        if is_apart && (self.is_mark(end) || self.begins_column(end)) {
             Some(end)
         } else {
             None

@@ -28,32 +28,32 @@ pub fn is_known(word: &[u8]) -> bool {
         3 => is_among(
             word,
             0x73df2fa_0275f7fe,
-            "ada amt aol apo aum blm bpo cfs dle doc dry due efd eff eoi exp fax fee grz \
-             hay hbo hbp hbu inc int irr joa llc lse ltd mer min mtg nma nra nri ofc oil \
-             pat pls pvt rec reg rel res rpt thx usa vir yrs",
+            "ada amt aol apo aum blm bpo cfs csu dle doc dry dtd due efd eff eoi exp fax \
+             fee grz hay hbo hbp hbu inc int irr joa llc lse ltd mer min mtg nma nra nri \
+             nso ofc oil pat per pls pvt rec reg rel res roy rpt thx usa val vir yrs",
         ),
         4 => is_among(
             word,
             0x25deb32_00bff37e,
             "acct attn aums auth book case cash code coop corp crop cult date dept dist \
              elev file heir inst levy lien loan memo mgmt mins npra npri open orri page \
-             paid quad rate recd srhe term usfs wife",
+             paid quad rate recd srhe term unit usfs wife",
         ),
         5 => is_among(
             word,
             0x9ddbb0_00dd93fe,
             "adams boise bonus buyer cause clark class dated email filed final gross heirs \
-             idaho instr irrig issue latah lemhi owner phone price rents scrip state stips \
-             taxes teton title total value waste wheat widow",
+             idaho instr irrig issue latah lease lemhi owner phone price rents scrip state \
+             stips taxes teton title total value waste wheat widow",
         ),
         6 => is_among(
             word,
             0x23ed0ba_005df67e,
             "active amount annual blaine bonded bureau canyon cassia closed consid county \
              custer delinq deputy desert docket elmore energy factor fileno filing forest \
-             issued jerome lessee lessor market notary office oneida owyhee patent payout \
-             policy public rental report seller serial signed single status thanks timber \
-             vendee vendor vested",
+             issued jerome leases lessee lessor market notary office oneida owyhee patent \
+             payout permit policy public rental report seller serial signed single status \
+             thanks timber vendee vendor vested",
         ),
         7 => is_among(
             word,
@@ -73,10 +73,10 @@ pub fn is_known(word: &[u8]) -> bool {
         9 => is_among(
             word,
             0x21c70b0_005de622,
-            "appraisal appraised attention effective endowment insurance inventory \
-             jefferson mortgagee nominated operating operators petroleum producing \
-             protested purchaser renewable resources royalties suspended telephone \
-             valuation",
+            "agreement appraisal appraised attention effective endowment insurance \
+             inventory jefferson mortgagee nominated operating operators petroleum \
+             producing protested purchaser renewable resources royalties suspended \
+             telephone valuation",
         ),
         10 => is_among(
             word,

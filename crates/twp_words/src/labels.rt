@@ -86,7 +86,7 @@ pub fn is_of_lead(word: &[u8]) -> bool {
         4 => is_among(
             word,
             0x2185230_0028d158,
-            "case deed file hold levy lien npri orri owns sell unit",
+            "case deed file hold levy lien npri orri owns sale sell unit",
         ),
         5 => is_among(
             word,
