@@ -6,6 +6,7 @@ use crate::word_rows::{
     WORDS_AFTER, WORDS_AFTER_OF_LETTERS, WORDS_BEFORE, WORDS_BEFORE_OF_LETTERS, WORDS_MOST,
 };
 use twp_grammar::Kind;
+use twp_words::is_acres;
 
 /// What is before the filling of a row.
 fn front_of(row: &[u8]) -> &[u8] {
@@ -61,7 +62,8 @@ impl<'a> Pieces<'a> {
         }
         let end = self.end_of_some_words(index, &WORDS_AFTER, &WORDS_AFTER_OF_LETTERS)?;
         let is_verb = self.is(index, b"is") || self.is(index, b"asap");
-        if !is_verb && !self.is_after_mark_or_column(index) {
+        let is_after_acreage = matches!(self.lower_back(index, 1), Some(unit) if is_acres(unit));
+        if !is_verb && !is_after_acreage && !self.is_after_mark_or_column(index) {
             return None;
         }
         // Before a colon and more, they name what follows.

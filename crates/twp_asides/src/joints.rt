@@ -23,9 +23,23 @@ impl<'a> Pieces<'a> {
         }
     }
 
+    /// Whether `the`, or what scanning leaves of it, is at an index.
+    pub fn is_article(&self, index: usize) -> bool {
+        match self.kind(index) {
+            Kind::The => true,
+            Kind::Other => {
+                self.is(index, b"tbe")
+                    || self.is(index, b"tlie")
+                    || self.is(index, b"tne")
+                    || self.is(index, b"tho")
+            }
+            _ => false,
+        }
+    }
+
     /// Whether an aliquot part begins at an index, also after `the`.
     pub fn begins_part(&self, index: usize) -> bool {
-        let first = if self.is(index, b"the") {
+        let first = if self.is_article(index) {
             plus(index, 1)
         } else {
             index

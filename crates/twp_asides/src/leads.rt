@@ -206,12 +206,9 @@ fn is_crossing(word: &[u8]) -> bool {
         || is_same(word, b"draining")
         || is_same(word, b"timber")
         || is_same(word, b"gravel")
-        || is_same(word, b"sand")
         || is_same(word, b"stone")
         || is_same(word, b"hay")
         || is_same(word, b"crop")
         || is_same(word, b"crops")
         || is_same(word, b"grazing")
-        || is_same(word, b"lots")
-        || is_same(word, b"all")
 }

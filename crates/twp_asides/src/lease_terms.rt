@@ -34,15 +34,11 @@ impl<'a> Pieces<'a> {
         if !self.is(index, b"$") {
             return None;
         }
-        let end = self.end_of_decimal(plus(index, 1))?;
+        let end = self.end_of_price(plus(index, 1))?;
         let is_apart = self.is_after_mark_or_column(index)
             || end >= self.len()
             || self.begins_line(end);
-        if is_apart && (self.is_mark(end) || self.begins_column(end)) {
-            Some(end)
-        } else {
-            None
-        }
+        if is_apart { Some(end) } else { None }
     }
 
     /// Where a price ends whose figure is at an index, as in `@ $10.00 per acre`: at a mark, or with its column.

@@ -134,6 +134,12 @@ fn is_of_instrument(pieces: &Pieces<'_>, index: usize) -> bool {
         && (pieces.follows(index, b"remise")
             || (pieces.follows(index, b",") && pieces.is_back(index, 2, b"remise")));
     let is_base = pieces.is(index, b"base") && pieces.is(next, b"property");
+    let is_in_land = pieces.is(next, b"in")
+        || pieces.is(next, b"under")
+        || pieces.is(next, b"underlying");
+    let is_of_minerals = (pieces.is(index, b"minerals") && is_in_land)
+        || (pieces.is(index, b"unleased")
+            && (pieces.is(next, b"minerals") || pieces.is(next, b"interest")));
     let is_tax = pieces.is(index, b"tax")
         && (pieces.is(next, b"deed")
             || pieces.is(next, b"code")
@@ -159,6 +165,7 @@ fn is_of_instrument(pieces: &Pieces<'_>, index: usize) -> bool {
         || is_base
         || is_release
         || is_tax
+        || is_of_minerals
         || is_row
 }
 

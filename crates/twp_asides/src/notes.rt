@@ -9,9 +9,20 @@ use twp_words::{is_company, is_same};
 /// The most words of the name of a company.
 const COMPANY_MOST: usize = 4;
 
-/// Whether the piece at an index is the first of a cell after a tab or a bar, which has the land of no other cell.
+/// Whether the piece at an index is the first of a cell after a tab or a bar, in a text without lots, which may be those
+/// of a town.
 pub(crate) fn is_in_cell(pieces: &Pieces<'_>, index: usize) -> bool {
-    pieces.has_before(index, b'\t') || pieces.follows(index, b"|")
+    (pieces.has_before(index, b'\t') || pieces.follows(index, b"|")) && !has_lots(pieces)
+}
+
+/// Whether a word for lots is in a text.
+fn has_lots(pieces: &Pieces<'_>) -> bool {
+    for index in 0..pieces.len() {
+        if matches!(pieces.kind(index), Kind::Lot) || pieces.is(index, b"l") {
+            return true;
+        }
+    }
+    false
 }
 
 /// Whether a dash with white space on both sides is at a place, after something that is said of land.
@@ -84,4 +95,9 @@ fn ends_name(word: &[u8]) -> bool {
         || is_same(word, b"assn")
         || is_same(word, b"quad")
         || is_same(word, b"quadrangle")
+}
+
+/// Whether `O&G` is at an index.
+pub(crate) fn begins_oil_and_gas(pieces: &Pieces<'_>, index: usize) -> bool {
+    pieces.is(index, b"o") && pieces.is(plus(index, 1), b"&") && pieces.is(plus(index, 2), b"g")
 }

@@ -8,7 +8,7 @@ use crate::marks::{
     is_well_of_unit,
 };
 use crate::notes::{
-    is_before_section_and_tier, is_before_the_land, is_dash_after_note, is_in_cell,
+    begins_oil_and_gas, is_before_section_and_tier, is_before_the_land, is_dash_after_note, is_in_cell,
     is_of_company_name, is_of_long_figure, may_begin_note,
 };
 use crate::pieces::{Pieces, plus};
@@ -145,6 +145,7 @@ fn is_area_before_land(pieces: &Pieces<'_>, index: usize, place: usize) -> bool 
     is_acres(pieces.lower(place))
         && place > index
         && !pieces.follows(place, b"/")
+        && !is_of_company_name(pieces, place)
         && (pieces.is(plus(place, 1), b"of") || !is_large)
 }
 
@@ -187,7 +188,11 @@ fn begins_remark(pieces: &Pieces<'_>, index: usize, position: Position) -> bool 
         return false;
     }
     let is_new = match position {
-        Position::AfterLand => adds_land(pieces.lower(index)) && !begins_tract(pieces, index),
+        Position::AfterLand => {
+            adds_land(pieces.lower(index))
+                && !begins_tract(pieces, index)
+                && !pieces.is(plus(index, 1), b"factor")
+        }
         Position::BeforeLand => is_more(pieces.lower(index)),
     };
     let is_first = match pieces.kind(index) {
@@ -205,6 +210,7 @@ fn begins_remark(pieces: &Pieces<'_>, index: usize, position: Position) -> bool 
         Kind::To => position == Position::BeforeLand,
         _ => matches!(pieces.lower(index), [b'a'..=b'z', _, ..])
             || is_initial(pieces, index)
+            || pieces.is(index, b"i")
             || pieces.begins_title(index)
             || pieces.end_of_file_number(index).is_some()
             || begins_oil_and_gas(pieces, index)
@@ -212,11 +218,6 @@ fn begins_remark(pieces: &Pieces<'_>, index: usize, position: Position) -> bool 
             || pieces.end_of_code(index).is_some(),
     };
     is_first && !is_new
-}
-
-/// Whether `O&G` is at an index.
-fn begins_oil_and_gas(pieces: &Pieces<'_>, index: usize) -> bool {
-    pieces.is(index, b"o") && pieces.is(plus(index, 1), b"&") && pieces.is(plus(index, 2), b"g")
 }
 
 /// Whether the name of a value is at an index, as in `CAT=1`.

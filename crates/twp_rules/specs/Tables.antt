@@ -123,6 +123,7 @@ damaged_corners = all_as (words (codes "5 8")) (codes "S")
 abbrev pub exceptions : List Entry
 exceptions = all_as (words (codes "less except excepting excluding save exc exclusive")) (codes " except ")
     ++ all_as (words (codes "l&e minus but with ex ls excl")) (codes " except ")
+    ++ all_as (words (codes "l/e")) (codes " except ")
 
 -- DIRECTION: words for sides and corners
 abbrev pub directions : List Entry
@@ -243,6 +244,7 @@ little_words = all_left_out (words (codes "the of in and said all entire section
 abbrev pub more_little_words : List Entry
 more_little_words = all_left_out (words (codes "public domain federal land lands fractional thereof except"))
     ++ all_left_out (words (codes "excepting for therefrom & fr. frl frl. frac. fract fract. fractl fractl."))
+    ++ all_left_out (words (codes "tbe tlie tne tho"))
 
 abbrev pub joining_words : List Entry
 joining_words =
