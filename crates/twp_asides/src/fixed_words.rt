@@ -62,7 +62,9 @@ impl<'a> Pieces<'a> {
         }
         let end = self.end_of_some_words(index, &WORDS_AFTER, &WORDS_AFTER_OF_LETTERS)?;
         let is_verb = self.is(index, b"is") || self.is(index, b"asap");
-        let is_after_acreage = matches!(self.lower_back(index, 1), Some(unit) if is_acres(unit));
+        // Acreage may be surveyed only of a part.
+        let is_after_acreage = !self.is(index, b"surveyed")
+            && matches!(self.lower_back(index, 1), Some(unit) if is_acres(unit));
         if !is_verb && !is_after_acreage && !self.is_after_mark_or_column(index) {
             return None;
         }

@@ -116,7 +116,10 @@ fn begins_lead(pieces: &Pieces<'_>, index: usize) -> bool {
 /// Whether the word at an index may say which place in the land, or beside it, is meant.
 fn points_to_place(pieces: &Pieces<'_>, index: usize) -> bool {
     let word = pieces.lower(index);
-    let is_unit = is_same(word, b"unit") || is_same(word, b"place");
+    let is_unit = is_same(word, b"unit")
+        || is_same(word, b"place")
+        || pieces.follows(index, b"/")
+        || pieces.follows(index, b"per");
     let is_place = is_crossing(word)
         || is_boundary(word)
         || is_feature(word)

@@ -4,7 +4,7 @@
 use crate::pieces::{Pieces, plus};
 use crate::remarks::Position;
 use twp_grammar::Kind;
-use twp_words::{is_company, is_same};
+use twp_words::{is_company, is_same, is_state};
 
 /// The most words of the name of a company.
 const COMPANY_MOST: usize = 4;
@@ -100,4 +100,19 @@ fn ends_name(word: &[u8]) -> bool {
 /// Whether `O&G` is at an index.
 pub(crate) fn begins_oil_and_gas(pieces: &Pieces<'_>, index: usize) -> bool {
     pieces.is(index, b"o") && pieces.is(plus(index, 1), b"&") && pieces.is(plus(index, 2), b"g")
+}
+
+/// Whether the address of land is at an index, as in `Commonly known as: 1290 Robinson Rd`.
+pub(crate) fn begins_address(pieces: &Pieces<'_>, index: usize) -> bool {
+    pieces.is(index, b"commonly")
+        && pieces.is(plus(index, 1), b"known")
+        && pieces.is(plus(index, 2), b"as")
+        && pieces.is(plus(index, 3), b":")
+}
+
+/// Whether the letters of a state are at an index, and a township of a register after them, as in
+/// `ID080020N0030W`.
+pub(crate) fn begins_code_of_state(pieces: &Pieces<'_>, index: usize) -> bool {
+    let next = plus(index, 1);
+    is_state(pieces.lower(index)) && pieces.is_joined(next) && pieces.begins_register(next)
 }

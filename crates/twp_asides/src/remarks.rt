@@ -8,7 +8,7 @@ use crate::marks::{
     is_well_of_unit,
 };
 use crate::notes::{
-    begins_oil_and_gas, is_before_section_and_tier, is_before_the_land, is_dash_after_note, is_in_cell,
+    begins_address, begins_code_of_state, begins_oil_and_gas, is_before_section_and_tier, is_before_the_land, is_dash_after_note, is_in_cell,
     is_of_company_name, is_of_long_figure, may_begin_note,
 };
 use crate::pieces::{Pieces, plus};
@@ -19,7 +19,7 @@ use crate::trailers::end_of_depths;
 use twp_grammar::Kind;
 use twp_words::{
     adds_land, begins_reference, begins_terms, is_acres, is_boundary, is_instrument, is_more,
-    is_of_covering, is_of_time, is_of_water, is_state, names_parcel, points_into,
+    is_of_covering, is_of_time, is_of_water, names_parcel, points_into,
 };
 
 /// The most pieces of a remark.
@@ -211,6 +211,7 @@ fn begins_remark(pieces: &Pieces<'_>, index: usize, position: Position) -> bool 
         _ => matches!(pieces.lower(index), [b'a'..=b'z', _, ..])
             || is_initial(pieces, index)
             || pieces.is(index, b"i")
+            || pieces.is(index, b"a")
             || pieces.begins_title(index)
             || pieces.end_of_file_number(index).is_some()
             || begins_oil_and_gas(pieces, index)
@@ -285,21 +286,6 @@ fn ends_remark(pieces: &Pieces<'_>, index: usize, position: Position) -> bool {
     let is_colon = position == Position::BeforeLand
         && (matches!(pieces.kind(index), Kind::Colon) || pieces.is(index, b"="));
     is_mark || is_colon || pieces.begins_column(index)
-}
-
-/// Whether the address of land is at an index, as in `Commonly known as: 1290 Robinson Rd`.
-fn begins_address(pieces: &Pieces<'_>, index: usize) -> bool {
-    pieces.is(index, b"commonly")
-        && pieces.is(plus(index, 1), b"known")
-        && pieces.is(plus(index, 2), b"as")
-        && pieces.is(plus(index, 3), b":")
-}
-
-/// Whether the letters of a state are at an index, and a township of a register after them, as in
-/// `ID080020N0030W`.
-fn begins_code_of_state(pieces: &Pieces<'_>, index: usize) -> bool {
-    let next = plus(index, 1);
-    is_state(pieces.lower(index)) && pieces.is_joined(next) && pieces.begins_register(next)
 }
 
 /// Whether a colon at an index may end the label of other land: no word of two letters or more, no price, and

@@ -5,7 +5,7 @@
 pub(crate) const WORDS_MOST: usize = 51;
 
 /// Words before land, in lowercase, filled up with `_`.
-pub(crate) static WORDS_BEFORE: [[u8; WORDS_MOST]; 204] = [
+pub(crate) static WORDS_BEFORE: [[u8; WORDS_MOST]; 203] = [
     *b"association placer_________________________________",
     *b"all minerals under_________________________________",
     *b"all minerals in and under__________________________",
@@ -42,7 +42,6 @@ pub(crate) static WORDS_BEFORE: [[u8; WORDS_MOST]; 204] = [
     *b"contract area______________________________________",
     *b"diversion__________________________________________",
     *b"domestic___________________________________________",
-    *b"do hereby grant, bargain and sell unto the said party",
     *b"do hereby grant, bargain and sell__________________",
     *b"described lands____________________________________",
     *b"description of lands_______________________________",
@@ -214,8 +213,8 @@ pub(crate) static WORDS_BEFORE: [[u8; WORDS_MOST]; 204] = [
 
 /// Where the rows of WORDS_BEFORE begin for each letter, and where the last ones end.
 pub(crate) static WORDS_BEFORE_OF_LETTERS: [u8; 27] = [
-    0, 24, 26, 34, 45, 45, 51, 53, 55, 69, 69, 69, 90, 104, 104, 125, 137, 137, 145, 166, 191, 195, 195,
-    203, 203, 204, 204,
+    0, 24, 26, 34, 44, 44, 50, 52, 54, 68, 68, 68, 89, 103, 103, 124, 136, 136, 144, 165, 190, 194, 194,
+    202, 202, 203, 203,
 ];
 
 /// Words after land, in lowercase, filled up with `_`.

@@ -11,6 +11,13 @@ sides = words (codes "n s e w n. s. e. w. north south east west no. so.")
 abbrev pub corners : List (List ℕ)
 corners = texts (codes "ne|nw|se|sw|e.|w.|east|west| e| w")
 
+-- what scanning leaves of them
+abbrev pub worn_sides : List (List ℕ)
+worn_sides = words (codes "nortb soutb nortli soutli norlh soulh eaet eaat eust weat weet")
+
+abbrev pub worn_corners : List (List ℕ)
+worn_corners = words (codes "cast easl easr easf eust eaat eaet wcst wesl wesr wesf vest weat wect wert")
+
 -- what the range of a township ends with, and words for one that was named before
 abbrev pub heading_ends : List (List ℕ)
 heading_ends = words (codes "e w e. w. east west e) w) township range")
