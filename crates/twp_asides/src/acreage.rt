@@ -155,17 +155,6 @@ impl<'a> Pieces<'a> {
         Some(self.after_other_acreage(next))
     }
 
-    /// The index after `and 320 net acres`, if that is at an index.
-    fn after_other_acreage(&self, index: usize) -> usize {
-        let number = plus(index, 1);
-        let kind = self.end_of_decimal(number).unwrap_or(number);
-        let is_other = self.is(index, b"and")
-            && kind > number
-            && is_net_or_gross(self.lower(kind))
-            && is_acres(self.lower(plus(kind, 1)));
-        if is_other { plus(kind, 2) } else { index }
-    }
-
     /// Whether a slash, a number, and `net` or `gross` are at an index, as after `320 gross` in `320 gross/160 net`, or the
     /// end of such a pair is there.
     fn is_before_other_total(&self, index: usize) -> bool {

@@ -50,7 +50,11 @@ impl<'a> Pieces<'a> {
     /// Where fixed words after land end, also with parentheses: at a mark, or with their column.
     pub fn end_of_words_after(&self, index: usize) -> Option<usize> {
         if self.is(index, b"(") {
-            let end = self.end_of_some_words(plus(index, 1), &WORDS_AFTER, &WORDS_AFTER_OF_LETTERS)?;
+            let end = self.end_of_some_words(
+                plus(index, 1),
+                &WORDS_AFTER,
+                &WORDS_AFTER_OF_LETTERS,
+            )?;
             return if self.is(end, b")") {
                 Some(plus(end, 1))
             } else {

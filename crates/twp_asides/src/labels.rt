@@ -164,22 +164,6 @@ impl<'a> Pieces<'a> {
             && (self.is(plus(part, 1), b":") || self.is(plus(part, 1), b"\""))
     }
 
-    /// Where `Twp-Rng`, or `Twp/Rge:`, at an index ends, before a township without a word for it.
-    fn end_of_label_of_township(&self, index: usize) -> Option<usize> {
-        let mark = plus(index, 1);
-        let range = plus(index, 2);
-        let end = plus(index, 3);
-        let number = plus(end, usize::from(self.is(end, b":")));
-        let is_label = self.is(index, b"twp")
-            && (self.is(mark, b"-") || self.is(mark, b"/"))
-            && (self.is(range, b"rng") || self.is(range, b"rge"));
-        if is_label && self.number(number).is_some() && self.is_north_south(plus(number, 1)) {
-            Some(number)
-        } else {
-            None
-        }
-    }
-
     /// Whether `A:` for aliquot parts is at an index, after the section of a register.
     fn is_label_after_section(&self, index: usize) -> bool {
         self.is(index, b"a")

@@ -4,8 +4,8 @@ use crate::notes::is_of_company_name;
 use crate::pieces::{Pieces, plus};
 use twp_grammar::Kind;
 use twp_words::{
-    are_corners, is_acres, is_boundary, is_doubtful_title, is_feature, is_instrument, is_of_lead, is_same,
-    is_site, limits_land, names_parcel, points_into,
+    are_corners, is_acres, is_boundary, is_doubtful_title, is_feature, is_instrument, is_of_lead,
+    is_same, is_site, limits_land, names_parcel, points_into,
 };
 
 /// The most pieces of what is said before land without a mark at its end.

@@ -35,7 +35,8 @@ pub(crate) fn is_title_of_other(pieces: &Pieces<'_>, index: usize) -> bool {
 /// and not about the place of the well.
 pub(crate) fn is_well_of_unit(pieces: &Pieces<'_>, index: usize) -> bool {
     let is_named = pieces.is(plus(index, 1), b":")
-        && (pieces.is(index, b"well") || (pieces.is(index, b"name") && pieces.follows(index, b"well")));
+        && (pieces.is(index, b"well")
+            || (pieces.is(index, b"name") && pieces.follows(index, b"well")));
     is_named && is_about_unit(pieces)
 }
 

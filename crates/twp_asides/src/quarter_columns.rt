@@ -66,4 +66,20 @@ impl<'a> Pieces<'a> {
         }
         count == 1
     }
+
+    /// Where `Twp-Rng`, or `Twp/Rge:`, at an index ends, before a township without a word for it.
+    pub(crate) fn end_of_label_of_township(&self, index: usize) -> Option<usize> {
+        let mark = plus(index, 1);
+        let range = plus(index, 2);
+        let end = plus(index, 3);
+        let number = plus(end, usize::from(self.is(end, b":")));
+        let is_label = self.is(index, b"twp")
+            && (self.is(mark, b"-") || self.is(mark, b"/"))
+            && (self.is(range, b"rng") || self.is(range, b"rge"));
+        if is_label && self.number(number).is_some() && self.is_north_south(plus(number, 1)) {
+            Some(number)
+        } else {
+            None
+        }
+    }
 }

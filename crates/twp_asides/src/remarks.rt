@@ -8,12 +8,14 @@ use crate::marks::{
     is_well_of_unit,
 };
 use crate::notes::{
-    begins_address, begins_code_of_state, begins_oil_and_gas, is_before_section_and_tier, is_before_the_land, is_dash_after_note, is_in_cell,
-    is_of_company_name, is_of_long_figure, may_begin_note,
+    begins_address, begins_code_of_state, begins_oil_and_gas, is_before_section_and_tier,
+    is_before_the_land, is_dash_after_note, is_in_cell, is_of_company_name, is_of_long_figure,
+    may_begin_note,
 };
 use crate::pieces::{Pieces, plus};
 use crate::remark_ends::{
-    begins_named_value, begins_question, is_after_conveyance, is_after_record, is_end_of_question, is_end_of_sentence,
+    begins_named_value, begins_question, is_after_conveyance, is_after_record, is_end_of_question,
+    is_end_of_sentence,
 };
 use crate::trailers::end_of_depths;
 use twp_grammar::Kind;

@@ -3,7 +3,7 @@
 
 use crate::pieces::{Pieces, plus};
 use twp_grammar::Kind;
-use twp_words::{is_acres, is_same};
+use twp_words::{is_acres, is_net_or_gross, is_same};
 
 /// The most sections of a township: a greater number is acreage.
 const SECTIONS: u16 = 36;
@@ -38,10 +38,9 @@ impl<'a> Pieces<'a> {
             let being = plus(end, usize::from(self.is(end, b",")));
             let is_first = self.begins_line(index) || self.follows(index, b":");
             let is_label = self.begins_line(index) && self.is(end, b":");
-            let is_same = is_first
-                && self.is(being, b"being")
-                && self.begins_part(plus(being, 1));
-            let is_all = matches!(self.kind(being), Kind::All | Kind::Sec) || self.begins_part(being);
+            let is_same = is_first && self.is(being, b"being") && self.begins_part(plus(being, 1));
+            let is_all = matches!(self.kind(being), Kind::All | Kind::Sec)
+                || self.begins_part(being);
             if is_first && is_all && being > end {
                 return Some(end);
             }
@@ -75,6 +74,17 @@ impl<'a> Pieces<'a> {
         } else {
             None
         }
+    }
+
+    /// The index after `and 320 net acres`, if that is at an index.
+    pub(crate) fn after_other_acreage(&self, index: usize) -> usize {
+        let number = plus(index, 1);
+        let kind = self.end_of_decimal(number).unwrap_or(number);
+        let is_other = self.is(index, b"and")
+            && kind > number
+            && is_net_or_gross(self.lower(kind))
+            && is_acres(self.lower(plus(kind, 1)));
+        if is_other { plus(kind, 2) } else { index }
     }
 
     /// The index after `comprising one`, or words like it, before the acreage of a unit.

@@ -213,8 +213,8 @@ pub(crate) static WORDS_BEFORE: [[u8; WORDS_MOST]; 203] = [
 
 /// Where the rows of WORDS_BEFORE begin for each letter, and where the last ones end.
 pub(crate) static WORDS_BEFORE_OF_LETTERS: [u8; 27] = [
-    0, 24, 26, 34, 44, 44, 50, 52, 54, 68, 68, 68, 89, 103, 103, 124, 136, 136, 144, 165, 190, 194, 194,
-    202, 202, 203, 203,
+    0, 24, 26, 34, 44, 44, 50, 52, 54, 68, 68, 68, 89, 103, 103, 124, 136, 136, 144, 165, 190, 194,
+    194, 202, 202, 203, 203,
 ];
 
 /// Words after land, in lowercase, filled up with `_`.
@@ -345,6 +345,6 @@ pub(crate) static WORDS_AFTER: [[u8; WORDS_MOST]; 122] = [
 
 /// Where the rows of WORDS_AFTER begin for each letter, and where the last ones end.
 pub(crate) static WORDS_AFTER_OF_LETTERS: [u8; 27] = [
-    0, 16, 18, 24, 29, 32, 46, 48, 48, 53, 54, 54, 56, 60, 67, 68, 87, 87, 88, 105, 113, 114, 116, 122,
-    122, 122, 122,
+    0, 16, 18, 24, 29, 32, 46, 48, 48, 53, 54, 54, 56, 60, 67, 68, 87, 87, 88, 105, 113, 114, 116,
+    122, 122, 122, 122,
 ];

@@ -50,16 +50,41 @@ pub fn letters_of(word: &[u8]) -> Option<&'static [u8]> {
             None
         }
         9 => {
-            if is_among(word, 0x141040_00206000, "mortheast ncrtheast nertheast noitheast norfheast norhteast norlheast norrheast nortbeast northcast northeaat northeaet northeasf northeasl northeasr northeast northeust nortneast novtheast uortheast") {
+            if is_among(
+                word,
+                0x141040_00206000,
+                "mortheast ncrtheast nertheast noitheast norfheast norhteast norlheast \
+                 norrheast nortbeast northcast northeaat northeaet northeasf northeasl \
+                 northeasr northeast northeust nortneast novtheast uortheast",
+            ) {
                 return Some(b"NE");
             }
-            if is_among(word, 0x141040_00206000, "morthwest ncrthwest nerthwest nertlwest noithwest norfhwest norlhwest norrhwest nortbwest northvest northwcst northweat northwect northwert northwesf northwesl northwesr northwest northwset nortnwest novthwest uorthwest") {
+            if is_among(
+                word,
+                0x141040_00206000,
+                "morthwest ncrthwest nerthwest nertlwest noithwest norfhwest norlhwest \
+                 norrhwest nortbwest northvest northwcst northweat northwect northwert \
+                 northwesf northwesl northwesr northwest northwset nortnwest novthwest \
+                 uorthwest",
+            ) {
                 return Some(b"NW");
             }
-            if is_among(word, 0x141040_00080002, "aoutheast scutheast seutheast sontheast soufheast souhteast soulheast sourheast soutbeast southcast southeaat southeaet southeasf southeasl southeasr southeast southeust soutneast") {
+            if is_among(
+                word,
+                0x141040_00080002,
+                "aoutheast scutheast seutheast sontheast soufheast souhteast soulheast \
+                 sourheast soutbeast southcast southeaat southeaet southeasf southeasl \
+                 southeasr southeast southeust soutneast",
+            ) {
                 return Some(b"SE");
             }
-            if is_among(word, 0x141040_00080002, "aouthwest scuthwest seuthwest sonthwest soufhwest soulhwest sourhwest soutbwest southvest southwcst southweat southwesf southwesl southwesr southwest soutnwest") {
+            if is_among(
+                word,
+                0x141040_00080002,
+                "aouthwest scuthwest seuthwest sonthwest soufhwest soulhwest sourhwest \
+                 soutbwest southvest southwcst southweat southwesf southwesl southwesr \
+                 southwest soutnwest",
+            ) {
                 return Some(b"SW");
             }
             None

@@ -45,17 +45,8 @@ pub(crate) fn has_corners(seen: &[u8]) -> bool
 
 /// The texts `worn_sides` of the specification.
 static WORN_SIDES: [[u8; 6]; 11] = [
-    *b"_nortb",
-    *b"_soutb",
-    *b"nortli",
-    *b"soutli",
-    *b"_norlh",
-    *b"_soulh",
-    *b"__eaet",
-    *b"__eaat",
-    *b"__eust",
-    *b"__weat",
-    *b"__weet",
+    *b"_nortb", *b"_soutb", *b"nortli", *b"soutli", *b"_norlh", *b"_soulh", *b"__eaet", *b"__eaat",
+    *b"__eust", *b"__weat", *b"__weet",
 ];
 
 /// Whether a text ends with one of them.
@@ -67,21 +58,8 @@ pub(crate) fn has_worn_sides(seen: &[u8]) -> bool
 
 /// The texts `worn_corners` of the specification.
 static WORN_CORNERS: [[u8; 4]; 15] = [
-    *b"cast",
-    *b"easl",
-    *b"easr",
-    *b"easf",
-    *b"eust",
-    *b"eaat",
-    *b"eaet",
-    *b"wcst",
-    *b"wesl",
-    *b"wesr",
-    *b"wesf",
-    *b"vest",
-    *b"weat",
-    *b"wect",
-    *b"wert",
+    *b"cast", *b"easl", *b"easr", *b"easf", *b"eust", *b"eaat", *b"eaet", *b"wcst", *b"wesl",
+    *b"wesr", *b"wesf", *b"vest", *b"weat", *b"wect", *b"wert",
 ];
 
 /// Whether a text ends with one of them.
