@@ -116,3 +116,17 @@ pub(crate) fn begins_code_of_state(pieces: &Pieces<'_>, index: usize) -> bool {
     let next = plus(index, 1);
     is_state(pieces.lower(index)) && pieces.is_joined(next) && pieces.begins_register(next)
 }
+
+/// Whether a number that may be that of a section, and a hyphen with more digits after it, are at an index, as in
+/// `File: 11-204`: with the word before them, they are the number of a file.
+pub(crate) fn is_before_file_number(pieces: &Pieces<'_>, index: usize) -> bool {
+    let dash = plus(index, 1);
+    let last = plus(index, 2);
+    pieces.number(index).is_some()
+        && pieces.is_dash(dash)
+        && pieces.is_joined(dash)
+        && pieces.is_joined(last)
+        && pieces.number(last).is_some()
+        && pieces.size(last) >= 3
+        && !pieces.is_joined(plus(last, 1))
+}

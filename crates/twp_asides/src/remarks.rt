@@ -8,9 +8,9 @@ use crate::marks::{
     is_well_of_unit,
 };
 use crate::notes::{
-    begins_address, begins_code_of_state, begins_oil_and_gas, is_before_section_and_tier,
-    is_before_the_land, is_dash_after_note, is_in_cell, is_of_company_name, is_of_long_figure,
-    may_begin_note,
+    begins_address, begins_code_of_state, begins_oil_and_gas, is_before_file_number,
+    is_before_section_and_tier, is_before_the_land, is_dash_after_note, is_in_cell,
+    is_of_company_name, is_of_long_figure, may_begin_note,
 };
 use crate::pieces::{Pieces, plus};
 use crate::remark_ends::{
@@ -286,6 +286,7 @@ fn ends_remark(pieces: &Pieces<'_>, index: usize, position: Position) -> bool {
         Position::AfterLand => matches!(pieces.kind(index), Kind::Semicolon),
     };
     let is_colon = position == Position::BeforeLand
+        && !is_before_file_number(pieces, plus(index, 1))
         && (matches!(pieces.kind(index), Kind::Colon) || pieces.is(index, b"="));
     is_mark || is_colon || pieces.begins_column(index)
 }

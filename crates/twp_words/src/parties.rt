@@ -26,6 +26,7 @@ pub fn is_owner(word: &[u8]) -> bool {
 /// Words that say of which kind acreage is.
 pub fn is_net_or_gross(word: &[u8]) -> bool {
     match word.len() {
+        2 => is_among(word, 0x40000_00000080, "gr"),
         3 => is_among(word, 0x100000_00004000, "net"),
         5 => is_among(word, 0x81000_00100080, "gross total"),
         6 => is_among(word, 0x10_00010000, "pooled"),

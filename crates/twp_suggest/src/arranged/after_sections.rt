@@ -67,6 +67,9 @@ impl GroupsSoFar {
     }
 }
 
+/// The most pieces of a label and a township before a section.
+const ITEM_MOST: usize = 16;
+
 impl<'a> Plan<'a> {
     /// Places land after its sections.
     pub(crate) fn place_land_after(&mut self, list: &mut Vec<Placed>) {
@@ -201,32 +204,29 @@ impl<'a> Plan<'a> {
     fn is_set_apart(&self, exception: Phrase, section: Phrase) -> bool {
         let pieces = &self.draft.pieces;
         let first = exception.first;
-        let item = self.first_of_item(section);
-        let is_item = pieces.follows(item, b";")
-            || pieces.has_before(item, b'\n')
-            || pieces.follows(section.first, b";")
-            || pieces.has_before(section.first, b'\n');
+        let is_item = pieces.follows(section.first, b";")
+            || pieces.has_before(section.first, b'\n')
+            || self.is_after_label_of_item(section.first);
         pieces.follows(first, b";")
             || (pieces.follows(first, b",") && !is_item)
             || matches!(pieces.kind_before(first), Some(Kind::Stop))
             || pieces.has_before(first, b'\n')
     }
 
-    /// Where a section begins, with what is left out, and its township, before it.
-    fn first_of_item(&self, section: Phrase) -> usize {
-        let mut first = section.first;
-        let mut is_before = false;
-        for placed in self.draft.phrases.iter().rev() {
-            let phrase = &placed.phrase;
-            if is_before && !matches!(phrase.names, Names::Heading | Names::Nothing(_)) {
-                break;
+    /// Whether the label of a tract, a township, or both, begin a line or follow a semicolon, and end before an index, as in
+    /// `Tract 2: T2N R3W, Section 17`.
+    fn is_after_label_of_item(&self, index: usize) -> bool {
+        let pieces = &self.draft.pieces;
+        for count in 2..ITEM_MOST {
+            let Some(first) = index.checked_sub(count) else {
+                return false;
+            };
+            if pieces.has_before(first, b'\n') || pieces.follows(first, b";") {
+                let end = pieces.end_of_tract(first).unwrap_or(first);
+                return end == index || pieces.begins_tier(end);
             }
-            if is_before {
-                first = phrase.first;
-            }
-            is_before = is_before || phrase.first == section.first;
         }
-        first
+        false
     }
 
     /// Whether it is sure which land a group has: several sections have none, or all of it is said to be
