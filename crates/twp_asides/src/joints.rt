@@ -1,6 +1,7 @@
 //! What begins at a piece, and what joins two of them: land, words for a township that was named before, a
 //! hyphen at the end of a line.
 
+use crate::leads::is_sure_part;
 use crate::pieces::{Pieces, plus};
 use twp_grammar::Kind;
 
@@ -182,6 +183,14 @@ impl<'a> Pieces<'a> {
             && !self.is_joined(index)
             && !self.is_joined(land)
             && (self.begins_land(land) || is_lot)
+    }
+
+    /// Whether a hyphen without white space is at an index, after a number, and `all` or a part with its fraction after it,
+    /// as in `8-ALL`, or `17-N2`.
+    pub fn is_before_hyphen_and_land(&self, index: usize) -> bool {
+        let land = plus(index, 1);
+        let is_land = matches!(self.kind(land), Kind::All) || is_sure_part(self, land);
+        self.is(index, b"-") && self.is_joined(index) && self.is_joined(land) && is_land
     }
 
     /// Whether a dash is at an index, and a township after it, as in `9-2N-3W`.

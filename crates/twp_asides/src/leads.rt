@@ -52,16 +52,19 @@ fn is_plain_lead(pieces: &Pieces<'_>, index: usize, last: usize) -> bool {
     let has_part = pieces.is(index, b"the") && pieces.begins_part(index);
     (is_word && has_part)
         || is_same(word, b"for")
+        || is_same(word, b"re")
+        || is_same(word, b"regarding")
         || is_same(word, b"is")
         || is_same(word, b"are")
         || is_same(word, b"covers")
         || is_same(word, b"covering")
 }
 
-/// Whether an aliquot part is at an index that can be nothing else, after the names and the instrument of a record, as in
+/// Whether a section, a township, or an aliquot part is at an index that can be nothing else, after the names and the instrument of a record, as in
 /// `QCD AMES TO DOYLE NWSE 17-2N-3W`.
 pub(crate) fn ends_record(pieces: &Pieces<'_>, index: usize) -> bool {
-    if !is_sure_part(pieces, index) {
+    let is_place = matches!(pieces.kind(index), Kind::Sec) || pieces.is_township_word(index);
+    if !is_place && !is_sure_part(pieces, index) {
         return false;
     }
     let mut has_instrument = false;
@@ -72,7 +75,8 @@ pub(crate) fn ends_record(pieces: &Pieces<'_>, index: usize) -> bool {
         if points_to_place(pieces, place) || matches!(pieces.kind(place), Kind::Sec | Kind::Lot) {
             return false;
         }
-        has_instrument = has_instrument || is_instrument(pieces.lower(place));
+        let word = pieces.lower(place);
+        has_instrument = has_instrument || is_instrument(word) || (is_place && is_of_lead(word));
         if begins_lead(pieces, place) {
             return has_instrument;
         }
@@ -90,7 +94,9 @@ pub(crate) fn is_sure_part(pieces: &Pieces<'_>, index: usize) -> bool {
             || pieces.is(next, b"/"));
     match pieces.kind(index) {
         Kind::Corner(_) => is_fraction,
-        Kind::NorthSouth(_) | Kind::EastWest(_) => is_fraction && !pieces.is_joined(index),
+        Kind::NorthSouth(_) | Kind::EastWest(_) => {
+            is_fraction && (!pieces.is_joined(index) || pieces.follows(index, b"-"))
+        }
         Kind::Other => pieces.size(index) >= 4 && are_corners(pieces.lower(index)),
         _ => false,
     }
@@ -119,6 +125,7 @@ fn points_to_place(pieces: &Pieces<'_>, index: usize) -> bool {
     let is_unit = is_same(word, b"unit")
         || is_same(word, b"place")
         || pieces.follows(index, b"/")
+        || pieces.follows(index, b"an")
         || pieces.follows(index, b"per");
     let is_place = is_crossing(word)
         || is_boundary(word)
@@ -184,6 +191,7 @@ fn is_before_of(pieces: &Pieces<'_>, index: usize) -> bool {
 /// Whether `in` at an index is after an interest.
 fn is_before_in(pieces: &Pieces<'_>, index: usize) -> bool {
     pieces.follows(index, b"interest")
+        || pieces.follows(index, b"estate")
         || pieces.follows(index, b"interests")
         || pieces.follows(index, b"int")
         || pieces.follows(index, b"minerals")

@@ -147,6 +147,7 @@ fn is_area_before_land(pieces: &Pieces<'_>, index: usize, place: usize) -> bool 
     is_acres(pieces.lower(place))
         && place > index
         && !pieces.follows(place, b"/")
+        && !pieces.follows(place, b"an")
         && !is_of_company_name(pieces, place)
         && (pieces.is(plus(place, 1), b"of") || !is_large)
 }
@@ -350,7 +351,10 @@ fn end_of_parentheses(pieces: &Pieces<'_>, index: usize) -> Option<usize> {
         if pieces.is(place, mark) {
             return if is_sure { Some(plus(place, 1)) } else { None };
         }
-        is_sure = is_sure || is_known_at(pieces, place) || pieces.is(place, b"file");
+        is_sure = is_sure
+            || is_known_at(pieces, place)
+            || is_of_long_figure(pieces, place)
+            || pieces.is(place, b"file");
         let is_beyond = is_beyond_remark(pieces, place)
             || is_boundary(pieces.lower(place))
             || names_parcel(pieces.lower(place))

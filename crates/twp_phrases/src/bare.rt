@@ -318,7 +318,10 @@ impl<'a> Finder<'a> {
         if pieces.is(next, b":") && (is_first || is_apart) {
             return Some(plus(next, 1) < pieces.len());
         }
-        if pieces.is_before_dash_and_land(next) && is_apart {
+        let is_row = is_after_semicolon || pieces.begins_line(index);
+        if (pieces.is_before_dash_and_land(next) && is_apart)
+            || (pieces.is_before_hyphen_and_land(next) && is_row)
+        {
             return Some(true);
         }
         let is_list = match self.draft.last_section {

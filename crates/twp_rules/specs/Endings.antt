@@ -14,6 +14,7 @@ corners = texts (codes "ne|nw|se|sw|e.|w.|east|west| e| w")
 -- what scanning leaves of them
 abbrev pub worn_sides : List (List ℕ)
 worn_sides = words (codes "nortb soutb nortli soutli norlh soulh eaet eaat eust weat weet")
+    ++ words (codes "sonth uorth nortn soutn")
 
 abbrev pub worn_corners : List (List ℕ)
 worn_corners = words (codes "cast easl easr easf eust eaat eaet wcst wesl wesr wesf vest weat wect wert")

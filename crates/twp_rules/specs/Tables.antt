@@ -153,6 +153,7 @@ worn_directions = all_as (words (codes "nothwest norhwest nortwest northwset")) 
     ++ all_as (words (codes "seuthwest scuthwest southvest soutnwest")) (codes "SW")
     ++ pairs (words (codes "nortb=N nortli=N norlh=N soutb=S soutli=S soulh=S eaet=E eaat=E eust=E"))
     ++ pairs (words (codes "weat=W weet=W"))
+    ++ pairs (words (codes "sonth=S uorth=N nortn=N soutn=S"))
 
 -- NUMERAL: words for numbers up to twelve
 abbrev pub numerals : List Entry

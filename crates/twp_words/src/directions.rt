@@ -17,10 +17,10 @@ pub fn letters_of(word: &[u8]) -> Option<&'static [u8]> {
             None
         }
         5 => {
-            if is_among(word, 0x104_00004000, "norlh nortb north") {
+            if is_among(word, 0x4104_00204000, "norlh nortb north nortn uorth") {
                 return Some(b"N");
             }
-            if is_among(word, 0x104_00080000, "soulh soutb south") {
+            if is_among(word, 0x4104_00080000, "sonth soulh soutb south soutn") {
                 return Some(b"S");
             }
             None
@@ -150,7 +150,11 @@ pub fn is_step_word(word: &[u8]) -> bool {
             0x100040_00800120,
             "eaat eaet east eust half weat weet west",
         ),
-        5 => is_among(word, 0x104_00084000, "norlh nortb north soulh soutb south"),
+        5 => is_among(
+            word,
+            0x4104_00284000,
+            "norlh nortb north nortn sonth soulh soutb south soutn uorth",
+        ),
         6 => is_among(word, 0x200_00084000, "nortli soutli"),
         7 => is_among(word, 0x40000_00020000, "quarter"),
         8 => is_among(

@@ -44,16 +44,16 @@ pub(crate) fn has_corners(seen: &[u8]) -> bool
 }
 
 /// The texts `worn_sides` of the specification.
-static WORN_SIDES: [[u8; 6]; 11] = [
+static WORN_SIDES: [[u8; 6]; 15] = [
     *b"_nortb", *b"_soutb", *b"nortli", *b"soutli", *b"_norlh", *b"_soulh", *b"__eaet", *b"__eaat",
-    *b"__eust", *b"__weat", *b"__weet",
+    *b"__eust", *b"__weat", *b"__weet", *b"_sonth", *b"_uorth", *b"_nortn", *b"_soutn",
 ];
 
 /// Whether a text ends with one of them.
 pub(crate) fn has_worn_sides(seen: &[u8]) -> bool
     ensures { result ≡ ends_with_one seen.now worn_sides }
 {
-    ends_with_one(seen, 0x0010_0304, &WORN_SIDES)
+    ends_with_one(seen, 0x0010_4304, &WORN_SIDES)
 }
 
 /// The texts `worn_corners` of the specification.

@@ -196,7 +196,7 @@ pub(crate) fn is_in_directions(seen: &[u8], written: &[u8]) -> bool
 }
 
 /// The table `worn_directions` of the specification.
-static WORN_DIRECTIONS: [[u8; 13]; 98] = [
+static WORN_DIRECTIONS: [[u8; 13]; 102] = [
     *b"nothwest=NW__",
     *b"norhwest=NW__",
     *b"nortwest=NW__",
@@ -295,6 +295,10 @@ static WORN_DIRECTIONS: [[u8; 13]; 98] = [
     *b"eust=E_______",
     *b"weat=W_______",
     *b"weet=W_______",
+    *b"sonth=S______",
+    *b"uorth=N______",
+    *b"nortn=N______",
+    *b"soutn=S______",
 ];
 
 /// Whether this is a row of it: what it looks at, and what it writes.
