@@ -1,5 +1,6 @@
 //! What is said before land without a mark at its end, as in `taxes for 1932 on the NE1/4`.
 
+use crate::marks::is_known_at;
 use crate::notes::is_of_company_name;
 use crate::pieces::{Pieces, plus};
 use twp_grammar::Kind;
@@ -76,7 +77,9 @@ pub(crate) fn ends_record(pieces: &Pieces<'_>, index: usize) -> bool {
             return false;
         }
         let word = pieces.lower(place);
-        has_instrument = has_instrument || is_instrument(word) || (is_place && is_of_lead(word));
+        has_instrument = has_instrument
+            || is_instrument(word)
+            || (is_place && (is_of_lead(word) || is_known_at(pieces, place)));
         if begins_lead(pieces, place) {
             return has_instrument;
         }

@@ -11,7 +11,7 @@ pub fn begins_request(word: &[u8]) -> bool {
         3 => is_among(
             word,
             0x20cc230_008d815a,
-            "are can did fwd fyi hey our pls run see she who",
+            "any are can did fwd fyi hey our pls run see she who",
         ),
         4 => is_among(
             word,
@@ -60,9 +60,9 @@ pub fn is_of_request(word: &[u8]) -> bool {
         6 => is_among(
             word,
             0x29c00b0_003db04c,
-            "bought buying client copies covers friday leased leases lessee lessor locate \
-             monday offers owners please record report review rights seeing status thanks \
-             trying update",
+            "bought buying chance client copies covers friday leased leases lessee lessor \
+             locate monday offers owners please record report review rights seeing status \
+             thanks trying update",
         ),
         7 => is_among(
             word,
