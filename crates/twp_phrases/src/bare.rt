@@ -318,7 +318,13 @@ impl<'a> Finder<'a> {
         if pieces.is(next, b":") && (is_first || is_apart) {
             return Some(plus(next, 1) < pieces.len());
         }
-        let is_row = is_after_semicolon || pieces.begins_line(index);
+        let is_listed = match self.draft.last_section {
+            Some(section) => {
+                pieces.follows(index, b",") && matches!(pieces.kind(section.first), Kind::Number(_))
+            }
+            None => false,
+        };
+        let is_row = is_after_semicolon || is_listed || pieces.begins_line(index);
         if (pieces.is_before_dash_and_land(next) && is_apart)
             || (pieces.is_before_hyphen_and_land(next) && is_row)
         {
